@@ -1,0 +1,5 @@
+pub mod Rising
+pub mod Same
+pub mod Numbers
+pub mod Decided
+pub mod Kept

@@ -1,0 +1,83 @@
+//! A binding: what a principal may or may not do with the resources of a pattern.
+
+ghost use Rattle.std.specs.Prelude.{◌≡◌};
+ghost use Rattle.acl_binding.specs.Binding.{covers, applies, denies, allows};
+ghost use Rattle.acl_binding.specs.Verdict.{is_denial, is_grant};
+
+use crate::question::Question;
+use crate::words::{Kind, Operation, Pattern, Permission};
+use wire_types::Text;
+
+/// The principal, and the host, that stand for all of them.
+const ANY_PRINCIPAL: &str = "User:*";
+
+const ANY_HOST: &str = "*";
+
+/// A principal at a host is denied or allowed an operation on the resources of a pattern.
+#[derive(Clone, Debug, Drop, PartialEq, Eq)]
+pub struct Binding {
+    pub kind: Kind,
+    pub name: Text,
+    pub pattern: Pattern,
+    pub principal: Text,
+    pub host: Text,
+    pub operation: Operation,
+    pub permission: Permission,
+}
+
+/// A binding with its creation number.
+#[derive(Debug, Drop)]
+pub struct Numbered {
+    pub number: u64,
+    pub binding: Binding,
+}
+
+impl Binding {
+    /// The binding is about this resource.
+    pub fn covers(&self, kind: Kind, name: &Text) -> bool
+        ensures { result ≡ covers self.now kind name.now }
+    {
+        self.kind == kind && self.pattern.covers(&self.name, name)
+    }
+
+    /// The binding is for this principal at this host.
+    pub fn applies(&self, who: &Text, host: &Text) -> bool
+        ensures { result ≡ applies self.now who.now host.now }
+    {
+        (self.principal == *who || self.principal.as_str() == ANY_PRINCIPAL)
+            && (self.host == *host || self.host.as_str() == ANY_HOST)
+    }
+
+    /// The binding is a DENY of the operation, or of all.
+    pub fn denies(&self, op: Operation) -> bool
+        ensures { result ≡ denies self.now op }
+    {
+        self.permission == Permission::Deny
+            && (self.operation == op || self.operation == Operation::All)
+    }
+
+    /// The binding is an ALLOW of the operation, of one that implies it, or of all.
+    pub fn allows(&self, op: Operation) -> bool
+        ensures { result ≡ allows self.now op }
+    {
+        self.permission == Permission::Allow && self.operation.implies(op)
+    }
+
+    /// The binding covers, applies and denies.
+    pub fn is_denial(&self, question: &Question) -> bool
+        ensures { result ≡ is_denial question.now self.now }
+    {
+        self.covers(question.kind, &question.name)
+            && self.applies(&question.who, &question.host)
+            && self.denies(question.op)
+    }
+
+    /// The binding covers, applies and allows.
+    pub fn is_grant(&self, question: &Question) -> bool
+        ensures { result ≡ is_grant question.now self.now }
+    {
+        self.covers(question.kind, &question.name)
+            && self.applies(&question.who, &question.host)
+            && self.allows(question.op)
+    }
+}

@@ -1,0 +1,152 @@
+//! The book of bindings, each under its creation number.
+
+ghost use Rattle.std.specs.Prelude.{◌≡◌, ◌↔◌, ◌+◌, ◌^◌, ◌<◌, ◌≤◌, [], length, Option, Some, None, IfOk, OnOk, OnErr, IsOk, IsTrue};
+ghost use Rattle.acl_binding.specs.Book.{empty_book, number_of, added, appended};
+ghost use Rattle.acl_binding.specs.Adding.{adding_answer};
+ghost use Rattle.acl_binding.specs.Filter.{matching, removed};
+ghost use Rattle.acl_binding.specs.Verdict.{verdict_of};
+
+use crate::binding::{Binding, Numbered};
+use crate::filter::Filter;
+use crate::question::{Question, Verdict};
+use crate::scan::{any_grant, first_denial, matching, number_of};
+use std::alloc::{AllocError, Global};
+use std::marker::Model;
+use wire_types::{Items, Shared};
+
+/// What adding a binding came to.
+#[derive(Clone, Copy, Debug, PartialEq, Eq)]
+pub enum Added {
+    /// It is new, under this creation number.
+    Added(u64),
+    /// An equal one stands under this creation number.
+    There(u64),
+}
+
+/// The bindings in the order of their creation, no two of them equal.
+#[derive(Drop)]
+pub struct Book {
+    entries: Vec<Shared<Numbered>>,
+    next: u64,
+}
+
+impl Model for Book {
+    ghost use Rattle.std.specs.Prelude.{◌-◌, length, vec_capacity};
+    ghost use Rattle.acl_binding.specs.Book.{RoomyBook, IsBook};
+
+    ghost Value = { RoomyBook };
+
+    ghost view = { λ b. record { book = record { entries = b.entries.items; next = b.next }; room = vec_capacity b.entries - length b.entries.items } };
+
+    ghost invariant = { λ b. IsBook (record { entries = b.entries.items; next = b.next }) };
+}
+
+impl Book {
+    /// A book without bindings. Creation numbers begin at 1.
+    pub fn new(alloc: Global) -> Book
+        ensures { result.book ≡ empty_book }
+    {
+        Book {
+            entries: Vec::new(alloc),
+            next: 1,
+        }
+    }
+
+    pub fn len(&self) -> usize
+        ensures { result ≡ length self.now.book.entries }
+    {
+        self.entries.len()
+    }
+
+    pub fn is_empty(&self) -> bool
+        ensures { IsTrue result ↔ (self.now.book.entries ≡ []) }
+    {
+        self.entries.is_empty()
+    }
+
+    /// The number that the next new binding gets.
+    pub fn next(&self) -> u64
+        ensures { result ≡ self.now.book.next }
+    {
+        self.next
+    }
+
+    /// The creation number of an equal binding.
+    pub fn number_of(&self, binding: &Binding) -> Option<u64>
+        ensures { result ≡ number_of self.now.book.entries binding.now }
+    {
+        number_of(&self.entries, binding)
+    }
+
+    /// Makes room for one more binding.
+    pub fn reserve(&mut self) -> Result<(), AllocError>
+        ensures book { self.new.book ≡ self.old.book }
+        ensures room { OnOk result (1 ≤ self.new.room) }
+    {
+        self.entries.reserve(1)
+    }
+
+    /// Takes a new binding under the next number. Where there is room it isn't refused.
+    pub fn append(&mut self, entry: Shared<Numbered>) -> Result<(), AllocError>
+        requires bound { self.old.book.next + 1 < 2 ^ 64 }
+        requires number { entry.number ≡ self.old.book.next }
+        requires absent { number_of self.old.book.entries entry.binding ≡ None }
+        ensures ok { OnOk result (self.new.book ≡ appended self.old.book entry.binding) }
+        ensures err { OnErr result (self.new.book ≡ self.old.book) }
+        ensures succeeds { 1 ≤ self.old.room → IsOk result }
+    {
+        self.entries.push(entry)?;
+        self.next += 1;
+        Ok(())
+    }
+
+    /// Adds a binding under the next creation number, unless an equal one is there.
+    pub fn add(&mut self, alloc: Global, binding: Binding) -> Result<Added, AllocError>
+        requires { self.old.book.next + 1 < 2 ^ 64 }
+        ensures ok { OnOk result (self.new.book ≡ added self.old.book binding) }
+        ensures number { IfOk result (λ answer. answer ≡ adding_answer self.old.book binding) }
+        ensures grows { self.new.book.next ≤ self.old.book.next + 1 }
+        ensures err { OnErr result (self.new.book ≡ self.old.book) }
+    {
+        if let Some(number) = self.number_of(&binding) {
+            return Ok(Added::There(number));
+        }
+        let number = self.next;
+        let entry = Shared::new(alloc, Numbered { number, binding })?;
+        self.append(entry)?;
+        Ok(Added::Added(number))
+    }
+
+    /// Copies of the bindings that the filter picks, in creation order.
+    pub fn matching(&self, alloc: Global, filter: &Filter) -> Result<Items<Binding>, AllocError>
+        ensures { IfOk result (λ picked. picked ≡ matching self.now.book.entries filter.now) }
+    {
+        matching(alloc, &self.entries, filter)
+    }
+
+    /// Takes out the bindings that the filter picks, and answers them in creation order.
+    pub fn remove(&mut self, alloc: Global, filter: &Filter) -> Result<Items<Binding>, AllocError>
+        ensures ok { OnOk result (self.new.book ≡ removed self.old.book filter.now) }
+        ensures picked { IfOk result (λ list. list ≡ matching self.old.book.entries filter.now) }
+        ensures err { OnErr result (self.new.book ≡ self.old.book) }
+    {
+        let picked = self.matching(alloc, filter)?;
+        self.entries
+            .retain(|entry| !filter.matches(&entry.value().binding));
+        Ok(picked)
+    }
+
+    /// What the bindings answer to the question: deny before allow.
+    pub fn verdict(&self, question: &Question) -> Verdict
+        ensures { result ≡ verdict_of self.now.book.entries question.now }
+    {
+        if let Some(number) = first_denial(&self.entries, question) {
+            return Verdict::Denied(number);
+        }
+        if any_grant(&self.entries, question) {
+            Verdict::Yes
+        } else {
+            Verdict::Nothing
+        }
+    }
+}

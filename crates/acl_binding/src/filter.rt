@@ -1,0 +1,106 @@
+//! Filters, which pick bindings.
+
+ghost use Rattle.std.specs.Prelude.{◌≡◌};
+ghost use Rattle.acl_binding.specs.Filter.{matches, kind_fits, text_fits, name_fits, covering_fits, operation_fits, permission_fits};
+
+use crate::binding::Binding;
+use crate::words::{Kind, Operation, Pattern, Permission};
+use wire_types::Text;
+
+/// How a filter takes its name.
+#[derive(Clone, Copy, Debug, PartialEq, Eq)]
+pub enum FilterPattern {
+    /// An equal name, under any pattern.
+    Any = 1,
+    /// Whatever covers the name.
+    Match = 2,
+    /// An equal literal name.
+    Literal = 3,
+    /// An equal prefixed name.
+    Prefixed = 4,
+}
+
+/// Which bindings are meant; what is `None` is any.
+#[derive(Clone, Debug, Drop)]
+pub struct Filter {
+    pub kind: Option<Kind>,
+    pub name: Option<Text>,
+    pub pattern: FilterPattern,
+    pub principal: Option<Text>,
+    pub host: Option<Text>,
+    pub operation: Option<Operation>,
+    pub permission: Option<Permission>,
+}
+
+impl Filter {
+    /// The filter picks the binding.
+    pub fn matches(&self, binding: &Binding) -> bool
+        ensures { result ≡ matches self.now binding.now }
+    {
+        (kind_fits(self.kind, binding.kind) && name_fits(self.pattern, &self.name, binding))
+            && ((text_fits(&self.principal, &binding.principal)
+                && text_fits(&self.host, &binding.host))
+                && (operation_fits(self.operation, binding.operation)
+                    && permission_fits(self.permission, binding.permission)))
+    }
+}
+
+fn kind_fits(wanted: Option<Kind>, kind: Kind) -> bool
+    ensures { result ≡ kind_fits wanted kind }
+{
+    match wanted {
+        Some(wanted) => wanted == kind,
+        None => true,
+    }
+}
+
+fn text_fits(wanted: &Option<Text>, own: &Text) -> bool
+    ensures { result ≡ text_fits wanted.now own.now }
+{
+    match wanted {
+        Some(wanted) => wanted == own,
+        None => true,
+    }
+}
+
+fn operation_fits(wanted: Option<Operation>, operation: Operation) -> bool
+    ensures { result ≡ operation_fits wanted operation }
+{
+    match wanted {
+        Some(wanted) => wanted == operation,
+        None => true,
+    }
+}
+
+fn permission_fits(wanted: Option<Permission>, permission: Permission) -> bool
+    ensures { result ≡ permission_fits wanted permission }
+{
+    match wanted {
+        Some(wanted) => wanted == permission,
+        None => true,
+    }
+}
+
+fn covering_fits(name: &Option<Text>, binding: &Binding) -> bool
+    ensures { result ≡ covering_fits name.now binding.now }
+{
+    match name {
+        Some(name) => binding.pattern.covers(&binding.name, name),
+        None => true,
+    }
+}
+
+fn name_fits(pattern: FilterPattern, name: &Option<Text>, binding: &Binding) -> bool
+    ensures { result ≡ name_fits pattern name.now binding.now }
+{
+    match pattern {
+        FilterPattern::Any => text_fits(name, &binding.name),
+        FilterPattern::Match => covering_fits(name, binding),
+        FilterPattern::Literal => {
+            binding.pattern == Pattern::Literal && text_fits(name, &binding.name)
+        }
+        FilterPattern::Prefixed => {
+            binding.pattern == Pattern::Prefixed && text_fits(name, &binding.name)
+        }
+    }
+}

@@ -1,0 +1,14 @@
+//! The laws of the definitions, each the contract of a function with nothing to do.
+
+ghost use Rattle.acl_binding.specs.Laws.{SameIsEqual};
+ghost use Rattle.acl_binding.specs.Verdict.{VerdictIsDecided};
+
+/// Bindings are equal exactly where all seven fields are.
+pub fn equal_bindings()
+    ensures { SameIsEqual }
+{}
+
+/// Deny before allow: the first binding that denies is named; else one must allow.
+pub fn verdict_is_decided()
+    ensures { VerdictIsDecided }
+{}

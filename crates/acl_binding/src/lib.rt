@@ -1,0 +1,22 @@
+//! Access control: bindings, the book that keeps them, the questions that are asked of it and its verdicts.
+//!
+//! The terms are those of the Kafka documentation ('Authorization and ACLs') and of KIP-290 (prefixed ACLs).
+#![tactic(auto)]
+
+mod binding;
+mod book;
+mod filter;
+mod laws;
+mod names;
+mod question;
+mod scan;
+#[cfg(test)]
+mod tests;
+mod words;
+
+pub use binding::{Binding, Numbered};
+pub use book::{Added, Book};
+pub use filter::{Filter, FilterPattern};
+pub use laws::{equal_bindings, verdict_is_decided};
+pub use question::{Caller, Question, Verdict};
+pub use words::{Kind, Operation, Pattern, Permission};

@@ -1,0 +1,66 @@
+//! Callers, what they ask, and what is answered.
+
+ghost use Rattle.std.specs.Prelude.{◌≡◌, IfOk};
+ghost use Rattle.std.specs.Option.{option_map};
+ghost use Rattle.acl_binding.specs.Verdict.{asked};
+
+use crate::words::{Kind, Operation};
+use std::alloc::AllocError;
+use wire_types::Text;
+
+/// A principal, and the host that it calls from.
+#[derive(Clone, Debug, Drop)]
+pub struct Caller {
+    pub who: Text,
+    pub host: Text,
+}
+
+/// May this principal at this host do this with the resource?
+#[derive(Clone, Debug, Drop)]
+pub struct Question {
+    pub who: Text,
+    pub host: Text,
+    pub op: Operation,
+    pub kind: Kind,
+    pub name: Text,
+}
+
+/// What is answered to a question.
+#[derive(Clone, Copy, Debug, PartialEq, Eq)]
+pub enum Verdict {
+    Yes,
+    /// The creation number of the first binding that denies it.
+    Denied(u64),
+    /// No binding denies it, and none allows it.
+    Nothing,
+}
+
+impl Caller {
+    /// May the caller do this with the resource of this name?
+    pub fn asks(&self, op: Operation, kind: Kind, name: &Text) -> Result<Question, AllocError>
+        ensures { IfOk result (λ question. question ≡ asked self.now op kind name.now) }
+    {
+        Ok(Question {
+            who: self.who.clone()?,
+            host: self.host.clone()?,
+            op,
+            kind,
+            name: name.clone()?,
+        })
+    }
+
+    /// The same for a resource that may be left unnamed: then nothing is asked.
+    pub fn asks_given(
+        &self,
+        op: Operation,
+        kind: Kind,
+        name: &Option<Text>,
+    ) -> Result<Option<Question>, AllocError>
+        ensures { IfOk result (λ asks. asks ≡ option_map (asked self.now op kind) name.now) }
+    {
+        match name {
+            Some(name) => Ok(Some(self.asks(op, kind, name)?)),
+            None => Ok(None),
+        }
+    }
+}

@@ -1,0 +1,65 @@
+//! Walks over bindings in the order of their creation.
+
+ghost use Rattle.std.specs.Prelude.{◌≡◌, IfOk};
+ghost use Rattle.acl_binding.specs.Book.{number_of, IsRising};
+ghost use Rattle.acl_binding.specs.Filter.{matching};
+ghost use Rattle.acl_binding.specs.Verdict.{least, denials, any_grant};
+
+use crate::binding::{Binding, Numbered};
+use crate::filter::Filter;
+use crate::question::Question;
+use std::alloc::{AllocError, Global};
+use wire_types::{Items, Shared};
+
+/// The creation number of the binding that is equal to this one.
+pub fn number_of(entries: &[Shared<Numbered>], binding: &Binding) -> Option<u64>
+    ensures { result ≡ number_of entries.now binding.now }
+{
+    for entry in entries {
+        let entry = entry.value();
+        if entry.binding == *binding {
+            return Some(entry.number);
+        }
+    }
+    None
+}
+
+/// The creation number of the first binding that denies: where numbers rise, the least of them.
+pub fn first_denial(entries: &[Shared<Numbered>], question: &Question) -> Option<u64>
+    requires { IsRising 1 entries.now }
+    ensures { result ≡ least (denials entries.now question.now) }
+{
+    for entry in entries {
+        let entry = entry.value();
+        if entry.binding.is_denial(question) {
+            return Some(entry.number);
+        }
+    }
+    None
+}
+
+/// Some binding allows.
+pub fn any_grant(entries: &[Shared<Numbered>], question: &Question) -> bool
+    ensures { result ≡ any_grant entries.now question.now }
+{
+    entries
+        .iter()
+        .any(|entry| entry.value().binding.is_grant(question))
+}
+
+/// Copies of the bindings that the filter picks.
+pub fn matching(
+    alloc: Global,
+    entries: &[Shared<Numbered>],
+    filter: &Filter,
+) -> Result<Items<Binding>, AllocError>
+    ensures { IfOk result (λ picked. picked ≡ matching entries.now filter.now) }
+{
+    let mut picked = Items::new(alloc);
+    for entry in entries {
+        if filter.matches(&entry.value().binding) {
+            picked.push(entry.value().binding.clone()?)?;
+        }
+    }
+    Ok(picked)
+}

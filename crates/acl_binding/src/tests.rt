@@ -1,0 +1,6 @@
+//! The rules of the Kafka documentation as tables, and each public call once.
+
+mod books;
+mod filters;
+mod fixtures;
+mod verdicts;

@@ -1,0 +1,3 @@
+pub mod Policy
+pub mod Asking
+pub mod Permits

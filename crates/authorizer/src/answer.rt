@@ -1,0 +1,26 @@
+//! What asking a policy comes to.
+
+use crate::permit::Permit;
+use acl_binding::Question;
+
+/// Why a question was refused.
+#[derive(Clone, Copy, Debug, PartialEq, Eq)]
+pub enum Why {
+    /// The creation number of the first binding that denies it.
+    Denied(u64),
+    /// No binding allows it.
+    Nothing,
+}
+
+/// A question that was refused.
+#[derive(Clone, Debug, Drop)]
+pub struct Refusal {
+    pub question: Question,
+    pub why: Why,
+}
+
+/// A permit, which must be spent or declined, or a refusal.
+pub enum Answer {
+    Granted(Permit),
+    Refused(Refusal),
+}

@@ -1,0 +1,151 @@
+//! Asking for a part of a request: all of its questions are granted, or the first that isn't refuses it.
+
+ghost use Rattle.std.specs.Prelude.{◌≡◌, [], ◌∷◌, IfOk, IfErr, IfSome, OnOk};
+ghost use Rattle.std.specs.List.{cons_option};
+ghost use Rattle.authorizer.specs.Policy.{IsGood, IsGranted};
+ghost use Rattle.authorizer.specs.Asking.{AreYes, IsRefusalOf};
+ghost use Rattle.authorizer.specs.Permits.{AreBothGood, AreBothGranted, AreThreeGood, AreThreeGranted, AreGivenGranted};
+
+use crate::answer::{Answer, Refusal};
+use crate::permit::Permit;
+use crate::policy::Policy;
+use acl_binding::Question;
+
+/// The permits of two questions.
+pub struct TwoPermits {
+    pub first: Permit,
+    pub second: Permit,
+}
+
+/// The permits of three questions.
+pub struct ThreePermits {
+    pub first: Permit,
+    pub second: Permit,
+    pub third: Permit,
+}
+
+/// The permit of a first question that may be absent, and of the last.
+pub struct GivenPermits {
+    pub given: Option<Permit>,
+    pub last: Permit,
+}
+
+/// The permit of the question, or its refusal.
+pub fn ask_one(policy: &Policy, question: Question) -> Result<Permit, Refusal>
+    ensures granted { IfOk result (λ permit. IsGranted policy.now question permit) }
+    ensures yes { OnOk result (AreYes policy.now (question ∷ [])) }
+    ensures refused { IfErr result (IsRefusalOf policy.now (question ∷ [])) }
+{
+    match policy.ask(question) {
+        Answer::Granted(permit) => Ok(permit),
+        Answer::Refused(refusal) => Err(refusal),
+    }
+}
+
+/// Both permits, or the first refusal.
+pub fn ask_two(policy: &Policy, first: Question, second: Question) -> Result<TwoPermits, Refusal>
+    ensures granted { IfOk result (λ permits. AreBothGranted policy.now first second permits) }
+    ensures yes { OnOk result (AreYes policy.now (first ∷ second ∷ [])) }
+    ensures refused { IfErr result (IsRefusalOf policy.now (first ∷ second ∷ [])) }
+{
+    let first = ask_one(policy, first)?;
+    match ask_one(policy, second) {
+        Ok(second) => Ok(TwoPermits { first, second }),
+        Err(refusal) => {
+            first.decline();
+            Err(refusal)
+        }
+    }
+}
+
+/// All three permits, or the first refusal.
+pub fn ask_three(
+    policy: &Policy,
+    first: Question,
+    second: Question,
+    third: Question,
+) -> Result<ThreePermits, Refusal>
+    ensures granted { IfOk result (AreThreeGranted policy.now first second third) }
+    ensures yes { OnOk result (AreYes policy.now (first ∷ second ∷ third ∷ [])) }
+    ensures refused { IfErr result (IsRefusalOf policy.now (first ∷ second ∷ third ∷ [])) }
+{
+    let TwoPermits { first, second } = ask_two(policy, first, second)?;
+    match ask_one(policy, third) {
+        Ok(third) => Ok(ThreePermits {
+            first,
+            second,
+            third,
+        }),
+        Err(refusal) => {
+            first.decline();
+            second.decline();
+            Err(refusal)
+        }
+    }
+}
+
+/// The permit of a first question that may be absent, and that of the last; or the first refusal.
+pub fn ask_given(
+    policy: &Policy,
+    given: Option<Question>,
+    last: Question,
+) -> Result<GivenPermits, Refusal>
+    ensures granted { IfOk result (λ permits. AreGivenGranted policy.now given last permits) }
+    ensures yes { OnOk result (AreYes policy.now (cons_option given (last ∷ []))) }
+    ensures refused { IfErr result (IsRefusalOf policy.now (cons_option given (last ∷ []))) }
+{
+    match given {
+        Some(given) => {
+            let TwoPermits { first, second } = ask_two(policy, given, last)?;
+            Ok(GivenPermits {
+                given: Some(first),
+                last: second,
+            })
+        }
+        None => {
+            let last = ask_one(policy, last)?;
+            Ok(GivenPermits { given: None, last })
+        }
+    }
+}
+
+impl TwoPermits {
+    /// Uses both permits up.
+    pub fn spend(self, policy: &Policy)
+        requires { AreBothGood policy.now self }
+    {
+        let TwoPermits { first, second } = self;
+        first.spend(policy);
+        second.spend(policy);
+    }
+}
+
+impl ThreePermits {
+    /// Uses all three permits up.
+    pub fn spend(self, policy: &Policy)
+        requires { AreThreeGood policy.now self }
+    {
+        let ThreePermits {
+            first,
+            second,
+            third,
+        } = self;
+        first.spend(policy);
+        second.spend(policy);
+        third.spend(policy);
+    }
+}
+
+impl GivenPermits {
+    /// Uses up the permit of the first question, where there is one, and hands on the last.
+    pub fn last(self, policy: &Policy) -> Permit
+        requires { IfSome self.given (IsGood policy.now) }
+        ensures { result ≡ self.last }
+    {
+        let GivenPermits { given, last } = self;
+        if let Some(given) = given {
+            given.spend(policy);
+        }
+        last
+    }
+}

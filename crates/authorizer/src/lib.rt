@@ -1,0 +1,19 @@
+//! The authorizer: who may do what, by permits that are spent once.
+//!
+//! A [`Policy`] is the book of bindings in force with the super users. Asking it gives a [`Permit`] or a
+//! [`Refusal`]; a permit is good until the next change of the book.
+#![tactic(auto)]
+
+mod answer;
+mod asking;
+mod laws;
+mod permit;
+mod policy;
+#[cfg(test)]
+mod tests;
+
+pub use answer::{Answer, Refusal, Why};
+pub use asking::{GivenPermits, ThreePermits, TwoPermits, ask_given, ask_one, ask_three, ask_two};
+pub use laws::permit_ends_with_edit;
+pub use permit::Permit;
+pub use policy::Policy;

@@ -1,0 +1,54 @@
+//! A permit to do what a question asked, once, before the next change of the book.
+
+ghost use Rattle.std.specs.Prelude.{◌≡◌};
+ghost use Rattle.authorizer.specs.Policy.{IsGood};
+
+use crate::policy::Policy;
+use acl_binding::Question;
+use std::marker::Model;
+
+/// Neither `Clone` nor `Drop`: it must be spent or declined.
+pub struct Permit {
+    edit: u64,
+    question: Question,
+}
+
+impl Model for Permit {
+    ghost use Rattle.authorizer.specs.Policy.{PermitValue};
+
+    ghost Value = { PermitValue };
+
+    ghost view = { λ p. record { edit = p.edit; question = p.question } };
+}
+
+impl Permit {
+    pub(crate) fn new(edit: u64, question: Question) -> Permit
+        ensures { result ≡ record { edit = edit; question = question } }
+    {
+        Permit { edit, question }
+    }
+
+    /// The question that was granted.
+    pub fn question(&self) -> &Question
+        ensures { result.now ≡ self.now.question }
+    {
+        &self.question
+    }
+
+    /// Uses the permit up, under the policy that gave it and before any change of the book since.
+    pub fn spend(self, policy: &Policy)
+        requires { IsGood policy.now self }
+    {
+        let is_current = self.edit == policy.edit();
+        prove!(is_current);
+        self.decline();
+    }
+
+    /// Gives the permit up.
+    pub fn decline(self) {
+        let Permit {
+            edit: _,
+            question: _question,
+        } = self;
+    }
+}

@@ -1,0 +1,122 @@
+//! The policy in force: the book of bindings and the super users.
+
+ghost use Rattle.std.specs.Prelude.{◌≡◌, ◌+◌, ◌^◌, ◌<◌, ◌≤◌, length, IfOk, OnOk, OnErr};
+ghost use Rattle.acl_binding.specs.Adding.{adding_answer};
+ghost use Rattle.acl_binding.specs.Filter.{matching};
+ghost use Rattle.authorizer.specs.Policy.{first_policy, policy_verdict, policy_added, policy_removed, is_super};
+ghost use Rattle.authorizer.specs.Asking.{asking_answer};
+
+use crate::answer::{Answer, Refusal, Why};
+use crate::permit::Permit;
+use acl_binding::{Added, Binding, Book, Filter, Question, Verdict};
+use std::alloc::{AllocError, Global};
+use std::marker::Model;
+use wire_types::{Items, Text};
+
+/// The bindings in force and the super users, with the number of changes that the book has seen.
+#[derive(Drop)]
+pub struct Policy {
+    book: Book,
+    supers: Items<Text>,
+    edit: u64,
+}
+
+impl Model for Policy {
+    ghost use Rattle.authorizer.specs.Policy.{PolicyValue};
+
+    ghost Value = { PolicyValue };
+
+    ghost view = { λ p. record { book = p.book.book; supers = p.supers; edit = p.edit } };
+}
+
+impl Policy {
+    /// No binding yet, and these super users.
+    pub fn new(alloc: Global, supers: Items<Text>) -> Policy
+        ensures { result ≡ first_policy supers }
+    {
+        Policy {
+            book: Book::new(alloc),
+            supers,
+            edit: 0,
+        }
+    }
+
+    /// The number of changes that the book has seen.
+    pub(crate) fn edit(&self) -> u64
+        ensures { result ≡ self.now.edit }
+    {
+        self.edit
+    }
+
+    /// Adds a binding. The edit number rises where the book changes.
+    pub fn add(&mut self, alloc: Global, binding: Binding) -> Result<Added, AllocError>
+        requires next { self.old.book.next + 1 < 2 ^ 64 }
+        requires edit { self.old.edit + 1 < 2 ^ 64 }
+        requires named { 0 < length binding.name }
+        ensures ok { OnOk result (self.new ≡ policy_added self.old binding) }
+        ensures number { IfOk result (λ answer. answer ≡ adding_answer self.old.book binding) }
+        ensures err { OnErr result (self.new ≡ self.old) }
+
+        // What a caller needs to keep the numbers in their range.
+        ensures next { self.new.book.next ≤ self.old.book.next + 1 }
+        ensures edit { self.new.edit ≤ self.old.edit + 1 }
+    {
+        let answer = self.book.add(alloc, binding)?;
+        if let Added::Added(_) = answer {
+            self.edit += 1;
+        }
+        Ok(answer)
+    }
+
+    /// Copies of the bindings that the filter picks, in creation order.
+    pub fn matching(&self, alloc: Global, filter: &Filter) -> Result<Items<Binding>, AllocError>
+        ensures { IfOk result (λ picked. picked ≡ matching self.now.book.entries filter.now) }
+    {
+        self.book.matching(alloc, filter)
+    }
+
+    /// Takes out the bindings that the filter picks, and answers them in creation order. The edit number rises where
+    /// there are any.
+    pub fn remove(&mut self, alloc: Global, filter: &Filter) -> Result<Items<Binding>, AllocError>
+        requires { self.old.edit + 1 < 2 ^ 64 }
+        ensures ok { OnOk result (self.new ≡ policy_removed self.old filter.now) }
+        ensures picked { IfOk result (λ list. list ≡ matching self.old.book.entries filter.now) }
+        ensures err { OnErr result (self.new ≡ self.old) }
+        ensures edit { self.new.edit ≤ self.old.edit + 1 }
+    {
+        let picked = self.book.remove(alloc, filter)?;
+        if picked.len() != 0 {
+            self.edit += 1;
+        }
+        Ok(picked)
+    }
+
+    /// Deny before allow; super users may do everything.
+    pub fn verdict(&self, question: &Question) -> Verdict
+        ensures { result ≡ policy_verdict self.now question.now }
+    {
+        if self.is_super(&question.who) {
+            Verdict::Yes
+        } else {
+            self.book.verdict(question)
+        }
+    }
+
+    /// A permit exactly where the verdict is `Yes`.
+    pub fn ask(&self, question: Question) -> Answer
+        ensures { result ≡ asking_answer self.now question }
+    {
+        let why = match self.verdict(&question) {
+            Verdict::Yes => return Answer::Granted(Permit::new(self.edit, question)),
+            Verdict::Denied(number) => Why::Denied(number),
+            Verdict::Nothing => Why::Nothing,
+        };
+        Answer::Refused(Refusal { question, why })
+    }
+
+    fn is_super(&self, who: &Text) -> bool
+        ensures { result ≡ is_super self.now.supers who.now }
+    {
+        self.supers.iter().any(|name| name == who)
+    }
+}

@@ -1,0 +1,4 @@
+pub mod Sizes
+pub mod Readings
+pub mod Replies
+pub mod MessageLaws

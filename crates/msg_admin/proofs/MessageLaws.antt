@@ -1,0 +1,100 @@
+-- The laws between bytes, requests and replies.
+use Rattle.std.proofs.Common.{◌≡◌, ℕ, ℤ, pos, ◌+◌, ◌≤◌, true, ◌&&◌, List, [], ◌++◌, length, drop, Option, Some, None, Result, Ok, Err, refl, sym, ap, subst, ◌∙◌, arith}
+use Rattle.std.specs.Prelude.{IfOk}
+use Rattle.std.proofs.lemmas.List.{length-append, drop_at}
+use Rattle.wire_types.specs.declared.fault.ReadFault.{ReadFault}
+use Rattle.wire_types.specs.Grammar.{Grammar, IsBytes}
+use Rattle.wire_types.specs.Spelling.{int_written, null_behind_written}
+use Rattle.wire_types.specs.ListLaws.{and_parts}
+use Rattle.wire_types.specs.NumberLaws.{ok_is, IsBytes-front, IsBytes-rest}
+use Rattle.wire_types.specs.Combinators.{◌⨟◌}
+use Rattle.wire_types.specs.Schema.{int16, int32, nullable_string}
+use Rattle.msg_admin.specs.declared.api.Api.{Api}
+use Rattle.msg_admin.specs.declared.api.Api.TheVariants as apis
+use Rattle.msg_admin.specs.declared.header.Header.{Header}
+use Rattle.msg_admin.specs.declared.request.Request.{Request}
+use Rattle.msg_admin.specs.declared.request.Request.TheVariants as requests
+use Rattle.msg_admin.specs.declared.reply.Reply.{Reply}
+use Rattle.msg_admin.specs.Api.{api_at}
+use Rattle.msg_admin.specs.Header.{header}
+use Rattle.msg_admin.specs.Bodies.{api_of, sent_as, request_body, reply_body}
+use Rattle.msg_admin.specs.Frame.{framed}
+use Rattle.msg_admin.specs.Request.{IsRequest, Fits, is_writable}
+use Rattle.msg_admin.specs.Response.{response_as, response_text, sendable_as}
+use Rattle.msg_admin.specs.Laws.{OneRequest, WrittenIsRead, SpellsFitting, OneReply}
+use Rattle.msg_admin.proofs.Readings.{request-again}
+use Rattle.msg_admin.proofs.Replies.{sendable, int32_len}
+
+pub one_request : OneRequest
+one_request bytes g h q r i j =
+    let same : (g, q) ≡ (h, r) = ok_is (g, q) (h, r) (sym (request-again bytes g q i) ∙ request-again bytes h r j) in
+    (ap (λ (x : Header × Request). x.0) same, ap (λ (x : Header × Request). x.1) same)
+
+pub written_is_read : WrittenIsRead
+unfolding is_writable
+written_is_read h r types served writable =
+    let fits = and_parts (header.fits h) ((request_body (api_of r)).fits r) (and_parts (header.fits h && (request_body (api_of r)).fits r) _ writable).0 in
+    (header.written h, (request_body (api_of r)).written r, api_of r, refl, header.canonical h types.0 fits.0, served, (request_body (api_of r)).canonical r types.1 fits.1)
+
+-- ---- what was read fits
+
+-- the body of an api is a request to that api
+spelled_api : (api : Api) (text : List ℕ) (r : Request) → (request_body api).Spells text r → api_of r ≡ api
+unfolding request_body
+spelled_api apis.Metadata text (requests.Metadata x) h = refl
+
+client_len : (client : Option (List ℕ)) → 2 ≤ length (nullable_string.written client)
+unfolding null_behind_written int_written
+client_len None = omega arith
+client_len (Some text) = omega arith
+
+header_len : (h : Header) → 10 ≤ length (header.written h)
+unfolding int_written
+header_len h = omega (arith, client_len h.client, length-append (int16.written h.key) (int16.written h.version))
+
+pub read_fits : (bytes : List ℕ) → IsBytes bytes → SpellsFitting bytes
+read_fits bytes are within h r i =
+    let parts : IsBytes (i.0 ++ i.1) = subst IsBytes i.3 are in
+    let head = header.shortest i.0 h (IsBytes-front i.0 i.1 parts) i.4 in
+    let body = (request_body i.2).shortest i.1 r (IsBytes-rest i.0 i.1 parts) i.6 in
+    let lens : length bytes ≡ length i.0 + length i.1 = ap length i.3 ∙ length-append i.0 i.1 in
+    let short : 10 + length ((request_body i.2).written r) ≤ 104857600 = omega (arith, head.2, body.2, header_len h, lens) in
+    subst (λ (api : Api). ((request_body api).fits r ≡ true) × (10 + length ((request_body api).written r) ≤ 104857600)) (sym (spelled_api i.2 i.1 r i.6)) (body.1, short)
+
+-- ---- what was written fixes the reply
+
+-- two values with one spelling are one
+one_value : {A : Type 0} (g : Grammar A) (x y : A) → g.InType x → g.InType y → g.fits x ≡ true → g.fits y ≡ true → g.written x ≡ g.written y → x ≡ y
+one_value {A} g x y tx ty fx fy e =
+    let a : g.reading (g.written x ++ []) ≡ Ok (x, []) = g.complete (g.written x) [] x (g.canonical x tx fx) in
+    let b : g.reading (g.written y ++ []) ≡ Ok (y, []) = g.complete (g.written y) [] y (g.canonical y ty fy) in
+    ap (λ (z : A × List ℕ). z.0) (ok_is (x, []) (y, []) (sym a ∙ ap (λ (t : List ℕ). g.reading (t ++ [])) e ∙ b))
+
+-- the bytes behind the size field
+behind_size : (text : List ℕ) → drop 4 (framed text) ≡ text
+behind_size text = drop_at (int32.written (pos (length text))) text 4 (int32_len (pos (length text)))
+
+as_api : (o : Option Api) (api : Api) (c : ℤ) (r : Reply) → o ≡ Some api → response_as o c r ≡ framed (response_text c api r)
+as_api o api c r e = ap (λ (x : Option Api). response_as x c r) e
+
+fits_as : (o : Option Api) (api : Api) (c : ℤ) (r : Reply) → o ≡ Some api → sendable_as o c r ≡ true → (reply_body api).fits r ≡ true
+fits_as o api c r e all = (and_parts ((reply_body api).fits r) _ (sym (ap (λ (x : Option Api). sendable_as x c r) e) ∙ all)).0
+
+pub one_reply : OneReply
+one_reply api c d q r as_q as_r type_q type_r short_q short_r e =
+    let both : Grammar (ℤ × Reply) = int32 ⨟ reply_body api in
+    let fit_q = fits_as (sent_as q) api c q as_q (sendable c q short_q) in
+    let fit_r = fits_as (sent_as r) api d r as_r (sendable d r short_r) in
+    let frames : framed (response_text c api q) ≡ framed (response_text d api r) = sym (as_api (sent_as q) api c q as_q) ∙ e ∙ as_api (sent_as r) api d r as_r in
+    let texts : response_text c api q ≡ response_text d api r = sym (behind_size (response_text c api q)) ∙ ap (drop 4) frames ∙ behind_size (response_text d api r) in
+    let same : (c, q) ≡ (d, r) = one_value both (c, q) (d, r) type_q type_r fit_q fit_r texts in
+    (ap (λ (x : ℤ × Reply). x.0) same, ap (λ (x : ℤ × Reply). x.1) same)
+
+pub found_fits : (bytes : List ℕ) (result : Result (Header × Request) ReadFault) → SpellsFitting bytes → IfOk result (λ x. IsRequest bytes x.0 x.1)
+    → IfOk result (λ x. length bytes ≤ 104857600 → Fits x.1)
+found_fits bytes (Ok x) fitting is = λ within. fitting within x.0 x.1 is
+found_fits bytes (Err e) fitting is = tt
+
+pub named : (bytes : List ℕ) (result : Result (Header × Request) ReadFault) → IfOk result (λ x. IsRequest bytes x.0 x.1) → IfOk result (λ x. api_at x.0.key x.0.version ≡ Some (api_of x.1))
+named bytes (Ok x) i = i.5 ∙ ap Some (sym (spelled_api i.2 i.1 x.1 i.6))
+named bytes (Err e) i = tt

@@ -1,0 +1,103 @@
+-- Which replies are too long, and what the bytes of a response say.
+use Rattle.std.proofs.Common.{◌≡◌, ℕ, ℤ, ◌+◌, ◌<◌, suc, ◌^◌, ◌⊎◌, Bool, true, false, ltb, leb, List, [], ◌∷◌, length, get_or, Option, Some, None, Result, Ok, Err, refl, sym, ap, ◌∙◌, arith, inl, inr}
+use Rattle.std.specs.Prelude.{OnOk}
+use Rattle.std.specs.List.{Any, list_all}
+use Rattle.std.proofs.lemmas.Bool.{lt-ltb, ltb-true, lt-leb, cases_lt, le-leb}
+use Rattle.std.proofs.lemmas.List.{length-append}
+use Rattle.std.proofs.lemmas.List.Folds.{list_all_at}
+use Rattle.wire_types.specs.declared.fault.WriteFault.{WriteFault}
+use Rattle.wire_types.specs.declared.fault.WriteFault.TheVariants as faults
+use Rattle.wire_types.specs.ListLaws.{and_parts}
+use Rattle.wire_types.specs.Spelling.{int_written}
+use Rattle.wire_types.specs.Schema.{int32}
+use Rattle.msg_data.specs.Strings.{is_short}
+use Rattle.msg_data.proofs.ReplyStrings.{metadata_tells}
+use Rattle.msg_admin.specs.declared.api.Api.{Api}
+use Rattle.msg_admin.specs.declared.reply.Reply.{Reply}
+use Rattle.msg_admin.specs.declared.reply.Reply.TheVariants as replies
+use Rattle.msg_admin.specs.Bodies.{sent_as, strings_of, reply_body}
+use Rattle.msg_admin.specs.Response.{response_text, IsTooLongAs, IsTooLong, sendable_as, is_sendable, GivesReply}
+
+differ : (b : Bool) → b ≡ true → b ≡ false → ⊥
+differ b p q = cc
+
+either : (b : Bool) → (b ≡ true) ⊎ (b ≡ false)
+either true = inl refl
+either false = inr refl
+
+-- ---- a long text, or none
+
+any_later : (x : List ℕ) (xs : List (List ℕ)) → Any (λ text. 32767 < length text) xs → Any (λ text. 32767 < length text) (x ∷ xs)
+any_later x xs (k, y, lt, is, long) = (suc k, y, omega (arith, lt), is, long)
+
+long_somewhere : (xs : List (List ℕ)) → list_all is_short xs ≡ false → Any (λ text. 32767 < length text) xs
+long_somewhere [] e = absurd cc
+long_somewhere (x ∷ xs) e =
+    elim (cases_lt 32767 (length x)) [
+      | inl long ↦ (0, x, omega arith, refl, long)
+      | inr short ↦ let t : leb (length x) 32767 ≡ true = le-leb _ _ short in any_later x xs (long_somewhere xs (sym (rw t refl) ∙ e))
+    ]
+
+short_everywhere : (xs : List (List ℕ)) → list_all is_short xs ≡ true → Any (λ text. 32767 < length text) xs → ⊥
+short_everywhere xs all (k, x, lt, is, long) =
+    let here : is_short (get_or xs k x) ≡ false = ap is_short is ∙ lt-leb _ _ long in
+    differ (list_all is_short xs) all (list_all_at is_short xs k x lt here)
+
+-- ---- the texts of each reply that is sent decide whether its answer fits
+
+abbrev Decided : Option Api → Reply → Type 0
+Decided None r = Unit {0}
+Decided (Some api) r = ((reply_body api).fits r ≡ true → list_all is_short (strings_of r) ≡ true)
+    × (list_all is_short (strings_of r) ≡ true → length ((reply_body api).written r) < 2 ^ 31 → (reply_body api).fits r ≡ true)
+
+decided : (r : Reply) → Decided (sent_as r) r
+unfolding reply_body
+decided (replies.Metadata m) = (metadata_tells.short m, metadata_tells.fits m)
+
+-- ---- too long, or not
+
+pub int32_len : (z : ℤ) → length (int32.written z) ≡ 4
+unfolding int_written
+int32_len z = refl
+
+text_len : (api : Api) (c : ℤ) (r : Reply) → length (response_text c api r) ≡ 4 + length ((reply_body api).written r)
+text_len api c r = length-append (int32.written c) ((reply_body api).written r) ∙ ap (λ (n : ℕ). n + length ((reply_body api).written r)) (int32_len c)
+
+not_long : (o : Option Api) (c : ℤ) (r : Reply) → Decided o r → sendable_as o c r ≡ true → IsTooLongAs o c r → ⊥
+not_long None c r d e long = long
+not_long (Some api) c r d e (inl long) = short_everywhere (strings_of r) (d.0 (and_parts _ _ e).0) long
+not_long (Some api) c r d e (inr long) = absurd (omega (arith, long, ltb-true _ _ (and_parts ((reply_body api).fits r) _ e).1))
+
+too_long : (o : Option Api) (c : ℤ) (r : Reply) → Decided o r → sendable_as o c r ≡ false → IsTooLongAs o c r
+too_long None c r d e = absurd cc
+too_long (Some api) c r d e =
+    elim (either (list_all is_short (strings_of r))) [
+      | inr long ↦ inl (long_somewhere (strings_of r) long)
+      | inl short ↦
+          elim (cases_lt 2147483647 (length (response_text c api r))) [
+            | inl over ↦ inr over
+            | inr within ↦
+                let lt : ltb (length (response_text c api r)) (2 ^ 31) ≡ true = lt-ltb _ _ (omega arith) in
+                let fits : (reply_body api).fits r ≡ true = d.1 short (omega (arith, text_len api c r)) in
+                absurd (differ (sendable_as (Some api) c r) (rw (fits, lt) refl) e)
+          ]
+    ]
+
+pub within : (c : ℤ) (r : Reply) (result : Result (List ℕ) WriteFault) → GivesReply c r result → OnOk result (IsTooLong c r → ⊥)
+unfolding is_sendable
+within c r (Ok bytes) given = not_long (sent_as r) c r (decided r) given.0
+within c r (Err e) given = tt
+
+pub refused_long : (c : ℤ) (r : Reply) (result : Result (List ℕ) WriteFault) → GivesReply c r result → result ≡ Err faults.TooLong → IsTooLong c r
+unfolding is_sendable
+refused_long c r (Ok bytes) given e = absurd cc
+refused_long c r (Err faults.NoMemory) given e = absurd cc
+refused_long c r (Err faults.TooLong) given e = too_long (sent_as r) c r (decided r) given
+
+-- what is not too long is sendable
+pub sendable : (c : ℤ) (r : Reply) → (IsTooLong c r → ⊥) → sendable_as (sent_as r) c r ≡ true
+sendable c r short =
+    elim (either (sendable_as (sent_as r) c r)) [
+      | inl so ↦ so
+      | inr not_so ↦ absurd (short (too_long (sent_as r) c r (decided r) not_so))
+    ]

@@ -1,0 +1,17 @@
+use Rattle.std.proofs.Common.{◌≡◌, refl}
+use Rattle.std.proofs.Common.{w16, to_z, of_z}
+use Rattle.msg_admin.specs.declared.api.Api.{Api}
+use Rattle.msg_admin.specs.declared.api.Api.TheVariants as apis
+use Rattle.msg_admin.specs.Api.{key_of, version_of, api_at-own}
+use Rattle.msg_admin.proofs.header.Header.new.Goals as goal
+
+key_again : (api : Api) → to_z w16 (of_z w16 (key_of api)) ≡ key_of api
+unfolding key_of
+key_again apis.Metadata = refl
+
+version_again : (api : Api) → to_z w16 (of_z w16 (version_of api)) ≡ version_of api
+unfolding version_of
+version_again apis.Metadata = refl
+
+pub returns-clause-served : goal.returns-clause-served
+returns-clause-served c = rw (c.key.ensures, c.version.ensures, key_again, version_again) (api_at-own c.args.api)

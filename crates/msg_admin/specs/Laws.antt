@@ -1,0 +1,37 @@
+-- What holds between bytes, requests and replies.
+use Rattle.std.specs.Prelude.{◌≡◌, ◌≤◌, ℕ, ℤ, List, length, true, Some}
+use Rattle.wire_types.specs.Schema.{int32}
+use Rattle.msg_admin.specs.declared.api.Api.{Api}
+use Rattle.msg_admin.specs.declared.header.Header.{Header}
+use Rattle.msg_admin.specs.declared.request.Request.{Request}
+use Rattle.msg_admin.specs.declared.reply.Reply.{Reply}
+use Rattle.msg_admin.specs.Api.{api_at}
+use Rattle.msg_admin.specs.Header.{header}
+use Rattle.msg_admin.specs.Bodies.{api_of, sent_as, request_body, reply_body}
+use Rattle.msg_admin.specs.Request.{IsRequest, Fits, request_text, is_writable}
+use Rattle.msg_admin.specs.Response.{response, IsTooLong}
+
+-- bytes spell one request at most
+abbrev pub OneRequest : Type 0
+OneRequest = (bytes : List ℕ) (g h : Header) (q r : Request) → IsRequest bytes g q → IsRequest bytes h r → (g ≡ h) × (q ≡ r)
+
+-- what each request of the Rust types meets: its numbers are in their ranges, and its texts are UTF-8
+abbrev pub RequestInType : Header → Request → Type 0
+RequestInType h r = header.InType h × (request_body (api_of r)).InType r
+
+-- what is written is spelled so, and so read back
+abbrev pub WrittenIsRead : Type 0
+WrittenIsRead = (h : Header) (r : Request) → RequestInType h r → api_at h.key h.version ≡ Some (api_of r) → is_writable h r ≡ true → IsRequest (request_text h r) h r
+
+-- a request that is spelled by at most 104,857,600 bytes fits
+abbrev pub SpellsFitting : List ℕ → Type 0
+SpellsFitting bytes = length bytes ≤ 104857600 → (h : Header) (r : Request) → IsRequest bytes h r → Fits r
+
+-- the same of a reply and its correlation id
+abbrev pub ReplyInType : Api → ℤ → Reply → Type 0
+ReplyInType api correlation r = int32.InType correlation × (reply_body api).InType r
+
+-- the bytes of a response, the api known that it answers, fix the correlation id and the reply
+abbrev pub OneReply : Type 0
+OneReply = (api : Api) (c d : ℤ) (q r : Reply) → sent_as q ≡ Some api → sent_as r ≡ Some api → ReplyInType api c q → ReplyInType api d r
+    → (IsTooLong c q → ⊥) → (IsTooLong d r → ⊥) → response c q ≡ response d r → (c ≡ d) × (q ≡ r)

@@ -1,0 +1,64 @@
+-- Requests: a header whose key and version name an api that is served, and the body of that api.
+use Rattle.std.specs.Prelude.{◌≡◌, ◌≤◌, ◌+◌, ◌^◌, ℕ, List, ◌++◌, length, Bool, true, ◌&&◌, ◌==◌, nat_lt, Option, Some, None, Result, Ok, Err, if◌then◌else◌}
+use Rattle.wire_types.specs.declared.fault.Malformed.{Malformed}
+use Rattle.wire_types.specs.declared.fault.Malformed.TheVariants.{Unknown, Rest}
+use Rattle.wire_types.specs.declared.fault.ReadFault.{ReadFault}
+use Rattle.wire_types.specs.declared.fault.ReadFault.TheVariants as faults
+use Rattle.wire_types.specs.declared.fault.WriteFault.{WriteFault}
+use Rattle.wire_types.specs.Reading.{◌>>=◌}
+use Rattle.msg_admin.specs.declared.api.Api.{Api}
+use Rattle.msg_admin.specs.declared.header.Header.{Header}
+use Rattle.msg_admin.specs.declared.request.Request.{Request}
+use Rattle.msg_admin.specs.Api.{api_at}
+use Rattle.msg_admin.specs.Header.{names, sender, header_of, header}
+use Rattle.msg_admin.specs.Bodies.{api_of, request_body}
+use Rattle.msg_admin.specs.Frame.{framed, Gives}
+
+-- The bytes are a header, and the body of the api that it names.
+abbrev pub IsRequest : List ℕ → Header → Request → Type 0
+IsRequest bytes h r = (front text : List ℕ) × (api : Api) × (bytes ≡ front ++ text) × header.Spells front h
+    × (api_at h.key h.version ≡ Some api) × (request_body api).Spells text r
+
+-- ---- reading, from left to right
+
+abbrev pub served : Option Api → Result Api Malformed
+served None = Err Unknown
+served (Some api) = Ok api
+
+-- nothing follows
+abbrev pub alone : {A : Type 0} → A × List ℕ → Result A Malformed
+alone x = if length x.1 == 0 then Ok x.0 else Err Rest
+
+-- The request, or the first fault. Key and version are looked up as soon as both are read.
+unfoldable pub request_at : List ℕ → Result (Header × Request) Malformed
+request_at bytes =
+    names.reading bytes >>= λ k.
+    served (api_at k.0.0 k.0.1) >>= λ api.
+    sender.reading k.1 >>= λ s.
+    (request_body api).reading s.1 >>= λ x.
+    alone x >>= λ r.
+    Ok (header_of k.0 s.0, r)
+
+-- The call answered so, unless memory ran out.
+abbrev pub Answers : {A : Type 0} → Result A Malformed → Result A ReadFault → Type 0
+Answers found (Ok x) = found ≡ Ok x
+Answers found (Err faults.NoMemory) = Unit {0}
+Answers found (Err (faults.Malformed e)) = found ≡ Err e
+
+-- ---- writing
+
+-- a header and a request behind it
+abbrev pub request_text : Header → Request → List ℕ
+request_text h r = header.written h ++ (request_body (api_of r)).written r
+
+-- both have a spelling, and the size of the two can be told
+unfoldable pub is_writable : Header → Request → Bool
+is_writable h r = (header.fits h && (request_body (api_of r)).fits r) && nat_lt (length (request_text h r)) (2 ^ 31)
+
+-- The call gave the frame, where it can be written. `TooLong` comes only where it can not.
+abbrev pub GivesRequest : Header → Request → Result (List ℕ) WriteFault → Type 0
+GivesRequest h r = Gives (is_writable h r) (framed (request_text h r))
+
+-- The request can be written; behind the ten bytes of a header whose client is null, its frame has a size of at most 104,857,600.
+abbrev pub Fits : Request → Type 0
+Fits r = ((request_body (api_of r)).fits r ≡ true) × (10 + length ((request_body (api_of r)).written r) ≤ 104857600)

@@ -1,0 +1,52 @@
+//! The apis that are served, each under its key in one version.
+
+ghost use Rattle.std.specs.Prelude.{◌≡◌, ◌&&◌};
+ghost use Rattle.std.specs.List.{find};
+ghost use Rattle.std.specs.Ordering.{int_eq};
+ghost use Rattle.msg_admin.specs.Api.{key_of, version_of, api_at};
+
+/// What a request may ask for.
+#[derive(Clone, Copy, Debug, PartialEq, Eq)]
+pub enum Api {
+    Metadata = 3,
+}
+
+impl Api {
+    /// Every api, in rising order of keys.
+    pub const ALL: [Api; 1] = [Api::Metadata];
+
+    /// The number under which a request names the api.
+    #[tactic(auto, unfolding(crate::specs::Api::key_of))]
+    pub fn key(self) -> i16
+        ensures { result ≡ key_of self }
+    {
+        self as i16
+    }
+
+    /// The version in which the api is served.
+    #[tactic(auto, unfolding(crate::specs::Api::version_of))]
+    pub fn version(self) -> i16
+        ensures { result ≡ version_of self }
+    {
+        match self {
+            Api::Metadata => 1,
+        }
+    }
+
+    /// The api that is served under a key in a version, if one is.
+    #[tactic(auto, unfolding(crate::specs::Api::api_at, crate::specs::Api::all_apis))]
+    pub fn of(key: i16, version: i16) -> Option<Api>
+        ensures { result ≡ api_at key version }
+    {
+        first_served(&Api::ALL, key, version)
+    }
+}
+
+fn first_served(apis: &[Api], key: i16, version: i16) -> Option<Api>
+    ensures { result ≡ find (λ api. int_eq (key_of api) key && int_eq (version_of api) version)
+        apis.now }
+{
+    apis.iter()
+        .copied()
+        .find(|api| api.key() == key && api.version() == version)
+}

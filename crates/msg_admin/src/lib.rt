@@ -1,0 +1,20 @@
+//! Requests and replies as the frames that travel: headers, the apis that are served, and what stands behind each.
+//!
+//! `read_request` and `write_reply` are a broker's side, `write_request` a client's. A new api is a variant of
+//! `Api`, `Request` and `Reply`, a line where each of them is dispatched, and its grammar in `specs/Bodies.antt`.
+#![tactic(auto)]
+
+mod api;
+mod frame;
+mod header;
+mod laws;
+mod reply;
+mod request;
+#[cfg(test)]
+mod tests;
+
+pub use api::Api;
+pub use header::Header;
+pub use laws::{one_reply, one_request, read_fits, written_is_read};
+pub use reply::{Reply, write_reply};
+pub use request::{FRAME_LIMIT, Request, read_request, write_request};

@@ -1,0 +1,35 @@
+//! A reply, written as the frame of a response.
+
+ghost use Rattle.std.specs.Prelude.{◌≡◌, IfOk, OnOk, Err};
+ghost use Rattle.wire_types.specs.declared.fault.WriteFault.TheVariants as faults;
+ghost use Rattle.msg_admin.specs.Response.{response, IsTooLong, GivesReply};
+
+use crate::frame::write_frame;
+use bytes::Bytes;
+use msg_data::MetadataReply;
+use std::alloc::Global;
+use wire_types::WriteFault;
+
+/// What a request is answered.
+#[derive(Clone, Debug, Drop, PartialEq, Eq)]
+pub enum Reply {
+    Metadata(MetadataReply),
+}
+
+/// The whole response, with its size field.
+pub fn write_reply(alloc: Global, correlation: i32, reply: &Reply) -> Result<Bytes, WriteFault>
+    ensures written { IfOk result (λ bytes. bytes ≡ response correlation reply.now) }
+    ensures within { OnOk result (¬ IsTooLong correlation reply.now) }
+    ensures too_long { result ≡ Err faults.TooLong → IsTooLong correlation reply.now }
+{
+    write_response(alloc, correlation, reply)
+}
+
+#[tactic(auto, unfolding(crate::specs::Response::is_sendable, crate::specs::Bodies::reply_body, crate::specs::Frame::frame_fits))]
+fn write_response(alloc: Global, correlation: i32, reply: &Reply) -> Result<Bytes, WriteFault>
+    ensures { GivesReply correlation reply.now result }
+{
+    match reply {
+        Reply::Metadata(answer) => write_frame(alloc, &correlation, answer),
+    }
+}

@@ -1,0 +1,128 @@
+//! A request, read from the bytes of a frame and written as a frame.
+
+ghost use Rattle.std.specs.Prelude.{◌≡◌, ◌≤◌, ◌↔◌, length, IfOk, IsTrue, Ok, Some};
+ghost use Rattle.wire_types.specs.Reading.{Reads};
+ghost use Rattle.msg_admin.specs.Api.{api_at};
+ghost use Rattle.msg_admin.specs.Bodies.{request_body};
+ghost use Rattle.msg_admin.specs.Request.{IsRequest, Answers, request_at, GivesRequest, Fits};
+ghost use Rattle.msg_admin.specs.Bodies.{api_of};
+ghost use Rattle.msg_admin.specs.declared.header.Header.{Header};
+ghost use Rattle.msg_admin.specs.declared.request.Request.{Request};
+
+use crate::api::Api;
+use crate::frame::write_frame;
+use crate::header::Header;
+use crate::laws::read_fits;
+use bytes::Bytes;
+use msg_data::MetadataRequest;
+use std::alloc::Global;
+use wire_types::{Cursor, Malformed, ReadFault, Wire, WriteFault};
+
+/// The greatest size that a request's frame may tell of itself.
+pub const FRAME_LIMIT: usize = 104_857_600;
+
+/// The bytes of a header whose client is null.
+const SHORTEST_HEADER: usize = 10;
+
+/// What a client asks for.
+#[derive(Clone, Debug, Drop, PartialEq, Eq)]
+pub enum Request {
+    Metadata(MetadataRequest),
+}
+
+impl Request {
+    /// The api that is asked.
+    pub fn api(&self) -> Api
+        ensures { result ≡ api_of self.now }
+    {
+        match self {
+            Request::Metadata(_) => Api::Metadata,
+        }
+    }
+
+    /// Whether the request can be written, behind a header whose client is null in a frame
+    /// whose size is within `FRAME_LIMIT`.
+    pub fn fits(&self) -> bool
+        ensures { IsTrue result ↔ Fits self.now }
+    {
+        self.room_left(FRAME_LIMIT - SHORTEST_HEADER).is_some()
+    }
+
+    /// What the request's body leaves of a room.
+    #[tactic(auto, unfolding(crate::specs::Bodies::request_body))]
+    fn room_left(&self, room: usize) -> Option<usize>
+        ensures { result ≡ (request_body (api_of self.now)).left self.now room }
+    {
+        match self {
+            Request::Metadata(body) => body.room_left(room),
+        }
+    }
+}
+
+/// The body of a request to an api.
+#[tactic(auto, unfolding(crate::specs::Bodies::request_body))]
+fn read_body(alloc: Global, api: Api, cursor: &mut Cursor<'_>) -> Result<Request, ReadFault>
+    ensures { Reads ((request_body api).reading cursor.old) result cursor.new }
+{
+    match api {
+        Api::Metadata => Ok(Request::Metadata(MetadataRequest::read(alloc, cursor)?)),
+    }
+}
+
+#[tactic(auto, unfolding(crate::specs::Request::request_at))]
+fn read_whole(alloc: Global, frame: &Bytes) -> Result<(Header, Request), ReadFault>
+    ensures { Answers (request_at frame.now) result }
+{
+    let mut cursor = Cursor::over(frame);
+    let key = cursor.read_i16()?;
+    let version = cursor.read_i16()?;
+    let Some(api) = Api::of(key, version) else {
+        return Err(ReadFault::Malformed(Malformed::Unknown));
+    };
+    let correlation = cursor.read_i32()?;
+    let client = cursor.read_nullable(alloc)?;
+    let request = read_body(alloc, api, &mut cursor)?;
+    if cursor.len() != 0 {
+        return Err(ReadFault::Malformed(Malformed::Rest));
+    }
+    let header = Header {
+        key,
+        version,
+        correlation,
+        client,
+    };
+    Ok((header, request))
+}
+
+/// The header and the request of a frame, which is given without its size field.
+///
+/// Blobs of the request share the frame's bytes.
+pub fn read_request(alloc: Global, frame: &Bytes) -> Result<(Header, Request), ReadFault>
+    // What is read is spelled by the bytes.
+    ensures found { IfOk result (λ read. IsRequest frame.now read.0 read.1) }
+    // What the bytes spell is read, unless memory runs out.
+    ensures only { (h : Header) (r : Request) → IsRequest frame.now h r
+        → Answers (Ok (h, r)) result }
+    // The header names the api of the request.
+    ensures named { IfOk result (λ read.
+        api_at read.0.key read.0.version ≡ Some (api_of read.1)) }
+    // What is read within the limit fits.
+    ensures fits { IfOk result (λ read. length frame.now ≤ FRAME_LIMIT → Fits read.1) }
+    // The fault is the first from left to right.
+    ensures exact { Answers (request_at frame.now) result }
+{
+    // A law, for the clause `fits`.
+    read_fits(frame.as_slice());
+    read_whole(alloc, frame)
+}
+
+/// The whole frame of a request, with its size field.
+#[tactic(auto, unfolding(crate::specs::Request::is_writable, crate::specs::Bodies::request_body, crate::specs::Frame::frame_fits))]
+pub fn write_request(alloc: Global, header: &Header, request: &Request) -> Result<Bytes, WriteFault>
+    requires { api_at header.now.key header.now.version ≡ Some (api_of request.now) }
+    ensures { GivesRequest header.now request.now result }
+{
+    match request {
+        Request::Metadata(body) => write_frame(alloc, header, body),
+    }
+}

@@ -1,0 +1,11 @@
+-- The texts of a message that stand behind a length of two bytes, STRING and NULLABLE_STRING.
+use Rattle.std.specs.Prelude.{ℕ, List, [], ◌∷◌, length, Bool, nat_le, Option, Some, None}
+
+-- such a length tells no more
+abbrev pub is_short : List ℕ → Bool
+is_short text = nat_le (length text) 32767
+
+-- the text of a NULLABLE_STRING, if it has one
+abbrev pub text_of : Option (List ℕ) → List (List ℕ)
+text_of None = []
+text_of (Some text) = text ∷ []

@@ -1,0 +1,33 @@
+//! Which records a reader may see.
+
+use std::alloc::Global;
+use wire_types::{Cursor, Malformed, ReadFault, Wire, WriteFault, room_behind, write_i8};
+
+/// How far a read goes into transactions that may yet be aborted.
+#[derive(Clone, Copy, Debug, PartialEq, Eq)]
+pub enum Isolation {
+    ReadUncommitted = 0,
+}
+
+impl Wire for Isolation {
+    ghost use Rattle.msg_data.specs.Isolation.{isolation};
+
+    ghost grammar = { isolation };
+
+    #[tactic(auto, unfolding(wire_types::specs::CodedLaws::coded_at, wire_types::specs::CodedLaws::named_or, crate::specs::Isolation::isolation_of))]
+    fn read(_alloc: Global, cursor: &mut Cursor<'_>) -> Result<Isolation, ReadFault> {
+        match cursor.read_i8()? {
+            0 => Ok(Isolation::ReadUncommitted),
+            _ => Err(ReadFault::Malformed(Malformed::Range)),
+        }
+    }
+
+    fn write(&self, out: &mut Vec<u8>) -> Result<(), WriteFault> {
+        write_i8(out, *self as i8)?;
+        Ok(())
+    }
+
+    fn room_left(&self, room: usize) -> Option<usize> {
+        room_behind(1, room)
+    }
+}

@@ -1,0 +1,206 @@
+//! Metadata, version 1: the brokers of the cluster, and topics with their partitions.
+
+use std::alloc::Global;
+use wire_types::{
+    Cursor, ErrorCode, Items, ReadFault, Text, Wire, WriteFault, array_room, nullable_array_room,
+    nullable_room, read_array, read_nullable_array, room_behind, string_room, write_array,
+    write_bool, write_i32, write_nullable, write_nullable_array, write_string,
+};
+
+/// Asks for topics, or for all of them.
+#[derive(Clone, Debug, Drop, PartialEq, Eq)]
+pub struct MetadataRequest {
+    pub topics: Option<Items<Text>>,
+}
+
+/// A broker of the cluster.
+#[derive(Clone, Debug, Drop, PartialEq, Eq)]
+pub struct BrokerInfo {
+    pub node: i32,
+    pub host: Text,
+    pub port: i32,
+    pub rack: Option<Text>,
+}
+
+/// A partition, its leader, and the nodes that keep it.
+#[derive(Clone, Debug, Drop, PartialEq, Eq)]
+pub struct PartitionInfo {
+    pub error: ErrorCode,
+    pub index: i32,
+    pub leader: i32,
+    pub replicas: Items<i32>,
+    pub in_sync: Items<i32>,
+}
+
+/// A topic with its partitions, or why it has none.
+#[derive(Clone, Debug, Drop, PartialEq, Eq)]
+pub struct TopicInfo {
+    pub error: ErrorCode,
+    pub name: Text,
+    pub internal: bool,
+    pub partitions: Items<PartitionInfo>,
+}
+
+/// What the cluster consists of.
+#[derive(Clone, Debug, Drop, PartialEq, Eq)]
+pub struct MetadataReply {
+    pub brokers: Items<BrokerInfo>,
+    pub controller: i32,
+    pub topics: Items<TopicInfo>,
+}
+
+impl Wire for MetadataRequest {
+    ghost use Rattle.msg_data.specs.Metadata.{metadata_request};
+
+    ghost grammar = { metadata_request };
+
+    fn read(alloc: Global, cursor: &mut Cursor<'_>) -> Result<MetadataRequest, ReadFault> {
+        let topics = read_nullable_array(alloc, cursor)?;
+        Ok(MetadataRequest { topics })
+    }
+
+    fn write(&self, out: &mut Vec<u8>) -> Result<(), WriteFault> {
+        write_nullable_array(out, &self.topics)?;
+        Ok(())
+    }
+
+    fn room_left(&self, room: usize) -> Option<usize> {
+        nullable_array_room(&self.topics, room)
+    }
+}
+
+impl Wire for BrokerInfo {
+    ghost use Rattle.msg_data.specs.Metadata.{broker};
+
+    ghost grammar = { broker };
+
+    fn read(alloc: Global, cursor: &mut Cursor<'_>) -> Result<BrokerInfo, ReadFault> {
+        let node = cursor.read_i32()?;
+        let host = cursor.read_string(alloc)?;
+        let port = cursor.read_i32()?;
+        let rack = cursor.read_nullable(alloc)?;
+        Ok(BrokerInfo {
+            node,
+            host,
+            port,
+            rack,
+        })
+    }
+
+    fn write(&self, out: &mut Vec<u8>) -> Result<(), WriteFault> {
+        write_i32(out, self.node)?;
+        write_string(out, &self.host)?;
+        write_i32(out, self.port)?;
+        write_nullable(out, &self.rack)?;
+        Ok(())
+    }
+
+    fn room_left(&self, room: usize) -> Option<usize> {
+        let room = room_behind(4, room)?;
+        let room = string_room(&self.host, room)?;
+        let room = room_behind(4, room)?;
+        nullable_room(&self.rack, room)
+    }
+}
+
+impl Wire for PartitionInfo {
+    ghost use Rattle.msg_data.specs.Metadata.{partition};
+
+    ghost grammar = { partition };
+
+    fn read(alloc: Global, cursor: &mut Cursor<'_>) -> Result<PartitionInfo, ReadFault> {
+        let error = ErrorCode::read(alloc, cursor)?;
+        let index = cursor.read_i32()?;
+        let leader = cursor.read_i32()?;
+        let replicas = read_array(alloc, cursor)?;
+        let in_sync = read_array(alloc, cursor)?;
+        Ok(PartitionInfo {
+            error,
+            index,
+            leader,
+            replicas,
+            in_sync,
+        })
+    }
+
+    fn write(&self, out: &mut Vec<u8>) -> Result<(), WriteFault> {
+        self.error.write(out)?;
+        write_i32(out, self.index)?;
+        write_i32(out, self.leader)?;
+        write_array(out, &self.replicas)?;
+        write_array(out, &self.in_sync)?;
+        Ok(())
+    }
+
+    fn room_left(&self, room: usize) -> Option<usize> {
+        let room = self.error.room_left(room)?;
+        let room = room_behind(4, room)?;
+        let room = room_behind(4, room)?;
+        let room = array_room(&self.replicas, room)?;
+        array_room(&self.in_sync, room)
+    }
+}
+
+impl Wire for TopicInfo {
+    ghost use Rattle.msg_data.specs.Metadata.{topic};
+
+    ghost grammar = { topic };
+
+    fn read(alloc: Global, cursor: &mut Cursor<'_>) -> Result<TopicInfo, ReadFault> {
+        let error = ErrorCode::read(alloc, cursor)?;
+        let name = cursor.read_string(alloc)?;
+        let internal = cursor.read_bool()?;
+        let partitions = read_array(alloc, cursor)?;
+        Ok(TopicInfo {
+            error,
+            name,
+            internal,
+            partitions,
+        })
+    }
+
+    fn write(&self, out: &mut Vec<u8>) -> Result<(), WriteFault> {
+        self.error.write(out)?;
+        write_string(out, &self.name)?;
+        write_bool(out, self.internal)?;
+        write_array(out, &self.partitions)?;
+        Ok(())
+    }
+
+    fn room_left(&self, room: usize) -> Option<usize> {
+        let room = self.error.room_left(room)?;
+        let room = string_room(&self.name, room)?;
+        let room = room_behind(1, room)?;
+        array_room(&self.partitions, room)
+    }
+}
+
+impl Wire for MetadataReply {
+    ghost use Rattle.msg_data.specs.Metadata.{metadata_reply};
+
+    ghost grammar = { metadata_reply };
+
+    fn read(alloc: Global, cursor: &mut Cursor<'_>) -> Result<MetadataReply, ReadFault> {
+        let brokers = read_array(alloc, cursor)?;
+        let controller = cursor.read_i32()?;
+        let topics = read_array(alloc, cursor)?;
+        Ok(MetadataReply {
+            brokers,
+            controller,
+            topics,
+        })
+    }
+
+    fn write(&self, out: &mut Vec<u8>) -> Result<(), WriteFault> {
+        write_array(out, &self.brokers)?;
+        write_i32(out, self.controller)?;
+        write_array(out, &self.topics)?;
+        Ok(())
+    }
+
+    fn room_left(&self, room: usize) -> Option<usize> {
+        let room = array_room(&self.brokers, room)?;
+        let room = room_behind(4, room)?;
+        array_room(&self.topics, room)
+    }
+}

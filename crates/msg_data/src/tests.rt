@@ -1,0 +1,109 @@
+//! Bodies as they travel.
+
+use crate::isolation::Isolation;
+use crate::list_offsets::{ListOffsetsReply, ListOffsetsRequest};
+use crate::metadata::{MetadataReply, TopicInfo};
+use crate::produce::ProduceRequest;
+use std::alloc::Global;
+use std::test::Fail;
+use wire_types::{Cursor, ErrorCode, Malformed, ReadFault, Wire, WriteFault};
+
+/// A value that fills the bytes, if they are one.
+fn read<T: Wire>(alloc: Global, bytes: &[u8]) -> Result<T, ReadFault> {
+    let mut cursor = Cursor::new(bytes);
+    let value = T::read(alloc, &mut cursor)?;
+    if cursor.len() != 0 {
+        return Err(ReadFault::Malformed(Malformed::Rest));
+    }
+    Ok(value)
+}
+
+fn written<T: Wire>(alloc: Global, value: &T) -> Result<Vec<u8>, WriteFault> {
+    let mut out = Vec::new(alloc);
+    value.write(&mut out)?;
+    Ok(out)
+}
+
+#[test]
+fn metadata_of_one_topic(rt: HostRuntime) -> Result<(), Fail> {
+    let bytes =
+        b"\x00\x00\x00\x01\x00\x00\x00\x01\x00\x01h\x00\x00\x23\x84\xff\xff\x00\x00\x00\x01\x00\x00\x00\x01\x00\x00\x00\x01b\x00\x00\x00\x00\x01\x00\x00\x00\x00\x00\x00\x00\x00\x00\x01\x00\x00\x00\x01\x00\x00\x00\x01\x00\x00\x00\x01\x00\x00\x00\x01";
+    let reply: MetadataReply = read(rt.alloc(), bytes)?;
+    assert_eq!(rt; reply.controller, 1);
+    for broker in reply.brokers.iter() {
+        assert_eq!(rt;
+            (broker.node, broker.host.as_str(), broker.port),
+            (1, "h", 9092)
+        );
+        assert_eq!(rt; broker.rack, None);
+    }
+    for topic in reply.topics.iter() {
+        assert_eq!(rt; (topic.error, topic.name.as_str()), (ErrorCode::None, "b"));
+        assert_eq!(rt; topic.partitions.len(), 1);
+    }
+    assert_eq!(rt; (reply.brokers.len(), reply.topics.len()), (1, 1));
+    assert_eq!(rt; written(rt.alloc(), &reply)?.as_slice(), bytes.as_slice());
+    Ok(())
+}
+
+#[test]
+fn a_refused_topic(rt: HostRuntime) -> Result<(), Fail> {
+    let bytes = b"\x00\x1d\x00\x01a\x00\x00\x00\x00\x00";
+    let topic: TopicInfo = read(rt.alloc(), bytes)?;
+    assert_eq!(rt; topic.error, ErrorCode::TopicAuthorizationFailed);
+    assert_eq!(rt; written(rt.alloc(), &topic)?.as_slice(), bytes.as_slice());
+    Ok(())
+}
+
+#[test]
+fn code_numbers(rt: HostRuntime) {
+    assert_eq!(rt; ErrorCode::None.number(), 0);
+    assert_eq!(rt; ErrorCode::ProducerFenced.number(), 90);
+    assert_eq!(rt;
+        ErrorCode::of_number(3),
+        Some(ErrorCode::UnknownTopicOrPartition)
+    );
+    assert_eq!(rt; ErrorCode::of_number(4), None);
+    assert_eq!(rt; ErrorCode::of_number(-1), None);
+}
+
+#[test]
+fn the_end_of_a_partition(rt: HostRuntime) -> Result<(), Fail> {
+    let asked =
+        b"\xff\xff\xff\xff\x00\x00\x00\x00\x01\x00\x01b\x00\x00\x00\x01\x00\x00\x00\x00\xff\xff\xff\xff\xff\xff\xff\xff";
+    let request: ListOffsetsRequest = read(rt.alloc(), asked)?;
+    assert_eq!(rt;
+        (request.replica, request.isolation),
+        (-1, Isolation::ReadUncommitted)
+    );
+    assert_eq!(rt; written(rt.alloc(), &request)?.as_slice(), asked.as_slice());
+    let answered =
+        b"\x00\x00\x00\x00\x00\x00\x00\x01\x00\x01b\x00\x00\x00\x01\x00\x00\x00\x00\x00\x00\xff\xff\xff\xff\xff\xff\xff\xff\x00\x00\x00\x00\x00\x00\x00\x00";
+    let reply: ListOffsetsReply = read(rt.alloc(), answered)?;
+    assert_eq!(rt;
+        written(rt.alloc(), &reply)?.as_slice(),
+        answered.as_slice()
+    );
+    Ok(())
+}
+
+#[test]
+fn another_isolation(rt: HostRuntime) {
+    let refused = Err(ReadFault::Malformed(Malformed::Range));
+    assert_eq!(rt; read::<Isolation>(rt.alloc(), b"\x01"), refused);
+    assert_eq!(rt; read::<Isolation>(rt.alloc(), b"\x02"), refused);
+    assert_eq!(rt; read::<Isolation>(rt.alloc(), b"\xff"), refused);
+}
+
+#[test]
+fn no_batches(rt: HostRuntime) -> Result<(), Fail> {
+    let bytes = b"\xff\xff\x00\x01\x00\x00\x00\x00\x00\x00\x00\x00";
+    let request: ProduceRequest = read(rt.alloc(), bytes)?;
+    assert_eq!(rt;
+        (request.acks, request.timeout, request.topics.len()),
+        (1, 0, 0)
+    );
+    assert_eq!(rt; request.transactional_id, None);
+    assert_eq!(rt; written(rt.alloc(), &request)?.as_slice(), bytes.as_slice());
+    Ok(())
+}

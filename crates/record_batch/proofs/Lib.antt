@@ -1,0 +1,13 @@
+pub mod Bits
+pub mod Remainders
+pub mod Chunks
+pub mod RecordLoop
+pub mod RecordLaws
+pub mod HeaderLaws
+pub mod Checked
+pub mod Faultless
+pub mod Offsets
+pub mod Kept
+pub mod Moved
+pub mod Marked
+pub mod Lawful

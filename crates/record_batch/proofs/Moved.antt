@@ -1,0 +1,183 @@
+-- A batch at another offset is one.
+use Rattle.std.proofs.Common.{◌≡◌, ℕ, ℤ, pos, ◌+◌, ◌-◌, ◌≤◌, List, [], ◌++◌, length, take, drop, Option, Some, None, refl, sym, ap, subst, ◌∙◌, append_assoc, arith, lit<}
+use Rattle.std.specs.Prelude.{slice_range, FitsSigned}
+use Rattle.std.specs.Int.{w32, w64, cast_unsigned}
+use Rattle.std.proofs.lemmas.List.{take_at, drop_at, length-append, drop-drop}
+use Rattle.wire_types.specs.NumberLaws.{wide32, wide64, int-canonical}
+use Rattle.wire_types.specs.Spelling.{int_written}
+use Rattle.wire_types.specs.Schema.{int32, int64}
+use Rattle.record_batch.specs.declared.header.BatchHeader.{BatchHeader}
+use Rattle.record_batch.specs.declared.outcome.Outcome.{Outcome}
+use Rattle.record_batch.specs.declared.record.Rec.{Rec}
+use Rattle.record_batch.specs.Crc.{crc32c}
+use Rattle.record_batch.specs.BatchHeader.{header_at, count_of}
+use Rattle.record_batch.specs.Record.{all_records}
+use Rattle.record_batch.specs.Batch.{BatchData, IsBatch, IsMarked, batch_of, found_or_none, renumbered, written_at}
+use Rattle.record_batch.proofs.Checked.{rest_is}
+
+-- the bytes of a batch, parted where another offset and leader epoch are put
+pub record Parts (bytes : List ℕ) : Type 0 where
+  pub offset : List ℕ
+  pub size : List ℕ
+  pub epoch : List ℕ
+  pub rest : List ℕ
+  pub split : bytes ≡ offset ++ (size ++ (epoch ++ rest))
+  pub eight : length offset ≡ 8
+  pub four : length size ≡ 4
+  pub four_more : length epoch ≡ 4
+
+abbrev pub parts_of : (b : BatchData) → IsBatch b → Parts b.bytes
+parts_of b is =
+    let h = is.headed in
+    let t = h.4 in
+    let u = t.4 in
+    let front : is.front ≡ h.0 ++ (t.0 ++ (u.0 ++ u.1)) = h.2 ∙ ap (λ (x : List ℕ). h.0 ++ x) (t.2 ∙ ap (λ (x : List ℕ). t.0 ++ x) u.2) in
+    let regrouped : (h.0 ++ (t.0 ++ (u.0 ++ u.1))) ++ is.body ≡ h.0 ++ (t.0 ++ (u.0 ++ (u.1 ++ is.body))) = simp append_assoc in
+    record {
+      offset = h.0;
+      size = t.0;
+      epoch = u.0;
+      rest = u.1 ++ is.body;
+      split = is.parts ∙ ap (λ (x : List ℕ). x ++ is.body) front ∙ regrouped;
+      eight = h.3.0;
+      four = t.3.0;
+      four_more = u.3.0;
+    }
+
+pub middle_is : (bytes : List ℕ) (p : Parts bytes) → slice_range bytes 8 12 ≡ p.size
+middle_is bytes p = ap (λ (x : List ℕ). take 4 (drop 8 x)) p.split ∙ ap (take 4) (drop_at p.offset (p.size ++ (p.epoch ++ p.rest)) 8 p.eight) ∙ take_at p.size (p.epoch ++ p.rest) 4 p.four
+
+pub rest_of : (a t u v : List ℕ) → length a ≡ 8 → length t ≡ 4 → length u ≡ 4 → drop 16 (a ++ (t ++ (u ++ v))) ≡ v
+rest_of a t u v eight four more =
+    let head : List ℕ = a ++ (t ++ u) in
+    let regrouped : a ++ (t ++ (u ++ v)) ≡ head ++ v = simp append_assoc in
+    let sixteen : length head ≡ 16 = omega (arith, eight, four, more, length-append a (t ++ u), length-append t u) in
+    ap (drop 16) regrouped ∙ drop_at head v 16 sixteen
+
+pub renumbered-is : (offset : ℤ) (bytes : List ℕ) (p : Parts bytes) → renumbered offset bytes ≡ int64.written offset ++ (p.size ++ (int32.written (pos 0) ++ p.rest))
+renumbered-is offset bytes p =
+    let rest : drop 16 bytes ≡ p.rest = ap (drop 16) p.split ∙ rest_of p.offset p.size p.epoch p.rest p.eight p.four p.four_more in
+    rw (middle_is bytes p, rest) refl
+
+pub eight_bytes : (z : ℤ) → length (int64.written z) ≡ 8
+unfolding int_written
+eight_bytes z = wide64.len (cast_unsigned w64 z)
+
+pub four_bytes : (z : ℤ) → length (int32.written z) ≡ 4
+unfolding int_written
+four_bytes z = wide32.len (cast_unsigned w32 z)
+
+pub same_rest : (offset : ℤ) (bytes : List ℕ) (p : Parts bytes) → drop 16 (renumbered offset bytes) ≡ drop 16 bytes
+same_rest offset bytes p =
+    ap (drop 16) (renumbered-is offset bytes p)
+    ∙ rest_of (int64.written offset) p.size (int32.written (pos 0)) p.rest (eight_bytes offset) p.four (four_bytes (pos 0))
+    ∙ sym (ap (drop 16) p.split ∙ rest_of p.offset p.size p.epoch p.rest p.eight p.four p.four_more)
+
+pub same_behind : (n : ℕ) (offset : ℤ) (bytes : List ℕ) (p : Parts bytes) → 16 ≤ n → drop n (renumbered offset bytes) ≡ drop n bytes
+same_behind n offset bytes p le =
+    let apart : 16 + (n - 16) ≡ n = omega arith in
+    let split : (zs : List ℕ) → drop n zs ≡ drop (n - 16) (drop 16 zs) = λ zs. ap (λ (k : ℕ). drop k zs) (sym apart) ∙ sym (drop-drop (n - 16) 16 zs) in
+    split (renumbered offset bytes) ∙ ap (drop (n - 16)) (same_rest offset bytes p) ∙ sym (split bytes)
+
+pub same_length : (offset : ℤ) (bytes : List ℕ) (p : Parts bytes) → length (renumbered offset bytes) ≡ length bytes
+same_length offset bytes p =
+    let new : length (renumbered offset bytes) ≡ length (int64.written offset ++ (p.size ++ (int32.written (pos 0) ++ p.rest))) = ap length (renumbered-is offset bytes p) in
+    let old : length bytes ≡ length (p.offset ++ (p.size ++ (p.epoch ++ p.rest))) = ap length p.split in
+    let a : length (int64.written offset) ≡ 8 = eight_bytes offset in
+    let b : length (int32.written (pos 0)) ≡ 4 = four_bytes (pos 0) in
+    omega (
+      arith,
+      new,
+      old,
+      a,
+      b,
+      p.eight,
+      p.four,
+      p.four_more,
+      length-append (int64.written offset) (p.size ++ (int32.written (pos 0) ++ p.rest)),
+      length-append p.size (int32.written (pos 0) ++ p.rest),
+      length-append (int32.written (pos 0)) p.rest,
+      length-append p.offset (p.size ++ (p.epoch ++ p.rest)),
+      length-append p.size (p.epoch ++ p.rest),
+      length-append p.epoch p.rest,
+    )
+
+pub same_view : (offset : ℤ) (h : BatchHeader) (m : Option Outcome) (bytes : List ℕ) → IsBatch (batch_of h m bytes)
+    → batch_of (header_at offset h) m (renumbered offset bytes) ≡ written_at offset (batch_of h m bytes)
+same_view offset h m bytes is =
+    let body : drop 61 (renumbered offset bytes) ≡ drop 61 bytes = same_behind 61 offset bytes (parts_of (batch_of h m bytes) is) (omega arith) in
+    ap (λ (t : List ℕ). record { header = header_at offset h; records = found_or_none (all_records (count_of h.record_count) t); marker = m; bytes = renumbered offset bytes }) body
+
+-- the same parts of the bytes at another offset
+abbrev pub moved_parts : (offset : ℤ) (b : BatchData) → IsBatch b → Parts (renumbered offset b.bytes)
+moved_parts offset b is =
+    let p = parts_of b is in
+    record {
+      offset = int64.written offset;
+      size = p.size;
+      epoch = int32.written (pos 0);
+      rest = p.rest;
+      split = renumbered-is offset b.bytes p;
+      eight = eight_bytes offset;
+      four = p.four;
+      four_more = four_bytes (pos 0);
+    }
+
+marked_at : (m : Option Outcome) (offset : ℤ) (h : BatchHeader) (rs : List Rec) → IsMarked m h rs → IsMarked m (header_at offset h) rs
+marked_at None offset h rs is = is
+marked_at (Some outcome) offset h rs is = is
+
+pub written_at-is : (offset : ℤ) (b : BatchData) → FitsSigned w64 offset → IsBatch b → IsBatch (written_at offset b)
+written_at-is offset b fits is =
+    let h = is.headed in
+    let t = h.4 in
+    let u = t.4 in
+    let p = parts_of b is in
+    let zero_fits : FitsSigned w32 (pos 0) = record { sfits = lit< tt } in
+    let front : List ℕ = int64.written offset ++ (t.0 ++ (int32.written (pos 0) ++ u.1)) in
+    let regrouped : int64.written offset ++ (t.0 ++ (int32.written (pos 0) ++ (u.1 ++ is.body))) ≡ front ++ is.body = simp append_assoc in
+    let same : length (renumbered offset b.bytes) ≡ length b.bytes = same_length offset b.bytes p in
+    let covered : drop 21 (renumbered offset b.bytes) ≡ drop 21 b.bytes = same_behind 21 offset b.bytes p (omega arith) in
+    record {
+      front = front;
+      body = is.body;
+      parts = renumbered-is offset b.bytes p ∙ regrouped;
+      headed = (int64.written offset, _, refl, int-canonical w64 wide64 offset fits, (t.0, _, refl, t.3, (int32.written (pos 0), u.1, refl, int-canonical w32 wide32 (pos 0) zero_fits, u.4)));
+      recorded = is.recorded;
+      some = is.some;
+      counted = is.counted;
+      numbered = is.numbered;
+      ends = is.ends ∙ ap (λ (n : ℕ). pos (n - 12)) (sym same);
+      summed = is.summed ∙ ap crc32c (sym covered);
+      format = is.format;
+      uncompressed = is.uncompressed;
+      created = is.created;
+      marked = marked_at b.marker offset b.header b.records is.marked;
+    }
+
+-- ---- what the code makes
+
+pub gathered : (offset o : ℤ) (bytes none first second third fourth new : List ℕ) → o ≡ offset → none ≡ [] → first ≡ none ++ int64.written o → second ≡ first ++ slice_range bytes 8 12
+    → third ≡ second ++ int32.written (pos 0) → fourth ≡ third ++ slice_range bytes 16 (length bytes) → new ≡ fourth → new ≡ renumbered offset bytes
+gathered offset o bytes none first second third fourth new same e0 e1 e2 e3 e4 e5 =
+    rw (e5, e4, e3, e2, e1, e0, same, rest_is 16 bytes) (simp append_assoc)
+
+-- the values of a call that moves a batch
+pub record IsMoved (offset o : ℤ) (h new : BatchHeader) (bytes seen moved : List ℕ) : Type 0 where
+  pub fits : FitsSigned w64 offset
+  pub same : o ≡ offset
+  pub header : new ≡ header_at o h
+  pub over : seen ≡ bytes
+  pub put : moved ≡ renumbered o seen
+
+pub moved_view : (offset o : ℤ) (h new : BatchHeader) (m : Option Outcome) (bytes seen moved : List ℕ) → IsMoved offset o h new bytes seen moved → IsBatch (batch_of h m bytes)
+    → batch_of new m moved ≡ written_at offset (batch_of h m bytes)
+moved_view offset o h new m bytes seen moved is batch =
+    let header : new ≡ header_at offset h = is.header ∙ ap (λ (z : ℤ). header_at z h) is.same in
+    let put : moved ≡ renumbered offset bytes = is.put ∙ ap (renumbered o) is.over ∙ ap (λ (z : ℤ). renumbered z bytes) is.same in
+    ap (λ (x : BatchHeader). batch_of x m moved) header ∙ ap (batch_of (header_at offset h) m) put ∙ same_view offset h m bytes batch
+
+pub moved_is : (offset o : ℤ) (h new : BatchHeader) (m : Option Outcome) (bytes seen moved : List ℕ) → IsMoved offset o h new bytes seen moved → IsBatch (batch_of h m bytes)
+    → IsBatch (batch_of new m moved)
+moved_is offset o h new m bytes seen moved is batch =
+    subst IsBatch (sym (moved_view offset o h new m bytes seen moved is batch)) (written_at-is offset (batch_of h m bytes) is.fits batch)

@@ -1,0 +1,10 @@
+pub mod Crc
+pub mod CombinatorLaws
+pub mod Combinators
+pub mod Record
+pub mod BatchHeader
+pub mod Fault
+pub mod Batch
+pub mod Faults
+pub mod Control
+pub mod Laws

@@ -1,0 +1,164 @@
+//! Batches: bytes that were found to be one, with their header read once.
+
+ghost use Rattle.std.specs.Prelude.{◌≡◌, ◌↔◌, IsTrue, ◌+ℤ◌, ◌≤◌, pos, length, IfOk, None};
+ghost use Rattle.record_batch.specs.Batch.{BatchData, IsBatch, HasOffsets, next_offset, placed, renumbered, written_at};
+ghost use Rattle.record_batch.specs.Control.{control};
+ghost use Rattle.record_batch.specs.Faults.{first_fault, fault_in};
+
+use crate::check::check;
+use crate::control::control_batch;
+use crate::fault::BatchFault;
+use crate::header::BatchHeader;
+use crate::outcome::Outcome;
+use crate::record::{RecordAt, read_records};
+use bytes::Bytes;
+use std::alloc::{AllocError, Global};
+use std::marker::Model;
+use wire_types::{Cursor, Items, ReadFault, write_i32, write_i64};
+
+/// A batch of records, or a control batch; seen as its header, its records, its outcome and its
+/// bytes.
+#[derive(Drop)]
+pub struct Batch {
+    header: BatchHeader,
+    marker: Option<Outcome>,
+    bytes: Bytes,
+}
+
+impl Model for Batch {
+    ghost use Rattle.record_batch.specs.Batch.{BatchData, IsBatch, batch_of};
+
+    ghost Value = { BatchData };
+
+    ghost view = { λ b. batch_of b.header b.marker b.bytes };
+
+    ghost invariant = { λ b. IsBatch (batch_of b.header b.marker b.bytes) };
+}
+
+impl Batch {
+    /// The batch that a producer sent as these bytes, of at most so many, or the first fault. It
+    /// copies nothing and takes no memory.
+    pub fn check(bytes: Bytes, max: u32) -> Result<Batch, BatchFault>
+        ensures fault { fault_in result ≡ first_fault max bytes }
+        ensures batch { IfOk result (λ b. (b.bytes ≡ bytes) × (b.marker ≡ None) × IsBatch b) }
+    {
+        let header = check(bytes.as_slice(), max)?;
+        Ok(Batch {
+            header,
+            marker: None,
+            bytes,
+        })
+    }
+
+    /// The control batch that marks how a producer's transaction ended.
+    pub fn control(
+        alloc: Global,
+        outcome: Outcome,
+        producer: i64,
+        epoch: i16,
+        moment: i64,
+    ) -> Result<Batch, AllocError>
+        ensures value { IfOk result (λ b. b ≡ control outcome producer epoch moment) }
+        ensures batch { IfOk result IsBatch }
+    {
+        let (header, text) = control_batch(alloc, outcome, producer, epoch, moment)?;
+        let bytes = Bytes::from_vec(text)?;
+        Ok(Batch {
+            header,
+            marker: Some(outcome),
+            bytes,
+        })
+    }
+
+    /// The batch's bytes.
+    pub fn bytes(&self) -> &Bytes
+        ensures bytes { result.now ≡ self.now.bytes }
+        ensures batch { IsBatch self.now }
+    {
+        &self.bytes
+    }
+
+    /// The header, as it was read.
+    pub fn header(&self) -> &BatchHeader
+        ensures { result.now ≡ self.now.header }
+    {
+        &self.header
+    }
+
+    /// The outcome that a control batch marks.
+    pub fn marker(&self) -> Option<Outcome>
+        ensures { result ≡ self.now.marker }
+    {
+        self.marker
+    }
+
+    /// One more owner of the same bytes; it is refused only where the count of owners is full.
+    pub fn share(&self) -> Result<Batch, AllocError>
+        ensures { IfOk result (λ b. b ≡ self.now) }
+    {
+        Ok(Batch {
+            header: self.header,
+            marker: self.marker,
+            bytes: self.bytes.clone()?,
+        })
+    }
+
+    /// Whether each record's offset, and the one behind them, is a number of 64 bits.
+    pub fn has_offsets(&self) -> bool
+        ensures { IsTrue result ↔ HasOffsets self.now }
+    {
+        self.header.has_offsets()
+    }
+
+    /// The records with their offsets, which share the batch's bytes.
+    pub fn recs(&self, alloc: Global) -> Result<Items<RecordAt>, AllocError>
+        requires { HasOffsets self.now }
+        ensures { IfOk result (λ recs.
+            recs ≡ placed self.now.header.base_offset 0 self.now.records) }
+    {
+        let body = self.bytes.slice(61..self.bytes.len())?;
+        let mut cursor = Cursor::over(&body);
+        let count = self.header.count();
+        match read_records(alloc, &mut cursor, &self.header, count) {
+            Ok(recs) => Ok(recs),
+            Err(ReadFault::NoMemory) => Err(AllocError),
+            Err(ReadFault::Malformed(_)) => unreachable!(),
+        }
+    }
+
+    /// The offset behind the last record.
+    pub fn next_offset(&self) -> i64
+        requires { HasOffsets self.now }
+        ensures { result ≡ next_offset self.now }
+    {
+        self.header.next_offset()
+    }
+
+    /// The same batch at another offset, with the leader epoch 0. The checksum, which covers
+    /// neither, is still right.
+    pub fn write_at(&self, alloc: Global, offset: i64) -> Result<Batch, AllocError>
+        ensures { IfOk result (λ b. b ≡ written_at offset self.now) }
+    {
+        let bytes = renumbered(alloc, offset, self.bytes.as_slice())?;
+        let header = self.header.at(offset);
+        Ok(Batch {
+            header,
+            marker: self.marker,
+            bytes,
+        })
+    }
+}
+
+/// A batch's bytes with another base offset, and with the leader epoch 0.
+#[tactic(auto, unfolding(wire_types::specs::Spelling::int_written))]
+fn renumbered(alloc: Global, offset: i64, bytes: &[u8]) -> Result<Bytes, AllocError>
+    requires { 61 ≤ length bytes.now }
+    ensures { IfOk result (λ b. b ≡ renumbered offset bytes.now) }
+{
+    let mut out = Vec::with_capacity(alloc, bytes.len())?;
+    write_i64(&mut out, offset)?;
+    out.extend_from_slice(&bytes[8..12])?;
+    write_i32(&mut out, 0)?;
+    out.extend_from_slice(&bytes[16..])?;
+    Ok(Bytes::from_vec(out)?)
+}

@@ -1,0 +1,113 @@
+//! Looking for the first fault of bytes that a producer sent as a batch. It takes no memory.
+
+ghost use Rattle.std.specs.Prelude.{◌≡◌, ◌+◌, ◌≤◌, pos, length, slice_range, drop, Ok, true, IfOk};
+ghost use Rattle.record_batch.specs.BatchHeader.{batch_header};
+ghost use Rattle.record_batch.specs.Batch.{has_producer};
+ghost use Rattle.record_batch.specs.Faults.{end_of, has_length, has_count, has_records, is_valid, data_tests, fault_tests, first_found, first_fault, fault_in};
+
+use crate::crc::crc32c;
+use crate::fault::BatchFault;
+use crate::header::BatchHeader;
+use crate::walk::are_records;
+
+impl BatchHeader {
+    /// Whether the length is that of a batch at the front of so many bytes.
+    fn has_length(&self, total: usize) -> bool
+        ensures { result ≡ has_length total self.now.batch_length }
+    {
+        self.batch_length >= 49 && self.batch_length as usize + 12 <= total
+    }
+
+    /// Where the batch ends.
+    fn end(&self) -> usize
+        ensures { result ≡ end_of self.now.batch_length }
+    {
+        if self.batch_length < 0 {
+            return 0;
+        }
+        self.batch_length as usize + 12
+    }
+
+    fn has_producer(&self) -> bool
+        ensures { result ≡ has_producer self.now }
+    {
+        if self.producer_id < 0 {
+            self.producer_id == -1 && !self.is_transactional()
+        } else {
+            !(self.producer_epoch < 0) && !(self.base_sequence < 0)
+        }
+    }
+
+    fn has_count(&self) -> bool
+        ensures { result ≡ has_count self.now }
+    {
+        0 < self.record_count && self.record_count - 1 == self.last_offset_delta
+    }
+
+    #[tactic(auto, unfolding(crate::specs::Faults::has_records))]
+    fn has_records(&self, body: &[u8]) -> bool
+        ensures { result ≡ has_records self.now body.now }
+    {
+        are_records(body, self.count())
+    }
+
+    /// Whether all the bytes are data of a producer, or of none.
+    #[tactic(auto, unfolding(crate::specs::Faults::is_valid))]
+    fn is_valid(&self, body: &[u8], bytes: &[u8]) -> bool
+        ensures { result ≡ is_valid self.now body.now bytes.now }
+    {
+        self.end() == bytes.len()
+            && !self.is_control()
+            && self.has_count()
+            && self.has_producer()
+            && self.has_records(body)
+    }
+
+    /// Whether a producer may send the batch, its format being right.
+    fn check_data(&self, body: &[u8], bytes: &[u8], max: u32) -> Result<(), BatchFault>
+        ensures { fault_in result ≡ first_found (data_tests max bytes.now self.now body.now) }
+    {
+        if !self.is_valid(body, bytes) {
+            return Err(BatchFault::Invalid);
+        }
+        if self.has_append_time() {
+            return Err(BatchFault::Timestamp);
+        }
+        if bytes.len() > max as usize {
+            return Err(BatchFault::TooLarge);
+        }
+        Ok(())
+    }
+
+    fn check_all(&self, body: &[u8], bytes: &[u8], max: u32) -> Result<(), BatchFault>
+        requires { 61 ≤ length bytes.now }
+        ensures { fault_in result ≡ first_found (fault_tests max bytes.now self.now body.now) }
+    {
+        if !self.has_length(bytes.len()) {
+            return Err(BatchFault::Length);
+        }
+        if self.magic != 2 {
+            return Err(BatchFault::Magic);
+        }
+        if self.crc != crc32c(&bytes[21..self.end()]) {
+            return Err(BatchFault::Crc);
+        }
+        if !self.is_uncompressed() {
+            return Err(BatchFault::Compressed);
+        }
+        self.check_data(body, bytes, max)
+    }
+}
+
+/// The header of the batch that all these bytes are, or their first fault.
+#[tactic(auto, unfolding(crate::specs::Faults::first_fault))]
+pub(crate) fn check(bytes: &[u8], max: u32) -> Result<BatchHeader, BatchFault>
+    ensures fault { fault_in result ≡ first_fault max bytes.now }
+    ensures header { IfOk result (λ h. batch_header.reading bytes.now ≡ Ok (h, drop 61 bytes.now)) }
+{
+    let Some(header) = BatchHeader::first_of(bytes) else {
+        return Err(BatchFault::Length);
+    };
+    header.check_all(&bytes[61..], bytes, max)?;
+    Ok(header)
+}

@@ -1,0 +1,103 @@
+//! Control batches, which mark how a producer's transaction ended.
+
+ghost use Rattle.std.specs.Prelude.{◌≡◌, ◌<◌, ◌^◌, ◌++◌, IfOk, OnOk};
+ghost use Rattle.record_batch.specs.BatchHeader.{batch_header};
+ghost use Rattle.record_batch.specs.Control.{marker_text, control_header, control_text, control};
+
+use crate::crc::crc32c;
+use crate::header::BatchHeader;
+use crate::outcome::Outcome;
+use std::alloc::{AllocError, Global};
+use wire_types::{write_i8, write_i16, write_i32, write_i64, write_u32};
+
+impl BatchHeader {
+    /// The header of a control batch whose checksum is not known yet.
+    fn of_control(producer: i64, epoch: i16, moment: i64) -> BatchHeader
+        ensures { result ≡ control_header producer epoch moment 0 }
+    {
+        BatchHeader {
+            base_offset: 0,
+            batch_length: 66,
+            partition_leader_epoch: 0,
+            magic: 2,
+            crc: 0,
+            attributes: 0x30,
+            last_offset_delta: 0,
+            base_timestamp: moment,
+            max_timestamp: moment,
+            producer_id: producer,
+            producer_epoch: epoch,
+            base_sequence: -1,
+            record_count: 1,
+        }
+    }
+
+    fn with_crc(&self, crc: u32) -> BatchHeader
+        ensures { result ≡ record self.now { crc = crc } }
+    {
+        BatchHeader { crc, ..*self }
+    }
+
+    /// Puts the header's bytes behind what is there.
+    fn write(&self, out: &mut Vec<u8>) -> Result<(), AllocError>
+        ensures { OnOk result (out.new.items ≡ batch_header.put out.old.items self.now) }
+    {
+        write_i64(out, self.base_offset)?;
+        write_i32(out, self.batch_length)?;
+        write_i32(out, self.partition_leader_epoch)?;
+        write_i8(out, self.magic)?;
+        write_u32(out, self.crc)?;
+        write_i16(out, self.attributes)?;
+        write_i32(out, self.last_offset_delta)?;
+        write_i64(out, self.base_timestamp)?;
+        write_i64(out, self.max_timestamp)?;
+        write_i64(out, self.producer_id)?;
+        write_i16(out, self.producer_epoch)?;
+        write_i32(out, self.base_sequence)?;
+        write_i32(out, self.record_count)
+    }
+}
+
+/// The record of a control batch, behind its length.
+const fn marker_text(outcome: Outcome) -> [u8; 17]
+    ensures { result ≡ marker_text outcome }
+{
+    let kind = outcome as u8;
+    [
+        0x20, 0, 0, 0, 0x08, 0, 0, 0, kind, 0x0c, 0, 0, 0, 0, 0, 0, 0,
+    ]
+}
+
+/// A control batch's bytes.
+fn control_text(
+    alloc: Global,
+    outcome: Outcome,
+    header: &BatchHeader,
+) -> Result<Vec<u8>, AllocError>
+    ensures { IfOk result (λ text. text.items ≡ control_text outcome header.now) }
+{
+    let mut out = Vec::with_capacity(alloc, 78)?;
+    header.write(&mut out)?;
+    out.extend_from_slice(&marker_text(outcome))?;
+    Ok(out)
+}
+
+/// The header and the bytes of the control batch that marks how a producer's transaction ended.
+pub(crate) fn control_batch(
+    alloc: Global,
+    outcome: Outcome,
+    producer: i64,
+    epoch: i16,
+    moment: i64,
+) -> Result<(BatchHeader, Vec<u8>), AllocError>
+    ensures header { IfOk result (λ made. made.0 ≡ (control outcome producer epoch moment).header) }
+    ensures sum { IfOk result (λ made. made.0.crc < 2 ^ 32) }
+    ensures text { IfOk result (λ made.
+        made.1.items ≡ (control outcome producer epoch moment).bytes) }
+{
+    let draft = BatchHeader::of_control(producer, epoch, moment);
+    let summed = control_text(alloc, outcome, &draft)?;
+    let header = draft.with_crc(crc32c(&summed[21..]));
+    let text = control_text(alloc, outcome, &header)?;
+    Ok((header, text))
+}

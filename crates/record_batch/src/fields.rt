@@ -1,0 +1,106 @@
+//! A batch's fields, which are read from its bytes once.
+
+ghost use Rattle.std.specs.Prelude.{◌≡◌};
+ghost use Rattle.record_batch.specs.BatchHeader.{is_transactional, is_control};
+
+use crate::batch::Batch;
+use crate::outcome::Outcome;
+
+impl Batch {
+    /// The offset of the first record.
+    pub fn base_offset(&self) -> i64
+        ensures { result ≡ self.now.header.base_offset }
+    {
+        self.header().base_offset
+    }
+
+    /// How many of the batch's bytes follow this field.
+    pub fn batch_length(&self) -> i32
+        ensures { result ≡ self.now.header.batch_length }
+    {
+        self.header().batch_length
+    }
+
+    pub fn partition_leader_epoch(&self) -> i32
+        ensures { result ≡ self.now.header.partition_leader_epoch }
+    {
+        self.header().partition_leader_epoch
+    }
+
+    /// The message format, which is 2.
+    pub fn magic(&self) -> i8
+        ensures { result ≡ self.now.header.magic }
+    {
+        self.header().magic
+    }
+
+    /// The checksum of the bytes from the attributes on.
+    pub fn crc(&self) -> u32
+        ensures { result ≡ self.now.header.crc }
+    {
+        self.header().crc
+    }
+
+    pub fn attributes(&self) -> i16
+        ensures { result ≡ self.now.header.attributes }
+    {
+        self.header().attributes
+    }
+
+    /// How far the last record's offset lies behind the first one's.
+    pub fn last_offset_delta(&self) -> i32
+        ensures { result ≡ self.now.header.last_offset_delta }
+    {
+        self.header().last_offset_delta
+    }
+
+    pub fn base_timestamp(&self) -> i64
+        ensures { result ≡ self.now.header.base_timestamp }
+    {
+        self.header().base_timestamp
+    }
+
+    pub fn max_timestamp(&self) -> i64
+        ensures { result ≡ self.now.header.max_timestamp }
+    {
+        self.header().max_timestamp
+    }
+
+    /// The producer, or -1 where there is none.
+    pub fn producer_id(&self) -> i64
+        ensures { result ≡ self.now.header.producer_id }
+    {
+        self.header().producer_id
+    }
+
+    pub fn producer_epoch(&self) -> i16
+        ensures { result ≡ self.now.header.producer_epoch }
+    {
+        self.header().producer_epoch
+    }
+
+    /// The producer's number of the first record.
+    pub fn base_sequence(&self) -> i32
+        ensures { result ≡ self.now.header.base_sequence }
+    {
+        self.header().base_sequence
+    }
+
+    pub fn record_count(&self) -> i32
+        ensures { result ≡ self.now.header.record_count }
+    {
+        self.header().record_count
+    }
+
+    pub fn is_transactional(&self) -> bool
+        ensures { result ≡ is_transactional self.now.header }
+    {
+        self.header().is_transactional()
+    }
+
+    pub fn is_control(&self) -> bool
+        ensures { result ≡ is_control self.now.header }
+    {
+        self.header().is_control()
+    }
+}

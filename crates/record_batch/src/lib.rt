@@ -1,0 +1,27 @@
+//! Record batches of Kafka's message format 2, and their checksum.
+#![tactic(auto)]
+
+mod batch;
+mod check;
+mod control;
+mod crc;
+mod fault;
+mod fields;
+mod header;
+mod laws;
+mod outcome;
+mod record;
+mod table;
+#[cfg(test)]
+mod tests;
+mod walk;
+
+pub use batch::Batch;
+pub use crc::crc32c;
+pub use fault::BatchFault;
+pub use header::BatchHeader;
+pub use laws::{
+    faultless_is_batch, last_offset_stays, offset_alone_changes, one_batch, same_faults,
+};
+pub use outcome::Outcome;
+pub use record::{Header, Rec, RecordAt};

@@ -1,0 +1,147 @@
+//! Records: how they are read, and how they are walked over without keeping anything.
+
+ghost use Rattle.std.specs.Prelude.{◌≡◌, ◌+ℤ◌, pos, FitsSigned};
+ghost use Rattle.std.specs.Int.{w64};
+ghost use Rattle.std.specs.Ordering.{int_eq};
+ghost use Rattle.wire_types.specs.Reading.{Reads, Takes};
+ghost use Rattle.record_batch.specs.Record.{record_head, record_parts, record_at, records_at};
+ghost use Rattle.record_batch.specs.Batch.{placing, record_at_place};
+
+use crate::header::BatchHeader;
+use bytes::Bytes;
+use std::alloc::Global;
+use wire_types::{
+    Cursor, Items, Malformed, ReadFault, Wire, WriteFault, read_varint_array, varint_bytes_room,
+    varint_nullable_bytes_room, write_varint_bytes, write_varint_nullable_bytes,
+};
+
+/// A key and a value beside a record. Keys are kept as bytes and need not be text.
+#[derive(Clone, Debug, Drop, PartialEq, Eq)]
+pub struct Header {
+    pub key: Bytes,
+    pub value: Option<Bytes>,
+}
+
+/// A record, whose parts share its batch's bytes.
+#[derive(Clone, Debug, Drop, PartialEq, Eq)]
+pub struct Rec {
+    pub timestamp_delta: i64,
+    pub key: Option<Bytes>,
+    pub value: Option<Bytes>,
+    pub headers: Items<Header>,
+}
+
+/// A record and its offset.
+#[derive(Clone, Debug, Drop, PartialEq, Eq)]
+pub struct RecordAt {
+    pub offset: i64,
+    pub rec: Rec,
+}
+
+impl Wire for Header {
+    ghost use Rattle.record_batch.specs.Record.{header};
+
+    ghost grammar = { header };
+
+    fn read(alloc: Global, cursor: &mut Cursor<'_>) -> Result<Header, ReadFault> {
+        let key = cursor.read_varint_bytes(alloc)?;
+        let value = cursor.read_varint_nullable_bytes(alloc)?;
+        Ok(Header { key, value })
+    }
+
+    fn write(&self, out: &mut Vec<u8>) -> Result<(), WriteFault> {
+        write_varint_bytes(out, &self.key)?;
+        write_varint_nullable_bytes(out, &self.value)?;
+        Ok(())
+    }
+
+    fn room_left(&self, room: usize) -> Option<usize> {
+        let room = varint_bytes_room(&self.key, room)?;
+        varint_nullable_bytes_room(&self.value, room)
+    }
+}
+
+/// Whether an offset delta is a record's place.
+fn is_place(delta: i32, place: u32) -> bool
+    ensures { result ≡ int_eq delta (pos place) }
+{
+    i64::from(delta) == i64::from(place)
+}
+
+/// What stands before a record's key: its timestamp's delta.
+#[tactic(auto, unfolding(crate::specs::CombinatorLaws::fixed_at))]
+pub(crate) fn read_head(cursor: &mut Cursor<'_>, place: u32) -> Result<i64, Malformed>
+    ensures { Takes ((record_head place).reading cursor.old) result cursor.new }
+{
+    cursor.read_i8()?;
+    let timestamp_delta = cursor.read_varlong()?;
+    let offset_delta = cursor.read_varint()?;
+    if !is_place(offset_delta, place) {
+        return Err(Malformed::Range);
+    }
+    Ok(timestamp_delta)
+}
+
+/// What follows a record's length.
+fn read_parts(alloc: Global, cursor: &mut Cursor<'_>, place: u32) -> Result<Rec, ReadFault>
+    ensures { Reads ((record_parts place).reading cursor.old) result cursor.new }
+{
+    let timestamp_delta = read_head(cursor, place)?;
+    let key = cursor.read_varint_nullable_bytes(alloc)?;
+    let value = cursor.read_varint_nullable_bytes(alloc)?;
+    let headers = read_varint_array(alloc, cursor)?;
+    Ok(Rec {
+        timestamp_delta,
+        key,
+        value,
+        headers,
+    })
+}
+
+/// A record behind its length.
+#[tactic(auto, unfolding(crate::specs::CombinatorLaws::sized_at, crate::specs::CombinatorLaws::whole))]
+fn read_record(alloc: Global, cursor: &mut Cursor<'_>, place: u32) -> Result<Rec, ReadFault>
+    ensures { Reads (record_at place cursor.old) result cursor.new }
+{
+    let len = cursor.read_varint_count()?;
+    let text = cursor.read_shared(alloc, len as usize)?;
+    let mut part = Cursor::over(&text);
+    let rec = read_parts(alloc, &mut part, place)?;
+    if part.len() != 0 {
+        return Err(ReadFault::Malformed(Malformed::Rest));
+    }
+    Ok(rec)
+}
+
+impl Rec {
+    /// The record with its offset.
+    fn at(self, header: &BatchHeader, place: u32) -> RecordAt
+        requires { FitsSigned w64 (header.now.base_offset +ℤ pos place) }
+        ensures { result ≡ record_at_place header.now.base_offset place self }
+    {
+        RecordAt {
+            offset: header.base_offset + i64::from(place),
+            rec: self,
+        }
+    }
+}
+
+/// So many records from the first place on, with their offsets.
+pub(crate) fn read_records(
+    alloc: Global,
+    cursor: &mut Cursor<'_>,
+    header: &BatchHeader,
+    count: u32,
+) -> Result<Items<RecordAt>, ReadFault>
+    requires { FitsSigned w64 (header.now.base_offset +ℤ pos count) }
+    ensures { Reads (placing header.now.base_offset 0 (records_at 0 count cursor.old)) result
+        cursor.new }
+{
+    let mut recs = Items::new(alloc);
+    let _base = header.base_offset;
+    for place in 0..count {
+        let rec = read_record(alloc, cursor, place)?;
+        recs.push(rec.at(header, place))?;
+    }
+    Ok(recs)
+}

@@ -1,0 +1,107 @@
+//! Walking over records, which takes no memory and keeps nothing.
+
+ghost use Rattle.std.specs.Prelude.{◌≡◌, MatchResult, Ok, Err, is_ok};
+ghost use Rattle.std.specs.Option.{option_copied};
+ghost use Rattle.wire_types.specs.Reading.{Takes, skipping, many_at};
+ghost use Rattle.wire_types.specs.Schema.{varint_bytes, varint_nullable_bytes, varint_array};
+ghost use Rattle.record_batch.specs.Record.{header, record_parts, record_at, records_at, all_records};
+
+use crate::record::read_head;
+use wire_types::{Cursor, Malformed};
+
+/// Bytes behind their number.
+#[tactic(auto, unfolding(wire_types::specs::Reading::behind_at))]
+fn read_bytes<'a>(cursor: &mut Cursor<'a>) -> Result<&'a [u8], Malformed>
+    ensures { MatchResult result (λ x. varint_bytes.reading cursor.old ≡ Ok (x.now, cursor.new))
+        (λ e. varint_bytes.reading cursor.old ≡ Err e) }
+{
+    let len = cursor.read_varint_count()?;
+    cursor.read_front(len as usize)
+}
+
+/// Bytes behind their number, or nothing for -1.
+#[tactic(auto, unfolding(wire_types::specs::Reading::null_behind_at, wire_types::specs::Reading::null_or, wire_types::specs::Reading::null_count_at, wire_types::specs::Reading::null_or_count))]
+fn skip_nullable_bytes(cursor: &mut Cursor<'_>) -> Result<(), Malformed>
+    ensures { Takes (skipping (varint_nullable_bytes.reading cursor.old)) result cursor.new }
+{
+    let len = cursor.read_varint()?;
+    if len < -1 {
+        return Err(Malformed::Range);
+    }
+    if len >= 0 {
+        cursor.read_front(len as usize)?;
+    }
+    Ok(())
+}
+
+fn skip_header(cursor: &mut Cursor<'_>) -> Result<(), Malformed>
+    ensures { Takes (skipping (header.reading cursor.old)) result cursor.new }
+{
+    read_bytes(cursor)?;
+    skip_nullable_bytes(cursor)
+}
+
+fn skip_some_headers(cursor: &mut Cursor<'_>, count: u32) -> Result<(), Malformed>
+    ensures { Takes (skipping (many_at header.reading count cursor.old)) result cursor.new }
+{
+    for _ in 0..count {
+        skip_header(cursor)?;
+    }
+    Ok(())
+}
+
+#[tactic(auto, unfolding(wire_types::specs::Reading::behind_at, wire_types::specs::Reading::items_at))]
+fn skip_headers(cursor: &mut Cursor<'_>) -> Result<(), Malformed>
+    ensures { Takes (skipping ((varint_array header).reading cursor.old)) result cursor.new }
+{
+    let count = cursor.read_varint_count()?;
+    if cursor.len() < count as usize {
+        return Err(Malformed::Short);
+    }
+    skip_some_headers(cursor, count)
+}
+
+/// What follows a record's length.
+fn skip_parts(cursor: &mut Cursor<'_>, place: u32) -> Result<(), Malformed>
+    ensures { Takes (skipping ((record_parts place).reading cursor.old)) result cursor.new }
+{
+    read_head(cursor, place)?;
+    skip_nullable_bytes(cursor)?;
+    skip_nullable_bytes(cursor)?;
+    skip_headers(cursor)
+}
+
+/// A record behind its length.
+#[tactic(auto, unfolding(crate::specs::CombinatorLaws::sized_at, crate::specs::CombinatorLaws::whole))]
+fn skip_record(cursor: &mut Cursor<'_>, place: u32) -> Result<(), Malformed>
+    ensures { Takes (skipping (record_at place cursor.old)) result cursor.new }
+{
+    let len = cursor.read_varint_count()?;
+    let mut part = Cursor::new(cursor.read_front(len as usize)?);
+    skip_parts(&mut part, place)?;
+    if part.len() != 0 {
+        return Err(Malformed::Rest);
+    }
+    Ok(())
+}
+
+fn skip_records(cursor: &mut Cursor<'_>, count: u32) -> Result<(), Malformed>
+    ensures { Takes (skipping (records_at 0 count cursor.old)) result cursor.new }
+{
+    for place in 0..count {
+        skip_record(cursor, place)?;
+    }
+    Ok(())
+}
+
+/// Whether bytes are so many records.
+#[tactic(auto, unfolding(crate::specs::CombinatorLaws::whole))]
+pub(crate) fn are_records(bytes: &[u8], count: u32) -> bool
+    ensures { result ≡ is_ok (all_records count bytes.now) }
+{
+    let mut cursor = Cursor::new(bytes);
+    match skip_records(&mut cursor, count) {
+        Ok(()) => cursor.len() == 0,
+        Err(_) => false,
+    }
+}

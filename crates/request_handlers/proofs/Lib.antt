@@ -1,0 +1,6 @@
+pub mod Parts
+pub mod Histories
+pub mod Bounds
+pub mod Runs
+pub mod Headlines
+pub mod Grants

@@ -1,0 +1,15 @@
+-- A run without a stop.
+use Rattle.std.proofs.Common.{◌≡◌, ℕ, List, [], ◌∷◌, Option, Some, None, refl, ap}
+use Rattle.audit_trail.specs.declared.event.Event.{Event}
+use Rattle.audit_trail.specs.declared.trail.Receipt.{Receipt}
+use Rattle.request_handlers.specs.Core.{CoreValue, Ran, receipts_of, advanced, advanced_all, WholeRuns}
+
+pub whole_runs : WholeRuns
+whole_runs old new [] [] ran = (refl, ran)
+whole_runs old new [] (r ∷ rs) ran = absurd ran
+whole_runs old new (e ∷ es) [] ran = absurd ran
+whole_runs old new (e ∷ es) (r ∷ rs) ran =
+    let rest = whole_runs (advanced old e) new es rs ran.2 in
+    let same = ran.1 in
+    let others = rest.0 in
+    (λ i. same i ∷ others i, rest.1)

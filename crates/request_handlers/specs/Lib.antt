@@ -1,0 +1,9 @@
+pub mod World
+pub mod First
+pub mod Slots
+pub mod Weave
+pub mod Metadata
+pub mod Step
+pub mod Core
+pub mod Headline
+pub mod Tenants

@@ -1,0 +1,52 @@
+-- One event: the plain answer to the allowed part of a request, with each refused part's code at its place.
+use Rattle.std.specs.Prelude.{ℕ, Bool, true, ◌+◌, List, [], ◌∷◌}
+use Rattle.acl_binding.specs.declared.question.Caller.{Caller}
+use Rattle.authorizer.specs.declared.answer.Refusal.{Refusal}
+use Rattle.msg_admin.specs.declared.request.Request.{Request}
+use Rattle.msg_admin.specs.declared.request.Request.TheVariants as requests
+use Rattle.msg_admin.specs.declared.reply.Reply.{Reply}
+use Rattle.msg_admin.specs.declared.reply.Reply.TheVariants as replies
+use Rattle.audit_trail.specs.declared.event.Event.{Event}
+use Rattle.audit_trail.specs.declared.event.Event.TheVariants.{Ask}
+use Rattle.request_handlers.specs.World.{World, rules_of}
+use Rattle.request_handlers.specs.Metadata.{metadata_answer, metadata_refusals}
+
+-- the world that an event leaves, but for the number of events, its reply, and the refusals of its refused parts
+pub record Outcome : Type 0 where
+  pub world : World
+  pub reply : Reply
+  pub refusals : List Refusal
+
+-- permissions are those of the book at the event's start
+abbrev pub request_outcome : World → Caller → Request → Outcome
+request_outcome w caller (requests.Metadata m) = record { world = w; reply = replies.Metadata (metadata_answer w caller m); refusals = metadata_refusals (rules_of w) caller m }
+
+abbrev pub outcome : World → Event → Outcome
+outcome w (Ask caller client request) = request_outcome w caller request
+
+-- one event more
+abbrev pub counted : World → World
+counted w = record w { events = w.events + 1 }
+
+abbrev pub step : World → Event → World
+step w e = counted (outcome w e).world
+
+abbrev pub reply_to : World → Event → Reply
+reply_to w e = (outcome w e).reply
+
+abbrev pub refusals_of : World → Event → List Refusal
+refusals_of w e = (outcome w e).refusals
+
+-- the world after the events, one after the other
+abbrev pub reached : World → List Event → World
+reached w [] = w
+reached w (e ∷ es) = reached (step w e) es
+
+-- ---- requests that only read
+
+abbrev pub is_reading_request : Request → Bool
+is_reading_request (requests.Metadata m) = true
+
+-- the event changes nothing but the number of events
+abbrev pub is_reading : Event → Bool
+is_reading (Ask caller client request) = is_reading_request request

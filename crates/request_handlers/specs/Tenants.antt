@@ -1,0 +1,66 @@
+-- What a request's answer depends on: beside the book and the numbers, only what its questions were granted.
+use Rattle.std.specs.Prelude.{◌≡◌, ℕ, List, [], ◌∷◌, Option, Some, None}
+use Rattle.std.specs.List.{find}
+use Rattle.std.specs.Str.{bytes_eq}
+use Rattle.acl_binding.specs.declared.question.Caller.{Caller}
+use Rattle.acl_binding.specs.declared.question.Question.{Question}
+use Rattle.acl_binding.specs.declared.words.Kind.{Kind}
+use Rattle.acl_binding.specs.declared.words.Kind.TheVariants.{Topic, Group, Cluster, TransactionalId}
+use Rattle.acl_binding.specs.declared.words.Operation.TheVariants.{Describe}
+use Rattle.acl_binding.specs.declared.question.Verdict.TheVariants.{Yes}
+use Rattle.acl_binding.specs.Verdict.{asked}
+use Rattle.authorizer.specs.Policy.{verdict}
+use Rattle.msg_data.specs.declared.metadata.MetadataRequest.{MetadataRequest}
+use Rattle.request_handlers.specs.World.{World, GroupValue, TransactionValue, rules_of, find_topic, topic_names}
+use Rattle.request_handlers.specs.Metadata.{describable, metadata_answer, metadata_refusals}
+
+-- the same settings but for topics, book, moment, number of events and producer ids given out
+pub record SameBase (v w : World) : Type 0 where
+  pub node : v.node ≡ w.node
+  pub rules : rules_of v ≡ rules_of w
+  pub moment : v.moment ≡ w.moment
+  pub events : v.events ≡ w.events
+  pub producers : v.producers ≡ w.producers
+
+abbrev pub find_group : List GroupValue → List ℕ → Option GroupValue
+find_group groups name = find (λ (g : GroupValue). bytes_eq g.name name) groups
+
+abbrev pub find_transaction : List TransactionValue → List ℕ → Option TransactionValue
+find_transaction ts id = find (λ (t : TransactionValue). bytes_eq t.id id) ts
+
+-- whether the resource is there, and all that it holds
+abbrev pub SameOn : World → World → Kind → List ℕ → Type 0
+SameOn v w Topic name = find_topic v.topics name ≡ find_topic w.topics name
+SameOn v w Group name = find_group v.groups name ≡ find_group w.groups name
+SameOn v w Cluster name = Unit {0}
+SameOn v w TransactionalId name = find_transaction v.transactions name ≡ find_transaction w.transactions name
+
+-- the worlds agree on what each question that is granted is about
+abbrev pub SameGranted : World → World → List Question → Type 0
+SameGranted v w [] = Unit {0}
+SameGranted v w (q ∷ qs) = (verdict w.book w.supers q ≡ Yes → SameOn v w q.kind q.name) × SameGranted v w qs
+
+-- the questions of named topics
+abbrev pub topic_questions : Caller → List (List ℕ) → List Question
+topic_questions caller [] = []
+topic_questions caller (name ∷ names) = asked caller Describe Topic name ∷ topic_questions caller names
+
+-- the worlds agree on these topics
+abbrev pub SameTopics : World → World → List (List ℕ) → Type 0
+SameTopics v w [] = Unit {0}
+SameTopics v w (name ∷ names) = SameOn v w Topic name × SameTopics v w names
+
+-- the same topics may be described, in the same order, and the worlds agree on them
+pub record SameListed (v w : World) (caller : Caller) : Type 0 where
+  pub names : describable (rules_of v) caller (topic_names v.topics) ≡ describable (rules_of w) caller (topic_names w.topics)
+  pub topics : SameTopics v w (describable (rules_of w) caller (topic_names w.topics))
+
+-- the worlds agree on what a Metadata request is granted: named topics, or all that may be described
+abbrev pub SameForMetadata : World → World → Caller → Option (List (List ℕ)) → Type 0
+SameForMetadata v w caller (Some names) = SameGranted v w (topic_questions caller names)
+SameForMetadata v w caller None = SameListed v w caller
+
+-- such worlds give the same answer and the same refusals
+abbrev pub DependsOnGrants : Type 0
+DependsOnGrants = (v w : World) (caller : Caller) (m : MetadataRequest) → SameBase v w → SameForMetadata v w caller m.topics
+    → (metadata_answer v caller m ≡ metadata_answer w caller m) × (metadata_refusals (rules_of v) caller m ≡ metadata_refusals (rules_of w) caller m)

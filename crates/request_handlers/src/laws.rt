@@ -1,0 +1,26 @@
+//! Laws of the definitions that the core's contracts cite, each the contract of a function with nothing to do.
+
+ghost use Rattle.request_handlers.specs.Core.{WholeRuns};
+ghost use Rattle.request_handlers.specs.Headline.{AnswersEachTopic, RefusesEachTopic};
+ghost use Rattle.request_handlers.specs.Tenants.{DependsOnGrants};
+
+/// A run without a stop has a receipt for each event, and leaves the core where the events lead.
+pub fn whole_runs()
+    ensures { WholeRuns }
+{}
+
+/// Each topic that a Metadata request names is answered at its place: a refused one by its code, any other as the
+/// plain broker does.
+pub fn metadata_answers_each_topic()
+    ensures { AnswersEachTopic }
+{}
+
+/// The refusals of a Metadata request are those of its refused topics, in order, and a null list has none.
+pub fn metadata_refuses_each_topic()
+    ensures { RefusesEachTopic }
+{}
+
+/// A Metadata request is answered by what its questions were granted alone.
+pub fn metadata_depends_on_grants()
+    ensures { DependsOnGrants }
+{}

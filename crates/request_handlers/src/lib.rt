@@ -1,0 +1,26 @@
+//! The broker's core: it takes one event at a time, answers exactly what the bindings in force allow of it, and
+//! keeps what it answered and refused in a trail.
+#![tactic(auto)]
+
+mod laws;
+mod machine;
+mod metadata;
+mod node;
+mod reading;
+mod slot;
+mod state;
+mod stop;
+#[cfg(test)]
+mod tests;
+mod topics;
+
+pub use laws::{
+    metadata_answers_each_topic, metadata_depends_on_grants, metadata_refuses_each_topic,
+    whole_runs,
+};
+pub use machine::Core;
+pub use node::Node;
+pub use reading::is_reading;
+pub use state::State;
+pub use stop::Stop;
+pub use topics::Topics;

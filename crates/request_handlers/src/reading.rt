@@ -1,0 +1,24 @@
+//! Events that only read.
+
+ghost use Rattle.std.specs.Prelude.{◌≡◌};
+ghost use Rattle.request_handlers.specs.Step.{is_reading, is_reading_request};
+
+use audit_trail::Event;
+use msg_admin::Request;
+
+fn is_reading_request(request: &Request) -> bool
+    ensures { result ≡ is_reading_request request.now }
+{
+    match request {
+        Request::Metadata(_) => true,
+    }
+}
+
+/// The event changes nothing but the trail and the number of events.
+pub fn is_reading(event: &Event) -> bool
+    ensures { result ≡ is_reading event.now }
+{
+    match event {
+        Event::Ask { request, .. } => is_reading_request(request),
+    }
+}

@@ -1,0 +1,119 @@
+//! Metadata, from the frame of a request to the frame of its response and the lines of its refusals.
+
+use crate::Core;
+use crate::tests::fixtures::core;
+use acl_binding::Caller;
+use audit_trail::{Event, line};
+use bytes::Bytes;
+use msg_admin::{read_request, write_reply};
+use std::alloc::Global;
+use std::test::Fail;
+use wire_types::Text;
+
+/// What the core answers to a frame, which is given without its size field.
+fn answer(alloc: Global, core: &mut Core, who: &str, host: &str, frame: &[u8]) -> Option<Bytes> {
+    let frame = Bytes::copy_from_slice(alloc, frame).ok()?;
+    let (header, request) = read_request(alloc, &frame).ok()?;
+    if !request.fits() {
+        return None;
+    }
+    let caller = Caller {
+        who: Text::of(alloc, who).ok()?,
+        host: Text::of(alloc, host).ok()?,
+    };
+    let event = Event::Ask {
+        caller,
+        client: header.client,
+        request,
+    };
+    let receipt = core.step(event).ok()?;
+    write_reply(alloc, header.correlation, receipt.reply.value()).ok()
+}
+
+fn is(answer: Option<Bytes>, bytes: &[u8]) -> bool {
+    match answer {
+        Some(answer) => answer.as_slice() == bytes,
+        None => false,
+    }
+}
+
+fn line_is(core: &Core, alloc: Global, place: usize, index: usize, text: &str) -> Option<bool> {
+    let refusal = core.trail().entry(place)?.refusals.get(index)?;
+    Some(line(alloc, refusal).ok()?.as_str() == text)
+}
+
+const ALL_TOPICS: &[u8] = b"\x00\x03\x00\x01\x00\x00\x00\x01\xff\xff\xff\xff\xff\xff";
+
+const NO_TOPICS: &[u8] = b"\x00\x03\x00\x01\x00\x00\x00\x01\xff\xff\x00\x00\x00\x00";
+
+const TWO_TOPICS: &[u8] =
+    b"\x00\x03\x00\x01\x00\x00\x00\x02\xff\xff\x00\x00\x00\x02\x00\x01a\x00\x01x";
+
+const ONE_SEEN: &[u8] =
+    b"\x00\x00\x00\x41\x00\x00\x00\x01\x00\x00\x00\x01\x00\x00\x00\x01\x00\x01h\x00\x00\x23\x84\xff\xff\x00\x00\x00\x01\x00\x00\x00\x01\x00\x00\x00\x01b\x00\x00\x00\x00\x01\x00\x00\x00\x00\x00\x00\x00\x00\x00\x01\x00\x00\x00\x01\x00\x00\x00\x01\x00\x00\x00\x01\x00\x00\x00\x01";
+
+const NONE_SEEN: &[u8] =
+    b"\x00\x00\x00\x1d\x00\x00\x00\x01\x00\x00\x00\x01\x00\x00\x00\x01\x00\x01h\x00\x00\x23\x84\xff\xff\x00\x00\x00\x01\x00\x00\x00\x00";
+
+const BOTH_REFUSED: &[u8] =
+    b"\x00\x00\x00\x31\x00\x00\x00\x02\x00\x00\x00\x01\x00\x00\x00\x01\x00\x01h\x00\x00\x23\x84\xff\xff\x00\x00\x00\x01\x00\x00\x00\x02\x00\x1d\x00\x01a\x00\x00\x00\x00\x00\x00\x1d\x00\x01x\x00\x00\x00\x00\x00";
+
+#[test]
+fn all_topics_that_may_be_described(rt: HostRuntime) -> Result<(), Fail> {
+    let alloc = rt.alloc();
+    let mut core = core(alloc, 10)?;
+    assert!(rt;
+        is(
+            answer(alloc, &mut core, "User:ann", "10.0.0.5", ALL_TOPICS),
+            ONE_SEEN
+        )
+    );
+    assert!(rt;
+        is(
+            answer(alloc, &mut core, "User:zed", "10.0.0.9", ALL_TOPICS),
+            NONE_SEEN
+        )
+    );
+    assert!(rt;
+        is(
+            answer(alloc, &mut core, "User:ann", "10.0.0.5", NO_TOPICS),
+            NONE_SEEN
+        )
+    );
+    assert_eq!(rt; core.trail().refusals(), 0);
+    Ok(())
+}
+
+#[test]
+fn permission_comes_before_existence(rt: HostRuntime) -> Result<(), Fail> {
+    let alloc = rt.alloc();
+    let mut core = core(alloc, 10)?;
+    assert!(rt;
+        is(
+            answer(alloc, &mut core, "User:zed", "10.0.0.9", TWO_TOPICS),
+            BOTH_REFUSED
+        )
+    );
+    assert_eq!(rt; core.trail().refusals(), 2);
+    assert_eq!(rt;
+        line_is(
+            &core,
+            alloc,
+            0,
+            0,
+            "unmatched DESCRIBE Topic a User:zed 10.0.0.9"
+        ),
+        Some(true)
+    );
+    assert_eq!(rt;
+        line_is(
+            &core,
+            alloc,
+            0,
+            1,
+            "unmatched DESCRIBE Topic x User:zed 10.0.0.9"
+        ),
+        Some(true)
+    );
+    Ok(())
+}

@@ -1,0 +1,192 @@
+//! What can be wrong with settings.
+
+ghost use Rattle.std.specs.Prelude.{◌≡◌, ◌==◌, not, length};
+ghost use Rattle.std.specs.Str.{bytes_eq};
+ghost use Rattle.std.specs.List.{list_all, list_any};
+ghost use Rattle.settings.specs.Fault.{is_within, are_numbers_within, is_host_within, is_topic_within, are_topics_within, is_text_within, is_binding_within, are_bindings_within, is_in_range, are_topic_names, are_distinct, is_resource_name, is_creatable, first_fault};
+ghost use Rattle.settings.specs.Names.{is_topic_name, is_principal};
+
+use crate::names::{is_principal, is_topic_name};
+use crate::settings::{Settings, TopicSetting};
+use acl_binding::{Binding, Kind};
+use wire_types::Text;
+
+/// Why settings are refused: the first in this order that holds.
+#[derive(Clone, Copy, Debug, PartialEq, Eq)]
+pub enum OpenFault {
+    /// A number, a length or a count is out of range.
+    Range,
+    /// A topic has a name that none may have.
+    TopicName,
+    /// A topic stands twice.
+    Twice,
+    /// A binding that may not be created: an empty name or host, another name of the cluster, or a
+    /// principal that is no user.
+    Acl,
+    /// A super user that isn't `User:` and at least one character.
+    Super,
+    /// Memory was refused, which may come in place of any.
+    NoMemory,
+}
+
+/// Whether the number is one from `low` to `high`.
+fn is_within(number: i64, low: u32, high: u32) -> bool
+    ensures { result ≡ is_within low high number }
+{
+    i64::from(low) <= number && number <= i64::from(high)
+}
+
+fn are_numbers_within(settings: &Settings) -> bool
+    ensures { result ≡ are_numbers_within settings.now }
+{
+    is_within(settings.node_id, 0, 2_147_483_647)
+        && is_within(settings.port, 1, 65_535)
+        && is_within(settings.trail_limit, 1, 1_073_741_824)
+        && is_within(settings.max_batch, 61, 104_857_600)
+        && is_within(settings.max_txn_timeout, 1, 2_147_483_647)
+}
+
+fn is_host_within(host: &Text) -> bool
+    ensures { result ≡ is_host_within host.now }
+{
+    host.len() >= 1 && host.len() <= 255
+}
+
+fn are_partitions_within(topics: &[TopicSetting]) -> bool
+    ensures { result ≡ list_all is_topic_within topics.now }
+{
+    topics
+        .iter()
+        .all(|topic| is_within(topic.partitions, 1, 1_000))
+}
+
+fn are_topics_within(topics: &[TopicSetting]) -> bool
+    ensures { result ≡ are_topics_within topics.now }
+{
+    topics.len() <= 1_000 && are_partitions_within(topics)
+}
+
+fn is_text_within(text: &Text) -> bool
+    ensures { result ≡ is_text_within text.now }
+{
+    text.len() <= 1_000
+}
+
+fn are_texts_within(texts: &[Text]) -> bool
+    ensures { result ≡ list_all is_text_within texts.now }
+{
+    texts.iter().all(|text| is_text_within(text))
+}
+
+fn is_binding_within(binding: &Binding) -> bool
+    ensures { result ≡ is_binding_within binding.now }
+{
+    is_text_within(&binding.name)
+        && is_text_within(&binding.principal)
+        && is_text_within(&binding.host)
+}
+
+fn are_all_within(acls: &[Binding]) -> bool
+    ensures { result ≡ list_all is_binding_within acls.now }
+{
+    acls.iter().all(|binding| is_binding_within(binding))
+}
+
+fn are_bindings_within(acls: &[Binding]) -> bool
+    ensures { result ≡ are_bindings_within acls.now }
+{
+    acls.len() <= 100_000 && are_all_within(acls)
+}
+
+fn is_in_range(settings: &Settings) -> bool
+    ensures { result ≡ is_in_range settings.now }
+{
+    are_numbers_within(settings)
+        && is_host_within(&settings.host)
+        && are_topics_within(settings.topics.as_slice())
+        && are_bindings_within(settings.acls.as_slice())
+        && are_texts_within(settings.supers.as_slice())
+}
+
+fn are_topic_names(topics: &[TopicSetting]) -> bool
+    ensures { result ≡ are_topic_names topics.now }
+{
+    topics
+        .iter()
+        .all(|topic| is_topic_name(topic.name.as_str()))
+}
+
+fn is_among(name: &Text, topics: &[TopicSetting]) -> bool
+    ensures { result ≡ list_any (λ u. bytes_eq name.now u.name) topics.now }
+{
+    topics
+        .iter()
+        .any(|topic| name.as_str() == topic.name.as_str())
+}
+
+/// Whether no topic stands twice. There are at most 1,000.
+fn are_distinct(topics: &[TopicSetting]) -> bool
+    ensures { result ≡ are_distinct topics.now }
+{
+    let mut rest = topics;
+    while let Some((first, more)) = rest.split_first() {
+        if is_among(&first.name, more) {
+            return false;
+        }
+        rest = more;
+    }
+    true
+}
+
+fn is_resource_name(kind: Kind, name: &Text) -> bool
+    ensures { result ≡ is_resource_name kind name.now }
+{
+    match kind {
+        Kind::Cluster => name.as_str() == "kafka-cluster",
+        _ => !name.is_empty(),
+    }
+}
+
+fn is_creatable(binding: &Binding) -> bool
+    ensures { result ≡ is_creatable binding.now }
+{
+    is_resource_name(binding.kind, &binding.name)
+        && is_principal(binding.principal.as_str())
+        && !binding.host.is_empty()
+}
+
+fn are_creatable(acls: &[Binding]) -> bool
+    ensures { result ≡ list_all is_creatable acls.now }
+{
+    acls.iter().all(|binding| is_creatable(binding))
+}
+
+fn are_principals(supers: &[Text]) -> bool
+    ensures { result ≡ list_all is_principal supers.now }
+{
+    supers
+        .iter()
+        .all(|principal| is_principal(principal.as_str()))
+}
+
+/// What is wrong with the settings first, looked for over all of them one kind after the other. It takes no memory.
+pub fn first_fault(settings: &Settings) -> Option<OpenFault>
+    ensures { result ≡ first_fault settings.now }
+{
+    if !is_in_range(settings) {
+        return Some(OpenFault::Range);
+    }
+    if !are_topic_names(settings.topics.as_slice()) {
+        return Some(OpenFault::TopicName);
+    }
+    if !are_distinct(settings.topics.as_slice()) {
+        return Some(OpenFault::Twice);
+    }
+    if !are_creatable(settings.acls.as_slice()) {
+        return Some(OpenFault::Acl);
+    }
+    if !are_principals(settings.supers.as_slice()) {
+        return Some(OpenFault::Super);
+    }
+    None
+}

@@ -1,0 +1,12 @@
+//! What the broker is set up with, and what can be wrong with it.
+#![tactic(auto)]
+
+mod fault;
+mod names;
+mod settings;
+#[cfg(test)]
+mod tests;
+
+pub use fault::{OpenFault, first_fault};
+pub use names::{is_principal, is_topic_name};
+pub use settings::{Settings, TopicSetting};

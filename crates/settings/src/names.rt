@@ -1,0 +1,42 @@
+//! Names of topics and of principals.
+
+ghost use Rattle.std.specs.Prelude.{◌≡◌};
+ghost use Rattle.std.specs.List.{list_all};
+ghost use Rattle.settings.specs.Names.{is_name_byte, is_topic_name, is_principal};
+
+/// Whether the byte may stand in a topic's name.
+fn is_name_byte(byte: u8) -> bool
+    ensures { result ≡ is_name_byte byte }
+{
+    byte.is_ascii_alphanumeric() || byte == b'.' || byte == b'_' || byte == b'-'
+}
+
+/// Whether each byte may stand in a topic's name.
+fn are_name_bytes(bytes: &[u8]) -> bool
+    ensures { result ≡ list_all is_name_byte bytes.now }
+{
+    bytes.iter().all(|byte| is_name_byte(*byte))
+}
+
+/// Whether a topic may have the name: 1 to 249 ASCII letters, digits, `.`, `_` and `-`, and neither `.` nor `..`.
+pub fn is_topic_name(name: &str) -> bool
+    ensures { result ≡ is_topic_name name.now }
+{
+    if name.is_empty() || name.len() > 249 {
+        return false;
+    }
+    if name == "." || name == ".." {
+        return false;
+    }
+    are_name_bytes(name.as_bytes())
+}
+
+/// Whether the text is `User:` and at least one character.
+pub fn is_principal(text: &str) -> bool
+    ensures { result ≡ is_principal text.now }
+{
+    match text.strip_prefix("User:") {
+        Some(name) => !name.is_empty(),
+        None => false,
+    }
+}

@@ -1,0 +1,81 @@
+//! A settings text, from its bytes to what it sets.
+
+ghost use Rattle.std.specs.Prelude.{◌≡◌};
+ghost use Rattle.toml.specs.Parse.{parse_document};
+ghost use Rattle.toml.specs.View.{table_view};
+ghost use Rattle.settings_text.specs.Rows.{document_of};
+ghost use Rattle.settings_text.specs.Document.{Settles, settled, keyed, parsed, document_of_text};
+
+use crate::fault::{SettingsFault, text_fault};
+use crate::fields::FieldFault;
+use crate::rows::document;
+use crate::users::are_users;
+use settings::{Settings, first_fault};
+use std::alloc::Global;
+use std::str::from_utf8;
+use toml::Table;
+use wire_types::{Items, Text};
+
+/// A user who may log in.
+#[derive(Debug, Drop)]
+pub struct User {
+    pub name: Text,
+    pub password: Text,
+}
+
+/// What a settings text sets: the users, and the settings of the core.
+#[derive(Debug, Drop)]
+pub struct Document {
+    pub users: Items<User>,
+    pub settings: Settings,
+}
+
+/// The document, if its users and settings have no fault.
+fn settle(alloc: Global, document: Document) -> Result<Document, SettingsFault>
+    ensures { Settles (settled document) result }
+{
+    match are_users(alloc, document.users.as_slice()) {
+        Ok(true) => {}
+        Ok(false) => return Err(SettingsFault::User),
+        Err(_) => return Err(SettingsFault::NoMemory),
+    }
+    match first_fault(&document.settings) {
+        Some(fault) => Err(text_fault(fault)),
+        None => Ok(document),
+    }
+}
+
+fn document_of_table(alloc: Global, table: &Table) -> Result<Document, SettingsFault>
+    ensures { Settles (keyed (document_of (table_view table.now))) result }
+{
+    match document(alloc, table) {
+        Ok(document) => settle(alloc, document),
+        Err(FieldFault::Key) => Err(SettingsFault::Key),
+        Err(FieldFault::NoMemory) => Err(SettingsFault::NoMemory),
+    }
+}
+
+fn document_of_str(alloc: Global, text: &str) -> Result<Document, SettingsFault>
+    ensures { Settles (parsed (parse_document text.now)) result }
+{
+    match toml::table_from_str(alloc, text) {
+        Ok(table) => document_of_table(alloc, &table),
+        Err(error) => {
+            if error.is_memory() {
+                Err(SettingsFault::NoMemory)
+            } else {
+                Err(SettingsFault::Toml)
+            }
+        }
+    }
+}
+
+/// What a settings text sets, or what is wrong with it first.
+pub fn document_of_text(alloc: Global, text: &[u8]) -> Result<Document, SettingsFault>
+    ensures { Settles (document_of_text text.now) result }
+{
+    match from_utf8(text) {
+        Ok(text) => document_of_str(alloc, text),
+        Err(_) => Err(SettingsFault::Toml),
+    }
+}

@@ -1,0 +1,13 @@
+//! Settings as a TOML text: what it sets, or what is wrong with it first.
+#![tactic(auto)]
+
+mod document;
+mod fault;
+mod fields;
+mod rows;
+#[cfg(test)]
+mod tests;
+mod users;
+
+pub use document::{Document, User, document_of_text};
+pub use fault::SettingsFault;

@@ -1,0 +1,6 @@
+pub mod Utf8
+pub mod Loop
+pub mod Writes
+pub mod Rooms
+pub mod Sizes
+pub mod OneValue

@@ -1,0 +1,203 @@
+//! Bytes: BYTES, NULLABLE_BYTES, their compact forms, and those whose length is a VARINT.
+
+ghost use Rattle.std.specs.Prelude.{◌≡◌, ◌+◌, ◌<◌, ◌≤◌, ◌++◌, ◌^◌, length, true, None, Some, OnOk, IfOk, IfSome, MatchResult, Ok, Err};
+ghost use Rattle.wire_types.specs.Reading.{Takes, Reads, skipping, nat_at, int_at, bool_at, front_at, utf8_at, varint_at, varint_limit, many_at, all_at};
+ghost use Rattle.wire_types.specs.Writing.{Writes, Puts};
+ghost use Rattle.wire_types.specs.Spelling.{room_left, varint_written, many_fit, many_written, many_left};
+ghost use Rattle.wire_types.specs.Schema.{bytes, nullable_bytes, compact_bytes, compact_nullable_bytes, varint_bytes, varint_nullable_bytes};
+
+use crate::counts::{
+    compact_count_room, count_room, varint_count_room, write_compact_count, write_compact_null,
+    write_count, write_null, write_varint_count, write_varint_null,
+};
+use crate::cursor::Cursor;
+use crate::fault::{ReadFault, WriteFault};
+use crate::room::room_behind;
+use crate::varints::varint_room;
+use bytes::Bytes;
+use std::alloc::Global;
+
+impl<'a> Cursor<'a> {
+    /// Bytes behind their number in four bytes.
+    #[tactic(auto, unfolding(crate::specs::Reading::behind_at))]
+    pub fn read_bytes(&mut self, alloc: Global) -> Result<Bytes, ReadFault>
+        ensures { Reads (bytes.reading self.old) result self.new }
+    {
+        let len = self.read_count()?;
+        self.read_shared(alloc, len as usize)
+    }
+
+    /// Bytes behind their number in four bytes, or nothing for -1.
+    #[tactic(auto, unfolding(crate::specs::Reading::null_behind_at, crate::specs::Reading::null_or))]
+    pub fn read_nullable_bytes(&mut self, alloc: Global) -> Result<Option<Bytes>, ReadFault>
+        ensures { Reads (nullable_bytes.reading self.old) result self.new }
+    {
+        match self.read_null_count()? {
+            None => Ok(None),
+            Some(len) => Ok(Some(self.read_shared(alloc, len as usize)?)),
+        }
+    }
+
+    /// Bytes behind their number and one in a number of variable length.
+    #[tactic(auto, unfolding(crate::specs::Reading::behind_at))]
+    pub fn read_compact_bytes(&mut self, alloc: Global) -> Result<Bytes, ReadFault>
+        ensures { Reads (compact_bytes.reading self.old) result self.new }
+    {
+        let len = self.read_compact_count()?;
+        self.read_shared(alloc, len as usize)
+    }
+
+    /// The same, or nothing for 0.
+    #[tactic(auto, unfolding(crate::specs::Reading::null_behind_at, crate::specs::Reading::null_or))]
+    pub fn read_compact_nullable_bytes(&mut self, alloc: Global) -> Result<Option<Bytes>, ReadFault>
+        ensures { Reads (compact_nullable_bytes.reading self.old) result self.new }
+    {
+        match self.read_compact_null_count()? {
+            None => Ok(None),
+            Some(len) => Ok(Some(self.read_shared(alloc, len as usize)?)),
+        }
+    }
+
+    /// Bytes behind their number in a signed number of variable length.
+    #[tactic(auto, unfolding(crate::specs::Reading::behind_at))]
+    pub fn read_varint_bytes(&mut self, alloc: Global) -> Result<Bytes, ReadFault>
+        ensures { Reads (varint_bytes.reading self.old) result self.new }
+    {
+        let len = self.read_varint_count()?;
+        self.read_shared(alloc, len as usize)
+    }
+
+    /// The same, or nothing for -1.
+    #[tactic(auto, unfolding(crate::specs::Reading::null_behind_at, crate::specs::Reading::null_or))]
+    pub fn read_varint_nullable_bytes(&mut self, alloc: Global) -> Result<Option<Bytes>, ReadFault>
+        ensures { Reads (varint_nullable_bytes.reading self.old) result self.new }
+    {
+        match self.read_varint_null_count()? {
+            None => Ok(None),
+            Some(len) => Ok(Some(self.read_shared(alloc, len as usize)?)),
+        }
+    }
+}
+
+/// A number of bytes in four bytes, and the bytes.
+#[tactic(auto, unfolding(crate::specs::Spelling::behind_fits))]
+pub fn write_bytes(out: &mut Vec<u8>, value: &Bytes) -> Result<(), WriteFault>
+    ensures { Puts bytes value.now out.old.items result out.new.items }
+{
+    write_count(out, value.len())?;
+    out.extend_from_slice(value.as_slice())?;
+    Ok(())
+}
+
+/// Bytes, or the number -1 for nothing.
+#[tactic(auto, unfolding(crate::specs::Spelling::behind_fits, crate::specs::Spelling::null_behind_fits, crate::specs::Spelling::null_behind_put, crate::specs::Spelling::null_count_fits, crate::specs::Spelling::compact_null_count_fits))]
+pub fn write_nullable_bytes(out: &mut Vec<u8>, value: &Option<Bytes>) -> Result<(), WriteFault>
+    ensures { Puts nullable_bytes value.now out.old.items result out.new.items }
+{
+    match value {
+        None => write_null(out)?,
+        Some(value) => write_bytes(out, value)?,
+    }
+    Ok(())
+}
+
+/// A number of bytes and one in a number of variable length, and the bytes.
+#[tactic(auto, unfolding(crate::specs::Spelling::behind_fits))]
+pub fn write_compact_bytes(out: &mut Vec<u8>, value: &Bytes) -> Result<(), WriteFault>
+    ensures { Puts compact_bytes value.now out.old.items result out.new.items }
+{
+    write_compact_count(out, value.len())?;
+    out.extend_from_slice(value.as_slice())?;
+    Ok(())
+}
+
+/// The same, or 0 for nothing.
+#[tactic(auto, unfolding(crate::specs::Spelling::behind_fits, crate::specs::Spelling::null_behind_fits, crate::specs::Spelling::null_behind_put, crate::specs::Spelling::null_count_fits, crate::specs::Spelling::compact_null_count_fits))]
+pub fn write_compact_nullable_bytes(
+    out: &mut Vec<u8>,
+    value: &Option<Bytes>,
+) -> Result<(), WriteFault>
+    ensures { Puts compact_nullable_bytes value.now out.old.items result out.new.items }
+{
+    match value {
+        None => write_compact_null(out)?,
+        Some(value) => write_compact_bytes(out, value)?,
+    }
+    Ok(())
+}
+
+/// A number of bytes as a signed number of variable length, and the bytes.
+#[tactic(auto, unfolding(crate::specs::Spelling::behind_fits))]
+pub fn write_varint_bytes(out: &mut Vec<u8>, value: &Bytes) -> Result<(), WriteFault>
+    ensures { Puts varint_bytes value.now out.old.items result out.new.items }
+{
+    write_varint_count(out, value.len())?;
+    out.extend_from_slice(value.as_slice())?;
+    Ok(())
+}
+
+/// The same, or -1 for nothing.
+#[tactic(auto, unfolding(crate::specs::Spelling::behind_fits, crate::specs::Spelling::null_behind_fits, crate::specs::Spelling::null_behind_put, crate::specs::Spelling::null_count_fits))]
+pub fn write_varint_nullable_bytes(
+    out: &mut Vec<u8>,
+    value: &Option<Bytes>,
+) -> Result<(), WriteFault>
+    ensures { Puts varint_nullable_bytes value.now out.old.items result out.new.items }
+{
+    match value {
+        None => write_varint_null(out)?,
+        Some(value) => write_varint_bytes(out, value)?,
+    }
+    Ok(())
+}
+
+pub fn bytes_room(value: &Bytes, room: usize) -> Option<usize>
+    ensures { result ≡ bytes.left value.now room }
+{
+    let room = count_room(value.len(), room)?;
+    room_behind(value.len(), room)
+}
+
+#[tactic(auto, unfolding(crate::specs::Spelling::null_behind_left, crate::specs::Spelling::null_count_fits))]
+pub fn nullable_bytes_room(value: &Option<Bytes>, room: usize) -> Option<usize>
+    ensures { result ≡ nullable_bytes.left value.now room }
+{
+    match value {
+        None => room_behind(4, room),
+        Some(value) => bytes_room(value, room),
+    }
+}
+
+pub fn compact_bytes_room(value: &Bytes, room: usize) -> Option<usize>
+    ensures { result ≡ compact_bytes.left value.now room }
+{
+    let room = compact_count_room(value.len(), room)?;
+    room_behind(value.len(), room)
+}
+
+#[tactic(auto, unfolding(crate::specs::Spelling::null_behind_left, crate::specs::Spelling::null_count_fits, crate::specs::Spelling::compact_null_count_fits, crate::specs::Spelling::compact_null_count_written, crate::specs::Spelling::varint_written))]
+pub fn compact_nullable_bytes_room(value: &Option<Bytes>, room: usize) -> Option<usize>
+    ensures { result ≡ compact_nullable_bytes.left value.now room }
+{
+    match value {
+        None => room_behind(1, room),
+        Some(value) => compact_bytes_room(value, room),
+    }
+}
+
+pub fn varint_bytes_room(value: &Bytes, room: usize) -> Option<usize>
+    ensures { result ≡ varint_bytes.left value.now room }
+{
+    let room = varint_count_room(value.len(), room)?;
+    room_behind(value.len(), room)
+}
+
+#[tactic(auto, unfolding(crate::specs::Spelling::null_behind_left, crate::specs::Spelling::null_count_fits))]
+pub fn varint_nullable_bytes_room(value: &Option<Bytes>, room: usize) -> Option<usize>
+    ensures { result ≡ varint_nullable_bytes.left value.now room }
+{
+    match value {
+        None => varint_room(-1, room),
+        Some(value) => varint_bytes_room(value, room),
+    }
+}

@@ -1,0 +1,234 @@
+//! Lengths and counts, in each form that stands before a text, bytes or an array.
+
+ghost use Rattle.std.specs.Prelude.{◌≡◌, ◌+◌, ◌<◌, ◌≤◌, ◌++◌, ◌^◌, length, true, None, Some, OnOk, IfOk, IfSome, MatchResult, Ok, Err};
+ghost use Rattle.wire_types.specs.Reading.{Takes, Reads, skipping, nat_at, int_at, bool_at, front_at, utf8_at, varint_at, varint_limit, many_at, all_at};
+ghost use Rattle.wire_types.specs.Writing.{Writes, Puts};
+ghost use Rattle.wire_types.specs.Spelling.{room_left, varint_written, many_fit, many_written, many_left};
+ghost use Rattle.wire_types.specs.Schema.{null_count16, null_count32, compact_null_count, varint_null_count, varint_count, count16, count32, compact_count};
+
+use crate::cursor::Cursor;
+use crate::fault::{Malformed, WriteFault};
+use crate::numbers::{write_i16, write_i32};
+use crate::room::room_behind;
+use crate::varints::{varint_len, varint_room, write_uvarint, write_varint};
+use std::alloc::AllocError;
+
+impl<'a> Cursor<'a> {
+    /// A count in two bytes, or nothing for -1.
+    #[tactic(auto, unfolding(crate::specs::Reading::null_count_at, crate::specs::Reading::null_or_count))]
+    pub(crate) fn read_null_count16(&mut self) -> Result<Option<u16>, Malformed>
+        ensures { Takes (null_count16.reading self.old) result self.new }
+    {
+        let count = self.read_i16()?;
+        if count < -1 {
+            return Err(Malformed::Range);
+        }
+        Ok(if count == -1 {
+            None
+        } else {
+            Some(count as u16)
+        })
+    }
+
+    /// A count in two bytes.
+    #[tactic(auto, unfolding(crate::specs::Reading::required_at, crate::specs::Reading::not_null))]
+    pub(crate) fn read_count16(&mut self) -> Result<u16, Malformed>
+        ensures { Takes (count16.reading self.old) result self.new }
+    {
+        match self.read_null_count16()? {
+            None => Err(Malformed::Range),
+            Some(count) => Ok(count),
+        }
+    }
+
+    /// A count in four bytes, or nothing for -1.
+    #[tactic(auto, unfolding(crate::specs::Reading::null_count_at, crate::specs::Reading::null_or_count))]
+    pub(crate) fn read_null_count(&mut self) -> Result<Option<u32>, Malformed>
+        ensures { Takes (null_count32.reading self.old) result self.new }
+    {
+        let count = self.read_i32()?;
+        if count < -1 {
+            return Err(Malformed::Range);
+        }
+        Ok(if count == -1 {
+            None
+        } else {
+            Some(count as u32)
+        })
+    }
+
+    /// A count in four bytes.
+    #[tactic(auto, unfolding(crate::specs::Reading::required_at, crate::specs::Reading::not_null))]
+    pub fn read_count(&mut self) -> Result<u32, Malformed>
+        ensures { Takes (count32.reading self.old) result self.new }
+    {
+        match self.read_null_count()? {
+            None => Err(Malformed::Range),
+            Some(count) => Ok(count),
+        }
+    }
+
+    /// A count and one in a number of variable length, or nothing for 0.
+    #[tactic(auto, unfolding(crate::specs::Reading::compact_null_count_at, crate::specs::Reading::one_less))]
+    pub(crate) fn read_compact_null_count(&mut self) -> Result<Option<u32>, Malformed>
+        ensures { Takes (compact_null_count.reading self.old) result self.new }
+    {
+        let count = self.read_uvarint()?;
+        Ok(if count == 0 { None } else { Some(count - 1) })
+    }
+
+    /// A count and one in a number of variable length.
+    #[tactic(auto, unfolding(crate::specs::Reading::required_at, crate::specs::Reading::not_null))]
+    pub fn read_compact_count(&mut self) -> Result<u32, Malformed>
+        ensures { Takes (compact_count.reading self.old) result self.new }
+    {
+        match self.read_compact_null_count()? {
+            None => Err(Malformed::Range),
+            Some(count) => Ok(count),
+        }
+    }
+
+    /// A count in a signed number of variable length, or nothing for -1.
+    #[tactic(auto, unfolding(crate::specs::Reading::null_count_at, crate::specs::Reading::null_or_count))]
+    pub(crate) fn read_varint_null_count(&mut self) -> Result<Option<u32>, Malformed>
+        ensures { Takes (varint_null_count.reading self.old) result self.new }
+    {
+        let count = self.read_varint()?;
+        if count < -1 {
+            return Err(Malformed::Range);
+        }
+        Ok(if count == -1 {
+            None
+        } else {
+            Some(count as u32)
+        })
+    }
+
+    /// A count in a signed number of variable length.
+    #[tactic(auto, unfolding(crate::specs::Reading::required_at, crate::specs::Reading::not_null))]
+    pub fn read_varint_count(&mut self) -> Result<u32, Malformed>
+        ensures { Takes (varint_count.reading self.old) result self.new }
+    {
+        match self.read_varint_null_count()? {
+            None => Err(Malformed::Range),
+            Some(count) => Ok(count),
+        }
+    }
+}
+
+/// A count in two bytes.
+#[tactic(auto, unfolding(crate::specs::Spelling::null_count_fits, crate::specs::Spelling::int_written))]
+pub(crate) fn write_count16(out: &mut Vec<u8>, count: usize) -> Result<(), WriteFault>
+    ensures { Puts count16 count out.old.items result out.new.items }
+{
+    if count >= 32_768 {
+        return Err(WriteFault::TooLong);
+    }
+    out.extend_from_slice(&(count as u16).to_be_bytes())?;
+    Ok(())
+}
+
+/// The count -1 in two bytes.
+pub(crate) fn write_null16(out: &mut Vec<u8>) -> Result<(), AllocError>
+    ensures { OnOk result (out.new.items ≡ null_count16.put out.old.items None) }
+{
+    write_i16(out, -1)
+}
+
+/// A count in four bytes.
+#[tactic(auto, unfolding(crate::specs::Spelling::null_count_fits, crate::specs::Spelling::int_written))]
+pub(crate) fn write_count(out: &mut Vec<u8>, count: usize) -> Result<(), WriteFault>
+    ensures { Puts count32 count out.old.items result out.new.items }
+{
+    if count >= 2_147_483_648 {
+        return Err(WriteFault::TooLong);
+    }
+    out.extend_from_slice(&(count as u32).to_be_bytes())?;
+    Ok(())
+}
+
+/// The count -1 in four bytes.
+pub(crate) fn write_null(out: &mut Vec<u8>) -> Result<(), AllocError>
+    ensures { OnOk result (out.new.items ≡ null_count32.put out.old.items None) }
+{
+    write_i32(out, -1)
+}
+
+/// A count and one in a number of variable length.
+#[tactic(auto, unfolding(crate::specs::Spelling::compact_null_count_written, crate::specs::Spelling::compact_null_count_fits))]
+pub(crate) fn write_compact_count(out: &mut Vec<u8>, count: usize) -> Result<(), WriteFault>
+    ensures { Puts compact_count count out.old.items result out.new.items }
+{
+    if count >= 4_294_967_295 {
+        return Err(WriteFault::TooLong);
+    }
+    write_uvarint(out, count as u32 + 1)?;
+    Ok(())
+}
+
+/// The number 0, which stands for nothing.
+#[tactic(auto, unfolding(crate::specs::Spelling::compact_null_count_written))]
+pub(crate) fn write_compact_null(out: &mut Vec<u8>) -> Result<(), AllocError>
+    ensures { OnOk result (out.new.items ≡ compact_null_count.put out.old.items None) }
+{
+    write_uvarint(out, 0)
+}
+
+/// A count in a signed number of variable length.
+#[tactic(auto, unfolding(crate::specs::Spelling::null_count_fits))]
+pub(crate) fn write_varint_count(out: &mut Vec<u8>, count: usize) -> Result<(), WriteFault>
+    ensures { Puts varint_count count out.old.items result out.new.items }
+{
+    if count >= 2_147_483_648 {
+        return Err(WriteFault::TooLong);
+    }
+    write_varint(out, count as i32)?;
+    Ok(())
+}
+
+/// The count -1 in a number of variable length.
+pub(crate) fn write_varint_null(out: &mut Vec<u8>) -> Result<(), AllocError>
+    ensures { OnOk result (out.new.items ≡ varint_null_count.put out.old.items None) }
+{
+    write_varint(out, -1)
+}
+
+#[tactic(auto, unfolding(crate::specs::Spelling::null_count_fits, crate::specs::Spelling::room_left))]
+pub(crate) fn count16_room(count: usize, room: usize) -> Option<usize>
+    ensures { result ≡ count16.left count room }
+{
+    if count >= 32_768 {
+        return None;
+    }
+    room_behind(2, room)
+}
+
+#[tactic(auto, unfolding(crate::specs::Spelling::null_count_fits, crate::specs::Spelling::room_left))]
+pub(crate) fn count_room(count: usize, room: usize) -> Option<usize>
+    ensures { result ≡ count32.left count room }
+{
+    if count >= 2_147_483_648 {
+        return None;
+    }
+    room_behind(4, room)
+}
+
+#[tactic(auto, unfolding(crate::specs::Spelling::compact_null_count_fits, crate::specs::Spelling::compact_null_count_written, crate::specs::Spelling::room_left))]
+pub(crate) fn compact_count_room(count: usize, room: usize) -> Option<usize>
+    ensures { result ≡ compact_count.left count room }
+{
+    if count >= 4_294_967_295 {
+        return None;
+    }
+    room_behind(varint_len(4, count as u64 + 1), room)
+}
+
+#[tactic(auto, unfolding(crate::specs::Spelling::null_count_fits))]
+pub(crate) fn varint_count_room(count: usize, room: usize) -> Option<usize>
+    ensures { result ≡ varint_count.left count room }
+{
+    if count >= 2_147_483_648 {
+        return None;
+    }
+    varint_room(count as i32, room)
+}

@@ -1,0 +1,101 @@
+//! A place in bytes that are read from left to right.
+
+ghost use Rattle.std.specs.Prelude.{◌≡◌, ◌↔◌, [], IsTrue, ◌+◌, ◌<◌, ◌≤◌, ◌++◌, ◌^◌, length, true, None, Some, OnOk, IfOk, IfSome, MatchResult, Ok, Err};
+ghost use Rattle.wire_types.specs.Reading.{Takes, byte_at, Reads, skipping, nat_at, int_at, bool_at, front_at, utf8_at, varint_at, varint_limit, many_at, all_at};
+
+use crate::fault::{Malformed, ReadFault};
+use bytes::Bytes;
+use std::alloc::Global;
+use std::marker::Model;
+
+/// The bytes that are left, and the shared bytes that they end, if any. After a refusal it isn't used further.
+#[derive(Drop)]
+pub struct Cursor<'a> {
+    left: &'a [u8],
+    whole: Option<&'a Bytes>,
+}
+
+impl<'a> Model for Cursor<'a> {
+    ghost use Rattle.std.specs.Prelude.{List, ℕ};
+    ghost use Rattle.wire_types.specs.Place.{IsEndOf};
+
+    ghost Value = { List ℕ };
+
+    ghost view = { λ c. c.left.now };
+
+    ghost invariant = { λ c. IsEndOf c.left.now c.whole };
+}
+
+impl<'a> Cursor<'a> {
+    pub fn new(bytes: &'a [u8]) -> Cursor<'a>
+        ensures { result ≡ bytes.now }
+    {
+        Cursor {
+            left: bytes,
+            whole: None,
+        }
+    }
+
+    /// Over shared bytes, whose parts are then shared.
+    pub fn over(bytes: &'a Bytes) -> Cursor<'a>
+        ensures { result ≡ bytes.now }
+    {
+        Cursor {
+            left: bytes.as_slice(),
+            whole: Some(bytes),
+        }
+    }
+
+    /// How many bytes are left.
+    pub fn len(&self) -> usize
+        ensures { result ≡ length self.now }
+    {
+        self.left.len()
+    }
+
+    pub fn is_empty(&self) -> bool
+        ensures { IsTrue result ↔ (self.now ≡ []) }
+    {
+        self.left.is_empty()
+    }
+
+    /// The next `len` bytes.
+    #[tactic(auto, unfolding(crate::specs::Reading::front_at))]
+    pub fn read_front(&mut self, len: usize) -> Result<&'a [u8], Malformed>
+        ensures { MatchResult result (λ x. front_at len self.old ≡ Ok (x.now, self.new))
+            (λ e. front_at len self.old ≡ Err e) }
+    {
+        if self.len() < len {
+            return Err(Malformed::Short);
+        }
+        let (front, rest) = self.left.split_at(len);
+        self.left = rest;
+        Ok(front)
+    }
+
+    /// The next byte.
+    #[tactic(auto, unfolding(crate::specs::Reading::front_at))]
+    pub(crate) fn read_byte(&mut self) -> Result<u8, Malformed>
+        ensures { Takes (byte_at self.old) result self.new }
+    {
+        let front = self.read_front(1)?;
+        Ok(front[0])
+    }
+
+    /// The next `len` bytes as a part of the shared bytes, or as a copy where there are none.
+    #[tactic(auto, unfolding(crate::specs::Reading::front_at))]
+    pub fn read_shared(&mut self, alloc: Global, len: usize) -> Result<Bytes, ReadFault>
+        ensures { Reads (front_at len self.old) result self.new }
+    {
+        let whole = self.whole;
+        let before = self.len();
+        let front = self.read_front(len)?;
+        match whole {
+            Some(whole) => {
+                let at = whole.len() - before;
+                Ok(whole.slice(at..at + len)?)
+            }
+            None => Ok(Bytes::copy_from_slice(alloc, front)?),
+        }
+    }
+}

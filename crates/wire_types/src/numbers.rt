@@ -1,0 +1,122 @@
+//! The numbers of a fixed width, big-endian, and truth values: INT8, INT16, INT32, INT64, UINT32, BOOLEAN.
+
+ghost use Rattle.std.specs.Prelude.{◌≡◌, ◌+◌, ◌<◌, ◌≤◌, ◌++◌, ◌^◌, length, true, None, Some, OnOk, IfOk, IfSome, MatchResult, Ok, Err};
+ghost use Rattle.wire_types.specs.Reading.{Takes, Reads, skipping, nat_at, int_at, bool_at, front_at, utf8_at, varint_at, varint_limit, many_at, all_at};
+ghost use Rattle.wire_types.specs.Writing.{Writes};
+ghost use Rattle.wire_types.specs.Spelling.{room_left, varint_written, many_fit, many_written, many_left};
+ghost use Rattle.std.specs.Int.{w8, w16, w32, w64, to_be_bytes};
+ghost use Rattle.wire_types.specs.Schema.{int8, int16, int32, int64, uint32, boolean};
+
+use crate::cursor::Cursor;
+use crate::fault::{Malformed, ReadFault, WriteFault};
+use crate::room::room_behind;
+use crate::wire::Wire;
+use std::alloc::{AllocError, Global};
+
+impl<'a> Cursor<'a> {
+    #[tactic(auto, unfolding(crate::specs::Reading::nat_at, crate::specs::Reading::int_at, crate::specs::Reading::front_at))]
+    pub fn read_i8(&mut self) -> Result<i8, Malformed>
+        ensures { Takes (int_at w8 self.old) result self.new }
+    {
+        Ok(i8::from_be_bytes([self.read_byte()?]))
+    }
+
+    #[tactic(auto, unfolding(crate::specs::Reading::nat_at, crate::specs::Reading::int_at, crate::specs::Reading::front_at))]
+    pub fn read_i16(&mut self) -> Result<i16, Malformed>
+        ensures { Takes (int_at w16 self.old) result self.new }
+    {
+        let front = self.read_front(2)?;
+        Ok(i16::from_be_bytes([front[0], front[1]]))
+    }
+
+    #[tactic(auto, unfolding(crate::specs::Reading::nat_at, crate::specs::Reading::int_at, crate::specs::Reading::front_at))]
+    pub fn read_i32(&mut self) -> Result<i32, Malformed>
+        ensures { Takes (int_at w32 self.old) result self.new }
+    {
+        let front = self.read_front(4)?;
+        Ok(i32::from_be_bytes([front[0], front[1], front[2], front[3]]))
+    }
+
+    #[tactic(auto, unfolding(crate::specs::Reading::nat_at, crate::specs::Reading::int_at, crate::specs::Reading::front_at))]
+    pub fn read_i64(&mut self) -> Result<i64, Malformed>
+        ensures { Takes (int_at w64 self.old) result self.new }
+    {
+        let front = self.read_front(8)?;
+        Ok(i64::from_be_bytes([
+            front[0], front[1], front[2], front[3], front[4], front[5], front[6], front[7],
+        ]))
+    }
+
+    #[tactic(auto, unfolding(crate::specs::Reading::nat_at, crate::specs::Reading::front_at))]
+    pub fn read_u32(&mut self) -> Result<u32, Malformed>
+        ensures { Takes (nat_at w32 self.old) result self.new }
+    {
+        let front = self.read_front(4)?;
+        Ok(u32::from_be_bytes([front[0], front[1], front[2], front[3]]))
+    }
+
+    #[tactic(auto, unfolding(crate::specs::Reading::bool_at, crate::specs::Reading::front_at))]
+    pub fn read_bool(&mut self) -> Result<bool, Malformed>
+        ensures { Takes (bool_at self.old) result self.new }
+    {
+        Ok(self.read_byte()? != 0)
+    }
+}
+
+#[tactic(auto, unfolding(crate::specs::Spelling::int_written))]
+pub fn write_i8(out: &mut Vec<u8>, number: i8) -> Result<(), AllocError>
+    ensures { OnOk result (out.new.items ≡ out.old.items ++ int8.written number) }
+{
+    out.extend_from_slice(&number.to_be_bytes())
+}
+
+#[tactic(auto, unfolding(crate::specs::Spelling::int_written))]
+pub fn write_i16(out: &mut Vec<u8>, number: i16) -> Result<(), AllocError>
+    ensures { OnOk result (out.new.items ≡ out.old.items ++ int16.written number) }
+{
+    out.extend_from_slice(&number.to_be_bytes())
+}
+
+#[tactic(auto, unfolding(crate::specs::Spelling::int_written))]
+pub fn write_i32(out: &mut Vec<u8>, number: i32) -> Result<(), AllocError>
+    ensures { OnOk result (out.new.items ≡ out.old.items ++ int32.written number) }
+{
+    out.extend_from_slice(&number.to_be_bytes())
+}
+
+#[tactic(auto, unfolding(crate::specs::Spelling::int_written))]
+pub fn write_i64(out: &mut Vec<u8>, number: i64) -> Result<(), AllocError>
+    ensures { OnOk result (out.new.items ≡ out.old.items ++ int64.written number) }
+{
+    out.extend_from_slice(&number.to_be_bytes())
+}
+
+pub fn write_u32(out: &mut Vec<u8>, number: u32) -> Result<(), AllocError>
+    ensures { OnOk result (out.new.items ≡ uint32.put out.old.items number) }
+{
+    out.extend_from_slice(&number.to_be_bytes())
+}
+
+#[tactic(auto, unfolding(crate::specs::Spelling::bool_written))]
+pub fn write_bool(out: &mut Vec<u8>, truth: bool) -> Result<(), AllocError>
+    ensures { OnOk result (out.new.items ≡ boolean.put out.old.items truth) }
+{
+    out.push(if truth { 1 } else { 0 })?;
+    Ok(())
+}
+
+impl Wire for i32 {
+    ghost grammar = { int32 };
+
+    fn read(_alloc: Global, cursor: &mut Cursor<'_>) -> Result<i32, ReadFault> {
+        Ok(cursor.read_i32()?)
+    }
+
+    fn write(&self, out: &mut Vec<u8>) -> Result<(), WriteFault> {
+        Ok(write_i32(out, *self)?)
+    }
+
+    fn room_left(&self, room: usize) -> Option<usize> {
+        room_behind(4, room)
+    }
+}

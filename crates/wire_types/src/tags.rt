@@ -1,0 +1,54 @@
+//! Tagged sections, whose fields are skipped and which are written empty.
+
+ghost use Rattle.std.specs.Prelude.{◌≡◌, ◌+◌, ◌<◌, ◌≤◌, ◌++◌, ◌^◌, length, true, None, Some, OnOk, IfOk, IfSome, MatchResult, Ok, Err};
+ghost use Rattle.wire_types.specs.Reading.{Takes, Reads, skipping, nat_at, int_at, bool_at, front_at, utf8_at, varint_at, varint_limit, many_at, all_at};
+ghost use Rattle.wire_types.specs.Writing.{Writes};
+ghost use Rattle.wire_types.specs.Spelling.{room_left, varint_written, many_fit, many_written, many_left};
+ghost use Rattle.wire_types.specs.Schema.{field, tags};
+
+use crate::cursor::Cursor;
+use crate::fault::Malformed;
+use crate::varints::write_uvarint;
+use std::alloc::AllocError;
+
+impl<'a> Cursor<'a> {
+    /// A tag, and what stands under it.
+    #[tactic(auto, unfolding(crate::specs::Reading::behind_at, crate::specs::Reading::front_at))]
+    fn skip_field(&mut self) -> Result<(), Malformed>
+        ensures { Takes (skipping (field.reading self.old)) result self.new }
+    {
+        self.read_uvarint()?;
+        let size = self.read_uvarint()?;
+        self.read_front(size as usize)?;
+        Ok(())
+    }
+
+    fn skip_fields(&mut self, count: u32) -> Result<(), Malformed>
+        ensures { Takes (skipping (many_at field.reading count self.old)) result self.new }
+    {
+        for _ in 0..count {
+            self.skip_field()?;
+        }
+        Ok(())
+    }
+
+    /// A tagged section, which is skipped.
+    #[tactic(auto, unfolding(crate::specs::Reading::behind_at, crate::specs::Reading::items_at))]
+    pub fn skip_tags(&mut self) -> Result<(), Malformed>
+        ensures { Takes (tags.reading self.old) result self.new }
+    {
+        let count = self.read_uvarint()?;
+        if self.len() < count as usize {
+            return Err(Malformed::Short);
+        }
+        self.skip_fields(count)
+    }
+}
+
+/// An empty tagged section.
+#[tactic(auto, unfolding(crate::specs::Spelling::behind_written, crate::specs::Spelling::many_written))]
+pub fn write_no_tags(out: &mut Vec<u8>) -> Result<(), AllocError>
+    ensures { OnOk result (out.new.items ≡ tags.put out.old.items tt) }
+{
+    write_uvarint(out, 0)
+}

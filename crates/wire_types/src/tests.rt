@@ -1,0 +1,6 @@
+//! Vectors from outside, and each public call once.
+
+mod devices;
+mod lists;
+mod numbers;
+mod texts;

@@ -1,0 +1,80 @@
+//! Numbers: the vectors of the Kafka protocol guide's primitives and of zigzag.
+
+use crate::{
+    Cursor, Malformed, write_bool, write_i8, write_i16, write_i32, write_i64, write_u32,
+    write_uvarint, write_varint, write_varlong,
+};
+use std::test::Fail;
+
+fn uvarint(bytes: &[u8]) -> Result<u32, Malformed> {
+    Cursor::new(bytes).read_uvarint()
+}
+
+fn varint(bytes: &[u8]) -> Result<i32, Malformed> {
+    Cursor::new(bytes).read_varint()
+}
+
+fn varlong(bytes: &[u8]) -> Result<i64, Malformed> {
+    Cursor::new(bytes).read_varlong()
+}
+
+#[test]
+fn numbers_of_fixed_width(rt: HostRuntime) {
+    let bytes =
+        b"\xfe\xff\xfe\x80\x00\x00\x01\x80\x00\x00\x00\x00\x00\x00\x02\xe3\x06\x92\x83\x07\x00";
+    let mut cursor = Cursor::new(bytes);
+    assert_eq!(rt; cursor.read_i8(), Ok(-2));
+    assert_eq!(rt; cursor.read_i16(), Ok(-2));
+    assert_eq!(rt; cursor.read_i32(), Ok(-2_147_483_647));
+    assert_eq!(rt; cursor.read_i64(), Ok(-9_223_372_036_854_775_806));
+    assert_eq!(rt; cursor.read_u32(), Ok(0xe306_9283));
+    assert_eq!(rt; cursor.read_bool(), Ok(true));
+    assert_eq!(rt; cursor.read_bool(), Ok(false));
+    assert_eq!(rt; cursor.read_bool(), Err(Malformed::Short));
+}
+
+#[test]
+fn numbers_of_variable_length(rt: HostRuntime) {
+    assert_eq!(rt; uvarint(b"\xff\xff\xff\xff\x0f"), Ok(4_294_967_295));
+    assert_eq!(rt; uvarint(b"\x80\x80\x80\x80\x00"), Ok(0));
+    assert_eq!(rt; uvarint(b"\xff\xff\xff\xff\x1f"), Err(Malformed::Range));
+    assert_eq!(rt; uvarint(b"\xff\xff\xff\xff\x8f"), Err(Malformed::Range));
+    assert_eq!(rt; uvarint(b"\x80"), Err(Malformed::Short));
+    assert_eq!(rt;
+        varlong(b"\xff\xff\xff\xff\xff\xff\xff\xff\xff\x01"),
+        Ok(-9_223_372_036_854_775_808)
+    );
+    assert_eq!(rt;
+        varlong(b"\xff\xff\xff\xff\xff\xff\xff\xff\xff\x02"),
+        Err(Malformed::Range)
+    );
+    assert_eq!(rt; varint(b"\xff\xff\xff\xff\x0f"), Ok(-2_147_483_648));
+    for (byte, number) in [(b"\x00", 0), (b"\x01", -1), (b"\x02", 1), (b"\x03", -2)] {
+        assert_eq!(rt; varint(byte), Ok(number));
+    }
+}
+
+#[test]
+fn written_numbers(rt: HostRuntime) -> Result<(), Fail> {
+    let mut out = Vec::new(rt.alloc());
+    write_i8(&mut out, -2)?;
+    write_i16(&mut out, -2)?;
+    write_i32(&mut out, 1)?;
+    write_i64(&mut out, -9_223_372_036_854_775_806)?;
+    write_u32(&mut out, 0xe306_9283)?;
+    write_bool(&mut out, true)?;
+    write_bool(&mut out, false)?;
+    assert_eq!(rt;
+        out.as_slice(),
+        b"\xfe\xff\xfe\x00\x00\x00\x01\x80\x00\x00\x00\x00\x00\x00\x02\xe3\x06\x92\x83\x01\x00".as_slice()
+    );
+    let mut out = Vec::new(rt.alloc());
+    write_uvarint(&mut out, 300)?;
+    write_varint(&mut out, -2)?;
+    write_varlong(&mut out, -9_223_372_036_854_775_808)?;
+    assert_eq!(rt;
+        out.as_slice(),
+        b"\xac\x02\x03\xff\xff\xff\xff\xff\xff\xff\xff\xff\x01".as_slice()
+    );
+    Ok(())
+}

@@ -1,0 +1,167 @@
+//! Texts of UTF-8: STRING, NULLABLE_STRING, COMPACT_STRING, COMPACT_NULLABLE_STRING.
+
+ghost use Rattle.std.specs.Prelude.{◌≡◌, ◌+◌, ◌<◌, ◌≤◌, ◌++◌, ◌^◌, length, true, None, Some, OnOk, IfOk, IfSome, MatchResult, Ok, Err};
+ghost use Rattle.wire_types.specs.Reading.{Takes, Reads, skipping, nat_at, int_at, bool_at, front_at, utf8_at, varint_at, varint_limit, many_at, all_at};
+ghost use Rattle.wire_types.specs.Writing.{Writes, Puts};
+ghost use Rattle.wire_types.specs.Spelling.{room_left, varint_written, many_fit, many_written, many_left};
+ghost use Rattle.wire_types.specs.Schema.{string, nullable_string, compact_string, compact_nullable_string};
+
+use crate::counts::{
+    compact_count_room, count16_room, write_compact_count, write_compact_null, write_count16,
+    write_null16,
+};
+use crate::cursor::Cursor;
+use crate::fault::{Malformed, ReadFault, WriteFault};
+use crate::room::room_behind;
+use crate::text::Text;
+use crate::wire::Wire;
+use std::alloc::Global;
+use std::str::from_utf8;
+
+impl<'a> Cursor<'a> {
+    /// The next `len` bytes, a text.
+    #[tactic(auto, unfolding(crate::specs::Reading::utf8_at))]
+    fn read_utf8(&mut self, alloc: Global, len: usize) -> Result<Text, ReadFault>
+        ensures { Reads (utf8_at len self.old) result self.new }
+    {
+        let front = self.read_front(len)?;
+        match from_utf8(front) {
+            Ok(text) => Ok(Text::of(alloc, text)?),
+            Err(_) => Err(ReadFault::Malformed(Malformed::Utf8)),
+        }
+    }
+
+    /// A text behind its length in two bytes.
+    #[tactic(auto, unfolding(crate::specs::Reading::behind_at))]
+    pub fn read_string(&mut self, alloc: Global) -> Result<Text, ReadFault>
+        ensures { Reads (string.reading self.old) result self.new }
+    {
+        let len = self.read_count16()?;
+        self.read_utf8(alloc, len as usize)
+    }
+
+    /// A text behind its length in two bytes, or nothing for the length -1.
+    #[tactic(auto, unfolding(crate::specs::Reading::null_behind_at, crate::specs::Reading::null_or))]
+    pub fn read_nullable(&mut self, alloc: Global) -> Result<Option<Text>, ReadFault>
+        ensures { Reads (nullable_string.reading self.old) result self.new }
+    {
+        match self.read_null_count16()? {
+            None => Ok(None),
+            Some(len) => Ok(Some(self.read_utf8(alloc, len as usize)?)),
+        }
+    }
+
+    /// A text behind its length and one in a number of variable length.
+    #[tactic(auto, unfolding(crate::specs::Reading::behind_at))]
+    pub fn read_compact_string(&mut self, alloc: Global) -> Result<Text, ReadFault>
+        ensures { Reads (compact_string.reading self.old) result self.new }
+    {
+        let len = self.read_compact_count()?;
+        self.read_utf8(alloc, len as usize)
+    }
+
+    /// The same, or nothing for 0.
+    #[tactic(auto, unfolding(crate::specs::Reading::null_behind_at, crate::specs::Reading::null_or))]
+    pub fn read_compact_nullable(&mut self, alloc: Global) -> Result<Option<Text>, ReadFault>
+        ensures { Reads (compact_nullable_string.reading self.old) result self.new }
+    {
+        match self.read_compact_null_count()? {
+            None => Ok(None),
+            Some(len) => Ok(Some(self.read_utf8(alloc, len as usize)?)),
+        }
+    }
+}
+
+/// A length in two bytes, and the text.
+#[tactic(auto, unfolding(crate::specs::Spelling::behind_fits))]
+pub fn write_string(out: &mut Vec<u8>, value: &Text) -> Result<(), WriteFault>
+    ensures { Puts string value.now out.old.items result out.new.items }
+{
+    write_count16(out, value.len())?;
+    out.extend_from_slice(value.as_bytes())?;
+    Ok(())
+}
+
+/// A text, or the length -1 for nothing.
+#[tactic(auto, unfolding(crate::specs::Spelling::behind_fits, crate::specs::Spelling::null_behind_fits, crate::specs::Spelling::null_behind_put, crate::specs::Spelling::null_count_fits, crate::specs::Spelling::compact_null_count_fits))]
+pub fn write_nullable(out: &mut Vec<u8>, value: &Option<Text>) -> Result<(), WriteFault>
+    ensures { Puts nullable_string value.now out.old.items result out.new.items }
+{
+    match value {
+        None => write_null16(out)?,
+        Some(value) => write_string(out, value)?,
+    }
+    Ok(())
+}
+
+/// A length and one in a number of variable length, and the text.
+#[tactic(auto, unfolding(crate::specs::Spelling::behind_fits))]
+pub fn write_compact_string(out: &mut Vec<u8>, value: &Text) -> Result<(), WriteFault>
+    ensures { Puts compact_string value.now out.old.items result out.new.items }
+{
+    write_compact_count(out, value.len())?;
+    out.extend_from_slice(value.as_bytes())?;
+    Ok(())
+}
+
+/// The same, or 0 for nothing.
+#[tactic(auto, unfolding(crate::specs::Spelling::behind_fits, crate::specs::Spelling::null_behind_fits, crate::specs::Spelling::null_behind_put, crate::specs::Spelling::null_count_fits, crate::specs::Spelling::compact_null_count_fits))]
+pub fn write_compact_nullable(out: &mut Vec<u8>, value: &Option<Text>) -> Result<(), WriteFault>
+    ensures { Puts compact_nullable_string value.now out.old.items result out.new.items }
+{
+    match value {
+        None => write_compact_null(out)?,
+        Some(value) => write_compact_string(out, value)?,
+    }
+    Ok(())
+}
+
+pub fn string_room(value: &Text, room: usize) -> Option<usize>
+    ensures { result ≡ string.left value.now room }
+{
+    let room = count16_room(value.len(), room)?;
+    room_behind(value.len(), room)
+}
+
+#[tactic(auto, unfolding(crate::specs::Spelling::null_behind_left, crate::specs::Spelling::null_count_fits))]
+pub fn nullable_room(value: &Option<Text>, room: usize) -> Option<usize>
+    ensures { result ≡ nullable_string.left value.now room }
+{
+    match value {
+        None => room_behind(2, room),
+        Some(value) => string_room(value, room),
+    }
+}
+
+pub fn compact_string_room(value: &Text, room: usize) -> Option<usize>
+    ensures { result ≡ compact_string.left value.now room }
+{
+    let room = compact_count_room(value.len(), room)?;
+    room_behind(value.len(), room)
+}
+
+#[tactic(auto, unfolding(crate::specs::Spelling::null_behind_left, crate::specs::Spelling::null_count_fits, crate::specs::Spelling::compact_null_count_fits, crate::specs::Spelling::compact_null_count_written, crate::specs::Spelling::varint_written))]
+pub fn compact_nullable_room(value: &Option<Text>, room: usize) -> Option<usize>
+    ensures { result ≡ compact_nullable_string.left value.now room }
+{
+    match value {
+        None => room_behind(1, room),
+        Some(value) => compact_string_room(value, room),
+    }
+}
+
+impl Wire for Text {
+    ghost grammar = { string };
+
+    fn read(alloc: Global, cursor: &mut Cursor<'_>) -> Result<Text, ReadFault> {
+        cursor.read_string(alloc)
+    }
+
+    fn write(&self, out: &mut Vec<u8>) -> Result<(), WriteFault> {
+        write_string(out, self)
+    }
+
+    fn room_left(&self, room: usize) -> Option<usize> {
+        string_room(self, room)
+    }
+}

@@ -1,0 +1,40 @@
+//! A topic with what a message says of its partitions.
+
+use crate::arrays::{array_room, read_array, write_array};
+use crate::cursor::Cursor;
+use crate::fault::{ReadFault, WriteFault};
+use crate::items::Items;
+use crate::text::Text;
+use crate::texts::{string_room, write_string};
+use crate::wire::Wire;
+use std::alloc::Global;
+
+/// A topic's name, and something for each of its partitions.
+#[derive(Clone, Debug, Drop, PartialEq, Eq)]
+pub struct Topic<P> {
+    pub name: Text,
+    pub partitions: Items<P>,
+}
+
+impl<P: Wire> Wire for Topic<P> {
+    ghost use Rattle.wire_types.specs.Topic.{topic_of};
+
+    ghost grammar = { topic_of P.grammar };
+
+    fn read(alloc: Global, cursor: &mut Cursor<'_>) -> Result<Topic<P>, ReadFault> {
+        let name = cursor.read_string(alloc)?;
+        let partitions = read_array(alloc, cursor)?;
+        Ok(Topic { name, partitions })
+    }
+
+    fn write(&self, out: &mut Vec<u8>) -> Result<(), WriteFault> {
+        write_string(out, &self.name)?;
+        write_array(out, &self.partitions)?;
+        Ok(())
+    }
+
+    fn room_left(&self, room: usize) -> Option<usize> {
+        let room = string_room(&self.name, room)?;
+        array_room(&self.partitions, room)
+    }
+}

@@ -1,0 +1,162 @@
+//! Numbers of variable length: UNSIGNED_VARINT, VARINT, VARLONG.
+
+ghost use Rattle.std.specs.Prelude.{◌≡◌, ◌+◌, ◌<◌, ◌≤◌, ◌++◌, ◌^◌, length, true, None, Some, OnOk, IfOk, IfSome, MatchResult, Ok, Err};
+ghost use Rattle.wire_types.specs.Reading.{Takes, Reads, skipping, nat_at, int_at, bool_at, front_at, utf8_at, varint_at, varint_limit, many_at, all_at};
+ghost use Rattle.wire_types.specs.Writing.{Writes};
+ghost use Rattle.wire_types.specs.Spelling.{room_left, varint_written, many_fit, many_written, many_left};
+ghost use Rattle.wire_types.specs.Zigzag.{zigzag};
+ghost use Rattle.wire_types.specs.Schema.{uvarint, uvarlong, varint, varlong};
+
+use crate::cursor::Cursor;
+use crate::fault::Malformed;
+use crate::room::room_behind;
+use std::alloc::AllocError;
+
+impl<'a> Cursor<'a> {
+    /// A number of variable length: `more` bytes may follow the first, and the last of them all is at most `top`.
+    #[tactic(auto, unfolding(crate::specs::Reading::varint_at, crate::specs::Reading::varint_limit))]
+    fn read_varint_within(&mut self, more: u32, top: u8) -> Result<u64, Malformed>
+        requires { varint_limit more top ≤ 2 ^ 64 }
+        ensures found { Takes (varint_at more top self.old) result self.new }
+        ensures bound { IfOk result (λ n. n < varint_limit more top) }
+    {
+        let first = self.read_byte()?;
+        if more == 0 {
+            return if top < first {
+                Err(Malformed::Range)
+            } else {
+                Ok(first as u64)
+            };
+        }
+        if first < 128 {
+            return Ok(first as u64);
+        }
+        let high = self.read_varint_within(more - 1, top)?;
+        Ok((first - 128) as u64 + 128 * high)
+    }
+
+    /// An unsigned number of 32 bits in up to five bytes.
+    #[tactic(auto, unfolding(crate::specs::Reading::varint_limit))]
+    pub fn read_uvarint(&mut self) -> Result<u32, Malformed>
+        ensures { Takes (uvarint.reading self.old) result self.new }
+    {
+        Ok(self.read_varint_within(4, 15)? as u32)
+    }
+
+    /// An unsigned number of 64 bits in up to ten bytes.
+    #[tactic(auto, unfolding(crate::specs::Reading::varint_limit))]
+    fn read_uvarlong(&mut self) -> Result<u64, Malformed>
+        ensures { Takes (uvarlong.reading self.old) result self.new }
+    {
+        self.read_varint_within(9, 1)
+    }
+
+    /// A signed number of 32 bits in up to five bytes.
+    pub fn read_varint(&mut self) -> Result<i32, Malformed>
+        ensures { Takes (varint.reading self.old) result self.new }
+    {
+        let number = self.read_uvarint()?;
+        let half = (number / 2) as i32;
+        Ok(if number % 2 == 0 { half } else { -half - 1 })
+    }
+
+    /// A signed number of 64 bits in up to ten bytes.
+    pub fn read_varlong(&mut self) -> Result<i64, Malformed>
+        ensures { Takes (varlong.reading self.old) result self.new }
+    {
+        let number = self.read_uvarlong()?;
+        let half = (number / 2) as i64;
+        Ok(if number % 2 == 0 { half } else { -half - 1 })
+    }
+}
+
+/// A number of variable length in its shortest form: `more` bytes may follow the first.
+#[tactic(auto, unfolding(crate::specs::Spelling::varint_written, crate::specs::Reading::varint_limit))]
+fn write_varint_within(out: &mut Vec<u8>, more: u32, top: u8, number: u64) -> Result<(), AllocError>
+    requires { number < varint_limit more top }
+    ensures { OnOk result (out.new.items ≡ out.old.items ++ varint_written more number) }
+{
+    if more == 0 || number < 128 {
+        out.push(number as u8)?;
+        return Ok(());
+    }
+    out.push((number % 128) as u8 + 128)?;
+    write_varint_within(out, more - 1, top, number / 128)?;
+    Ok(())
+}
+
+/// An unsigned number of 32 bits.
+#[tactic(auto, unfolding(crate::specs::Reading::varint_limit))]
+pub fn write_uvarint(out: &mut Vec<u8>, number: u32) -> Result<(), AllocError>
+    ensures { OnOk result (out.new.items ≡ uvarint.put out.old.items number) }
+{
+    write_varint_within(out, 4, 15, number as u64)
+}
+
+#[tactic(auto, unfolding(crate::specs::Reading::varint_limit))]
+fn write_uvarlong(out: &mut Vec<u8>, number: u64) -> Result<(), AllocError>
+    ensures { OnOk result (out.new.items ≡ uvarlong.put out.old.items number) }
+{
+    write_varint_within(out, 9, 1, number)
+}
+
+/// A signed number in zigzag form: 0, -1, 1, -2 as 0, 1, 2, 3.
+fn zigzag(number: i32) -> u32
+    ensures { result ≡ zigzag number }
+{
+    if number < 0 {
+        2 * ((-(number + 1)) as u32) + 1
+    } else {
+        2 * (number as u32)
+    }
+}
+
+/// The same of 64 bits.
+fn long_zigzag(number: i64) -> u64
+    ensures { result ≡ zigzag number }
+{
+    if number < 0 {
+        2 * ((-(number + 1)) as u64) + 1
+    } else {
+        2 * (number as u64)
+    }
+}
+
+/// A signed number of 32 bits.
+pub fn write_varint(out: &mut Vec<u8>, number: i32) -> Result<(), AllocError>
+    ensures { OnOk result (out.new.items ≡ varint.put out.old.items number) }
+{
+    write_uvarint(out, zigzag(number))
+}
+
+/// A signed number of 64 bits.
+pub fn write_varlong(out: &mut Vec<u8>, number: i64) -> Result<(), AllocError>
+    ensures { OnOk result (out.new.items ≡ varlong.put out.old.items number) }
+{
+    write_uvarlong(out, long_zigzag(number))
+}
+
+/// How many bytes a number of variable length takes.
+#[tactic(auto, unfolding(crate::specs::Spelling::varint_written))]
+pub(crate) fn varint_len(more: u32, number: u64) -> usize
+    ensures { (result ≡ length (varint_written more number)) × (result ≤ more + 1) }
+{
+    if number < 128 || more == 0 {
+        return 1;
+    }
+    varint_len(more - 1, number / 128) + 1
+}
+
+/// How many bytes a signed number of variable length takes.
+pub fn varint_room(number: i32, room: usize) -> Option<usize>
+    ensures { result ≡ varint.left number room }
+{
+    room_behind(varint_len(4, zigzag(number) as u64), room)
+}
+
+/// The same of 64 bits.
+pub fn varlong_room(number: i64, room: usize) -> Option<usize>
+    ensures { result ≡ varlong.left number room }
+{
+    room_behind(varint_len(9, long_zigzag(number)), room)
+}

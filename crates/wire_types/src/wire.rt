@@ -1,0 +1,37 @@
+//! What can be read and written.
+
+ghost use Rattle.std.specs.Prelude.{◌≡◌, ◌+◌, ◌<◌, ◌≤◌, ◌++◌, ◌^◌, length, true, None, Some, OnOk, IfOk, IfSome, MatchResult, Ok, Err};
+ghost use Rattle.wire_types.specs.Reading.{Reads};
+ghost use Rattle.wire_types.specs.Writing.{Writes, Puts};
+ghost use Rattle.wire_types.specs.Grammar.{Grammar};
+ghost use Rattle.wire_types.specs.Laws.{size_of};
+
+use crate::cursor::Cursor;
+use crate::fault::{ReadFault, WriteFault};
+use std::alloc::Global;
+
+/// A value that bytes spell.
+pub trait Wire: Drop {
+    /// Which bytes spell which value.
+    ghost grammar: { Grammar Self };
+
+    /// The value at the front of the bytes that are left.
+    fn read(alloc: Global, cursor: &mut Cursor<'_>) -> Result<Self, ReadFault>
+        ensures { Reads (grammar.reading cursor.old) result cursor.new };
+
+    /// Puts the value's one spelling behind what is there.
+    fn write(&self, out: &mut Vec<u8>) -> Result<(), WriteFault>
+        ensures { Puts grammar self.now out.old.items result out.new.items };
+
+    /// What is left of a room behind that spelling, if it has one and that has place there.
+    fn room_left(&self, room: usize) -> Option<usize>
+        ensures { result ≡ grammar.left self.now room };
+}
+
+/// How many bytes the value's spelling has, if it has one of at most so many as a `usize` can tell.
+pub fn size<T: Wire>(value: &T) -> Option<usize>
+    ensures { result ≡ size_of T.grammar value.now }
+{
+    let left = value.room_left(usize::MAX)?;
+    Some(usize::MAX - left)
+}
