@@ -1,0 +1,5 @@
+pub mod Weaving
+pub mod Weights
+pub mod Granted
+pub mod Headlines
+pub mod Alikeness

@@ -1,0 +1,22 @@
+-- What a part takes of the world's room, and apis whose parts take nothing.
+use Rattle.std.proofs.Common.{ℕ, ◌+◌, ◌≤◌, List, [], ◌∷◌, Option, Some, None, arith}
+use Rattle.authorizer.specs.declared.answer.Refusal.{Refusal}
+use Rattle.authorizer.specs.Asking.{Rules}
+use Rattle.wire_types.specs.declared.topic.Topic.{Topic}
+use Rattle.walk.specs.Rule.{PartRule, refusal_of}
+use Rattle.walk.specs.Walk.{parts_weight, topics_weight}
+use Rattle.walk.specs.Steps.{world_by, part_world}
+
+pub part_takes : {P A W : Type 0} (api : PartRule P A W) (rules : Rules) (w : W) (name : List ℕ) (p : P) → api.room w ≤ api.weight p + api.room (part_world api rules w name p)
+part_takes api rules w name p = by_refusal (refusal_of api rules name p) where
+  by_refusal : (r : Option Refusal) → api.room w ≤ api.weight p + api.room (world_by api r w name p)
+  by_refusal (Some r) = omega arith
+  by_refusal None = api.takes w name p
+
+parts_weightless : {P A W : Type 0} (api : PartRule P A W) (ps : List P) → ((p : P) → api.weight p ≤ 0) → parts_weight api ps ≤ 0
+parts_weightless api [] none = omega arith
+parts_weightless api (p ∷ ps) none = omega (arith, none p, parts_weightless api ps none)
+
+pub weightless : {P A W : Type 0} (api : PartRule P A W) (room : ℕ) (ts : List (Topic P)) → ((p : P) → api.weight p ≤ 0) → topics_weight api ts ≤ room
+weightless api room [] none = omega arith
+weightless api room (t ∷ ts) none = omega (arith, parts_weightless api t.partitions none, weightless api 0 ts none)

@@ -1,0 +1,44 @@
+-- The same walk, one part after the other: each is answered, refused or not, before the next is looked at.
+use Rattle.std.specs.Prelude.{ℕ, List, [], ◌∷◌, Option, Some, None}
+use Rattle.authorizer.specs.declared.answer.Refusal.{Refusal}
+use Rattle.authorizer.specs.Asking.{Rules}
+use Rattle.wire_types.specs.declared.topic.Topic.{Topic}
+use Rattle.walk.specs.declared.part.Part.{Part}
+use Rattle.walk.specs.Codes.{refusal_code}
+use Rattle.walk.specs.Rule.{PartRule, refusal_of}
+
+-- ---- one part, by its refusal if it is refused
+
+abbrev pub answer_by : {P A W : Type 0} → PartRule P A W → Option Refusal → W → List ℕ → P → A
+answer_by api (Some r) w name p = api.refused (refusal_code r) name p
+answer_by api None w name p = api.plain w name p
+
+abbrev pub world_by : {P A W : Type 0} → PartRule P A W → Option Refusal → W → List ℕ → P → W
+world_by api (Some r) w name p = w
+world_by api None w name p = api.after w name p
+
+abbrev pub part_done : {P A W : Type 0} → PartRule P A W → Rules → W → List ℕ → P → Part A
+part_done api rules w name p = record { answer = answer_by api (refusal_of api rules name p) w name p; refusal = refusal_of api rules name p }
+
+abbrev pub part_world : {P A W : Type 0} → PartRule P A W → Rules → W → List ℕ → P → W
+part_world api rules w name p = world_by api (refusal_of api rules name p) w name p
+
+-- ---- the parts of a topic
+
+abbrev pub parts_world : {P A W : Type 0} → PartRule P A W → Rules → W → List ℕ → List P → W
+parts_world api rules w name [] = w
+parts_world api rules w name (p ∷ ps) = parts_world api rules (part_world api rules w name p) name ps
+
+abbrev pub parts_answers : {P A W : Type 0} → PartRule P A W → Rules → W → List ℕ → List P → List A
+parts_answers api rules w name [] = []
+parts_answers api rules w name (p ∷ ps) = (part_done api rules w name p).answer ∷ parts_answers api rules (part_world api rules w name p) name ps
+
+-- ---- the topics
+
+abbrev pub topics_world : {P A W : Type 0} → PartRule P A W → Rules → W → List (Topic P) → W
+topics_world api rules w [] = w
+topics_world api rules w (t ∷ ts) = topics_world api rules (parts_world api rules w t.name t.partitions) ts
+
+abbrev pub topics_answers : {P A W : Type 0} → PartRule P A W → Rules → W → List (Topic P) → List (Topic A)
+topics_answers api rules w [] = []
+topics_answers api rules w (t ∷ ts) = record { name = t.name; partitions = parts_answers api rules w t.name t.partitions } ∷ topics_answers api rules (parts_world api rules w t.name t.partitions) ts

@@ -1,0 +1,18 @@
+//! The parts of a request.
+
+ghost use Rattle.std.specs.Prelude.{◌≡◌};
+ghost use Rattle.walk.specs.Woven.{has_part};
+
+use wire_types::Topic;
+
+/// Some partition is asked for.
+pub fn has_part<P>(topics: &[Topic<P>]) -> bool
+    ensures { result ≡ has_part topics.now }
+{
+    for topic in topics {
+        if topic.partitions.len() > 0 {
+            return true;
+        }
+    }
+    false
+}

@@ -1,0 +1,108 @@
+//! The walk over the partitions of topics.
+
+ghost use Rattle.std.specs.Prelude.{◌≡◌, ◌+◌, ◌≤◌, ◌++◌, IfOk, OnOk};
+ghost use Rattle.authorizer.specs.Asking.{policy_rules};
+ghost use Rattle.walk.specs.Walk.{plain_world, plain_topics, world_after, answers, parts_refused, refusals, parts_weight, topics_weight};
+ghost use Rattle.walk.specs.Woven.{AsksNothing};
+ghost use Rattle.walk.specs.Steps.{parts_world, parts_answers, topics_world, topics_answers};
+
+use crate::part::PartApi;
+use authorizer::{Policy, Refusal};
+use std::alloc::{AllocError, Global};
+use wire_types::{Items, Text, Topic};
+
+/// The answers for the topics, and the refusals of the parts that were refused.
+#[derive(Drop)]
+pub struct Walked<A> {
+    pub topics: Items<Topic<A>>,
+    pub refusals: Items<Refusal>,
+}
+
+/// The plain answers to the parts that are allowed, with a code in place of each other part, and the refusals of those.
+#[tactic(auto, using(crate::proofs::Weaving::woven))]
+pub fn walk<P, A: Drop, W, X: PartApi<P, A, W>>(
+    alloc: Global,
+    api: &X,
+    policy: &Policy,
+    world: &mut W,
+    topics: &[Topic<P>],
+) -> Result<Walked<A>, AllocError>
+    requires { topics_weight (X.rule api.now) topics.now ≤ (X.rule api.now).room world.old }
+    ensures world { OnOk result (world.new ≡ world_after (X.rule api.now) (policy_rules policy.now) world.old topics.now) }
+    ensures answers { IfOk result (λ r. r.topics ≡ answers (X.rule api.now) (policy_rules policy.now) world.old topics.now) }
+    ensures refusals { IfOk result (λ r. r.refusals ≡ refusals (X.rule api.now) (policy_rules policy.now) topics.now) }
+{
+    walk_topics(alloc, api, policy, world, topics)
+}
+
+/// The plain answers to all parts, for an api that asks nothing.
+#[tactic(auto, using(crate::proofs::Weaving::unasked))]
+pub fn walk_plain<P, A: Drop, W, X: PartApi<P, A, W>>(
+    alloc: Global,
+    api: &X,
+    policy: &Policy,
+    world: &mut W,
+    topics: &[Topic<P>],
+) -> Result<Items<Topic<A>>, AllocError>
+    requires nothing { AsksNothing (X.rule api.now) }
+    requires room { topics_weight (X.rule api.now) topics.now ≤ (X.rule api.now).room world.old }
+    ensures world { OnOk result (world.new ≡ plain_world (X.rule api.now) world.old topics.now) }
+    ensures answers { IfOk result (λ r. r ≡ plain_topics (X.rule api.now) world.old topics.now) }
+{
+    Ok(walk_topics(alloc, api, policy, world, topics)?.topics)
+}
+
+/// One topic after the other.
+fn walk_topics<P, A: Drop, W, X: PartApi<P, A, W>>(
+    alloc: Global,
+    api: &X,
+    policy: &Policy,
+    world: &mut W,
+    topics: &[Topic<P>],
+) -> Result<Walked<A>, AllocError>
+    requires { topics_weight (X.rule api.now) topics.now ≤ (X.rule api.now).room world.old }
+    ensures world { OnOk result (world.new ≡ topics_world (X.rule api.now) (policy_rules policy.now) world.old topics.now) }
+    ensures answers { IfOk result (λ r. r.topics ≡ topics_answers (X.rule api.now) (policy_rules policy.now) world.old topics.now) }
+    ensures refusals { IfOk result (λ r. r.refusals ≡ refusals (X.rule api.now) (policy_rules policy.now) topics.now) }
+{
+    let mut answers = Items::new(alloc);
+    let mut refusals = Items::new(alloc);
+    for topic in topics {
+        let parts = topic.partitions.as_slice();
+        let partitions = walk_parts(alloc, api, policy, world, &topic.name, parts, &mut refusals)?;
+        answers.push(Topic {
+            name: topic.name.clone()?,
+            partitions,
+        })?;
+    }
+    Ok(Walked {
+        topics: answers,
+        refusals,
+    })
+}
+
+/// One partition after the other. Their refusals go behind those that are there.
+#[tactic(auto, using(crate::proofs::Weights::part_takes))]
+fn walk_parts<P, A: Drop, W, X: PartApi<P, A, W>>(
+    alloc: Global,
+    api: &X,
+    policy: &Policy,
+    world: &mut W,
+    name: &Text,
+    parts: &[P],
+    refusals: &mut Items<Refusal>,
+) -> Result<Items<A>, AllocError>
+    requires { parts_weight (X.rule api.now) parts.now ≤ (X.rule api.now).room world.old }
+    ensures world { OnOk result (world.new ≡ parts_world (X.rule api.now) (policy_rules policy.now) world.old name.now parts.now) }
+    ensures answers { IfOk result (λ r. r ≡ parts_answers (X.rule api.now) (policy_rules policy.now) world.old name.now parts.now) }
+    ensures refusals { OnOk result (refusals.new ≡ refusals.old ++ parts_refused (X.rule api.now) (policy_rules policy.now) name.now parts.now) }
+    ensures room { OnOk result ((X.rule api.now).room world.old ≤ parts_weight (X.rule api.now) parts.now + (X.rule api.now).room world.new) }
+{
+    let mut answers = Items::new(alloc);
+    for part in parts {
+        let done = api.serve(alloc, policy, world, name, part)?;
+        answers.push(done.answer)?;
+        refusals.push_some(done.refusal)?;
+    }
+    Ok(answers)
+}
