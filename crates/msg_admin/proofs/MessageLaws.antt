@@ -1,6 +1,7 @@
 -- The laws between bytes, requests and replies.
 use Rattle.std.proofs.Common.{◌≡◌, ℕ, ℤ, pos, ◌+◌, ◌≤◌, true, ◌&&◌, List, [], ◌++◌, length, drop, Option, Some, None, Result, Ok, Err, refl, sym, ap, subst, ◌∙◌, arith}
 use Rattle.std.specs.Prelude.{IfOk}
+use Rattle.std.specs.Option.{IsSomeAnd}
 use Rattle.std.proofs.lemmas.List.{length-append, drop_at}
 use Rattle.wire_types.specs.declared.fault.ReadFault.{ReadFault}
 use Rattle.wire_types.specs.Grammar.{Grammar, IsBytes}
@@ -9,6 +10,10 @@ use Rattle.wire_types.specs.ListLaws.{and_parts}
 use Rattle.wire_types.specs.NumberLaws.{ok_is, IsBytes-front, IsBytes-rest}
 use Rattle.wire_types.specs.Combinators.{◌⨟◌}
 use Rattle.wire_types.specs.Schema.{int16, int32, nullable_string}
+use Rattle.msg_data.specs.Produce.{produce_request}
+use Rattle.msg_data.specs.Fetch.{fetch_request}
+use Rattle.msg_data.specs.ListOffsets.{list_offsets_request}
+use Rattle.msg_data.specs.Metadata.{metadata_request}
 use Rattle.msg_admin.specs.declared.api.Api.{Api}
 use Rattle.msg_admin.specs.declared.api.Api.TheVariants as apis
 use Rattle.msg_admin.specs.declared.header.Header.{Header}
@@ -17,7 +22,7 @@ use Rattle.msg_admin.specs.declared.request.Request.TheVariants as requests
 use Rattle.msg_admin.specs.declared.reply.Reply.{Reply}
 use Rattle.msg_admin.specs.Api.{api_at}
 use Rattle.msg_admin.specs.Header.{header}
-use Rattle.msg_admin.specs.Bodies.{api_of, sent_as, request_body, reply_body}
+use Rattle.msg_admin.specs.Bodies.{api_of, sent_as, request_body, reply_body, asked_produce, produce-asked, asked_fetch, fetch-asked, asked_list_offsets, list_offsets-asked, asked_metadata, metadata-asked}
 use Rattle.msg_admin.specs.Frame.{framed}
 use Rattle.msg_admin.specs.Request.{IsRequest, Fits, is_writable}
 use Rattle.msg_admin.specs.Response.{response_as, response_text, sendable_as}
@@ -38,10 +43,17 @@ written_is_read h r types served writable =
 
 -- ---- what was read fits
 
+of_variant : {X : Type 0} (make : X → Request) (asked : Request → Option X) (P : X → Type 0) (r : Request) → ((x : X) → asked r ≡ Some x → make x ≡ r) → (o : Option X) → asked r ≡ o → IsSomeAnd o P → (x : X) × (make x ≡ r)
+of_variant make asked P r tells None e h = absurd h
+of_variant make asked P r tells (Some x) e h = (x, tells x e)
+
 -- the body of an api is a request to that api
 spelled_api : (api : Api) (text : List ℕ) (r : Request) → (request_body api).Spells text r → api_of r ≡ api
 unfolding request_body
-spelled_api apis.Metadata text (requests.Metadata x) h = refl
+spelled_api apis.Produce text r h = ap api_of (sym (of_variant requests.Produce asked_produce (produce_request.Spells text) r (produce-asked r) (asked_produce r) refl h).1)
+spelled_api apis.Fetch text r h = ap api_of (sym (of_variant requests.Fetch asked_fetch (fetch_request.Spells text) r (fetch-asked r) (asked_fetch r) refl h).1)
+spelled_api apis.ListOffsets text r h = ap api_of (sym (of_variant requests.ListOffsets asked_list_offsets (list_offsets_request.Spells text) r (list_offsets-asked r) (asked_list_offsets r) refl h).1)
+spelled_api apis.Metadata text r h = ap api_of (sym (of_variant requests.Metadata asked_metadata (metadata_request.Spells text) r (metadata-asked r) (asked_metadata r) refl h).1)
 
 client_len : (client : Option (List ℕ)) → 2 ≤ length (nullable_string.written client)
 unfolding null_behind_written int_written

@@ -11,7 +11,7 @@ use Rattle.wire_types.specs.ListLaws.{and_parts}
 use Rattle.wire_types.specs.Spelling.{int_written}
 use Rattle.wire_types.specs.Schema.{int32}
 use Rattle.msg_data.specs.Strings.{is_short}
-use Rattle.msg_data.proofs.ReplyStrings.{metadata_tells}
+use Rattle.msg_data.proofs.ReplyStrings.{produce_tells, fetch_tells, list_offsets_tells, metadata_tells}
 use Rattle.msg_admin.specs.declared.api.Api.{Api}
 use Rattle.msg_admin.specs.declared.reply.Reply.{Reply}
 use Rattle.msg_admin.specs.declared.reply.Reply.TheVariants as replies
@@ -52,6 +52,10 @@ Decided (Some api) r = ((reply_body api).fits r ≡ true → list_all is_short (
 
 decided : (r : Reply) → Decided (sent_as r) r
 unfolding reply_body
+decided (replies.Produce m) = (produce_tells.short m, produce_tells.fits m)
+decided (replies.SilentProduce m) = tt
+decided (replies.Fetch m) = (fetch_tells.short m, fetch_tells.fits m)
+decided (replies.ListOffsets m) = (list_offsets_tells.short m, list_offsets_tells.fits m)
 decided (replies.Metadata m) = (metadata_tells.short m, metadata_tells.fits m)
 
 -- ---- too long, or not

@@ -1,7 +1,16 @@
 -- The grammars of the bodies: what each api is asked, and what it answers.
-use Rattle.std.specs.Prelude.{◌≡◌, ℕ, List, Option, Some, refl}
+use Rattle.std.specs.Prelude.{◌≡◌, ℕ, List, Option, Some, None, refl}
 use Rattle.wire_types.specs.Grammar.{Grammar, Body}
 use Rattle.wire_types.specs.Combinators.{variant, body_of}
+use Rattle.msg_data.specs.declared.produce.ProduceRequest.{ProduceRequest}
+use Rattle.msg_data.specs.declared.produce.ProduceReply.{ProduceReply}
+use Rattle.msg_data.specs.Produce.{produce_request, produce_reply, produce_strings}
+use Rattle.msg_data.specs.declared.fetch.FetchRequest.{FetchRequest}
+use Rattle.msg_data.specs.declared.fetch.FetchReply.{FetchReply}
+use Rattle.msg_data.specs.Fetch.{fetch_request, fetch_reply, fetch_strings}
+use Rattle.msg_data.specs.declared.list_offsets.ListOffsetsRequest.{ListOffsetsRequest}
+use Rattle.msg_data.specs.declared.list_offsets.ListOffsetsReply.{ListOffsetsReply}
+use Rattle.msg_data.specs.ListOffsets.{list_offsets_request, list_offsets_reply, list_offsets_strings}
 use Rattle.msg_data.specs.declared.metadata.MetadataRequest.{MetadataRequest}
 use Rattle.msg_data.specs.declared.metadata.MetadataReply.{MetadataReply}
 use Rattle.msg_data.specs.Metadata.{metadata_request, metadata_reply, metadata_strings}
@@ -14,34 +23,109 @@ use Rattle.msg_admin.specs.declared.reply.Reply.TheVariants as replies
 
 -- the api that a request asks
 abbrev pub api_of : Request → Api
+api_of (requests.Produce r) = apis.Produce
+api_of (requests.Fetch r) = apis.Fetch
+api_of (requests.ListOffsets r) = apis.ListOffsets
 api_of (requests.Metadata r) = apis.Metadata
 
 -- the api whose answer a reply is sent as, if it is sent
 abbrev pub sent_as : Reply → Option Api
+sent_as (replies.Produce r) = Some apis.Produce
+sent_as (replies.SilentProduce r) = None
+sent_as (replies.Fetch r) = Some apis.Fetch
+sent_as (replies.ListOffsets r) = Some apis.ListOffsets
 sent_as (replies.Metadata r) = Some apis.Metadata
 
 -- the texts of a reply that stand behind a length of two bytes
 abbrev pub strings_of : Reply → List (List ℕ)
+strings_of (replies.Produce r) = produce_strings r
+strings_of (replies.SilentProduce r) = produce_strings r
+strings_of (replies.Fetch r) = fetch_strings r
+strings_of (replies.ListOffsets r) = list_offsets_strings r
 strings_of (replies.Metadata r) = metadata_strings r
+
+-- ---- Produce
+
+abbrev pub asked_produce : Request → Option ProduceRequest
+asked_produce (requests.Produce r) = Some r
+asked_produce _ = None
+
+pub produce-asked : (r : Request) (x : ProduceRequest) → asked_produce r ≡ Some x → requests.Produce x ≡ r
+produce-asked (requests.Produce y) x e = cc
+produce-asked _ x e = absurd cc
+
+abbrev pub answered_produce : Reply → Option ProduceReply
+answered_produce (replies.Produce r) = Some r
+answered_produce _ = None
+
+pub produce-answered : (r : Reply) (x : ProduceReply) → answered_produce r ≡ Some x → replies.Produce x ≡ r
+produce-answered (replies.Produce y) x e = cc
+produce-answered _ x e = absurd cc
+
+-- ---- Fetch
+
+abbrev pub asked_fetch : Request → Option FetchRequest
+asked_fetch (requests.Fetch r) = Some r
+asked_fetch _ = None
+
+pub fetch-asked : (r : Request) (x : FetchRequest) → asked_fetch r ≡ Some x → requests.Fetch x ≡ r
+fetch-asked (requests.Fetch y) x e = cc
+fetch-asked _ x e = absurd cc
+
+abbrev pub answered_fetch : Reply → Option FetchReply
+answered_fetch (replies.Fetch r) = Some r
+answered_fetch _ = None
+
+pub fetch-answered : (r : Reply) (x : FetchReply) → answered_fetch r ≡ Some x → replies.Fetch x ≡ r
+fetch-answered (replies.Fetch y) x e = cc
+fetch-answered _ x e = absurd cc
+
+-- ---- ListOffsets
+
+abbrev pub asked_list_offsets : Request → Option ListOffsetsRequest
+asked_list_offsets (requests.ListOffsets r) = Some r
+asked_list_offsets _ = None
+
+pub list_offsets-asked : (r : Request) (x : ListOffsetsRequest) → asked_list_offsets r ≡ Some x → requests.ListOffsets x ≡ r
+list_offsets-asked (requests.ListOffsets y) x e = cc
+list_offsets-asked _ x e = absurd cc
+
+abbrev pub answered_list_offsets : Reply → Option ListOffsetsReply
+answered_list_offsets (replies.ListOffsets r) = Some r
+answered_list_offsets _ = None
+
+pub list_offsets-answered : (r : Reply) (x : ListOffsetsReply) → answered_list_offsets r ≡ Some x → replies.ListOffsets x ≡ r
+list_offsets-answered (replies.ListOffsets y) x e = cc
+list_offsets-answered _ x e = absurd cc
 
 -- ---- Metadata
 
 abbrev pub asked_metadata : Request → Option MetadataRequest
 asked_metadata (requests.Metadata r) = Some r
+asked_metadata _ = None
 
 pub metadata-asked : (r : Request) (x : MetadataRequest) → asked_metadata r ≡ Some x → requests.Metadata x ≡ r
 metadata-asked (requests.Metadata y) x e = cc
+metadata-asked _ x e = absurd cc
 
 abbrev pub answered_metadata : Reply → Option MetadataReply
 answered_metadata (replies.Metadata r) = Some r
+answered_metadata _ = None
 
 pub metadata-answered : (r : Reply) (x : MetadataReply) → answered_metadata r ≡ Some x → replies.Metadata x ≡ r
 metadata-answered (replies.Metadata y) x e = cc
+metadata-answered _ x e = absurd cc
 
 -- ---- by api
 
 unfoldable pub request_body : Api → Body Request
+request_body apis.Produce = body_of (variant requests.Produce asked_produce (λ x. refl) produce-asked produce_request)
+request_body apis.Fetch = body_of (variant requests.Fetch asked_fetch (λ x. refl) fetch-asked fetch_request)
+request_body apis.ListOffsets = body_of (variant requests.ListOffsets asked_list_offsets (λ x. refl) list_offsets-asked list_offsets_request)
 request_body apis.Metadata = body_of (variant requests.Metadata asked_metadata (λ x. refl) metadata-asked metadata_request)
 
 unfoldable pub reply_body : Api → Grammar Reply
+reply_body apis.Produce = variant replies.Produce answered_produce (λ x. refl) produce-answered produce_reply
+reply_body apis.Fetch = variant replies.Fetch answered_fetch (λ x. refl) fetch-answered fetch_reply
+reply_body apis.ListOffsets = variant replies.ListOffsets answered_list_offsets (λ x. refl) list_offsets-answered list_offsets_reply
 reply_body apis.Metadata = variant replies.Metadata answered_metadata (λ x. refl) metadata-answered metadata_reply

@@ -8,12 +8,15 @@ ghost use Rattle.msg_admin.specs.Api.{key_of, version_of, api_at};
 /// What a request may ask for.
 #[derive(Clone, Copy, Debug, PartialEq, Eq)]
 pub enum Api {
+    Produce = 0,
+    Fetch = 1,
+    ListOffsets = 2,
     Metadata = 3,
 }
 
 impl Api {
     /// Every api, in rising order of keys.
-    pub const ALL: [Api; 1] = [Api::Metadata];
+    pub const ALL: [Api; 4] = [Api::Produce, Api::Fetch, Api::ListOffsets, Api::Metadata];
 
     /// The number under which a request names the api.
     #[tactic(auto, unfolding(crate::specs::Api::key_of))]
@@ -29,6 +32,9 @@ impl Api {
         ensures { result ≡ version_of self }
     {
         match self {
+            Api::Produce => 3,
+            Api::Fetch => 4,
+            Api::ListOffsets => 2,
             Api::Metadata => 1,
         }
     }

@@ -6,17 +6,22 @@ ghost use Rattle.msg_admin.specs.Response.{response, IsTooLong, GivesReply};
 
 use crate::frame::write_frame;
 use bytes::Bytes;
-use msg_data::MetadataReply;
+use msg_data::{FetchReply, ListOffsetsReply, MetadataReply, ProduceReply};
 use std::alloc::Global;
 use wire_types::WriteFault;
 
 /// What a request is answered.
 #[derive(Clone, Debug, Drop, PartialEq, Eq)]
 pub enum Reply {
+    Produce(ProduceReply),
+    /// What a Produce is answered that wants no answer: it is kept, and no bytes are sent.
+    SilentProduce(ProduceReply),
+    Fetch(FetchReply),
+    ListOffsets(ListOffsetsReply),
     Metadata(MetadataReply),
 }
 
-/// The whole response, with its size field.
+/// The whole response, with its size field; no bytes for a reply that isn't sent.
 pub fn write_reply(alloc: Global, correlation: i32, reply: &Reply) -> Result<Bytes, WriteFault>
     ensures written { IfOk result (λ bytes. bytes ≡ response correlation reply.now) }
     ensures within { OnOk result (¬ IsTooLong correlation reply.now) }
@@ -30,6 +35,10 @@ fn write_response(alloc: Global, correlation: i32, reply: &Reply) -> Result<Byte
     ensures { GivesReply correlation reply.now result }
 {
     match reply {
+        Reply::Produce(answer) => write_frame(alloc, &correlation, answer),
+        Reply::SilentProduce(_) => Ok(Bytes::new()),
+        Reply::Fetch(answer) => write_frame(alloc, &correlation, answer),
+        Reply::ListOffsets(answer) => write_frame(alloc, &correlation, answer),
         Reply::Metadata(answer) => write_frame(alloc, &correlation, answer),
     }
 }

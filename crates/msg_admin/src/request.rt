@@ -14,7 +14,7 @@ use crate::frame::write_frame;
 use crate::header::Header;
 use crate::laws::read_fits;
 use bytes::Bytes;
-use msg_data::MetadataRequest;
+use msg_data::{FetchRequest, ListOffsetsRequest, MetadataRequest, ProduceRequest};
 use std::alloc::Global;
 use wire_types::{Cursor, Malformed, ReadFault, Wire, WriteFault};
 
@@ -27,6 +27,9 @@ const SHORTEST_HEADER: usize = 10;
 /// What a client asks for.
 #[derive(Clone, Debug, Drop, PartialEq, Eq)]
 pub enum Request {
+    Produce(ProduceRequest),
+    Fetch(FetchRequest),
+    ListOffsets(ListOffsetsRequest),
     Metadata(MetadataRequest),
 }
 
@@ -36,6 +39,9 @@ impl Request {
         ensures { result ≡ api_of self.now }
     {
         match self {
+            Request::Produce(_) => Api::Produce,
+            Request::Fetch(_) => Api::Fetch,
+            Request::ListOffsets(_) => Api::ListOffsets,
             Request::Metadata(_) => Api::Metadata,
         }
     }
@@ -54,6 +60,9 @@ impl Request {
         ensures { result ≡ (request_body (api_of self.now)).left self.now room }
     {
         match self {
+            Request::Produce(body) => body.room_left(room),
+            Request::Fetch(body) => body.room_left(room),
+            Request::ListOffsets(body) => body.room_left(room),
             Request::Metadata(body) => body.room_left(room),
         }
     }
@@ -65,6 +74,9 @@ fn read_body(alloc: Global, api: Api, cursor: &mut Cursor<'_>) -> Result<Request
     ensures { Reads ((request_body api).reading cursor.old) result cursor.new }
 {
     match api {
+        Api::Produce => Ok(Request::Produce(ProduceRequest::read(alloc, cursor)?)),
+        Api::Fetch => Ok(Request::Fetch(FetchRequest::read(alloc, cursor)?)),
+        Api::ListOffsets => Ok(Request::ListOffsets(ListOffsetsRequest::read(alloc, cursor)?)),
         Api::Metadata => Ok(Request::Metadata(MetadataRequest::read(alloc, cursor)?)),
     }
 }
@@ -123,6 +135,9 @@ pub fn write_request(alloc: Global, header: &Header, request: &Request) -> Resul
     ensures { GivesRequest header.now request.now result }
 {
     match request {
+        Request::Produce(body) => write_frame(alloc, header, body),
+        Request::Fetch(body) => write_frame(alloc, header, body),
+        Request::ListOffsets(body) => write_frame(alloc, header, body),
         Request::Metadata(body) => write_frame(alloc, header, body),
     }
 }

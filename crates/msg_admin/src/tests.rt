@@ -1,5 +1,7 @@
 //! Whole frames of Metadata, as they travel.
 
+mod data;
+
 use crate::api::Api;
 use crate::header::Header;
 use crate::laws::{one_reply, one_request, read_fits, written_is_read};
@@ -170,6 +172,7 @@ fn apis(rt: HostRuntime) {
     assert_eq!(rt; Api::of(3, 1), Some(Api::Metadata));
     assert_eq!(rt; Api::of(3, 0), None);
     assert_eq!(rt; Api::of(1, 3), None);
+    assert_eq!(rt; Api::of(1, 4), Some(Api::Fetch));
     assert_eq!(rt; (Api::Metadata.key(), Api::Metadata.version()), (3, 1));
 }
 

@@ -11,7 +11,7 @@ use Rattle.wire_types.specs.Spelling.{int_written, bool_written, behind_written,
 use Rattle.wire_types.specs.ListLaws.{and_parts}
 use Rattle.wire_types.specs.NumberLaws.{IsWide}
 use Rattle.wire_types.specs.Combinators.{◌⨟◌, struct}
-use Rattle.wire_types.specs.Schema.{int_grammar, int32, boolean, string, nullable_string, array}
+use Rattle.wire_types.specs.Schema.{int_grammar, int32, boolean, string, nullable_string, bytes, array, nullable_array}
 use Rattle.msg_data.specs.Strings.{is_short, text_of}
 use Rattle.wire_types.specs.Coded.{coded}
 
@@ -176,3 +176,33 @@ pub plain_array : {A : Type 0} {g : Grammar A} → TellsStrings g no_strings →
 plain_array p =
     let q = array_strings p in
     record { short = λ xs e. refl; fits = λ xs all. q.fits xs (ap (list_all is_short) (none_in xs)); some = q.some }
+
+-- ---- bytes, and items that may be null
+
+bytes_len : (t : List ℕ) → length (bytes.written t) ≡ 4 + length t
+unfolding behind_written
+bytes_len t = length-append (int32.written (pos (length t))) t ∙ ap (λ (n : ℕ). n + length t) (count_len (length t))
+
+pub bytes_strings : TellsStrings bytes no_strings
+unfolding behind_fits
+bytes_strings = record {
+  short = λ t e. refl;
+  fits = λ t all lt. let counted = count_fits (length t) (omega (arith, lt, bytes_len t)) in rw counted refl;
+  some = λ t. omega (arith, bytes_len t);
+}
+
+nullable_fit : {A : Type 0} (g : Grammar A) → TellsStrings (array g) no_strings → (o : Option (List A)) → length ((nullable_array g).written o) < 2 ^ 31 → (nullable_array g).fits o ≡ true
+unfolding null_behind_written null_behind_fits null_count_fits behind_written behind_fits
+nullable_fit g p None lt = refl
+nullable_fit g p (Some xs) lt = p.fits xs refl lt
+
+nullable_len : {A : Type 0} (g : Grammar A) → TellsStrings (array g) no_strings → (o : Option (List A)) → 0 < length ((nullable_array g).written o)
+unfolding null_behind_written behind_written int_written
+nullable_len g p None = omega arith
+nullable_len g p (Some xs) = p.some xs
+
+-- items without texts that may be null
+pub plain_nullable_array : {A : Type 0} {g : Grammar A} → TellsStrings g no_strings → TellsStrings (nullable_array g) no_strings
+plain_nullable_array {g = g} p =
+    let q = plain_array p in
+    record { short = λ o e. refl; fits = λ o all lt. nullable_fit g q o lt; some = nullable_len g q }

@@ -1,5 +1,5 @@
 -- The grammars of the Fetch messages, version 4 (Kafka protocol guide, "Fetch API (Key: 1)").
-use Rattle.std.specs.Prelude.{refl}
+use Rattle.std.specs.Prelude.{ℕ, List, refl}
 use Rattle.wire_types.specs.Grammar.{Grammar}
 use Rattle.wire_types.specs.Combinators.{struct, ◌⨟◌}
 use Rattle.wire_types.specs.Schema.{int32, int64, bytes, array, nullable_array}
@@ -11,6 +11,7 @@ use Rattle.msg_data.specs.declared.fetch.FetchedRecords.{FetchedRecords}
 use Rattle.msg_data.specs.declared.fetch.FetchReply.{FetchReply}
 use Rattle.wire_types.specs.ErrorCode.{error_code}
 use Rattle.msg_data.specs.Isolation.{isolation}
+use Rattle.msg_data.specs.Strings.{names_of}
 
 -- partitions => partition fetch_offset partition_max_bytes
 abbrev pub fetch_partition : Grammar FetchPartition
@@ -79,3 +80,8 @@ fetch_reply = struct
     (λ x. refl) (λ r. refl)
     (int32  -- throttle_time_ms
     ⨟ array (topic_of fetched_records))  -- responses
+
+-- ---- the texts of an answer
+
+abbrev pub fetch_strings : FetchReply → List (List ℕ)
+fetch_strings r = names_of r.topics

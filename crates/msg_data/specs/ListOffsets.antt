@@ -1,5 +1,5 @@
 -- The grammars of the ListOffsets messages, version 2 (Kafka protocol guide, "ListOffsets API (Key: 2)").
-use Rattle.std.specs.Prelude.{refl}
+use Rattle.std.specs.Prelude.{ℕ, List, refl}
 use Rattle.wire_types.specs.Grammar.{Grammar}
 use Rattle.wire_types.specs.Combinators.{struct, ◌⨟◌}
 use Rattle.wire_types.specs.Schema.{int32, int64, array}
@@ -10,6 +10,7 @@ use Rattle.msg_data.specs.declared.list_offsets.FoundOffset.{FoundOffset}
 use Rattle.msg_data.specs.declared.list_offsets.ListOffsetsReply.{ListOffsetsReply}
 use Rattle.wire_types.specs.ErrorCode.{error_code}
 use Rattle.msg_data.specs.Isolation.{isolation}
+use Rattle.msg_data.specs.Strings.{names_of}
 
 -- partitions => partition_index timestamp
 abbrev pub wanted_offset : Grammar WantedOffset
@@ -49,3 +50,8 @@ list_offsets_reply = struct
     (λ x. refl) (λ r. refl)
     (int32  -- throttle_time_ms
     ⨟ array (topic_of found_offset))  -- topics
+
+-- ---- the texts of an answer
+
+abbrev pub list_offsets_strings : ListOffsetsReply → List (List ℕ)
+list_offsets_strings r = names_of r.topics

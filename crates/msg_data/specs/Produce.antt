@@ -1,5 +1,5 @@
 -- The grammars of the Produce messages, version 3 (Kafka protocol guide, "Produce API (Key: 0)").
-use Rattle.std.specs.Prelude.{refl}
+use Rattle.std.specs.Prelude.{ℕ, List, refl}
 use Rattle.wire_types.specs.Grammar.{Grammar}
 use Rattle.wire_types.specs.Combinators.{struct, ◌⨟◌}
 use Rattle.wire_types.specs.Schema.{int16, int32, int64, nullable_string, nullable_bytes, array}
@@ -9,6 +9,7 @@ use Rattle.msg_data.specs.declared.produce.ProduceRequest.{ProduceRequest}
 use Rattle.msg_data.specs.declared.produce.ProducedOffset.{ProducedOffset}
 use Rattle.msg_data.specs.declared.produce.ProduceReply.{ProduceReply}
 use Rattle.wire_types.specs.ErrorCode.{error_code}
+use Rattle.msg_data.specs.Strings.{names_of}
 
 -- partition_data => index records
 abbrev pub produced_records : Grammar ProducedRecords
@@ -49,3 +50,8 @@ produce_reply = struct
     (λ x. refl) (λ r. refl)
     (array (topic_of produced_offset)  -- responses
     ⨟ int32)  -- throttle_time_ms
+
+-- ---- the texts of an answer
+
+abbrev pub produce_strings : ProduceReply → List (List ℕ)
+produce_strings r = names_of r.topics

@@ -1,5 +1,7 @@
 -- The texts of a message that stand behind a length of two bytes, STRING and NULLABLE_STRING.
 use Rattle.std.specs.Prelude.{ℕ, List, [], ◌∷◌, length, Bool, nat_le, Option, Some, None}
+use Rattle.std.specs.List.{flat_map}
+use Rattle.wire_types.specs.declared.topic.Topic.{Topic}
 
 -- such a length tells no more
 abbrev pub is_short : List ℕ → Bool
@@ -9,3 +11,10 @@ is_short text = nat_le (length text) 32767
 abbrev pub text_of : Option (List ℕ) → List (List ℕ)
 text_of None = []
 text_of (Some text) = text ∷ []
+
+-- the name of a topic, of whose partitions no text is told
+abbrev pub name_of : {P : Type 0} → Topic P → List (List ℕ)
+name_of t = t.name ∷ []
+
+abbrev pub names_of : {P : Type 0} → List (Topic P) → List (List ℕ)
+names_of topics = flat_map name_of topics

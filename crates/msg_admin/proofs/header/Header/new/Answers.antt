@@ -7,10 +7,16 @@ use Rattle.msg_admin.proofs.header.Header.new.Goals as goal
 
 key_again : (api : Api) → to_z w16 (of_z w16 (key_of api)) ≡ key_of api
 unfolding key_of
+key_again apis.Produce = refl
+key_again apis.Fetch = refl
+key_again apis.ListOffsets = refl
 key_again apis.Metadata = refl
 
 version_again : (api : Api) → to_z w16 (of_z w16 (version_of api)) ≡ version_of api
 unfolding version_of
+version_again apis.Produce = refl
+version_again apis.Fetch = refl
+version_again apis.ListOffsets = refl
 version_again apis.Metadata = refl
 
 pub returns-clause-served : goal.returns-clause-served
