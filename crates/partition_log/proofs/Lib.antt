@@ -1,0 +1,10 @@
+pub mod Tests
+pub mod Order
+pub mod Open
+pub mod Reach
+pub mod Taking
+pub mod Records
+pub mod Walk
+pub mod Runs
+pub mod Longest
+pub mod Fetched
