@@ -1,4 +1,4 @@
-pub mod Tests
+pub mod Numbers
 pub mod Order
 pub mod Open
 pub mod Reach
