@@ -1,4 +1,4 @@
-pub mod Tests
+pub mod Numbers
 pub mod Order
 pub mod Open
 pub mod Reach
@@ -8,3 +8,6 @@ pub mod Walk
 pub mod Runs
 pub mod Longest
 pub mod Fetched
+pub mod Entries
+pub mod Rows
+pub mod Steps
