@@ -1,15 +1,35 @@
 -- The numbers of a core stay below the ends of their types: an event has at most so many refusals as its request
 -- has parts, and a request that fits a frame has fewer parts than bytes.
-use Rattle.std.proofs.Common.{◌≡◌, ℕ, ◌+◌, ◌*◌, ◌<◌, ◌≤◌, Bool, true, false, List, [], ◌∷◌, ◌++◌, length, Option, Some, None, cond, refl, sym, ap, ◌∙◌, arith}
+use Rattle.std.proofs.Common.{◌≡◌, ℕ, zero, suc, ℤ, ◌+◌, ◌*◌, ◌<◌, ◌≤◌, subst, Bool, true, false, List, [], ◌∷◌, ◌++◌, length, Option, Some, None, cond, refl, sym, ap, ◌∙◌, arith}
 use Rattle.std.specs.List.{filter_map, cons_option}
 use Rattle.std.proofs.lemmas.List.{length-append, length_push}
 use Rattle.acl_binding.specs.declared.question.Caller.{Caller}
 use Rattle.authorizer.specs.declared.answer.Refusal.{Refusal}
 use Rattle.authorizer.specs.Asking.{Rules}
+use Rattle.wire_types.specs.declared.topic.Topic.{Topic}
+use Rattle.wire_types.specs.Grammar.{Grammar}
 use Rattle.wire_types.specs.Spelling.{many_written, null_behind_written, behind_written, int_written}
-use Rattle.wire_types.specs.Schema.{string, nullable_array, null_count32}
+use Rattle.wire_types.specs.Combinators.{◌⨟◌}
+use Rattle.wire_types.specs.Schema.{int16, int32, int64, string, nullable_string, nullable_bytes, array, nullable_array, count32, null_count32}
+use Rattle.wire_types.specs.Topic.{topic_of}
+use Rattle.settings.specs.declared.settings.Settings.{Settings}
+use Rattle.settings.specs.declared.settings.TopicSetting.{TopicSetting}
+use Rattle.msg_data.specs.declared.produce.ProduceRequest.{ProduceRequest}
+use Rattle.msg_data.specs.declared.produce.ProducedRecords.{ProducedRecords}
+use Rattle.msg_data.specs.declared.fetch.FetchRequest.{FetchRequest}
+use Rattle.msg_data.specs.declared.fetch.FetchPartition.{FetchPartition}
+use Rattle.msg_data.specs.declared.list_offsets.ListOffsetsRequest.{ListOffsetsRequest}
+use Rattle.msg_data.specs.declared.list_offsets.WantedOffset.{WantedOffset}
+use Rattle.msg_data.specs.Isolation.{isolation}
+use Rattle.msg_data.specs.Produce.{produced_records, produce_request}
+use Rattle.msg_data.specs.Fetch.{fetch_partition, fetch_request}
+use Rattle.msg_data.specs.ListOffsets.{wanted_offset, list_offsets_request}
+use Rattle.msg_admin.specs.declared.request.Request.{Request}
+use Rattle.walk.specs.Rule.{PartRule, refusal_of}
+use Rattle.walk.specs.Walk.{world_after, parts_refused, refusals, parts_weight, topics_weight}
+use Rattle.walk.proofs.Weights.{walk_takes}
 use Rattle.msg_data.specs.declared.metadata.MetadataRequest.{MetadataRequest}
-use Rattle.msg_admin.specs.declared.request.Request.TheVariants.{Metadata}
+use Rattle.msg_admin.specs.declared.request.Request.TheVariants.{Produce, Fetch, ListOffsets, Metadata}
 use Rattle.msg_admin.specs.Request.{Fits}
 use Rattle.msg_admin.specs.Bodies.{request_body, api_of}
 use Rattle.audit_trail.specs.declared.event.Event.{Event}
@@ -17,10 +37,16 @@ use Rattle.audit_trail.specs.declared.event.Event.TheVariants.{Ask}
 use Rattle.audit_trail.specs.declared.trail.Entry.{Entry}
 use Rattle.audit_trail.specs.Trail.{refusal_count}
 use Rattle.audit_trail.proofs.Counts.{count_push}
-use Rattle.request_handlers.specs.World.{World, rules_of}
+use Rattle.request_handlers.specs.World.{World, TopicValue, rules_of}
 use Rattle.request_handlers.specs.Metadata.{topic_refusal, topic_refusals}
-use Rattle.request_handlers.specs.Step.{refusals_of}
-use Rattle.request_handlers.specs.Core.{CoreValue, IsCore, IsBounded, EventFits, most_parts, trail_limit, advanced, entry_of}
+use Rattle.request_handlers.specs.First.{magnitude, empty_logs, first_topics, first_world}
+use Rattle.request_handlers.specs.Logs.{most_of, most_end, room_of}
+use Rattle.request_handlers.specs.Judged.{records_size}
+use Rattle.request_handlers.specs.Produce.{producing}
+use Rattle.request_handlers.specs.Fetch.{fetch_rule}
+use Rattle.request_handlers.specs.ListOffsets.{list_rule}
+use Rattle.request_handlers.specs.Step.{outcome, refusals_of}
+use Rattle.request_handlers.specs.Core.{CoreValue, IsCore, IsHistory, IsBounded, EventFits, most_parts, trail_limit, advanced, entry_of}
 use Rattle.request_handlers.proofs.Histories.{events_outcome, history_goes_on}
 
 -- no more are kept than there are
@@ -47,9 +73,160 @@ few_topics rules caller None fits = omega arith
 few_topics rules caller (Some names) fits =
     omega (arith, fits, few_kept (topic_refusal rules caller) names, many_bytes names, length-append (null_count32.written (Some (length names))) (many_written string.written names))
 
+-- ---- requests for partitions of topics
+
+-- a number for each part, summed
+sum_parts : {P : Type 0} → (P → ℕ) → List P → ℕ
+sum_parts f [] = 0
+sum_parts f (p ∷ ps) = f p + sum_parts f ps
+
+sum_topics : {P : Type 0} → (P → ℕ) → List (Topic P) → ℕ
+sum_topics f [] = 0
+sum_topics f (t ∷ ts) = sum_parts f t.partitions + sum_topics f ts
+
+parts_bytes : {P : Type 0} (g : Grammar P) (f : P → ℕ) → ((p : P) → f p ≤ length (g.written p)) → (ps : List P) → sum_parts f ps ≤ length (many_written g.written ps)
+unfolding many_written sum_parts
+parts_bytes g f few [] = omega arith
+parts_bytes g f few (p ∷ ps) = omega (arith, few p, parts_bytes g f few ps, length-append (g.written p) (many_written g.written ps))
+
+array_bytes : {P : Type 0} (g : Grammar P) (ps : List P) → length (many_written g.written ps) ≤ length ((array g).written ps)
+unfolding behind_written
+array_bytes g ps = omega (arith, length-append (count32.written (length ps)) (many_written g.written ps))
+
+topic_bytes : {P : Type 0} (g : Grammar P) (t : Topic P) → length ((array g).written t.partitions) ≤ length ((topic_of g).written t)
+topic_bytes g t = omega (arith, length-append (string.written t.name) ((array g).written t.partitions))
+
+topics_bytes : {P : Type 0} (g : Grammar P) (f : P → ℕ) → ((p : P) → f p ≤ length (g.written p)) → (ts : List (Topic P)) → sum_topics f ts ≤ length (many_written (topic_of g).written ts)
+unfolding many_written sum_topics
+topics_bytes g f few [] = omega arith
+topics_bytes g f few (t ∷ ts) =
+    omega (arith, parts_bytes g f few t.partitions, array_bytes g t.partitions, topic_bytes g t, topics_bytes g f few ts, length-append ((topic_of g).written t) (many_written (topic_of g).written ts))
+
+-- what is summed over the parts of a request is no more than its bytes
+within_array : {P : Type 0} (g : Grammar P) (f : P → ℕ) → ((p : P) → f p ≤ length (g.written p)) → (ts : List (Topic P)) → sum_topics f ts ≤ length ((array (topic_of g)).written ts)
+within_array g f few ts = omega (arith, topics_bytes g f few ts, array_bytes (topic_of g) ts)
+
+-- no more parts are refused than there are
+few_parts : {P A W : Type 0} (api : PartRule P A W) (rules : Rules) (name : List ℕ) (ps : List P) → length (parts_refused api rules name ps) ≤ sum_parts (λ p. 1) ps
+unfolding sum_parts
+few_parts api rules name [] = omega arith
+few_parts api rules name (p ∷ ps) = by_refusal (refusal_of api rules name p) (few_parts api rules name ps) where
+  by_refusal : (r : Option Refusal) → length (parts_refused api rules name ps) ≤ sum_parts (λ p. 1) ps → length (cons_option r (parts_refused api rules name ps)) ≤ 1 + sum_parts (λ p. 1) ps
+  by_refusal None rest = omega arith
+  by_refusal (Some r) rest = omega arith
+
+few_walked : {P A W : Type 0} (api : PartRule P A W) (rules : Rules) (ts : List (Topic P)) → length (refusals api rules ts) ≤ sum_topics (λ p. 1) ts
+unfolding sum_topics
+few_walked api rules [] = omega arith
+few_walked api rules (t ∷ ts) = omega (arith, few_parts api rules t.name t.partitions, few_walked api rules ts, length-append (parts_refused api rules t.name t.partitions) (refusals api rules ts))
+
+weight_parts : {P A W : Type 0} (api : PartRule P A W) (ps : List P) → parts_weight api ps ≤ sum_parts api.weight ps
+unfolding sum_parts
+weight_parts api [] = omega arith
+weight_parts api (p ∷ ps) = omega (arith, weight_parts api ps)
+
+weight_topics : {P A W : Type 0} (api : PartRule P A W) (ts : List (Topic P)) → topics_weight api ts ≤ sum_topics api.weight ts
+unfolding sum_topics
+weight_topics api [] = omega arith
+weight_topics api (t ∷ ts) = omega (arith, weight_parts api t.partitions, weight_topics api ts)
+
+-- ---- the bytes of a part
+
+int32_bytes : (z : ℤ) → length (int32.written z) ≡ 4
+unfolding int_written
+int32_bytes z = refl
+
+records_bytes : (o : Option (List ℕ)) → records_size o ≤ length (nullable_bytes.written o)
+unfolding null_behind_written
+records_bytes None = omega arith
+records_bytes (Some text) = omega (arith, length-append (null_count32.written (Some (length text))) text)
+
+produced_bytes : (p : ProducedRecords) → records_size p.records ≤ length (produced_records.written p)
+produced_bytes p = omega (arith, length-append (int32.written p.index) (nullable_bytes.written p.records), records_bytes p.records)
+
+produced_some : (p : ProducedRecords) → 1 ≤ length (produced_records.written p)
+produced_some p = omega (arith, int32_bytes p.index, length-append (int32.written p.index) (nullable_bytes.written p.records))
+
+fetch_some : (p : FetchPartition) → 1 ≤ length (fetch_partition.written p)
+fetch_some p = omega (arith, int32_bytes p.index, length-append (int32.written p.index) ((int64 ⨟ int32).written (p.offset, p.max_bytes)))
+
+wanted_some : (p : WantedOffset) → 1 ≤ length (wanted_offset.written p)
+wanted_some p = omega (arith, int32_bytes p.index, length-append (int32.written p.index) (int64.written p.timestamp))
+
+-- ---- the topics of a request, behind what stands before them
+
+behind_two : (a b c : List ℕ) → length c ≤ length (a ++ (b ++ c))
+behind_two a b c = omega (arith, length-append a (b ++ c), length-append b c)
+
+produce_topics : (r : ProduceRequest) → length ((array (topic_of produced_records)).written r.topics) ≤ length (produce_request.written r)
+produce_topics r =
+    let rest = int32.written r.timeout ++ (array (topic_of produced_records)).written r.topics in
+    omega (arith, behind_two (nullable_string.written r.transactional_id) (int16.written r.acks) rest, length-append (int32.written r.timeout) ((array (topic_of produced_records)).written r.topics))
+
+fetch_topics : (r : FetchRequest) → length ((array (topic_of fetch_partition)).written r.topics) ≤ length (fetch_request.written r)
+fetch_topics r =
+    let last = isolation.written r.isolation ++ (array (topic_of fetch_partition)).written r.topics in
+    let more = int32.written r.min_bytes ++ (int32.written r.max_bytes ++ last) in
+    omega (arith, behind_two (int32.written r.replica) (int32.written r.max_wait) more, behind_two (int32.written r.min_bytes) (int32.written r.max_bytes) last, length-append (isolation.written r.isolation) ((array (topic_of fetch_partition)).written r.topics))
+
+list_topics : (r : ListOffsetsRequest) → length ((array (topic_of wanted_offset)).written r.topics) ≤ length (list_offsets_request.written r)
+list_topics r = behind_two (int32.written r.replica) (isolation.written r.isolation) ((array (topic_of wanted_offset)).written r.topics)
+
+-- ---- an event
+
 pub few_refusals : (w : World) (e : Event) → EventFits e → length (refusals_of w e) ≤ most_parts
 unfolding request_body
-few_refusals w (Ask caller client (Metadata m)) fits = few_topics (rules_of w) caller m.topics (omega (arith, fits.1))
+few_refusals w (Ask caller client (Produce r)) fits =
+    omega (arith, fits.1, few_walked (producing w caller r) (rules_of w) r.topics, within_array produced_records (λ p. 1) produced_some r.topics, produce_topics r)
+few_refusals w (Ask caller client (Fetch r)) fits =
+    omega (arith, fits.1, few_walked (fetch_rule caller w.topics) (rules_of w) r.topics, within_array fetch_partition (λ p. 1) fetch_some r.topics, fetch_topics r)
+few_refusals w (Ask caller client (ListOffsets r)) fits =
+    omega (arith, fits.1, few_walked (list_rule caller w.topics) (rules_of w) r.topics, within_array wanted_offset (λ p. 1) wanted_some r.topics, list_topics r)
+few_refusals w (Ask caller client (Metadata r)) fits = few_topics (rules_of w) caller r.topics (omega (arith, fits.1))
+
+-- a Produce adds at most as many records to a log as its frame has bytes
+produce_weight : (w : World) (caller : Caller) (r : ProduceRequest) → Fits (Produce r) → topics_weight (producing w caller r) r.topics ≤ most_parts
+unfolding request_body
+produce_weight w caller r fits =
+    omega (arith, fits.1, weight_topics (producing w caller r) r.topics, within_array produced_records (producing w caller r).weight produced_bytes r.topics, produce_topics r)
+
+pub produce_light : (w : World) (caller : Caller) (q : Request) (r : ProduceRequest) → q ≡ Produce r → Fits q → topics_weight (producing w caller r) r.topics ≤ most_parts
+produce_light w caller q r is fits = produce_weight w caller r (subst Fits is fits)
+
+ends_outcome : (w : World) (e : Event) → EventFits e → most_parts + most_end w.topics < 9223372036854775807 → most_end (outcome w e).world.topics ≤ most_end w.topics + most_parts
+ends_outcome w (Ask caller client (Produce r)) fits room =
+    let after : List TopicValue = world_after (producing w caller r) (rules_of w) w.topics r.topics in
+    let taken : room_of w.topics ≤ topics_weight (producing w caller r) r.topics + room_of after = walk_takes (producing w caller r) (rules_of w) w.topics r.topics in
+    let few : topics_weight (producing w caller r) r.topics ≤ most_parts = produce_weight w caller r fits in
+    let ends : most_end after ≤ most_end w.topics + most_parts = omega (arith, room, few, taken) in
+    ends
+ends_outcome w (Ask caller client (Fetch r)) fits room = omega arith
+ends_outcome w (Ask caller client (ListOffsets r)) fits room = omega arith
+ends_outcome w (Ask caller client (Metadata r)) fits room = omega arith
+
+-- the first logs are empty
+no_ends_in : (n : ℕ) → most_of (empty_logs n) ≤ 0
+no_ends_in zero = omega arith
+no_ends_in (suc n) = omega (arith, no_ends_in n)
+
+no_ends_of : (topics : List TopicSetting) → most_end (first_topics topics) ≤ 0
+no_ends_of [] = omega arith
+no_ends_of (t ∷ ts) = omega (arith, no_ends_in (magnitude t.partitions), no_ends_of ts)
+
+no_ends : (w : World) (s : Settings) → w ≡ first_world s → most_end w.topics ≤ 0
+no_ends w s is = subst (λ (v : World). most_end v.topics ≤ 0) (sym is) (no_ends_of s.topics)
+
+pub opened_is_core : (s : Settings) (w : World) → w ≡ first_world s → trail_limit s ≤ 1073741824 → IsCore (record { settings = s; world = w; trail = []; down = false })
+opened_is_core s w is limit = record {
+  history = record { entries = refl; world = λ up. is };
+  bounded = record {
+    limit = limit;
+    trail = omega arith;
+    events = λ up. ap (λ (v : World). v.events) is;
+    refusals = omega arith;
+    ends = λ up. omega (arith, no_ends w s is);
+  };
+}
 
 pub bounded_goes_on : (core : CoreValue) (e : Event) → core.down ≡ false → length core.trail < trail_limit core.settings → EventFits e → IsBounded core → IsBounded (advanced core e)
 bounded_goes_on core e up room fits h =
@@ -61,6 +238,7 @@ bounded_goes_on core e up room fits h =
       trail = omega arith;
       events = λ _. ap (λ n. n + 1) (events_outcome core.world e ∙ h.events up) ∙ sym longer;
       refusals = omega (arith, count_push core.trail entry, h.refusals);
+      ends = λ _. omega (arith, ends_outcome core.world e fits (omega (arith, h.ends up, h.limit, h.trail)), h.ends up);
     }
 
 pub core_goes_on : (core : CoreValue) (e : Event) → core.down ≡ false → length core.trail < trail_limit core.settings → EventFits e → IsCore core → IsCore (advanced core e)

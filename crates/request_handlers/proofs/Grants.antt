@@ -15,7 +15,8 @@ use Rattle.authorizer.specs.Asking.{refusal_by, first_of}
 use Rattle.msg_data.specs.declared.metadata.TopicInfo.{TopicInfo}
 use Rattle.request_handlers.specs.declared.node.Node.{Node}
 use Rattle.request_handlers.specs.World.{World, rules_of, find_topic, topic_names}
-use Rattle.request_handlers.specs.Weave.{weave, refusal_code}
+use Rattle.walk.specs.Codes.{refusal_code}
+use Rattle.walk.specs.Weave.{weave}
 use Rattle.request_handlers.specs.Metadata.{plain_topic, plain_topics, topic_found, topic_error, describable, refused_topics, metadata_topics, metadata_refusals, broker_info}
 use Rattle.request_handlers.specs.Tenants.{SameBase, SameGranted, SameForMetadata, SameTopics, DependsOnGrants, topic_questions}
 

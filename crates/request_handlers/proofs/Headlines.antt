@@ -16,7 +16,8 @@ use Rattle.authorizer.specs.declared.answer.Refusal.{Refusal}
 use Rattle.authorizer.specs.Policy.{verdict}
 use Rattle.authorizer.specs.Asking.{Rules, refusal_by, first_of}
 use Rattle.request_handlers.specs.World.{World, rules_of}
-use Rattle.request_handlers.specs.Weave.{weave, refusal_code}
+use Rattle.walk.specs.Codes.{refusal_code}
+use Rattle.walk.specs.Weave.{weave}
 use Rattle.request_handlers.specs.Metadata.{topic_error, plain_topic, plain_topics, topic_refusal, topic_refusals, describable, refused_topics, metadata_topics, answer_by, topic_answer}
 use Rattle.request_handlers.specs.Headline.{AnsweredBy, AnswersEachTopic, RefusesEachTopic}
 

@@ -1,4 +1,6 @@
 pub mod Parts
+pub mod Places
+pub mod Offsets
 pub mod Histories
 pub mod Bounds
 pub mod Runs

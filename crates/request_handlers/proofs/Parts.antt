@@ -9,8 +9,6 @@ use Rattle.acl_binding.specs.declared.binding.Binding.{Binding}
 use Rattle.acl_binding.specs.Book.{BookValue, added}
 use Rattle.authorizer.specs.Policy.{PolicyValue, policy_added}
 use Rattle.request_handlers.specs.First.{with_bindings}
-use Rattle.request_handlers.specs.declared.slot.Slot.{Slot}
-use Rattle.request_handlers.specs.Slots.{slot_value}
 use Rattle.authorizer.specs.declared.answer.Refusal.{Refusal}
 use Rattle.request_handlers.specs.World.{World, TopicValue, rules_of, topic_names}
 use Rattle.request_handlers.specs.Metadata.{partition_info, partitions_from, plain_topic, plain_topics, topic_refusal, describable, if_granted, described_topic}
@@ -62,7 +60,7 @@ book_goes_on acls i b copy policy new whole lt is same after so_far =
     ∙ sym (ap (with_bindings policy.book) (drop_at acls i b lt is)) ∙ so_far
 
 -- the name at a place of the table
-pub names_at : (slots : List Slot) (i : ℕ) (d : Slot) → i < length slots → slice_get (topic_names (map slot_value slots)) i ≡ Some (get_or slots i d).name
-names_at slots i d lt =
-    slice_get-map (λ (t : TopicValue). t.name) (map slot_value slots) i
-    ∙ ap (option_map (λ (t : TopicValue). t.name)) (slice_get-map slot_value slots i ∙ ap (option_map slot_value) (slice_get-get_or slots i d lt))
+pub names_at : (topics : List TopicValue) (i : ℕ) (t : TopicValue) → i < length topics → t ≡ get_or topics i t → slice_get (topic_names topics) i ≡ Some t.name
+names_at topics i t lt is =
+    slice_get-map (λ (t : TopicValue). t.name) topics i
+    ∙ ap (option_map (λ (t : TopicValue). t.name)) (slice_get-get_or topics i t lt ∙ ap Some (sym is))

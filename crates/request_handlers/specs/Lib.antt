@@ -1,8 +1,15 @@
 pub mod World
 pub mod First
-pub mod Slots
-pub mod Weave
+pub mod Logs
+pub mod Outcome
 pub mod Metadata
+pub mod Sent
+pub mod Judged
+pub mod SentLaws
+pub mod RoomLaws
+pub mod Produce
+pub mod Fetch
+pub mod ListOffsets
 pub mod Step
 pub mod Core
 pub mod Headline

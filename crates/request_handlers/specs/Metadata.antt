@@ -18,7 +18,10 @@ use Rattle.msg_data.specs.declared.metadata.MetadataRequest.{MetadataRequest}
 use Rattle.msg_data.specs.declared.metadata.MetadataReply.{MetadataReply}
 use Rattle.request_handlers.specs.declared.node.Node.{Node}
 use Rattle.request_handlers.specs.World.{World, TopicValue, rules_of, find_topic, topic_names}
-use Rattle.request_handlers.specs.Weave.{weave, refusal_code}
+use Rattle.request_handlers.specs.Outcome.{Outcome}
+use Rattle.msg_admin.specs.declared.reply.Reply.TheVariants as replies
+use Rattle.walk.specs.Codes.{refusal_code}
+use Rattle.walk.specs.Weave.{weave}
 
 -- ---- the plain broker, which knows no permission
 
@@ -91,6 +94,9 @@ topic_refusals rules caller (Some names) = filter_map (topic_refusal rules calle
 
 abbrev pub metadata_refusals : Rules → Caller → MetadataRequest → List Refusal
 metadata_refusals rules caller m = topic_refusals rules caller m.topics
+
+abbrev pub metadata_outcome : World → Caller → MetadataRequest → Outcome
+metadata_outcome w caller m = record { world = w; reply = replies.Metadata (metadata_answer w caller m); refusals = metadata_refusals (rules_of w) caller m }
 
 -- ---- one topic after the other
 

@@ -1,25 +1,25 @@
 -- One event: the plain answer to the allowed part of a request, with each refused part's code at its place.
-use Rattle.std.specs.Prelude.{ℕ, Bool, true, ◌+◌, List, [], ◌∷◌}
+use Rattle.std.specs.Prelude.{ℕ, Bool, true, false, ◌+◌, List, [], ◌∷◌}
 use Rattle.acl_binding.specs.declared.question.Caller.{Caller}
 use Rattle.authorizer.specs.declared.answer.Refusal.{Refusal}
 use Rattle.msg_admin.specs.declared.request.Request.{Request}
 use Rattle.msg_admin.specs.declared.request.Request.TheVariants as requests
 use Rattle.msg_admin.specs.declared.reply.Reply.{Reply}
-use Rattle.msg_admin.specs.declared.reply.Reply.TheVariants as replies
 use Rattle.audit_trail.specs.declared.event.Event.{Event}
 use Rattle.audit_trail.specs.declared.event.Event.TheVariants.{Ask}
-use Rattle.request_handlers.specs.World.{World, rules_of}
-use Rattle.request_handlers.specs.Metadata.{metadata_answer, metadata_refusals}
-
--- the world that an event leaves, but for the number of events, its reply, and the refusals of its refused parts
-pub record Outcome : Type 0 where
-  pub world : World
-  pub reply : Reply
-  pub refusals : List Refusal
+use Rattle.request_handlers.specs.World.{World}
+use Rattle.request_handlers.specs.Outcome.{Outcome}
+use Rattle.request_handlers.specs.Metadata.{metadata_outcome}
+use Rattle.request_handlers.specs.Produce.{produce_outcome}
+use Rattle.request_handlers.specs.Fetch.{fetch_outcome}
+use Rattle.request_handlers.specs.ListOffsets.{list_offsets_outcome}
 
 -- permissions are those of the book at the event's start
 abbrev pub request_outcome : World → Caller → Request → Outcome
-request_outcome w caller (requests.Metadata m) = record { world = w; reply = replies.Metadata (metadata_answer w caller m); refusals = metadata_refusals (rules_of w) caller m }
+request_outcome w caller (requests.Produce r) = produce_outcome w caller r
+request_outcome w caller (requests.Fetch r) = fetch_outcome w caller r
+request_outcome w caller (requests.ListOffsets r) = list_offsets_outcome w caller r
+request_outcome w caller (requests.Metadata r) = metadata_outcome w caller r
 
 abbrev pub outcome : World → Event → Outcome
 outcome w (Ask caller client request) = request_outcome w caller request
@@ -45,7 +45,10 @@ reached w (e ∷ es) = reached (step w e) es
 -- ---- requests that only read
 
 abbrev pub is_reading_request : Request → Bool
-is_reading_request (requests.Metadata m) = true
+is_reading_request (requests.Produce r) = false
+is_reading_request (requests.Fetch r) = true
+is_reading_request (requests.ListOffsets r) = true
+is_reading_request (requests.Metadata r) = true
 
 -- the event changes nothing but the number of events
 abbrev pub is_reading : Event → Bool

@@ -5,15 +5,17 @@ use Rattle.std.specs.List.{find}
 use Rattle.std.specs.Str.{bytes_eq}
 use Rattle.acl_binding.specs.Book.{BookValue}
 use Rattle.authorizer.specs.Asking.{Rules}
+use Rattle.record_batch.specs.Batch.{BatchData}
 use Rattle.request_handlers.specs.declared.node.Node.{Node}
+use Rattle.request_handlers.specs.declared.slot.Slot.{Slot}
 
--- a partition's log: its record batches and markers in order, each as its bytes
+-- a partition's log: its record batches and markers in order
 abbrev pub LogValue : Type 0
-LogValue = List (List ℕ)
+LogValue = List BatchData
 
-pub record TopicValue : Type 0 where
-  pub name : List ℕ
-  pub partitions : List LogValue
+-- a topic: its name, and the log of each of its partitions
+abbrev pub TopicValue : Type 0
+TopicValue = Slot
 
 -- a transactional id, the producer that it was last given, and its transaction
 pub record TransactionValue : Type 0 where

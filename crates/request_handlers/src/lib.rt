@@ -2,11 +2,18 @@
 //! keeps what it answered and refused in a trail.
 #![tactic(auto)]
 
+mod fetch;
 mod laws;
+mod list_offsets;
+mod logs;
 mod machine;
 mod metadata;
 mod node;
+mod numbers;
+mod outcome;
+mod produce;
 mod reading;
+mod room;
 mod slot;
 mod state;
 mod stop;
@@ -18,9 +25,11 @@ pub use laws::{
     metadata_answers_each_topic, metadata_depends_on_grants, metadata_refuses_each_topic,
     whole_runs,
 };
+pub use logs::Logs;
 pub use machine::Core;
 pub use node::Node;
 pub use reading::is_reading;
+pub use slot::Slot;
 pub use state::State;
 pub use stop::Stop;
 pub use topics::Topics;

@@ -10,6 +10,9 @@ fn is_reading_request(request: &Request) -> bool
     ensures { result ≡ is_reading_request request.now }
 {
     match request {
+        Request::Produce(_) => false,
+        Request::Fetch(_) => true,
+        Request::ListOffsets(_) => true,
         Request::Metadata(_) => true,
     }
 }

@@ -1,13 +1,11 @@
 //! A topic as it is kept.
 
-ghost use Rattle.std.specs.Prelude.{◌≤◌};
-
+use crate::logs::Logs;
 use wire_types::Text;
 
-/// A topic, whose partitions' logs are all empty.
-#[derive(Debug, Drop)]
-pub(crate) struct Slot {
-    pub(crate) name: Text,
-    pub(crate) partitions: u32,
-    ghost within: { partitions ≤ 1000 },
+/// A topic's name, and the logs of its partitions.
+#[derive(Drop)]
+pub struct Slot {
+    pub name: Text,
+    pub partitions: Logs,
 }

@@ -7,13 +7,17 @@ ghost use Rattle.acl_binding.specs.Book.{empty_book};
 ghost use Rattle.settings.specs.Fault.{is_in_range, is_creatable};
 ghost use Rattle.request_handlers.specs.World.{rules_of};
 ghost use Rattle.request_handlers.specs.First.{first_world, with_bindings};
+ghost use Rattle.msg_admin.specs.Request.{Fits};
+ghost use Rattle.request_handlers.specs.Logs.{room_of};
+ghost use Rattle.request_handlers.specs.Core.{EventFits, most_parts};
 ghost use Rattle.request_handlers.specs.Step.{request_outcome, outcome, reply_to, refusals_of, counted, is_reading, is_reading_request};
 
 use crate::node::Node;
+use crate::outcome::Outcome;
 use crate::topics::Topics;
 use acl_binding::{Binding, Caller};
 use audit_trail::Event;
-use authorizer::{Policy, Refusal};
+use authorizer::Policy;
 use msg_admin::{Reply, Request};
 use settings::Settings;
 use std::alloc::{AllocError, Global};
@@ -23,9 +27,9 @@ use wire_types::{Items, Text};
 /// The broker's world.
 #[derive(Drop)]
 pub struct State {
-    node: Node,
-    policy: Policy,
-    topics: Topics,
+    pub(crate) node: Node,
+    pub(crate) policy: Policy,
+    pub(crate) topics: Topics,
     events: u64,
 }
 
@@ -36,13 +40,6 @@ impl Model for State {
     ghost Value = { World };
 
     ghost view = { λ s. record { node = s.node; supers = s.policy.supers; book = s.policy.book; topics = s.topics; producers = []; transactions = []; groups = []; warrants = []; moment = 0; events = s.events } };
-}
-
-/// What an event is answered, and what was refused of it.
-#[derive(Drop)]
-pub(crate) struct Outcome {
-    pub(crate) reply: Reply,
-    pub(crate) refusals: Items<Refusal>,
 }
 
 impl State {
@@ -81,6 +78,8 @@ impl State {
 
     /// What an event does and is answered. It isn't counted yet.
     pub(crate) fn apply(&mut self, alloc: Global, event: &Event) -> Result<Outcome, AllocError>
+        requires fits { EventFits event.now }
+        requires room { most_parts ≤ room_of self.old.topics }
         ensures world { OnOk result (self.new ≡ (outcome self.old event.now).world) }
         ensures reply { IfOk result (λ o. o.reply ≡ reply_to self.old event.now) }
         ensures refusals { IfOk result (λ o. o.refusals ≡ refusals_of self.old event.now) }
@@ -102,12 +101,17 @@ impl State {
         caller: &Caller,
         request: &Request,
     ) -> Result<Outcome, AllocError>
+        requires fits { Fits request.now }
+        requires room { most_parts ≤ room_of self.old.topics }
         ensures world { OnOk result (self.new ≡ (request_outcome self.old caller.now request.now).world) }
         ensures reply { IfOk result (λ o. o.reply ≡ (request_outcome self.old caller.now request.now).reply) }
         ensures refusals { IfOk result (λ o. o.refusals ≡ (request_outcome self.old caller.now request.now).refusals) }
         ensures reading { OnErr result (is_reading_request request.now ≡ true → self.new ≡ self.old) }
     {
         match request {
+            Request::Produce(request) => self.produce(alloc, caller, request),
+            Request::Fetch(request) => self.fetch(alloc, caller, request),
+            Request::ListOffsets(request) => self.list_offsets(alloc, caller, request),
             Request::Metadata(request) => {
                 let (reply, refusals) = self.metadata(alloc, caller, request)?;
                 Ok(Outcome {

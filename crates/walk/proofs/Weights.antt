@@ -1,11 +1,12 @@
 -- What a part takes of the world's room, and apis whose parts take nothing.
-use Rattle.std.proofs.Common.{ℕ, ◌+◌, ◌≤◌, List, [], ◌∷◌, Option, Some, None, arith}
+use Rattle.std.proofs.Common.{ℕ, ◌+◌, ◌≤◌, List, [], ◌∷◌, Option, Some, None, subst, arith}
 use Rattle.authorizer.specs.declared.answer.Refusal.{Refusal}
 use Rattle.authorizer.specs.Asking.{Rules}
 use Rattle.wire_types.specs.declared.topic.Topic.{Topic}
 use Rattle.walk.specs.Rule.{PartRule, refusal_of}
-use Rattle.walk.specs.Walk.{parts_weight, topics_weight}
-use Rattle.walk.specs.Steps.{world_by, part_world}
+use Rattle.walk.specs.Walk.{world_after, parts_weight, topics_weight}
+use Rattle.walk.specs.Steps.{world_by, part_world, parts_world, topics_world}
+use Rattle.walk.proofs.Weaving.{woven}
 
 pub part_takes : {P A W : Type 0} (api : PartRule P A W) (rules : Rules) (w : W) (name : List ℕ) (p : P) → api.room w ≤ api.weight p + api.room (part_world api rules w name p)
 part_takes api rules w name p = by_refusal (refusal_of api rules name p) where
@@ -20,3 +21,16 @@ parts_weightless api (p ∷ ps) none = omega (arith, none p, parts_weightless ap
 pub weightless : {P A W : Type 0} (api : PartRule P A W) (room : ℕ) (ts : List (Topic P)) → ((p : P) → api.weight p ≤ 0) → topics_weight api ts ≤ room
 weightless api room [] none = omega arith
 weightless api room (t ∷ ts) none = omega (arith, parts_weightless api t.partitions none, weightless api 0 ts none)
+
+-- ---- what a request takes of it
+
+parts_take : {P A W : Type 0} (api : PartRule P A W) (rules : Rules) (w : W) (name : List ℕ) (ps : List P) → api.room w ≤ parts_weight api ps + api.room (parts_world api rules w name ps)
+parts_take api rules w name [] = omega arith
+parts_take api rules w name (p ∷ ps) = omega (arith, part_takes api rules w name p, parts_take api rules (part_world api rules w name p) name ps)
+
+topics_take : {P A W : Type 0} (api : PartRule P A W) (rules : Rules) (w : W) (ts : List (Topic P)) → api.room w ≤ topics_weight api ts + api.room (topics_world api rules w ts)
+topics_take api rules w [] = omega arith
+topics_take api rules w (t ∷ ts) = omega (arith, parts_take api rules w t.name t.partitions, topics_take api rules (parts_world api rules w t.name t.partitions) ts)
+
+pub walk_takes : {P A W : Type 0} (api : PartRule P A W) (rules : Rules) (w : W) (ts : List (Topic P)) → api.room w ≤ topics_weight api ts + api.room (world_after api rules w ts)
+walk_takes api rules w ts = subst (λ v. api.room w ≤ topics_weight api ts + api.room v) (woven api rules w ts).world (topics_take api rules w ts)

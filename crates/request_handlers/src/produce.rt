@@ -1,0 +1,262 @@
+//! Produce: batches are appended to partitions.
+
+ghost use Rattle.std.specs.Prelude.{◌≡◌, ◌≤◌, ◌+◌, length, IfOk, OnOk};
+ghost use Rattle.std.specs.Option.{option_copied};
+ghost use Rattle.walk.specs.Walk.{topics_weight};
+ghost use Rattle.request_handlers.specs.Logs.{MayWrite, room_of, most_end};
+ghost use Rattle.request_handlers.specs.Sent.{sent};
+ghost use Rattle.request_handlers.specs.Judged.{are_acks, producer_code, passed, batch_in, judged, topics_produced, records_size};
+ghost use Rattle.request_handlers.specs.Produce.{produced_error, produced_at, produced_to, unproduced, produced, producing, produce_reply, produce_outcome};
+
+use crate::numbers::magnitude;
+use crate::outcome::Outcome;
+use crate::state::State;
+use crate::topics::Topics;
+use acl_binding::{Caller, Kind, Operation};
+use authorizer::{Permit, Policy, ask_given};
+use bytes::Bytes;
+use msg_admin::Reply;
+use partition_log::Log;
+use msg_data::{ProduceReply, ProduceRequest, ProducedOffset, ProducedRecords};
+use record_batch::{Batch, BatchFault, BatchHeader};
+use std::alloc::{AllocError, Global};
+use walk::{Part, PartApi, refusal_code, walk};
+use wire_types::{ErrorCode, Items, Text, Topic};
+
+/// What a Produce says of all its partitions, and the greatest size of a batch.
+#[derive(Drop)]
+pub(crate) struct Producing<'a> {
+    pub(crate) caller: &'a Caller,
+    pub(crate) id: &'a Option<Text>,
+    pub(crate) acks: i16,
+    pub(crate) most: u32,
+}
+
+impl<'a> PartApi<ProducedRecords, ProducedOffset, Topics> for Producing<'a> {
+    ghost use Rattle.request_handlers.specs.Produce.{produce_rule};
+
+    ghost rule = { λ api. produce_rule api.caller.now api.most api.id.now api.acks };
+
+    fn serve(
+        &self,
+        alloc: Global,
+        policy: &Policy,
+        topics: &mut Topics,
+        name: &Text,
+        part: &ProducedRecords,
+    ) -> Result<Part<ProducedOffset>, AllocError> {
+        let records = part.records.clone()?;
+        let id = self
+            .caller
+            .asks_given(Operation::Write, Kind::TransactionalId, self.id)?;
+        let topic = self.caller.asks(Operation::Write, Kind::Topic, name)?;
+        match ask_given(policy, id, topic) {
+            Ok(given) => {
+                let permit = given.last(policy);
+                let answer = self.grant(alloc, policy, permit, topics, name, part, records)?;
+                Ok(Part::served(answer))
+            }
+            Err(refusal) => {
+                let answer = produced_error(refusal_code(&refusal), part);
+                Ok(Part::refused(answer, refusal))
+            }
+        }
+    }
+}
+
+impl<'a> Producing<'a> {
+    /// Serves a part that was granted, whose records are also handed in.
+    fn grant(
+        &self,
+        alloc: Global,
+        policy: &Policy,
+        permit: Permit,
+        topics: &mut Topics,
+        name: &Text,
+        part: &ProducedRecords,
+        records: Option<Bytes>,
+    ) -> Result<ProducedOffset, AllocError>
+        requires permit { MayWrite policy.now name.now permit }
+        requires records { records ≡ part.now.records }
+        requires room { records_size part.now.records ≤ room_of topics.old }
+        ensures topics { OnOk result (topics.new ≡ topics_produced (judged self.now.most self.now.id.now self.now.acks part.now.records) topics.old name.now part.now.index) }
+        ensures answer { IfOk result (λ answer. answer ≡ produced (judged self.now.most self.now.id.now self.now.acks part.now.records) topics.old name.now part.now) }
+    {
+        let batch = self.judge(records);
+        produce(alloc, policy, permit, topics, name, part, batch)
+    }
+
+    /// The batch to be appended, or why none is, whatever partition it is for.
+    fn judge(&self, records: Option<Bytes>) -> Result<Batch, ErrorCode>
+        ensures { result ≡ judged self.now.most self.now.id.now self.now.acks records }
+    {
+        if !are_acks(self.acks) {
+            return Err(ErrorCode::InvalidRequiredAcks);
+        }
+        batch_in(records, self.most, self.id)
+    }
+}
+
+/// What was judged good is appended, if the partition is there.
+fn produce(
+    alloc: Global,
+    policy: &Policy,
+    permit: Permit,
+    topics: &mut Topics,
+    name: &Text,
+    part: &ProducedRecords,
+    batch: Result<Batch, ErrorCode>,
+) -> Result<ProducedOffset, AllocError>
+    requires permit { MayWrite policy.now name.now permit }
+    requires room { IfOk batch (λ b. most_end topics.old + length b.bytes ≤ 9223372036854775807) }
+    ensures topics { OnOk result (topics.new ≡ topics_produced batch topics.old name.now part.now.index) }
+    ensures answer { IfOk result (λ answer. answer ≡ produced batch topics.old name.now part.now) }
+{
+    match batch {
+        Ok(batch) => {
+            let offset = topics.append(alloc, policy, permit, name, part.index, batch)?;
+            Ok(produced_to(part, offset))
+        }
+        Err(code) => {
+            permit.spend(policy);
+            Ok(unproduced(code, part, topics.log(name, part.index)))
+        }
+    }
+}
+
+fn produced_error(error: ErrorCode, part: &ProducedRecords) -> ProducedOffset
+    ensures { result ≡ produced_error error part.now }
+{
+    ProducedOffset {
+        index: part.index,
+        error,
+        base_offset: -1,
+        log_append_time: -1,
+    }
+}
+
+fn produced_at(offset: i64, part: &ProducedRecords) -> ProducedOffset
+    ensures { result ≡ produced_at offset part.now }
+{
+    ProducedOffset {
+        index: part.index,
+        error: ErrorCode::None,
+        base_offset: offset,
+        log_append_time: -1,
+    }
+}
+
+/// The answer where the batch was appended at an offset, or the partition isn't there.
+fn produced_to(part: &ProducedRecords, offset: Option<i64>) -> ProducedOffset
+    ensures { result ≡ produced_to part.now offset }
+{
+    match offset {
+        Some(offset) => produced_at(offset, part),
+        None => produced_error(ErrorCode::UnknownTopicOrPartition, part),
+    }
+}
+
+/// The answer where there is no batch to append.
+fn unproduced(code: ErrorCode, part: &ProducedRecords, log: Option<&Log>) -> ProducedOffset
+    ensures { result ≡ unproduced code part.now (option_copied log.entry) }
+{
+    match log {
+        Some(_) => produced_error(code, part),
+        None => produced_error(ErrorCode::UnknownTopicOrPartition, part),
+    }
+}
+
+/// The batch, if there are records.
+fn batch_in(records: Option<Bytes>, most: u32, id: &Option<Text>) -> Result<Batch, ErrorCode>
+    ensures { result ≡ batch_in most id.now records }
+{
+    match records {
+        Some(records) if records.len() != 0 => passed(id, sent(records, most)),
+        _ => Err(ErrorCode::InvalidRecord),
+    }
+}
+
+/// The batch, if its producer may send it.
+fn passed(id: &Option<Text>, batch: Result<Batch, BatchFault>) -> Result<Batch, ErrorCode>
+    ensures { result ≡ passed id.now batch }
+{
+    match batch {
+        Ok(batch) => match producer_code(id, batch.header()) {
+            Some(code) => Err(code),
+            None => Ok(batch),
+        },
+        Err(fault) => Err(fault.code()),
+    }
+}
+
+fn are_acks(acks: i16) -> bool
+    ensures { result ≡ are_acks acks }
+{
+    acks == -1 || acks == 0 || acks == 1
+}
+
+/// The batch that a producer sent, or its first fault.
+fn sent(bytes: Bytes, most: u32) -> Result<Batch, BatchFault>
+    ensures { result ≡ sent most bytes }
+{
+    Batch::check(bytes, most)
+}
+
+/// Why a batch of a producer or of a transaction is refused: no producer id was given out yet.
+fn producer_code(id: &Option<Text>, header: &BatchHeader) -> Option<ErrorCode>
+    ensures { result ≡ producer_code id.now header.now }
+{
+    if header.is_transactional() {
+        return Some(match id {
+            Some(_) => ErrorCode::InvalidProducerIdMapping,
+            None => ErrorCode::InvalidTxnState,
+        });
+    }
+    if header.producer_id < 0 {
+        return None;
+    }
+    Some(ErrorCode::InvalidProducerIdMapping)
+}
+
+/// The reply with these answers. With acks 0 it isn't sent.
+fn produce_reply(acks: i16, topics: Items<Topic<ProducedOffset>>) -> Reply
+    ensures { result ≡ produce_reply acks topics }
+{
+    let reply = ProduceReply {
+        topics,
+        throttle: 0,
+    };
+    if acks == 0 {
+        Reply::SilentProduce(reply)
+    } else {
+        Reply::Produce(reply)
+    }
+}
+
+impl State {
+    /// What a Produce does and is answered.
+    pub(crate) fn produce(
+        &mut self,
+        alloc: Global,
+        caller: &Caller,
+        request: &ProduceRequest,
+    ) -> Result<Outcome, AllocError>
+        requires { topics_weight (producing self.old caller.now request.now) request.now.topics ≤ room_of self.old.topics }
+        ensures world { OnOk result (self.new ≡ (produce_outcome self.old caller.now request.now).world) }
+        ensures reply { IfOk result (λ o. o.reply ≡ (produce_outcome self.old caller.now request.now).reply) }
+        ensures refusals { IfOk result (λ o. o.refusals ≡ (produce_outcome self.old caller.now request.now).refusals) }
+    {
+        let api = Producing {
+            caller,
+            id: &request.transactional_id,
+            acks: request.acks,
+            most: magnitude(self.node.max_batch),
+        };
+        let topics = request.topics.as_slice();
+        let walked = walk(alloc, &api, &self.policy, &mut self.topics, topics)?;
+        Ok(Outcome {
+            reply: produce_reply(request.acks, walked.topics),
+            refusals: walked.refusals,
+        })
+    }
+}
