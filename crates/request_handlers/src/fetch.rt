@@ -188,7 +188,13 @@ impl State {
             topics: self.topics(),
         };
         let mut room = whole_room(request);
-        let walked = walk(alloc, &api, self.policy(), &mut room, request.topics.as_slice())?;
+        let walked = walk(
+            alloc,
+            &api,
+            self.policy(),
+            &mut room,
+            request.topics.as_slice(),
+        )?;
         Ok(Outcome {
             reply: Reply::Fetch(FetchReply {
                 throttle: 0,

@@ -106,7 +106,13 @@ impl State {
             caller,
             topics: self.topics(),
         };
-        let walked = walk(alloc, &api, self.policy(), &mut (), request.topics.as_slice())?;
+        let walked = walk(
+            alloc,
+            &api,
+            self.policy(),
+            &mut (),
+            request.topics.as_slice(),
+        )?;
         Ok(Outcome {
             reply: Reply::ListOffsets(ListOffsetsReply {
                 throttle: 0,
