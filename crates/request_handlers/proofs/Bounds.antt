@@ -1,6 +1,6 @@
 -- The numbers of a core stay below the ends of their types: an event has at most so many refusals as its request
 -- has parts, and a request that fits a frame has fewer parts than bytes.
-use Rattle.std.proofs.Common.{◌≡◌, ℕ, zero, suc, ℤ, ◌+◌, ◌*◌, ◌<◌, ◌≤◌, subst, Bool, true, false, List, [], ◌∷◌, ◌++◌, length, Option, Some, None, cond, refl, sym, ap, ◌∙◌, arith}
+use Rattle.std.proofs.Common.{◌≡◌, ℕ, zero, suc, ℤ, ◌+◌, ◌<◌, ◌≤◌, subst, false, List, [], ◌∷◌, ◌++◌, length, Option, Some, None, refl, sym, ap, ◌∙◌, arith}
 use Rattle.std.specs.List.{filter_map, cons_option}
 use Rattle.std.proofs.lemmas.List.{length-append, length_push}
 use Rattle.acl_binding.specs.declared.question.Caller.{Caller}
@@ -28,14 +28,11 @@ use Rattle.msg_admin.specs.declared.request.Request.{Request}
 use Rattle.walk.specs.Rule.{PartRule, refusal_of}
 use Rattle.walk.specs.Walk.{world_after, parts_refused, refusals, parts_weight, topics_weight}
 use Rattle.walk.proofs.Weights.{walk_takes}
-use Rattle.msg_data.specs.declared.metadata.MetadataRequest.{MetadataRequest}
 use Rattle.msg_admin.specs.declared.request.Request.TheVariants.{Produce, Fetch, ListOffsets, Metadata}
 use Rattle.msg_admin.specs.Request.{Fits}
-use Rattle.msg_admin.specs.Bodies.{request_body, api_of}
+use Rattle.msg_admin.specs.Bodies.{request_body}
 use Rattle.audit_trail.specs.declared.event.Event.{Event}
 use Rattle.audit_trail.specs.declared.event.Event.TheVariants.{Ask}
-use Rattle.audit_trail.specs.declared.trail.Entry.{Entry}
-use Rattle.audit_trail.specs.Trail.{refusal_count}
 use Rattle.audit_trail.proofs.Counts.{count_push}
 use Rattle.request_handlers.specs.World.{World, TopicValue, rules_of}
 use Rattle.request_handlers.specs.Metadata.{topic_refusal, topic_refusals}
@@ -46,7 +43,7 @@ use Rattle.request_handlers.specs.Produce.{producing}
 use Rattle.request_handlers.specs.Fetch.{fetch_rule}
 use Rattle.request_handlers.specs.ListOffsets.{list_rule}
 use Rattle.request_handlers.specs.Step.{outcome, refusals_of}
-use Rattle.request_handlers.specs.Core.{CoreValue, IsCore, IsHistory, IsBounded, EventFits, most_parts, trail_limit, advanced, entry_of}
+use Rattle.request_handlers.specs.Core.{CoreValue, IsCore, IsBounded, EventFits, most_parts, trail_limit, advanced, entry_of}
 use Rattle.request_handlers.proofs.Histories.{events_outcome, history_goes_on}
 
 -- no more are kept than there are

@@ -1,5 +1,5 @@
 -- Answers depend on what was granted alone.
-use Rattle.std.proofs.Common.{◌≡◌, ℕ, ℤ, List, [], ◌∷◌, Option, Some, None, cond, refl, ap, ◌∙◌}
+use Rattle.std.proofs.Common.{◌≡◌, ℕ, List, [], ◌∷◌, Option, Some, None, cond, refl, ap, ◌∙◌}
 use Rattle.std.specs.Prelude.{is_none}
 use Rattle.std.specs.Option.{option_map}
 use Rattle.acl_binding.specs.declared.question.Caller.{Caller}
@@ -13,7 +13,6 @@ use Rattle.authorizer.specs.declared.answer.Why.TheVariants as why
 use Rattle.authorizer.specs.Policy.{verdict}
 use Rattle.authorizer.specs.Asking.{refusal_by, first_of}
 use Rattle.msg_data.specs.declared.metadata.TopicInfo.{TopicInfo}
-use Rattle.request_handlers.specs.declared.node.Node.{Node}
 use Rattle.request_handlers.specs.World.{World, rules_of, find_topic, topic_names}
 use Rattle.walk.specs.Codes.{refusal_code}
 use Rattle.walk.specs.Weave.{weave}

@@ -18,7 +18,7 @@ use Rattle.authorizer.specs.Asking.{Rules, refusal_by, first_of}
 use Rattle.request_handlers.specs.World.{World, rules_of}
 use Rattle.walk.specs.Codes.{refusal_code}
 use Rattle.walk.specs.Weave.{weave}
-use Rattle.request_handlers.specs.Metadata.{topic_error, plain_topic, plain_topics, topic_refusal, topic_refusals, describable, refused_topics, metadata_topics, answer_by, topic_answer}
+use Rattle.request_handlers.specs.Metadata.{topic_error, plain_topic, plain_topics, topic_refusal, describable, refused_topics, metadata_topics, answer_by, topic_answer}
 use Rattle.request_handlers.specs.Headline.{AnsweredBy, AnswersEachTopic, RefusesEachTopic}
 
 -- the woven answers are the answers one by one

@@ -6,3 +6,5 @@ pub mod Bounds
 pub mod Runs
 pub mod Headlines
 pub mod Grants
+pub mod DataGrants
+pub mod DataAnswers

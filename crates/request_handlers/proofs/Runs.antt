@@ -1,8 +1,6 @@
 -- A run without a stop.
-use Rattle.std.proofs.Common.{◌≡◌, ℕ, List, [], ◌∷◌, Option, Some, None, refl, ap}
-use Rattle.audit_trail.specs.declared.event.Event.{Event}
-use Rattle.audit_trail.specs.declared.trail.Receipt.{Receipt}
-use Rattle.request_handlers.specs.Core.{CoreValue, Ran, receipts_of, advanced, advanced_all, WholeRuns}
+use Rattle.std.proofs.Common.{[], ◌∷◌, refl}
+use Rattle.request_handlers.specs.Core.{advanced, WholeRuns}
 
 pub whole_runs : WholeRuns
 whole_runs old new [] [] ran = (refl, ran)

@@ -8,7 +8,6 @@ use Rattle.acl_binding.specs.declared.words.Operation.TheVariants as operations
 use Rattle.acl_binding.specs.Verdict.{asked}
 use Rattle.wire_types.specs.declared.error_code.ErrorCode.{ErrorCode}
 use Rattle.wire_types.specs.declared.error_code.ErrorCode.TheVariants as codes
-use Rattle.wire_types.specs.declared.topic.Topic.{Topic}
 use Rattle.record_batch.specs.Batch.{BatchData}
 use Rattle.partition_log.specs.declared.isolation.Isolation.TheVariants as levels
 use Rattle.partition_log.specs.declared.served.Served.{Served}

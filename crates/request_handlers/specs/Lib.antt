@@ -14,3 +14,5 @@ pub mod Step
 pub mod Core
 pub mod Headline
 pub mod Tenants
+pub mod DataLaws
+pub mod DataTenants

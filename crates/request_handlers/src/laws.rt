@@ -3,6 +3,8 @@
 ghost use Rattle.request_handlers.specs.Core.{WholeRuns};
 ghost use Rattle.request_handlers.specs.Headline.{AnswersEachTopic, RefusesEachTopic};
 ghost use Rattle.request_handlers.specs.Tenants.{DependsOnGrants};
+ghost use Rattle.request_handlers.specs.DataLaws.{ProducesAsAnswered, ListsEnds};
+ghost use Rattle.request_handlers.specs.DataTenants.{ProduceDependsOnGrants, FetchDependsOnGrants, ListOffsetsDependsOnGrants};
 
 /// A run without a stop has a receipt for each event, and leaves the core where the events lead.
 pub fn whole_runs()
@@ -23,4 +25,29 @@ pub fn metadata_refuses_each_topic()
 /// A Metadata request is answered by what its questions were granted alone.
 pub fn metadata_depends_on_grants()
     ensures { DependsOnGrants }
+{}
+
+/// An allowed partition of a Produce is answered no error exactly where its batch was appended.
+pub fn produces_as_answered()
+    ensures { ProducesAsAnswered }
+{}
+
+/// An allowed partition of a ListOffsets is told the end of its log, or the start.
+pub fn lists_ends()
+    ensures { ListsEnds }
+{}
+
+/// A Produce is answered by what its questions were granted alone.
+pub fn produce_depends_on_grants()
+    ensures { ProduceDependsOnGrants }
+{}
+
+/// A Fetch is answered by what its questions were granted alone.
+pub fn fetch_depends_on_grants()
+    ensures { FetchDependsOnGrants }
+{}
+
+/// A ListOffsets is answered by what its questions were granted alone.
+pub fn list_offsets_depends_on_grants()
+    ensures { ListOffsetsDependsOnGrants }
 {}

@@ -1,41 +1,10 @@
 //! Metadata, from the frame of a request to the frame of its response and the lines of its refusals.
 
 use crate::Core;
-use crate::tests::fixtures::core;
-use acl_binding::Caller;
-use audit_trail::{Event, line};
-use bytes::Bytes;
-use msg_admin::{read_request, write_reply};
+use crate::tests::fixtures::{answer, core, is};
+use audit_trail::line;
 use std::alloc::Global;
 use std::test::Fail;
-use wire_types::Text;
-
-/// What the core answers to a frame, which is given without its size field.
-fn answer(alloc: Global, core: &mut Core, who: &str, host: &str, frame: &[u8]) -> Option<Bytes> {
-    let frame = Bytes::copy_from_slice(alloc, frame).ok()?;
-    let (header, request) = read_request(alloc, &frame).ok()?;
-    if !request.fits() {
-        return None;
-    }
-    let caller = Caller {
-        who: Text::of(alloc, who).ok()?,
-        host: Text::of(alloc, host).ok()?,
-    };
-    let event = Event::Ask {
-        caller,
-        client: header.client,
-        request,
-    };
-    let receipt = core.step(event).ok()?;
-    write_reply(alloc, header.correlation, receipt.reply.value()).ok()
-}
-
-fn is(answer: Option<Bytes>, bytes: &[u8]) -> bool {
-    match answer {
-        Some(answer) => answer.as_slice() == bytes,
-        None => false,
-    }
-}
 
 fn line_is(core: &Core, alloc: Global, place: usize, index: usize, text: &str) -> Option<bool> {
     let refusal = core.trail().entry(place)?.refusals.get(index)?;

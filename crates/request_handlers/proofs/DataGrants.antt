@@ -1,0 +1,205 @@
+-- The answers to Produce, Fetch and ListOffsets depend on what the questions of their parts were granted.
+use Rattle.std.proofs.Common.{◌≡◌, ℕ, ℤ, pos, ◌⊎◌, inl, inr, Bool, true, false, cond, List, [], ◌∷◌, ◌++◌, Option, Some, None, Result, Ok, Err, refl, sym, ap, subst, ◌∙◌}
+use Rattle.std.specs.Option.{option_map, option_and_then}
+use Rattle.std.specs.Str.{bytes_eq}
+use Rattle.std.proofs.lemmas.Slice.Eq.{bytes_eq-Decides}
+use Rattle.acl_binding.specs.declared.question.Caller.{Caller}
+use Rattle.acl_binding.specs.declared.question.Question.{Question}
+use Rattle.acl_binding.specs.declared.question.Verdict.{Verdict}
+use Rattle.acl_binding.specs.declared.question.Verdict.TheVariants.{Yes, Denied, Nothing}
+use Rattle.acl_binding.specs.declared.words.Kind.TheVariants as kinds
+use Rattle.acl_binding.specs.declared.words.Operation.TheVariants as operations
+use Rattle.acl_binding.specs.Verdict.{asked}
+use Rattle.authorizer.specs.declared.answer.Refusal.{Refusal}
+use Rattle.authorizer.specs.declared.answer.Why.TheVariants as why
+use Rattle.authorizer.specs.Policy.{verdict}
+use Rattle.authorizer.specs.Asking.{Rules, refusal_by, first_of, part_refusal}
+use Rattle.wire_types.specs.declared.error_code.ErrorCode.{ErrorCode}
+use Rattle.wire_types.specs.declared.topic.Topic.{Topic}
+use Rattle.record_batch.specs.Batch.{BatchData}
+use Rattle.partition_log.specs.Log.{at_end}
+use Rattle.msg_data.specs.declared.produce.ProducedRecords.{ProducedRecords}
+use Rattle.msg_data.specs.declared.fetch.FetchPartition.{FetchPartition}
+use Rattle.msg_admin.specs.declared.reply.Reply.TheVariants as replies
+use Rattle.walk.specs.Walk.{answers, refusals}
+use Rattle.walk.specs.Woven.{has_any}
+use Rattle.walk.specs.Alike.{AllParts, AllTopics, AreAlike}
+use Rattle.walk.proofs.Alikeness.{answer_alike}
+use Rattle.request_handlers.specs.declared.room.Room.{Room}
+use Rattle.request_handlers.specs.World.{World, TopicValue, LogValue, rules_of, find_topic}
+use Rattle.request_handlers.specs.declared.node.Node.{Node}
+use Rattle.request_handlers.specs.First.{magnitude}
+use Rattle.request_handlers.specs.Logs.{log_of, log_at, logs_with, with_log, appended_by, appended}
+use Rattle.request_handlers.specs.Judged.{judged, topics_produced}
+use Rattle.request_handlers.specs.Produce.{produce_questions, produced, produced_by, produce_rule, producing, produce_reply}
+use Rattle.request_handlers.specs.Fetch.{served_by, served_at, fetched, room_after, fetch_rule, whole_room}
+use Rattle.request_handlers.specs.ListOffsets.{listed_by, list_rule}
+use Rattle.request_handlers.specs.Tenants.{SameGranted, SameOn}
+use Rattle.request_handlers.specs.DataTenants.{FetchDependsOnGrants, ListOffsetsDependsOnGrants, ProduceDependsOnGrants}
+
+-- ---- a question that refuses nothing is granted
+
+yes_of : (x : Verdict) (q : Question) (rest : Option Refusal) → first_of (refusal_by x q) rest ≡ None → x ≡ Yes
+yes_of Yes q rest h = refl
+yes_of (Denied n) q rest h = absurd (let clash : Some (record { question = q; why = why.Denied n }) ≡ None = h in cc)
+yes_of Nothing q rest h = absurd (let clash : Some (record { question = q; why = why.Nothing }) ≡ None = h in cc)
+
+rest_of : (x : Verdict) (q : Question) (rest : Option Refusal) → first_of (refusal_by x q) rest ≡ None → rest ≡ None
+rest_of Yes q rest h = h
+rest_of (Denied n) q rest h = absurd (let clash : Some (record { question = q; why = why.Denied n }) ≡ None = h in cc)
+rest_of Nothing q rest h = absurd (let clash : Some (record { question = q; why = why.Nothing }) ≡ None = h in cc)
+
+-- the worlds agree on the topic of a granted question
+same_topic : (v w : World) (q : Question) → SameGranted v w (q ∷ []) → part_refusal (rules_of w) (q ∷ []) ≡ None → SameOn v w q.kind q.name
+same_topic v w q same none = same.0 (yes_of (verdict w.book w.supers q) q None none)
+
+same_log : (us vs : List TopicValue) (name : List ℕ) (index : ℤ) → find_topic us name ≡ find_topic vs name → log_at us name index ≡ log_at vs name index
+same_log us vs name index same = ap (option_and_then (log_of index)) same
+
+-- ---- Fetch
+
+same_served : (us vs : List TopicValue) (a b : Room) (name : List ℕ) (p : FetchPartition) → find_topic us name ≡ find_topic vs name → a ≡ b → served_at us a name p ≡ served_at vs b name p
+same_served us vs a b name p same room = ap (served_by a p) (same_log us vs name p.index same) ∙ ap (λ (r : Room). served_at vs r name p) room
+
+fetch_alike : (v w : World) (caller : Caller) → AreAlike (fetch_rule caller v.topics) (fetch_rule caller w.topics) (rules_of w) (λ name p. SameGranted v w ((fetch_rule caller w.topics).questions name p)) (λ a b. a ≡ b)
+fetch_alike v w caller = record {
+  questions = λ name p. refl;
+  refused = λ code name p. refl;
+  plain = λ a b name p is room none. ap (fetched p) (same_served v.topics w.topics a b name p (same_topic v w (asked caller operations.Read kinds.Topic name) is none) room);
+  after = λ a b name p is room none.
+      ap (λ (r : Room). room_after r (served_at v.topics a name p)) room
+      ∙ ap (room_after b) (same_served v.topics w.topics a b name p (same_topic v w (asked caller operations.Read kinds.Topic name) is none) room);
+}
+
+pub fetch_depends : FetchDependsOnGrants
+fetch_depends v w caller r base same =
+    let alike = answer_alike (fetch_rule caller v.topics) (fetch_rule caller w.topics) (rules_of w) (λ name p. SameGranted v w ((fetch_rule caller w.topics).questions name p)) (λ a b. a ≡ b) (fetch_alike v w caller) (whole_room r) (whole_room r) r.topics same refl in
+    let told = ap (λ (rules : Rules). answers (fetch_rule caller v.topics) rules (whole_room r) r.topics) base.rules ∙ alike.answers in
+    record {
+      reply = ap (λ topics. replies.Fetch (record { throttle = pos 0; topics = topics })) told;
+      refusals = ap (λ (rules : Rules). refusals (fetch_rule caller v.topics) rules r.topics) base.rules ∙ alike.refusals;
+    }
+
+-- ---- ListOffsets
+
+list_alike : (v w : World) (caller : Caller) → AreAlike (list_rule caller v.topics) (list_rule caller w.topics) (rules_of w) (λ name p. SameGranted v w ((list_rule caller w.topics).questions name p)) (λ a b. a ≡ b)
+list_alike v w caller = record {
+  questions = λ name p. refl;
+  refused = λ code name p. refl;
+  plain = λ a b name p is world none. ap (listed_by p) (same_log v.topics w.topics name p.index (same_topic v w (asked caller operations.Describe kinds.Topic name) is none));
+  after = λ a b name p is world none. world;
+}
+
+pub list_offsets_depends : ListOffsetsDependsOnGrants
+list_offsets_depends v w caller r base same =
+    let alike = answer_alike (list_rule caller v.topics) (list_rule caller w.topics) (rules_of w) (λ name p. SameGranted v w ((list_rule caller w.topics).questions name p)) (λ a b. a ≡ b) (list_alike v w caller) tt tt r.topics same refl in
+    let told = ap (λ (rules : Rules). answers (list_rule caller v.topics) rules tt r.topics) base.rules ∙ alike.answers in
+    record {
+      reply = ap (λ topics. replies.ListOffsets (record { throttle = pos 0; topics = topics })) told;
+      refusals = ap (λ (rules : Rules). refusals (list_rule caller v.topics) rules r.topics) base.rules ∙ alike.refusals;
+    }
+
+-- ---- Produce: a topic among topics of which one was appended to
+
+pub find_same : (topics : List TopicValue) (name : List ℕ) (index : ℤ) (log : LogValue) → find_topic (with_log topics name index log) name ≡ option_map (λ (t : TopicValue). record { name = t.name; partitions = logs_with t.partitions index log }) (find_topic topics name)
+find_same [] name index log = refl
+find_same (t ∷ ts) name index log = by_test (bytes_eq t.name name) refl (find_same ts name index log) where
+  by_test : (b : Bool) → bytes_eq t.name name ≡ b → find_topic (with_log ts name index log) name ≡ option_map (λ (t : TopicValue). record { name = t.name; partitions = logs_with t.partitions index log }) (find_topic ts name)
+      → find_topic (cond b (record { name = t.name; partitions = logs_with t.partitions index log } ∷ ts) (t ∷ with_log ts name index log)) name ≡ option_map (λ (t : TopicValue). record { name = t.name; partitions = logs_with t.partitions index log }) (cond b (Some t) (find_topic ts name))
+  by_test true e rest = ap (λ x. cond x (Some (record { name = t.name; partitions = logs_with t.partitions index log })) (find_topic ts name)) e
+  by_test false e rest = ap (λ x. cond x (Some t) (find_topic (with_log ts name index log) name)) e ∙ rest
+
+pub find_other : (topics : List TopicValue) (name other : List ℕ) (index : ℤ) (log : LogValue) → bytes_eq name other ≡ false → find_topic (with_log topics name index log) other ≡ find_topic topics other
+find_other [] name other index log differ = refl
+find_other (t ∷ ts) name other index log differ = by_test (bytes_eq t.name name) refl (find_other ts name other index log differ) where
+  by_test : (b : Bool) → bytes_eq t.name name ≡ b → find_topic (with_log ts name index log) other ≡ find_topic ts other
+      → find_topic (cond b (record { name = t.name; partitions = logs_with t.partitions index log } ∷ ts) (t ∷ with_log ts name index log)) other ≡ find_topic (t ∷ ts) other
+  by_test true e rest =
+      let no : bytes_eq t.name other ≡ false = ap (λ n. bytes_eq n other) ((bytes_eq-Decides t.name name).0 e) ∙ differ in
+      ap (λ x. cond x (Some (record { name = t.name; partitions = logs_with t.partitions index log })) (find_topic ts other)) no ∙ sym (ap (λ x. cond x (Some t) (find_topic ts other)) no)
+  by_test false e rest = ap (λ f. cond (bytes_eq t.name other) (Some t) f) rest
+
+-- where two lists agree on the topic that is appended to, and on another, they do so afterwards
+find_appended : (us vs : List TopicValue) (name other : List ℕ) (index : ℤ) (b : BatchData) → find_topic us name ≡ find_topic vs name → find_topic us other ≡ find_topic vs other
+    → find_topic (appended us name index b) other ≡ find_topic (appended vs name index b) other
+find_appended us vs name other index b here there =
+    by_log (log_at us name index) ∙ ap (λ o. find_topic (appended_by vs name index b o) other) (same_log us vs name index here) where
+      by_name : (x : Bool) → bytes_eq name other ≡ x → (log : LogValue) → find_topic (with_log us name index log) other ≡ find_topic (with_log vs name index log) other
+      by_name true e log =
+          let same : name ≡ other = (bytes_eq-Decides name other).0 e in
+          subst (λ n. find_topic (with_log us name index log) n ≡ find_topic (with_log vs name index log) n) same
+          (find_same us name index log ∙ ap (option_map (λ (t : TopicValue). record { name = t.name; partitions = logs_with t.partitions index log })) here ∙ sym (find_same vs name index log))
+      by_name false e log = find_other us name other index log e ∙ there ∙ sym (find_other vs name other index log e)
+
+      by_log : (o : Option LogValue) → find_topic (appended_by us name index b o) other ≡ find_topic (appended_by vs name index b o) other
+      by_log None = there
+      by_log (Some log) = by_name (bytes_eq name other) refl (log ++ at_end log b ∷ [])
+
+-- ---- the topics that a request names
+
+Named : List ℕ → List (Topic ProducedRecords) → Type 0
+Named name [] = ⊥
+Named name (t ∷ ts) = ((t.name ≡ name) × (has_any t.partitions ≡ true)) ⊎ Named name ts
+
+named_parts : (whole : List (Topic ProducedRecords)) (name : List ℕ) (ps : List ProducedRecords) → Named name whole → AllParts (λ n p. Named n whole) name ps
+unfolding Named
+named_parts whole name [] is = tt
+named_parts whole name (p ∷ ps) is = (is, named_parts whole name ps is)
+
+named_topics : (whole ts : List (Topic ProducedRecords)) → ((name : List ℕ) → Named name ts → Named name whole) → AllTopics (λ n p. Named n whole) ts
+unfolding Named
+named_topics whole [] within = tt
+named_topics whole (t ∷ ts) within = (by_parts t.partitions (λ some. within t.name (inl (refl, some))), named_topics whole ts (λ name is. within name (inr is))) where
+  by_parts : (ps : List ProducedRecords) → (has_any ps ≡ true → Named t.name whole) → AllParts (λ n p. Named n whole) t.name ps
+  by_parts [] named = tt
+  by_parts (p ∷ ps) named = named_parts whole t.name (p ∷ ps) (named refl)
+
+-- the lists agree on each topic that the request names and may write
+AgreeOn : Rules → Caller → Option (List ℕ) → List (Topic ProducedRecords) → List TopicValue → List TopicValue → Type 0
+AgreeOn rules caller id ts us vs = (name : List ℕ) → Named name ts → part_refusal rules (produce_questions caller id name) ≡ None → find_topic us name ≡ find_topic vs name
+
+granted_topic : (v w : World) (caller : Caller) (id : Option (List ℕ)) (name : List ℕ) → SameGranted v w (produce_questions caller id name) → part_refusal (rules_of w) (produce_questions caller id name) ≡ None → find_topic v.topics name ≡ find_topic w.topics name
+granted_topic v w caller None name same none = same_topic v w (asked caller operations.Write kinds.Topic name) same none
+granted_topic v w caller (Some id) name same none =
+    let first = asked caller operations.Write kinds.TransactionalId id in
+    let last = asked caller operations.Write kinds.Topic name in
+    same_topic v w last same.1 (rest_of (verdict w.book w.supers first) first (part_refusal (rules_of w) (last ∷ [])) none)
+
+agree_first : (v w : World) (caller : Caller) (id : Option (List ℕ)) (ts : List (Topic ProducedRecords)) → AllTopics (λ name p. SameGranted v w (produce_questions caller id name)) ts → AgreeOn (rules_of w) caller id ts v.topics w.topics
+unfolding Named AgreeOn
+agree_first v w caller id [] same name is none = absurd is
+agree_first v w caller id (t ∷ ts) same name (inr is) none = agree_first v w caller id ts same.1 name is none
+agree_first v w caller id (t ∷ ts) same name (inl is) none = by_parts t.partitions is.1 same.0 where
+  by_parts : (ps : List ProducedRecords) → has_any ps ≡ true → AllParts (λ name p. SameGranted v w (produce_questions caller id name)) t.name ps → find_topic v.topics name ≡ find_topic w.topics name
+  by_parts [] some all = absurd (let clash : false ≡ true = some in cc)
+  by_parts (p ∷ ps) some all = granted_topic v w caller id name (subst (λ n. SameGranted v w (produce_questions caller id n)) is.0 all.0) none
+
+same_produced : (batch : Result BatchData ErrorCode) (us vs : List TopicValue) (name : List ℕ) (p : ProducedRecords) → find_topic us name ≡ find_topic vs name → produced batch us name p ≡ produced batch vs name p
+same_produced batch us vs name p same = ap (produced_by batch p) (same_log us vs name p.index same)
+
+agree_after : (rules : Rules) (caller : Caller) (id : Option (List ℕ)) (ts : List (Topic ProducedRecords)) (batch : Result BatchData ErrorCode) (us vs : List TopicValue) (name : List ℕ) (index : ℤ) → find_topic us name ≡ find_topic vs name
+    → AgreeOn rules caller id ts us vs → AgreeOn rules caller id ts (topics_produced batch us name index) (topics_produced batch vs name index)
+unfolding AgreeOn
+agree_after rules caller id ts (Err code) us vs name index here agree other is none = agree other is none
+agree_after rules caller id ts (Ok b) us vs name index here agree other is none = find_appended us vs name other index b here (agree other is none)
+
+produce_alike : (rules : Rules) (caller : Caller) (most : ℕ) (id : Option (List ℕ)) (acks : ℤ) (ts : List (Topic ProducedRecords)) → AreAlike (produce_rule caller most id acks) (produce_rule caller most id acks) rules (λ name p. Named name ts) (AgreeOn rules caller id ts)
+unfolding AgreeOn
+produce_alike rules caller most id acks ts = record {
+  questions = λ name p. refl;
+  refused = λ code name p. refl;
+  plain = λ us vs name p is agree none. same_produced (judged most id acks p.records) us vs name p (agree name is none);
+  after = λ us vs name p is agree none. agree_after rules caller id ts (judged most id acks p.records) us vs name p.index (agree name is none) agree;
+}
+
+pub produce_depends : ProduceDependsOnGrants
+produce_depends v w caller r base same =
+    let rule = producing w caller r in
+    let alike = answer_alike rule rule (rules_of w) (λ name p. Named name r.topics) (AgreeOn (rules_of w) caller r.transactional_id r.topics)
+    (produce_alike (rules_of w) caller (magnitude w.node.max_batch) r.transactional_id r.acks r.topics) v.topics w.topics r.topics
+    (named_topics r.topics r.topics (λ name is. is)) (agree_first v w caller r.transactional_id r.topics same) in
+    let told = ap (λ (rules : Rules). answers (producing v caller r) rules v.topics r.topics) base.rules ∙ ap (λ (n : Node). answers (produce_rule caller (magnitude n.max_batch) r.transactional_id r.acks) (rules_of w) v.topics r.topics) base.node ∙ alike.answers in
+    record {
+      reply = ap (produce_reply r.acks) told;
+      refusals = ap (λ (rules : Rules). refusals (producing v caller r) rules r.topics) base.rules ∙ ap (λ (n : Node). refusals (produce_rule caller (magnitude n.max_batch) r.transactional_id r.acks) (rules_of w) r.topics) base.node ∙ alike.refusals;
+    }
