@@ -24,7 +24,9 @@ use Rattle.msg_admin.specs.declared.reply.Reply.TheVariants as replies
 use Rattle.walk.specs.Walk.{answers, refusals}
 use Rattle.walk.specs.Woven.{has_any}
 use Rattle.walk.specs.Alike.{AllParts, AllTopics, AreAlike}
+use Rattle.walk.specs.Steps.{world_by, part_world, parts_world, topics_world}
 use Rattle.walk.proofs.Alikeness.{answer_alike}
+use Rattle.walk.proofs.Weaving.{woven}
 use Rattle.request_handlers.specs.declared.room.Room.{Room}
 use Rattle.request_handlers.specs.World.{World, TopicValue, LogValue, rules_of, find_topic}
 use Rattle.request_handlers.specs.declared.node.Node.{Node}
@@ -35,7 +37,7 @@ use Rattle.request_handlers.specs.Produce.{produce_questions, produced, produced
 use Rattle.request_handlers.specs.Fetch.{served_by, served_at, fetched, room_after, fetch_rule, whole_room}
 use Rattle.request_handlers.specs.ListOffsets.{listed_by, list_rule}
 use Rattle.request_handlers.specs.Tenants.{SameGranted, SameOn}
-use Rattle.request_handlers.specs.DataTenants.{FetchDependsOnGrants, ListOffsetsDependsOnGrants, ProduceDependsOnGrants}
+use Rattle.request_handlers.specs.DataTenants.{FetchDependsOnGrants, ListOffsetsDependsOnGrants, ProduceDependsOnGrants, ProduceKeepsTheRest}
 
 -- ---- a question that refuses nothing is granted
 
@@ -203,3 +205,40 @@ produce_depends v w caller r base same =
       reply = ap (produce_reply r.acks) told;
       refusals = ap (λ (rules : Rules). refusals (producing v caller r) rules r.topics) base.rules ∙ ap (λ (n : Node). refusals (produce_rule caller (magnitude n.max_batch) r.transactional_id r.acks) (rules_of w) r.topics) base.node ∙ alike.refusals;
     }
+
+-- ---- Produce: a topic that isn't granted
+
+kept_append : (topics : List TopicValue) (name other : List ℕ) (index : ℤ) (b : BatchData) (o : Option LogValue) → bytes_eq name other ≡ false → find_topic (appended_by topics name index b o) other ≡ find_topic topics other
+kept_append topics name other index b None differ = refl
+kept_append topics name other index b (Some log) differ = find_other topics name other index (log ++ at_end log b ∷ []) differ
+
+kept_batch : (topics : List TopicValue) (name other : List ℕ) (index : ℤ) (batch : Result BatchData ErrorCode) → (name ≡ other → ⊥) → find_topic (topics_produced batch topics name index) other ≡ find_topic topics other
+kept_batch topics name other index (Err code) differ = refl
+kept_batch topics name other index (Ok b) differ = kept_append topics name other index b (log_at topics name index) (by_test (bytes_eq name other) refl) where
+  by_test : (x : Bool) → bytes_eq name other ≡ x → bytes_eq name other ≡ false
+  by_test true e = absurd (differ ((bytes_eq-Decides name other).0 e))
+  by_test false e = e
+
+kept_part : (rules : Rules) (caller : Caller) (most : ℕ) (id : Option (List ℕ)) (acks : ℤ) (other : List ℕ) → (part_refusal rules (produce_questions caller id other) ≡ None → ⊥) → (topics : List TopicValue) (name : List ℕ) (p : ProducedRecords)
+    → find_topic (part_world (produce_rule caller most id acks) rules topics name p) other ≡ find_topic topics other
+kept_part rules caller most id acks other refused topics name p = by_refusal (part_refusal rules (produce_questions caller id name)) refl where
+  by_refusal : (r : Option Refusal) → part_refusal rules (produce_questions caller id name) ≡ r → find_topic (world_by (produce_rule caller most id acks) r topics name p) other ≡ find_topic topics other
+  by_refusal (Some r) e = refl
+  by_refusal None e = kept_batch topics name other p.index (judged most id acks p.records) (λ same. refused (subst (λ n. part_refusal rules (produce_questions caller id n) ≡ None) same e))
+
+kept_parts : (rules : Rules) (caller : Caller) (most : ℕ) (id : Option (List ℕ)) (acks : ℤ) (other : List ℕ) → (part_refusal rules (produce_questions caller id other) ≡ None → ⊥) → (topics : List TopicValue) (name : List ℕ) (ps : List ProducedRecords)
+    → find_topic (parts_world (produce_rule caller most id acks) rules topics name ps) other ≡ find_topic topics other
+kept_parts rules caller most id acks other refused topics name [] = refl
+kept_parts rules caller most id acks other refused topics name (p ∷ ps) =
+    kept_parts rules caller most id acks other refused (part_world (produce_rule caller most id acks) rules topics name p) name ps ∙ kept_part rules caller most id acks other refused topics name p
+
+kept_topics : (rules : Rules) (caller : Caller) (most : ℕ) (id : Option (List ℕ)) (acks : ℤ) (other : List ℕ) → (part_refusal rules (produce_questions caller id other) ≡ None → ⊥) → (topics : List TopicValue) (ts : List (Topic ProducedRecords))
+    → find_topic (topics_world (produce_rule caller most id acks) rules topics ts) other ≡ find_topic topics other
+kept_topics rules caller most id acks other refused topics [] = refl
+kept_topics rules caller most id acks other refused topics (t ∷ ts) =
+    kept_topics rules caller most id acks other refused (parts_world (produce_rule caller most id acks) rules topics t.name t.partitions) ts ∙ kept_parts rules caller most id acks other refused topics t.name t.partitions
+
+pub produce_keeps : ProduceKeepsTheRest
+produce_keeps w caller r name refused =
+    ap (λ (topics : List TopicValue). find_topic topics name) (sym (woven (producing w caller r) (rules_of w) w.topics r.topics).world)
+    ∙ kept_topics (rules_of w) caller (magnitude w.node.max_batch) r.transactional_id r.acks name refused w.topics r.topics

@@ -8,3 +8,4 @@ pub mod Headlines
 pub mod Grants
 pub mod DataGrants
 pub mod DataAnswers
+pub mod DataFetches

@@ -1,15 +1,21 @@
 -- What a Produce, a Fetch and a ListOffsets do with one partition that is allowed, in the subject's words.
-use Rattle.std.specs.Prelude.{◌≡◌, ℕ, ℤ, pos, negsuc, List, [], ◌∷◌, ◌++◌, Option, Some}
+use Rattle.std.specs.Prelude.{◌≡◌, ◌≤◌, ◌⊎◌, ℕ, ℤ, pos, negsuc, int_le, Bool, true, false, List, [], ◌∷◌, ◌++◌, length, Option, Some, None}
+use Rattle.std.specs.List.{AllByRecursion}
 use Rattle.wire_types.specs.declared.error_code.ErrorCode.TheVariants as codes
-use Rattle.record_batch.specs.Batch.{BatchData, IsBatch}
-use Rattle.partition_log.specs.Log.{end_of, at_end}
+use Rattle.record_batch.specs.Batch.{BatchData, IsBatch, next_offset}
+use Rattle.partition_log.specs.Log.{end_of, at_end, stable}
+use Rattle.partition_log.specs.Laws.{total_bytes}
 use Rattle.msg_data.specs.declared.produce.ProducedRecords.{ProducedRecords}
 use Rattle.msg_data.specs.declared.produce.ProducedOffset.{ProducedOffset}
+use Rattle.msg_data.specs.declared.fetch.FetchPartition.{FetchPartition}
+use Rattle.msg_data.specs.declared.fetch.FetchedRecords.{FetchedRecords}
 use Rattle.msg_data.specs.declared.list_offsets.WantedOffset.{WantedOffset}
+use Rattle.request_handlers.specs.declared.room.Room.{Room}
 use Rattle.request_handlers.specs.World.{TopicValue, LogValue}
 use Rattle.request_handlers.specs.Logs.{log_at}
 use Rattle.request_handlers.specs.Judged.{judged, topics_produced}
 use Rattle.request_handlers.specs.Produce.{produced}
+use Rattle.request_handlers.specs.Fetch.{room_for, less, is_outside, served_at, fetched, room_after, batch_bytes}
 use Rattle.request_handlers.specs.ListOffsets.{listed, listed_at}
 
 -- ---- Produce
@@ -44,3 +50,40 @@ pub record ProducesAsAnswered : Type 0 where
 pub record ListsEnds : Type 0 where
   pub end : (topics : List TopicValue) (name : List ℕ) (p : WantedOffset) (log : LogValue) → log_at topics name p.index ≡ Some log → p.timestamp ≡ negsuc 0 → listed topics name p ≡ listed_at (end_of log) p
   pub start : (topics : List TopicValue) (name : List ℕ) (p : WantedOffset) (log : LogValue) → log_at topics name p.index ≡ Some log → p.timestamp ≡ negsuc 1 → listed topics name p ≡ listed_at (pos 0) p
+
+-- ---- Fetch
+
+-- The batches that are served of a log follow one another in it, from the one on that holds the offset. They fit into
+-- the room, or it is one batch alone where none of the answer was given one before.
+pub record IsServed (log : LogValue) (offset : ℤ) (room : ℕ) (given : Bool) (batches : List BatchData) : Type 0 where
+  pub before : List BatchData
+  pub after : List BatchData
+  pub in_order : log ≡ before ++ (batches ++ after)
+  pub from : AllByRecursion (λ (b : BatchData). int_le (next_offset b) offset ≡ true) before
+  pub small : (total_bytes batches ≤ room) ⊎ ((given ≡ false) × (length batches ≡ 1))
+
+-- the answer tells these batches, and where the log ends
+pub record IsFetched (log : LogValue) (room : Room) (p : FetchPartition) (answer : FetchedRecords) (next : Room) : Type 0 where
+  pub batches : List BatchData
+  pub served : IsServed log p.offset (room_for room p) room.given batches
+  pub error : answer.error ≡ codes.None
+  pub records : answer.records ≡ batch_bytes batches
+  pub high : answer.high_watermark ≡ end_of log
+  pub stable : answer.last_stable_offset ≡ stable log
+  -- what was served is no longer left for the partitions that follow
+  pub left : next ≡ less room batches
+
+-- no batch, no offset, and the room is as it was
+pub record IsUnserved (room : Room) (answer : FetchedRecords) (next : Room) : Type 0 where
+  pub records : answer.records ≡ []
+  pub high : answer.high_watermark ≡ negsuc 0
+  pub left : next ≡ room
+
+-- an offset within the log is served, and one outside it or of a partition that isn't there is not
+pub record FetchesRuns : Type 0 where
+  pub within : (topics : List TopicValue) (room : Room) (name : List ℕ) (p : FetchPartition) (log : LogValue) → log_at topics name p.index ≡ Some log → is_outside log p.offset ≡ false
+      → IsFetched log room p (fetched p (served_at topics room name p)) (room_after room (served_at topics room name p))
+  pub outside : (topics : List TopicValue) (room : Room) (name : List ℕ) (p : FetchPartition) (log : LogValue) → log_at topics name p.index ≡ Some log → is_outside log p.offset ≡ true
+      → ((fetched p (served_at topics room name p)).error ≡ codes.OffsetOutOfRange) × IsUnserved room (fetched p (served_at topics room name p)) (room_after room (served_at topics room name p))
+  pub missing : (topics : List TopicValue) (room : Room) (name : List ℕ) (p : FetchPartition) → log_at topics name p.index ≡ None
+      → ((fetched p (served_at topics room name p)).error ≡ codes.UnknownTopicOrPartition) × IsUnserved room (fetched p (served_at topics room name p)) (room_after room (served_at topics room name p))

@@ -1,16 +1,17 @@
 -- What the answers to Produce, Fetch and ListOffsets depend on: beside the book and the numbers, only what the questions
 -- of their parts were granted.
-use Rattle.std.specs.Prelude.{◌≡◌, List}
+use Rattle.std.specs.Prelude.{◌≡◌, ℕ, List, None}
 use Rattle.acl_binding.specs.declared.question.Caller.{Caller}
+use Rattle.authorizer.specs.Asking.{part_refusal}
 use Rattle.wire_types.specs.declared.topic.Topic.{Topic}
 use Rattle.msg_data.specs.declared.produce.ProduceRequest.{ProduceRequest}
 use Rattle.msg_data.specs.declared.fetch.FetchRequest.{FetchRequest}
 use Rattle.msg_data.specs.declared.list_offsets.ListOffsetsRequest.{ListOffsetsRequest}
 use Rattle.walk.specs.Rule.{PartRule}
 use Rattle.walk.specs.Alike.{AllTopics}
-use Rattle.request_handlers.specs.World.{World}
+use Rattle.request_handlers.specs.World.{World, rules_of, find_topic}
 use Rattle.request_handlers.specs.Outcome.{Outcome}
-use Rattle.request_handlers.specs.Produce.{producing, produce_outcome}
+use Rattle.request_handlers.specs.Produce.{produce_questions, producing, produce_outcome}
 use Rattle.request_handlers.specs.Fetch.{fetch_rule, fetch_outcome}
 use Rattle.request_handlers.specs.ListOffsets.{list_rule, list_offsets_outcome}
 use Rattle.request_handlers.specs.Tenants.{SameBase, SameGranted}
@@ -34,3 +35,8 @@ ListOffsetsDependsOnGrants = (v w : World) (caller : Caller) (r : ListOffsetsReq
 
 abbrev pub ProduceDependsOnGrants : Type 0
 ProduceDependsOnGrants = (v w : World) (caller : Caller) (r : ProduceRequest) → SameBase v w → SameForParts v w (producing w caller r) r.topics → SameAnswer (produce_outcome v caller r) (produce_outcome w caller r)
+
+-- a topic that a Produce was not granted is as before
+abbrev pub ProduceKeepsTheRest : Type 0
+ProduceKeepsTheRest = (w : World) (caller : Caller) (r : ProduceRequest) (name : List ℕ) → (part_refusal (rules_of w) (produce_questions caller r.transactional_id name) ≡ None → ⊥)
+    → find_topic (produce_outcome w caller r).world.topics name ≡ find_topic w.topics name

@@ -3,8 +3,8 @@
 ghost use Rattle.request_handlers.specs.Core.{WholeRuns};
 ghost use Rattle.request_handlers.specs.Headline.{AnswersEachTopic, RefusesEachTopic};
 ghost use Rattle.request_handlers.specs.Tenants.{DependsOnGrants};
-ghost use Rattle.request_handlers.specs.DataLaws.{ProducesAsAnswered, ListsEnds};
-ghost use Rattle.request_handlers.specs.DataTenants.{ProduceDependsOnGrants, FetchDependsOnGrants, ListOffsetsDependsOnGrants};
+ghost use Rattle.request_handlers.specs.DataLaws.{ProducesAsAnswered, FetchesRuns, ListsEnds};
+ghost use Rattle.request_handlers.specs.DataTenants.{ProduceKeepsTheRest, ProduceDependsOnGrants, FetchDependsOnGrants, ListOffsetsDependsOnGrants};
 
 /// A run without a stop has a receipt for each event, and leaves the core where the events lead.
 pub fn whole_runs()
@@ -32,9 +32,19 @@ pub fn produces_as_answered()
     ensures { ProducesAsAnswered }
 {}
 
+/// An allowed partition of a Fetch is served a run of its log's batches, which is taken off the room that is left.
+pub fn fetches_runs()
+    ensures { FetchesRuns }
+{}
+
 /// An allowed partition of a ListOffsets is told the end of its log, or the start.
 pub fn lists_ends()
     ensures { ListsEnds }
+{}
+
+/// A topic that a Produce was not granted is as before.
+pub fn produce_keeps_the_rest()
+    ensures { ProduceKeepsTheRest }
 {}
 
 /// A Produce is answered by what its questions were granted alone.

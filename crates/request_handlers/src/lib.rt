@@ -22,9 +22,9 @@ mod tests;
 mod topics;
 
 pub use laws::{
-    fetch_depends_on_grants, list_offsets_depends_on_grants, lists_ends,
+    fetch_depends_on_grants, fetches_runs, list_offsets_depends_on_grants, lists_ends,
     metadata_answers_each_topic, metadata_depends_on_grants, metadata_refuses_each_topic,
-    produce_depends_on_grants, produces_as_answered, whole_runs,
+    produce_depends_on_grants, produce_keeps_the_rest, produces_as_answered, whole_runs,
 };
 pub use logs::Logs;
 pub use machine::Core;

@@ -1,0 +1,125 @@
+-- What a Fetch serves of a log.
+use Rattle.std.proofs.Common.{◌≡◌, ◌⊎◌, inl, inr, ℕ, ℤ, ◌-◌, ◌≤◌, Bool, true, false, not, ◌&&◌, cond, eqb, List, [], ◌∷◌, ◌++◌, length, take, append_assoc, Option, Some, None, Result, Ok, Err, refl, sym, ap, subst, ◌∙◌, arith}
+use Rattle.std.specs.Prelude.{int_le, nat_le}
+use Rattle.std.specs.List.{AllByRecursion}
+use Rattle.std.proofs.lemmas.Bool.{leb-true}
+use Rattle.wire_types.specs.declared.error_code.ErrorCode.{ErrorCode}
+use Rattle.wire_types.specs.declared.error_code.ErrorCode.TheVariants as codes
+use Rattle.record_batch.specs.Batch.{BatchData, next_offset}
+use Rattle.partition_log.specs.declared.isolation.Isolation.TheVariants as levels
+use Rattle.partition_log.specs.declared.served.Served.{Served}
+use Rattle.partition_log.specs.Log.{end_of}
+use Rattle.partition_log.specs.Fetch.{reaching, below, fitting, at_least_one, served_of, run_of}
+use Rattle.partition_log.specs.Laws.{total_bytes}
+use Rattle.msg_data.specs.declared.fetch.FetchPartition.{FetchPartition}
+use Rattle.request_handlers.specs.declared.room.Room.{Room}
+use Rattle.request_handlers.specs.World.{TopicValue, LogValue}
+use Rattle.request_handlers.specs.Logs.{log_at}
+use Rattle.request_handlers.specs.Fetch.{room_for, less, is_outside, served_by, served_at, fetched, room_after, batch_bytes}
+use Rattle.request_handlers.specs.DataLaws.{IsServed, IsFetched, IsUnserved, FetchesRuns}
+
+-- ---- beginnings and ends of a log
+
+-- the batches before the one that holds the offset
+record Behind (offset : ℤ) (log : List BatchData) : Type 0 where
+  before : List BatchData
+  whole : log ≡ before ++ reaching offset log
+  all : AllByRecursion (λ (b : BatchData). int_le (next_offset b) offset ≡ true) before
+
+behind : (offset : ℤ) (log : List BatchData) → Behind offset log
+behind offset [] = record { before = []; whole = refl; all = tt }
+behind offset (b ∷ rest) = by_test (int_le (next_offset b) offset) refl (behind offset rest) where
+  by_test : (t : Bool) → int_le (next_offset b) offset ≡ t → Behind offset rest → Behind offset (b ∷ rest)
+  by_test true e r = record { before = b ∷ r.before; whole = ap (λ l. b ∷ l) r.whole ∙ ap (λ x. b ∷ (r.before ++ cond x (reaching offset rest) (b ∷ rest))) (sym e); all = (e, r.all) }
+  by_test false e r = record { before = []; whole = ap (λ x. cond x (reaching offset rest) (b ∷ rest)) (sym e); all = tt }
+
+below_first : (limit : ℤ) (l : List BatchData) → (after : List BatchData) × (l ≡ below limit l ++ after)
+below_first limit [] = ([], refl)
+below_first limit (b ∷ rest) = by_test (int_le (next_offset b) limit) (below_first limit rest) where
+  by_test : (t : Bool) → (after : List BatchData) × (rest ≡ below limit rest ++ after) → (after : List BatchData) × (b ∷ rest ≡ cond t (b ∷ below limit rest) [] ++ after)
+  by_test true r = (r.0, ap (λ l. b ∷ l) r.1)
+  by_test false r = (b ∷ rest, refl)
+
+fitting_first : (room : ℕ) (l : List BatchData) → (after : List BatchData) × (l ≡ fitting room l ++ after)
+fitting_first room [] = ([], refl)
+fitting_first room (b ∷ rest) = by_test (nat_le (length b.bytes) room) (fitting_first (room - length b.bytes) rest) where
+  by_test : (t : Bool) → (after : List BatchData) × (rest ≡ fitting (room - length b.bytes) rest ++ after) → (after : List BatchData) × (b ∷ rest ≡ cond t (b ∷ fitting (room - length b.bytes) rest) [] ++ after)
+  by_test true r = (r.0, ap (λ l. b ∷ l) r.1)
+  by_test false r = (b ∷ rest, refl)
+
+fitting_small : (room : ℕ) (l : List BatchData) → total_bytes (fitting room l) ≤ room
+fitting_small room [] = omega arith
+fitting_small room (b ∷ rest) = by_test (nat_le (length b.bytes) room) refl (fitting_small (room - length b.bytes) rest) where
+  by_test : (t : Bool) → nat_le (length b.bytes) room ≡ t → total_bytes (fitting (room - length b.bytes) rest) ≤ room - length b.bytes → total_bytes (cond t (b ∷ fitting (room - length b.bytes) rest) []) ≤ room
+  by_test true e more = omega (arith, leb-true (length b.bytes) room e)
+  by_test false e more = omega arith
+
+one_first : (l : List BatchData) → (after : List BatchData) × (l ≡ take 1 l ++ after)
+one_first [] = ([], refl)
+one_first (x ∷ xs) = (xs, refl)
+
+-- ---- the run that is served
+
+least_first : (test : Bool) (candidates run : List BatchData) → (after : List BatchData) × (candidates ≡ run ++ after) → (after : List BatchData) × (candidates ≡ cond test (take 1 candidates) run ++ after)
+least_first true candidates run first = one_first candidates
+least_first false candidates run first = first
+
+forced_one : (given empty : Bool) → (not given && empty) ≡ true → given ≡ false
+forced_one true empty e = absurd cc
+forced_one false empty e = refl
+
+least_small : (given test : Bool) (room : ℕ) (candidates run : List BatchData) → (test ≡ true → given ≡ false) → total_bytes run ≤ room → (total_bytes (cond test (take 1 candidates) run) ≤ room) ⊎ ((given ≡ false) × (length (cond test (take 1 candidates) run) ≡ 1))
+least_small given true room [] run forced small = inl (omega arith)
+least_small given true room (x ∷ xs) run forced small = inr (forced refl, refl)
+least_small given false room candidates run forced small = inl small
+
+three_parts : (log before reach bel run more later : List BatchData) → log ≡ before ++ reach → reach ≡ bel ++ later → bel ≡ run ++ more → log ≡ before ++ (run ++ (more ++ later))
+three_parts log before reach bel run more later p q r = p ∙ ap (λ l. before ++ l) (q ∙ ap (λ l. l ++ later) r ∙ append_assoc run more later)
+
+run_served : (log : List BatchData) (offset : ℤ) (room : ℕ) (given : Bool) → IsServed log offset room given (run_of log offset levels.ReadUncommitted room (not given))
+run_served log offset room given =
+    let candidates : List BatchData = below (end_of log) (reaching offset log) in
+    let run : List BatchData = fitting room candidates in
+    let test : Bool = not given && eqb (length run) 0 in
+    let b = behind offset log in
+    let later = below_first (end_of log) (reaching offset log) in
+    let more = least_first test candidates run (fitting_first room candidates) in
+    record {
+      before = b.before;
+      after = more.0 ++ later.0;
+      in_order = three_parts log b.before (reaching offset log) candidates (cond test (take 1 candidates) run) more.0 later.0 b.whole later.1 more.1;
+      from = b.all;
+      small = least_small given test room candidates run (λ e. forced_one given (eqb (length run) 0) e) (fitting_small room candidates);
+    }
+
+-- ---- what is answered
+
+inside_served : (topics : List TopicValue) (room : Room) (name : List ℕ) (p : FetchPartition) (log : LogValue) → log_at topics name p.index ≡ Some log → is_outside log p.offset ≡ false
+    → served_at topics room name p ≡ Ok (served_of log p.offset levels.ReadUncommitted (room_for room p) (not room.given))
+inside_served topics room name p log there inside =
+    ap (served_by room p) there ∙ ap (λ x. cond x (Err codes.OffsetOutOfRange) (Ok (served_of log p.offset levels.ReadUncommitted (room_for room p) (not room.given)))) inside
+
+outside_served : (topics : List TopicValue) (room : Room) (name : List ℕ) (p : FetchPartition) (log : LogValue) → log_at topics name p.index ≡ Some log → is_outside log p.offset ≡ true → served_at topics room name p ≡ Err codes.OffsetOutOfRange
+outside_served topics room name p log there outside =
+    ap (served_by room p) there ∙ ap (λ x. cond x (Err codes.OffsetOutOfRange) (Ok (served_of log p.offset levels.ReadUncommitted (room_for room p) (not room.given)))) outside
+
+within : (log : LogValue) (room : Room) (p : FetchPartition) → IsFetched log room p (fetched p (Ok (served_of log p.offset levels.ReadUncommitted (room_for room p) (not room.given)))) (room_after room (Ok (served_of log p.offset levels.ReadUncommitted (room_for room p) (not room.given))))
+within log room p = record {
+  batches = run_of log p.offset levels.ReadUncommitted (room_for room p) (not room.given);
+  served = run_served log p.offset (room_for room p) room.given;
+  error = refl;
+  records = refl;
+  high = refl;
+  stable = refl;
+  left = refl;
+}
+
+unserved : (room : Room) (p : FetchPartition) (code : ErrorCode) (s : Result Served ErrorCode) → s ≡ Err code → ((fetched p s).error ≡ code) × IsUnserved room (fetched p s) (room_after room s)
+unserved room p code s is = subst (λ (x : Result Served ErrorCode). ((fetched p x).error ≡ code) × IsUnserved room (fetched p x) (room_after room x)) (sym is) (refl, record { records = refl; high = refl; left = refl })
+
+pub fetches_runs : FetchesRuns
+fetches_runs = record {
+  within = λ topics room name p log there inside. subst (λ (x : Result Served ErrorCode). IsFetched log room p (fetched p x) (room_after room x)) (sym (inside_served topics room name p log there inside)) (within log room p);
+  outside = λ topics room name p log there outside. unserved room p codes.OffsetOutOfRange (served_at topics room name p) (outside_served topics room name p log there outside);
+  missing = λ topics room name p none. unserved room p codes.UnknownTopicOrPartition (served_at topics room name p) (ap (served_by room p) none);
+}
