@@ -1,5 +1,5 @@
 -- What a Fetch serves of a log.
-use Rattle.std.proofs.Common.{◌≡◌, ◌⊎◌, inl, inr, ℕ, ℤ, ◌-◌, ◌≤◌, Bool, true, false, not, ◌&&◌, cond, eqb, List, [], ◌∷◌, ◌++◌, length, take, append_assoc, Option, Some, None, Result, Ok, Err, refl, sym, ap, subst, ◌∙◌, arith}
+use Rattle.std.proofs.Common.{◌≡◌, ◌⊎◌, inl, inr, ℕ, ℤ, ◌-◌, ◌≤◌, Bool, true, false, not, cond, List, [], ◌∷◌, ◌++◌, length, take, append_assoc, Some, Result, Ok, Err, refl, sym, ap, subst, ◌∙◌, arith}
 use Rattle.std.specs.Prelude.{int_le, nat_le}
 use Rattle.std.specs.List.{AllByRecursion}
 use Rattle.std.proofs.lemmas.Bool.{leb-true}
@@ -15,7 +15,7 @@ use Rattle.msg_data.specs.declared.fetch.FetchPartition.{FetchPartition}
 use Rattle.request_handlers.specs.declared.room.Room.{Room}
 use Rattle.request_handlers.specs.World.{TopicValue, LogValue}
 use Rattle.request_handlers.specs.Logs.{log_at}
-use Rattle.request_handlers.specs.Fetch.{room_for, less, is_outside, served_by, served_at, fetched, room_after, batch_bytes}
+use Rattle.request_handlers.specs.Fetch.{room_for, is_outside, served_by, served_at, fetched, room_after}
 use Rattle.request_handlers.specs.DataLaws.{IsServed, IsFetched, IsUnserved, FetchesRuns}
 
 -- ---- beginnings and ends of a log
@@ -60,18 +60,17 @@ one_first (x ∷ xs) = (xs, refl)
 
 -- ---- the run that is served
 
-least_first : (test : Bool) (candidates run : List BatchData) → (after : List BatchData) × (candidates ≡ run ++ after) → (after : List BatchData) × (candidates ≡ cond test (take 1 candidates) run ++ after)
-least_first true candidates run first = one_first candidates
-least_first false candidates run first = first
+least_first : (forced : Bool) (candidates run : List BatchData) → (after : List BatchData) × (candidates ≡ run ++ after) → (after : List BatchData) × (candidates ≡ at_least_one forced candidates run ++ after)
+least_first true candidates [] first = one_first candidates
+least_first false candidates [] first = first
+least_first forced candidates (b ∷ run) first = first
 
-forced_one : (given empty : Bool) → (not given && empty) ≡ true → given ≡ false
-forced_one true empty e = absurd cc
-forced_one false empty e = refl
-
-least_small : (given test : Bool) (room : ℕ) (candidates run : List BatchData) → (test ≡ true → given ≡ false) → total_bytes run ≤ room → (total_bytes (cond test (take 1 candidates) run) ≤ room) ⊎ ((given ≡ false) × (length (cond test (take 1 candidates) run) ≡ 1))
-least_small given true room [] run forced small = inl (omega arith)
-least_small given true room (x ∷ xs) run forced small = inr (forced refl, refl)
-least_small given false room candidates run forced small = inl small
+least_small : (given : Bool) (room : ℕ) (candidates run : List BatchData) → total_bytes run ≤ room
+    → (total_bytes (at_least_one (not given) candidates run) ≤ room) ⊎ ((given ≡ false) × (length (at_least_one (not given) candidates run) ≡ 1))
+least_small true room candidates [] small = inl (omega arith)
+least_small false room [] [] small = inl (omega arith)
+least_small false room (x ∷ xs) [] small = inr (refl, refl)
+least_small given room candidates (b ∷ run) small = inl small
 
 three_parts : (log before reach bel run more later : List BatchData) → log ≡ before ++ reach → reach ≡ bel ++ later → bel ≡ run ++ more → log ≡ before ++ (run ++ (more ++ later))
 three_parts log before reach bel run more later p q r = p ∙ ap (λ l. before ++ l) (q ∙ ap (λ l. l ++ later) r ∙ append_assoc run more later)
@@ -80,16 +79,15 @@ run_served : (log : List BatchData) (offset : ℤ) (room : ℕ) (given : Bool) �
 run_served log offset room given =
     let candidates : List BatchData = below (end_of log) (reaching offset log) in
     let run : List BatchData = fitting room candidates in
-    let test : Bool = not given && eqb (length run) 0 in
     let b = behind offset log in
     let later = below_first (end_of log) (reaching offset log) in
-    let more = least_first test candidates run (fitting_first room candidates) in
+    let more = least_first (not given) candidates run (fitting_first room candidates) in
     record {
       before = b.before;
       after = more.0 ++ later.0;
-      in_order = three_parts log b.before (reaching offset log) candidates (cond test (take 1 candidates) run) more.0 later.0 b.whole later.1 more.1;
+      in_order = three_parts log b.before (reaching offset log) candidates (at_least_one (not given) candidates run) more.0 later.0 b.whole later.1 more.1;
       from = b.all;
-      small = least_small given test room candidates run (λ e. forced_one given (eqb (length run) 0) e) (fitting_small room candidates);
+      small = least_small given room candidates run (fitting_small room candidates);
     }
 
 -- ---- what is answered
