@@ -27,11 +27,20 @@ fn write_text<W: Write>(writer: &mut W, text: &str) -> Result<(), Early>
     }
 }
 
-/// Says what went wrong, at a line if there is one. Where that fails, nothing else does.
-fn explain<E: Write>(alloc: Global, errors: &mut E, line: Option<u64>, sentence: &str) {
-    let text = match line {
-        Some(number) => format!(in alloc; "kbroker: line {number}: {sentence}\n"),
-        None => format!(in alloc; "kbroker: {sentence}\n"),
+/// What a sentence speaks of.
+enum Place {
+    Settings,
+    /// The line of this number behind the settings.
+    Line(u64),
+    Run,
+}
+
+/// Says what went wrong, and where. If that fails, nothing else does.
+fn explain<E: Write>(alloc: Global, errors: &mut E, place: Place, sentence: &str) {
+    let text = match place {
+        Place::Settings => format!(in alloc; "kbroker: settings: {sentence}\n"),
+        Place::Line(number) => format!(in alloc; "kbroker: line {number}: {sentence}\n"),
+        Place::Run => format!(in alloc; "kbroker: {sentence}\n"),
     };
     if let Ok(text) = text {
         let _ = write_text(errors, text.as_str());
@@ -56,7 +65,7 @@ fn run_script<W: Write, E: Write>(
             Ok(Turn::Goes(text)) => write_text(writer, text.as_str())?,
             Ok(Turn::Ends(text, cause)) => {
                 write_text(writer, text.as_str())?;
-                explain(alloc, errors, Some(number), cause.sentence());
+                explain(alloc, errors, Place::Line(number), cause.sentence());
                 return Ok(1);
             }
             Err(_) => return Err(Early::Script),
@@ -80,10 +89,11 @@ fn refuse<W: Write, E: Write>(
     let Ok(line) = refused_text(alloc, fault) else {
         return Err(Early::Settings);
     };
-    match write_text(writer, line.as_str()) {
-        Ok(()) => Ok(1),
-        Err(early) => Err(early),
+    write_text(writer, line.as_str())?;
+    if let Ok(sentence) = settings_text::explain(alloc, text, fault) {
+        explain(alloc, errors, Place::Settings, sentence.as_str());
     }
+    Ok(1)
 }
 
 /// Answers a whole input.
@@ -150,7 +160,7 @@ pub fn replay_and_explain<R: Read, W: Write, E: Write>(
         Ok(status) => status,
         Err(early) => {
             end_early(writer, early);
-            explain(alloc, errors, None, early.sentence());
+            explain(alloc, errors, Place::Run, early.sentence());
             1
         }
     }
