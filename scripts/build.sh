@@ -17,11 +17,15 @@ mkdir -p "$root/crates/kbroker/out"
 echo "kbroker: proving and building the program; the first time takes ten to thirty minutes (see $log)" >&2
 (cd "$root/crates/kbroker" && rt run -- replay < /dev/null) > "$log" 2>&1 &
 build=$!
+told=
 while kill -0 "$build" 2> /dev/null; do
     sleep 5
-    step=$(grep -oE '^(fn|impl) [a-z_]+' "$log" | tail -n 1 | cut -d' ' -f2) || true
+    crate=$(grep -oE '^(fn|impl) [a-z_]+' "$log" | tail -n 1 | cut -d' ' -f2) || true
     count=$(grep -c ': proved$' "$log") || true
-    echo "kbroker: proving ${step:-..}, $count functions so far" >&2
+    if [ "$crate $count" != "$told" ]; then
+        told="$crate $count"
+        echo "kbroker: proving ${crate:-..}, $count functions so far" >&2
+    fi
 done
 wait "$build" || true
 # the log ends with the program's own words, once it is built
