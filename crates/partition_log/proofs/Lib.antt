@@ -1,0 +1,13 @@
+pub mod Numbers
+pub mod Order
+pub mod Open
+pub mod Reach
+pub mod Taking
+pub mod Records
+pub mod Walk
+pub mod Runs
+pub mod Longest
+pub mod Fetched
+pub mod Entries
+pub mod Rows
+pub mod Steps
