@@ -1,8 +1,9 @@
-# `make run` builds and runs the main job on a shipped example; `make test` is the gate.
+# `make run` builds the program and runs the main job on a shipped example; `make test` is the gate.
 .PHONY: run test
 
 run:
-	@echo "kbroker: the program is not built yet; so far the repository holds its lower crates (see README.md)"
+	./kbroker replay < examples/metadata.txt
 
 test:
 	rt ci
+	scripts/refused_memory.py

@@ -26,6 +26,8 @@ pub fn write_reply(alloc: Global, correlation: i32, reply: &Reply) -> Result<Byt
     ensures written { IfOk result (λ bytes. bytes ≡ response correlation reply.now) }
     ensures within { OnOk result (¬ IsTooLong correlation reply.now) }
     ensures too_long { result ≡ Err faults.TooLong → IsTooLong correlation reply.now }
+    // The same by a test, for those who define by it.
+    ensures decided { GivesReply correlation reply.now result }
 {
     write_response(alloc, correlation, reply)
 }

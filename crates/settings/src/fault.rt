@@ -29,24 +29,61 @@ pub enum OpenFault {
     NoMemory,
 }
 
-/// Whether the number is one from `low` to `high`.
-fn is_within(number: i64, low: u32, high: u32) -> bool
-    ensures { result ≡ is_within low high number }
+/// The least and the greatest that a number may be.
+#[derive(Clone, Copy, Debug, PartialEq, Eq)]
+pub(crate) struct Limits {
+    pub(crate) least: u32,
+    pub(crate) greatest: u32,
+}
+
+pub(crate) const NODE_ID: Limits = Limits {
+    least: 0,
+    greatest: 2_147_483_647,
+};
+
+pub(crate) const PORT: Limits = Limits {
+    least: 1,
+    greatest: 65_535,
+};
+
+pub(crate) const TRAIL_LIMIT: Limits = Limits {
+    least: 1,
+    greatest: 1_073_741_824,
+};
+
+pub(crate) const MAX_BATCH: Limits = Limits {
+    least: 61,
+    greatest: 104_857_600,
+};
+
+pub(crate) const MAX_TXN_TIMEOUT: Limits = Limits {
+    least: 1,
+    greatest: 2_147_483_647,
+};
+
+pub(crate) const PARTITIONS: Limits = Limits {
+    least: 1,
+    greatest: 1_000,
+};
+
+/// Whether the number is within the limits.
+pub(crate) fn is_within(number: i64, limits: Limits) -> bool
+    ensures { result ≡ is_within limits.least limits.greatest number }
 {
-    i64::from(low) <= number && number <= i64::from(high)
+    i64::from(limits.least) <= number && number <= i64::from(limits.greatest)
 }
 
 fn are_numbers_within(settings: &Settings) -> bool
     ensures { result ≡ are_numbers_within settings.now }
 {
-    is_within(settings.node_id, 0, 2_147_483_647)
-        && is_within(settings.port, 1, 65_535)
-        && is_within(settings.trail_limit, 1, 1_073_741_824)
-        && is_within(settings.max_batch, 61, 104_857_600)
-        && is_within(settings.max_txn_timeout, 1, 2_147_483_647)
+    is_within(settings.node_id, NODE_ID)
+        && is_within(settings.port, PORT)
+        && is_within(settings.trail_limit, TRAIL_LIMIT)
+        && is_within(settings.max_batch, MAX_BATCH)
+        && is_within(settings.max_txn_timeout, MAX_TXN_TIMEOUT)
 }
 
-fn is_host_within(host: &Text) -> bool
+pub(crate) fn is_host_within(host: &Text) -> bool
     ensures { result ≡ is_host_within host.now }
 {
     host.len() >= 1 && host.len() <= 255
@@ -57,7 +94,7 @@ fn are_partitions_within(topics: &[TopicSetting]) -> bool
 {
     topics
         .iter()
-        .all(|topic| is_within(topic.partitions, 1, 1_000))
+        .all(|topic| is_within(topic.partitions, PARTITIONS))
 }
 
 fn are_topics_within(topics: &[TopicSetting]) -> bool
@@ -66,7 +103,7 @@ fn are_topics_within(topics: &[TopicSetting]) -> bool
     topics.len() <= 1_000 && are_partitions_within(topics)
 }
 
-fn is_text_within(text: &Text) -> bool
+pub(crate) fn is_text_within(text: &Text) -> bool
     ensures { result ≡ is_text_within text.now }
 {
     text.len() <= 1_000
@@ -78,7 +115,7 @@ fn are_texts_within(texts: &[Text]) -> bool
     texts.iter().all(|text| is_text_within(text))
 }
 
-fn is_binding_within(binding: &Binding) -> bool
+pub(crate) fn is_binding_within(binding: &Binding) -> bool
     ensures { result ≡ is_binding_within binding.now }
 {
     is_text_within(&binding.name)
@@ -116,7 +153,7 @@ fn are_topic_names(topics: &[TopicSetting]) -> bool
         .all(|topic| is_topic_name(topic.name.as_str()))
 }
 
-fn is_among(name: &Text, topics: &[TopicSetting]) -> bool
+pub(crate) fn is_among(name: &Text, topics: &[TopicSetting]) -> bool
     ensures { result ≡ list_any (λ u. bytes_eq name.now u.name) topics.now }
 {
     topics
@@ -147,7 +184,7 @@ fn is_resource_name(kind: Kind, name: &Text) -> bool
     }
 }
 
-fn is_creatable(binding: &Binding) -> bool
+pub(crate) fn is_creatable(binding: &Binding) -> bool
     ensures { result ≡ is_creatable binding.now }
 {
     is_resource_name(binding.kind, &binding.name)

@@ -3,10 +3,12 @@
 
 mod fault;
 mod names;
+mod sentences;
 mod settings;
 #[cfg(test)]
 mod tests;
 
 pub use fault::{OpenFault, first_fault};
 pub use names::{is_principal, is_topic_name};
+pub use sentences::explain;
 pub use settings::{Settings, TopicSetting};

@@ -89,7 +89,7 @@ pub(crate) fn items<'a>(table: &'a Table, key: &str) -> Result<&'a [Value], Fiel
 }
 
 /// Whether the key is one of these.
-fn is_among(key: &str, known: &[&str]) -> bool
+pub(crate) fn is_among(key: &str, known: &[&str]) -> bool
     ensures { result ≡ is_one_of known.now key.now }
 {
     known.iter().any(|other| key == *other)

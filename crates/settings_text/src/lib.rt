@@ -5,9 +5,11 @@ mod document;
 mod fault;
 mod fields;
 mod rows;
+mod sentences;
 #[cfg(test)]
 mod tests;
 mod users;
 
 pub use document::{Document, User, document_of_text};
 pub use fault::SettingsFault;
+pub use sentences::explain;

@@ -14,11 +14,11 @@ use std::alloc::Global;
 use toml::{Table, Value};
 use wire_types::{Items, Text};
 
-const USER_KEYS: [&str; 2] = ["name", "password"];
+pub(crate) const USER_KEYS: [&str; 2] = ["name", "password"];
 
-const TOPIC_KEYS: [&str; 2] = ["name", "partitions"];
+pub(crate) const TOPIC_KEYS: [&str; 2] = ["name", "partitions"];
 
-const ACL_KEYS: [&str; 7] = [
+pub(crate) const ACL_KEYS: [&str; 7] = [
     "kind",
     "name",
     "pattern",
@@ -28,7 +28,7 @@ const ACL_KEYS: [&str; 7] = [
     "permission",
 ];
 
-const TOP_KEYS: [&str; 10] = [
+pub(crate) const TOP_KEYS: [&str; 10] = [
     "node_id",
     "host",
     "port",

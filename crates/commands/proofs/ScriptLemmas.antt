@@ -1,0 +1,81 @@
+-- What stands written of a script's answer, from line to line.
+use Rattle.std.proofs.Common.{◌≡◌, ℕ, ◌+◌, List, [], ◌∷◌, ◌++◌, refl, ap, sym, ◌∙◌, subst, append_assoc, append-nil, Option, Result, Ok, Err, IsOk, IsErr, IfOk, IfSome, OnOk, Some, None}
+use Rattle.std.specs.Io.KnownBytes.{Appends}
+use Rattle.std.proofs.KnownBytes.{Appends-nil, Appends-trans}
+use Rattle.wire_types.specs.Device.{Wrote}
+use Rattle.request_handlers.specs.Core.{CoreValue}
+use Rattle.commands.specs.Lines.{lines_of}
+use Rattle.commands.specs.Replay.{Answer, Turn, goes, ends, line_turn, after, after_turn, script_answer}
+use Rattle.commands.specs.Printed.{Printed, EndsEarly, Replayed, cut}
+
+-- a text of two parts before an answer
+after-after : (a b : List ℕ) (x : Answer) → after a (after b x) ≡ after (a ++ b) x
+after-after a b x = ap (λ (t : List ℕ). let y : Answer = record { text = t; status = x.status } in y) (sym (append_assoc a b x.text))
+
+-- a line that goes on, and one that ends the script
+goes_on : (w v : CoreValue) (n : ℕ) (line t : List ℕ) (lines : List (List ℕ)) → line_turn w n line ≡ goes v t
+    → script_answer w n (line ∷ lines) ≡ after t (script_answer v (n + 1) lines)
+goes_on w v n line t lines h = ap (λ (x : Turn). after_turn x (λ u. script_answer u (n + 1) lines)) h
+
+ends_here : (w : CoreValue) (n : ℕ) (line t : List ℕ) (lines : List (List ℕ)) → line_turn w n line ≡ ends t
+    → script_answer w n (line ∷ lines) ≡ record { text = t; status = 1 }
+ends_here w n line t lines h = ap (λ (x : Turn). after_turn x (λ u. script_answer u (n + 1) lines)) h
+
+module _ (w : CoreValue) (n : ℕ) (rest line more done t : List ℕ) (all : Answer)
+    (so_far : all ≡ after done (script_answer w n (lines_of rest))) (first : lines_of rest ≡ line ∷ lines_of more) where
+  -- one line further
+  pub line_further : (v : CoreValue) → line_turn w n line ≡ goes v t → all ≡ after (done ++ t) (script_answer v (n + 1) (lines_of more))
+  line_further v turn =
+      so_far ∙ ap (λ (ls : List (List ℕ)). after done (script_answer w n ls)) first
+      ∙ ap (after done) (goes_on w v n line t (lines_of more) turn) ∙ after-after done t _
+
+  -- the last line
+  pub line_last : line_turn w n line ≡ ends t → all ≡ after done (record { text = t; status = 1 })
+  line_last turn =
+      so_far ∙ ap (λ (ls : List (List ℕ)). after done (script_answer w n ls)) first
+      ∙ ap (after done) (ends_here w n line t (lines_of more) turn)
+
+-- an Ok write appended the whole text
+pub wrote_all : {A E : Type 0} (u v : Option (List ℕ)) (t : List ℕ) (r : Result A E) → Wrote u v t r → IsOk r → Appends u v t
+wrote_all u v t (Ok x) w ok = subst (Appends u v) (sym (w.split ∙ ap (λ l. w.done ++ l) w.all ∙ append-nil w.done)) w.grew
+wrote_all u v t (Err e) w ok = cc
+
+none_if_err : {A E : Type 0} (P : A → Type 0) (r : Result A E) → IsErr r → IfOk r P
+none_if_err P (Ok x) h = cc
+none_if_err P (Err e) h = tt
+
+-- a write that failed cut the answer's text
+pub printed_cut : {A E F : Type 0} (u v w : Option (List ℕ)) (all : Answer) (done t tail : List ℕ) (r : Result A F) (result : Result ℕ E)
+    → all.text ≡ done ++ (t ++ tail) → Appends u v done → Wrote v w t r → IsErr result → Printed u w all result
+printed_cut u v w all done t tail r result split grew wrote err = record {
+  done = done ++ wrote.done;
+  left = wrote.left ++ tail;
+  split = split ∙ ap (λ l. done ++ (l ++ tail)) wrote.split ∙ ap (λ l. done ++ l) (append_assoc wrote.done wrote.left tail)
+      ∙ sym (append_assoc done wrote.done (wrote.left ++ tail));
+  grew = Appends-trans _ _ _ _ _ grew wrote.grew;
+  all = none_if_err _ result err;
+}
+
+-- the whole text stands written
+pub printed_whole : {E : Type 0} (u v : Option (List ℕ)) (all : Answer) (status : ℕ) (done : List ℕ)
+    → all.text ≡ done → status ≡ all.status → Appends u v done → Printed {E = E} u v all (Ok status)
+printed_whole u v all status done text same grew = record {
+  done = done;
+  left = [];
+  split = text ∙ sym (append-nil done);
+  grew = grew;
+  all = (refl, same);
+}
+
+-- a fact of the known bytes from another
+pub if_some_then : {A : Type 0} (P Q : A → Type 0) (o : Option A) → IfSome o P → ((x : A) → P x → Q x) → IfSome o Q
+if_some_then P Q None p step = tt
+if_some_then P Q (Some x) p step = step x p
+
+-- a run that ends early
+pub ended_early : {E : Type 0} (u v w : Option (List ℕ)) (answer : Answer) (r : Result ℕ E) → Printed u v answer r → EndsEarly v w → Replayed u w answer 1
+ended_early u v w answer r p (last, is_last, grew) = cut p.done p.left last p.split is_last (Appends-trans _ _ _ _ _ p.grew grew) refl
+
+-- a run that wrote nothing and fails
+pub printed_nothing : {E : Type 0} (u : Option (List ℕ)) (answer : Answer) (e : E) → Printed u u answer (Err e)
+printed_nothing u answer e = record { done = []; left = answer.text; split = refl; grew = Appends-nil u; all = tt }

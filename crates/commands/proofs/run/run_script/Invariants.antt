@@ -1,0 +1,15 @@
+use Rattle.std.proofs.Common.{◌≡◌, ℕ, ◌+◌, ◌≤◌, List, ◌++◌, length}
+use Rattle.std.specs.Io.KnownBytes.{Appends}
+use Rattle.commands.specs.Lines.{lines_of}
+use Rattle.commands.specs.Replay.{script_answer, after}
+use Rattle.commands.proofs.run.run_script.Given as goal
+
+abbrev pub invariant-loop-rest : goal.invariant-loop-rest
+invariant-loop-rest g l =
+    (done : List ℕ)
+    × (script_answer l.initial.core 1 (lines_of l.initial.rest) ≡ after done (script_answer l.core l.number (lines_of l.rest)))
+    × Appends (g.W.Write.contents l.initial.writer) (g.W.Write.contents l.writer) done
+    × (l.number + length l.rest ≤ 1 + length l.initial.rest)
+
+abbrev pub decreases-loop-rest : goal.decreases-loop-rest
+decreases-loop-rest g l = length l.rest

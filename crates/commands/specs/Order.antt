@@ -1,0 +1,53 @@
+-- What a line `req USER HOST HEX` of a script asks for.
+use Rattle.std.specs.Prelude.{ℕ, ◌||◌, ◌==◌, nat_lt, if◌then◌else◌, List, [], ◌++◌, codes, length, Option, Some, None, option_map, option_and_then, Result, Ok, Err}
+use Rattle.std.specs.Int.{w32}
+use Rattle.std.specs.List.{before_first, after_first, position_or_len}
+use Rattle.std.specs.Str.{bytes_eq, is_utf8}
+use Rattle.hex.specs.Hex.{decode_of}
+use Rattle.hex.specs.declared.error.FromHexError.{FromHexError}
+use Rattle.acl_binding.specs.declared.question.Caller.{Caller}
+use Rattle.wire_types.specs.Reading.{Found, nat_at}
+use Rattle.commands.specs.declared.order.Order.{Order}
+
+-- a size field, and the bytes that it counts (Kafka protocol guide, "Common Request and Response Structure")
+abbrev pub behind_size : Found ℕ → Option (List ℕ)
+behind_size (Ok x) = if x.0 == length x.1 then Some x.1 else None
+behind_size (Err e) = None
+
+abbrev framed_by : Result (List ℕ) FromHexError → Option (List ℕ)
+framed_by (Ok frame) = behind_size (nat_at w32 frame)
+framed_by (Err e) = None
+
+-- the frame that hexadecimal digits of either case spell, without its size field
+abbrev pub frame_of : List ℕ → Option (List ℕ)
+frame_of digits = framed_by (decode_of digits)
+
+-- what stands before the first blank and behind it
+abbrev pub cut : List ℕ → Option (List ℕ × List ℕ)
+cut text =
+    if nat_lt (position_or_len (λ b. b == 32) text) (length text)
+    then Some (before_first (λ b. b == 32) text, after_first (λ b. b == 32) text) else None
+
+-- the user, the host and the digits of `req USER HOST HEX`: words that are not empty, parted by one blank
+abbrev pub words_of : List ℕ → Option (List ℕ × List ℕ × List ℕ)
+words_of text =
+    option_and_then (λ a. if bytes_eq a.0 (codes "req") then
+    option_and_then (λ b. option_and_then (λ c.
+    if length b.0 == 0 || length c.0 == 0 then None else Some (b.0, c.0, c.1))
+    (cut b.1)) (cut a.1) else None)
+    (cut text)
+
+-- the bytes, if they are UTF-8
+abbrev pub text_of : List ℕ → Option (List ℕ)
+text_of bytes = if is_utf8 bytes then Some bytes else None
+
+-- the user's principal, at a host
+abbrev pub caller_of : List ℕ → List ℕ → Caller
+caller_of user host = record { who = codes "User:" ++ user; host = host }
+
+abbrev order_by : List ℕ × List ℕ × List ℕ → Option Order
+order_by words = option_map (λ frame. record { caller = caller_of words.0 words.1; frame = frame }) (frame_of words.2)
+
+-- what a line asks for, if it is readable
+abbrev pub order_of : List ℕ → Option Order
+order_of line = option_and_then (λ text. option_and_then order_by (words_of text)) (text_of line)

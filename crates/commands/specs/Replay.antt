@@ -1,0 +1,153 @@
+-- What `replay` answers to its input.
+use Rattle.std.specs.Prelude.{◌≡◌, ℕ, ℤ, ◌+◌, nat_lt, if◌then◌else◌, List, [], ◌∷◌, ◌++◌, map, codes, decimal, length, slice_get, Option, Some, None, Result, Ok, Err}
+use Rattle.std.specs.Io.BufRead.{strip_last}
+use Rattle.std.specs.List.{flat_map}
+use Rattle.hex.specs.Hex.{encode_lower}
+use Rattle.wire_types.specs.declared.device.TheConstants.{INPUT_LIMIT}
+use Rattle.wire_types.specs.declared.fault.Malformed.{Malformed}
+use Rattle.authorizer.specs.declared.answer.Refusal.{Refusal}
+use Rattle.msg_admin.specs.declared.request.TheConstants.{FRAME_LIMIT}
+use Rattle.msg_admin.specs.declared.header.Header.{Header}
+use Rattle.msg_admin.specs.declared.reply.Reply.{Reply}
+use Rattle.msg_admin.specs.declared.request.Request.{Request}
+use Rattle.msg_admin.specs.Request.{request_at}
+use Rattle.msg_admin.specs.Response.{response, is_sendable}
+use Rattle.audit_trail.specs.declared.event.Event.{Event}
+use Rattle.audit_trail.specs.declared.event.Event.TheVariants.{Ask}
+use Rattle.audit_trail.specs.declared.trail.Entry.{Entry}
+use Rattle.audit_trail.specs.Line.{line_of}
+use Rattle.request_handlers.specs.declared.stop.Stop.{Stop}
+use Rattle.request_handlers.specs.declared.stop.Stop.TheVariants.{NoMemory, TrailFull, Down}
+use Rattle.request_handlers.specs.Core.{CoreValue, trail_limit, opened, advanced, entry_of}
+use Rattle.settings_text.specs.declared.document.Document.{Document}
+use Rattle.settings_text.specs.declared.fault.SettingsFault.{SettingsFault}
+use Rattle.settings_text.specs.Document.{document_of_text, fault_name}
+use Rattle.commands.specs.Lines.{lines_of, settings_part, script_part}
+use Rattle.commands.specs.declared.order.Order.{Order}
+use Rattle.commands.specs.Order.{order_of}
+use Rattle.commands.specs.declared.turn.Turn as code
+use Rattle.commands.specs.declared.turn.Turn.TheVariants.{Goes, Ends}
+use Rattle.std.specs.String.{string_bytes}
+
+-- a text to write, and the status to end with
+pub record Answer : Type 0 where
+  pub text : List ℕ
+  pub status : ℕ
+
+-- the text goes before the answer
+abbrev pub after : List ℕ → Answer → Answer
+after text a = record { text = text ++ a.text; status = a.status }
+
+-- ---- what one line prints
+
+-- the line feed
+abbrev pub feed : List ℕ
+feed = 10 ∷ []
+
+-- a frame in lower hexadecimal digits, or `-` where nothing is sent
+abbrev pub frame_line : List ℕ → List ℕ
+frame_line [] = codes "-" ++ feed
+frame_line (b ∷ bs) = encode_lower (b ∷ bs) ++ feed
+
+-- a session would close here
+abbrev pub closed : List ℕ
+closed = codes "closed" ++ feed
+
+-- the response, if it can be sent
+abbrev pub reply_line : ℤ → Reply → List ℕ
+reply_line correlation reply = if is_sendable correlation reply then frame_line (response correlation reply) else closed
+
+-- the refusals in audit lines
+abbrev pub audit_lines : List Refusal → List ℕ
+audit_lines refusals = flat_map (λ r. line_of r ++ feed) refusals
+
+-- the refusals that a trail keeps at a place
+abbrev pub refusals_in : Option Entry → List Refusal
+refusals_in None = []
+refusals_in (Some entry) = entry.refusals
+
+abbrev pub refusals_at : List Entry → ℕ → List Refusal
+refusals_at trail place = refusals_in (slice_get trail place)
+
+-- what is printed for an event: the response, and one audit line for each refusal
+abbrev pub entry_text : ℤ → Entry → List ℕ
+entry_text correlation entry = reply_line correlation entry.reply ++ audit_lines entry.refusals
+
+abbrev pub unreadable : ℕ → List ℕ
+unreadable number = codes "line " ++ (decimal number ++ (codes ": unreadable" ++ feed))
+
+abbrev pub stop_line : Stop → List ℕ
+stop_line NoMemory = codes "stop 1" ++ feed
+stop_line TrailFull = codes "stop 2" ++ feed
+stop_line Down = codes "stop 3" ++ feed
+
+-- ---- a script
+
+-- what a line does: the script goes on with a core after a text, or ends with a text
+pub data Turn : Type 0 where
+  goes : CoreValue → List ℕ → Turn
+  ends : List ℕ → Turn
+
+-- why a core takes no event, memory aside
+abbrev pub stop_of : CoreValue → Option Stop
+stop_of core = if core.down then Some Down else if nat_lt (length core.trail) (trail_limit core.settings) then None else Some TrailFull
+
+abbrev pub stepped : CoreValue → ℤ → Event → Option Stop → Turn
+stepped core correlation e (Some stop) = ends (stop_line stop)
+stepped core correlation e None = goes (advanced core e) (entry_text correlation (entry_of core.world e))
+
+-- the step of an event
+abbrev pub step_turn : CoreValue → ℤ → Event → Turn
+step_turn core correlation e = stepped core correlation e (stop_of core)
+
+-- what is no request closes, and is no event
+abbrev pub request_turn : CoreValue → Order → Result (Header × Request) Malformed → Turn
+request_turn core order (Err fault) = goes core closed
+request_turn core order (Ok x) = step_turn core x.0.correlation (Ask order.caller x.0.client x.1)
+
+-- a frame above the limit closes before it is read
+abbrev pub frame_turn : CoreValue → Order → Turn
+frame_turn core order = if nat_lt FRAME_LIMIT (length order.frame) then goes core closed else request_turn core order (request_at order.frame)
+
+abbrev pub order_turn : CoreValue → ℕ → Option Order → Turn
+order_turn core number None = ends (unreadable number)
+order_turn core number (Some order) = frame_turn core order
+
+-- what the line of this number does
+abbrev pub line_turn : CoreValue → ℕ → List ℕ → Turn
+line_turn core number line = order_turn core number (order_of (strip_last 10 line))
+
+abbrev pub after_turn : Turn → (CoreValue → Answer) → Answer
+after_turn (goes core text) rest = after text (rest core)
+after_turn (ends text) rest = record { text = text; status = 1 }
+
+-- the answer to the lines from this number on
+abbrev pub script_answer : CoreValue → ℕ → List (List ℕ) → Answer
+script_answer core number [] = record { text = []; status = 0 }
+script_answer core number (line ∷ lines) = after_turn (line_turn core number line) (λ c. script_answer c (number + 1) lines)
+
+-- the turn that a call gave is the one that is due, and leaves this core
+abbrev pub Turns : Turn → CoreValue → code.Turn → Type 0
+Turns due new (Goes text) = due ≡ goes new (string_bytes text)
+Turns due new (Ends text cause) = due ≡ ends (string_bytes text)
+
+-- ---- an input
+
+abbrev pub refused : SettingsFault → List ℕ
+refused fault = codes "settings refused: " ++ (fault_name fault ++ feed)
+
+abbrev pub refused_answer : SettingsFault → Answer
+refused_answer fault = record { text = refused fault; status = 1 }
+
+-- a core of the settings, line by line
+abbrev pub opened_answer : Result Document SettingsFault → List (List ℕ) → Answer
+opened_answer (Err fault) lines = refused_answer fault
+opened_answer (Ok d) lines = script_answer (opened d.settings) 1 lines
+
+-- settings up to a line `---` or the end, and a script behind it
+abbrev pub input_answer : List ℕ → Answer
+input_answer input = opened_answer (document_of_text (settings_part (lines_of input))) (script_part (lines_of input))
+
+-- what `replay` is to write for an input, and its status: an input above the limit is a failed read
+abbrev pub replay_answer : List ℕ → Answer
+replay_answer input = if nat_lt INPUT_LIMIT (length input) then record { text = []; status = 1 } else input_answer input

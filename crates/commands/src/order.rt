@@ -1,0 +1,135 @@
+//! What a line of a script asks for.
+
+ghost use Rattle.std.specs.Prelude.{◌≡◌, IfOk, option_map};
+ghost use Rattle.std.specs.Result.{result_ok};
+ghost use Rattle.std.specs.Int.{w32};
+ghost use Rattle.wire_types.specs.Reading.{nat_at};
+ghost use Rattle.commands.specs.Order.{behind_size, frame_of, words_of, text_of, caller_of, order_of};
+
+use acl_binding::Caller;
+use bytes::Bytes;
+use hex::FromHexError;
+use std::alloc::{AllocError, Global};
+use std::str::from_utf8;
+use wire_types::{Cursor, Text};
+
+/// The bytes of a frame's size field.
+const SIZE_FIELD: usize = 4;
+
+/// A frame without its size field, and who sends it.
+#[derive(Debug, Drop)]
+pub(crate) struct Order {
+    pub(crate) caller: Caller,
+    pub(crate) frame: Bytes,
+}
+
+/// Why a line of a script can't be read.
+#[derive(Clone, Copy, Debug, PartialEq, Eq)]
+pub(crate) enum Unreadable {
+    /// It is not UTF-8.
+    Text,
+    /// It is not `req`, a user, a host and the frame's digits, parted by one blank each.
+    Words,
+    /// The frame is not written in pairs of hexadecimal digits.
+    Digits,
+    /// The frame's size field isn't the number of bytes behind it.
+    Size,
+}
+
+/// The words of a line `req USER HOST HEX` behind the first.
+#[derive(Drop)]
+struct Words<'a> {
+    user: &'a str,
+    host: &'a str,
+    digits: &'a str,
+}
+
+/// The bytes behind a size field that counts them.
+#[tactic(auto, unfolding(wire_types::specs::Reading::nat_at))]
+fn behind_size(frame: &Bytes) -> Result<Option<Bytes>, AllocError>
+    ensures { IfOk result (λ text. text ≡ behind_size (nat_at w32 frame.now)) }
+{
+    let mut cursor = Cursor::over(frame);
+    match cursor.read_u32() {
+        Ok(size) => {
+            if size as usize != cursor.len() {
+                return Ok(None);
+            }
+        }
+        Err(_) => return Ok(None),
+    }
+    Ok(Some(frame.slice(SIZE_FIELD..)?))
+}
+
+/// The frame that the digits spell, without its size field.
+fn parse_frame(alloc: Global, digits: &str) -> Result<Result<Bytes, Unreadable>, AllocError>
+    ensures { IfOk result (λ read. result_ok read ≡ frame_of digits.now) }
+{
+    let frame = match hex::decode(alloc, digits) {
+        Ok(frame) => Bytes::from_vec(frame)?,
+        Err(FromHexError::OutOfMemory) => return Err(AllocError),
+        Err(_) => return Ok(Err(Unreadable::Digits)),
+    };
+    match behind_size(&frame)? {
+        Some(text) => Ok(Ok(text)),
+        None => Ok(Err(Unreadable::Size)),
+    }
+}
+
+/// The words of a line `req USER HOST HEX`.
+fn split_words(line: &str) -> Option<Words<'_>>
+    ensures { option_map (λ w. (w.user.now, w.host.now, w.digits.now)) result ≡ words_of line.now }
+{
+    let (command, rest) = line.split_once(' ')?;
+    if command != "req" {
+        return None;
+    }
+    let (user, rest) = rest.split_once(' ')?;
+    let (host, digits) = rest.split_once(' ')?;
+    if user.is_empty() || host.is_empty() {
+        return None;
+    }
+    Some(Words { user, host, digits })
+}
+
+/// The bytes as text, if they are UTF-8.
+fn text_of(bytes: &[u8]) -> Option<&str>
+    ensures { option_map (λ t. t.now) result ≡ text_of bytes.now }
+{
+    match from_utf8(bytes) {
+        Ok(text) => Some(text),
+        Err(_) => None,
+    }
+}
+
+/// The principal of a user, and its host.
+fn caller(alloc: Global, user: &str, host: &str) -> Result<Caller, AllocError>
+    ensures { IfOk result (λ caller. caller ≡ caller_of user.now host.now) }
+{
+    Ok(Caller {
+        who: Text::from(format!(in alloc; "User:{user}")?),
+        host: Text::of(alloc, host)?,
+    })
+}
+
+/// What a line without its line feed asks for, or why it can't be read.
+pub(crate) fn parse_order(
+    alloc: Global,
+    line: &[u8],
+) -> Result<Result<Order, Unreadable>, AllocError>
+    ensures { IfOk result (λ read. result_ok read ≡ order_of line.now) }
+{
+    let Some(line) = text_of(line) else {
+        return Ok(Err(Unreadable::Text));
+    };
+    let Some(words) = split_words(line) else {
+        return Ok(Err(Unreadable::Words));
+    };
+    match parse_frame(alloc, words.digits)? {
+        Ok(frame) => Ok(Ok(Order {
+            caller: caller(alloc, words.user, words.host)?,
+            frame,
+        })),
+        Err(unreadable) => Ok(Err(unreadable)),
+    }
+}

@@ -1,0 +1,175 @@
+//! The command `replay`: settings and a script in, what the broker answers out.
+
+ghost use Rattle.std.specs.Prelude.{◌≡◌, IfSome};
+ghost use Rattle.wire_types.specs.Device.{Wrote};
+ghost use Rattle.request_handlers.specs.Core.{opened};
+ghost use Rattle.commands.specs.Lines.{lines_of};
+ghost use Rattle.commands.specs.Replay.{script_answer, refused_answer, input_answer, replay_answer};
+ghost use Rattle.commands.specs.Printed.{Printed, EndsEarly, Replayed};
+
+use crate::cause::{Cause, Early};
+use crate::lines::{split_input, split_line};
+use crate::text::{refused_text, stop_text};
+use crate::turn::{Turn, line_turn};
+use request_handlers::{Core, Stop};
+use settings_text::{SettingsFault, document_of_text};
+use std::alloc::Global;
+use std::io::{Read, Write, sink};
+use wire_types::{InputFault, read_input, write_whole};
+
+/// Writes a text; where a write fails, some of it stands written, from the front.
+fn write_text<W: Write>(writer: &mut W, text: &str) -> Result<(), Early>
+    ensures { Wrote (W.contents writer.old) (W.contents writer.new) text.now result }
+{
+    match write_whole(writer, text.as_bytes()) {
+        Ok(()) => Ok(()),
+        Err(_) => Err(Early::Write),
+    }
+}
+
+/// What a sentence speaks of.
+enum Place {
+    Settings,
+    /// The line of this number behind the settings.
+    Line(u64),
+    Run,
+}
+
+/// Says what went wrong, and where. If that fails, nothing else does.
+fn explain<E: Write>(alloc: Global, errors: &mut E, place: Place, sentence: &str) {
+    let text = match place {
+        Place::Settings => format!(in alloc; "kbroker: settings: {sentence}\n"),
+        Place::Line(number) => format!(in alloc; "kbroker: line {number}: {sentence}\n"),
+        Place::Run => format!(in alloc; "kbroker: {sentence}\n"),
+    };
+    if let Ok(text) = text {
+        let _ = write_text(errors, text.as_str());
+    }
+}
+
+/// Runs a script line by line and prints what each line does, until one ends it.
+fn run_script<W: Write, E: Write>(
+    alloc: Global,
+    mut core: Core,
+    script: &[u8],
+    writer: &mut W,
+    errors: &mut E,
+) -> Result<u8, Early>
+    ensures { Printed (W.contents writer.old) (W.contents writer.new) (script_answer core 1 (lines_of script.now)) result }
+{
+    let mut rest = script;
+    let mut number: u64 = 1;
+    while !rest.is_empty() {
+        let (line, more) = split_line(rest);
+        match line_turn(alloc, &mut core, number, line) {
+            Ok(Turn::Goes(text)) => write_text(writer, text.as_str())?,
+            Ok(Turn::Ends(text, cause)) => {
+                write_text(writer, text.as_str())?;
+                explain(alloc, errors, Place::Line(number), cause.sentence());
+                return Ok(1);
+            }
+            Err(_) => return Err(Early::Script),
+        }
+        rest = more;
+        number += 1;
+    }
+    Ok(0)
+}
+
+/// Prints that the settings are refused, and says why.
+fn refuse<W: Write, E: Write>(
+    alloc: Global,
+    text: &[u8],
+    fault: SettingsFault,
+    writer: &mut W,
+    errors: &mut E,
+) -> Result<u8, Early>
+    ensures { Printed (W.contents writer.old) (W.contents writer.new) (refused_answer fault) result }
+{
+    let Ok(line) = refused_text(alloc, fault) else {
+        return Err(Early::Settings);
+    };
+    write_text(writer, line.as_str())?;
+    if let Ok(sentence) = settings_text::explain(alloc, text, fault) {
+        explain(alloc, errors, Place::Settings, sentence.as_str());
+    }
+    Ok(1)
+}
+
+/// Answers a whole input.
+fn answer_input<W: Write, E: Write>(
+    alloc: Global,
+    input: &[u8],
+    writer: &mut W,
+    errors: &mut E,
+) -> Result<u8, Early>
+    ensures { Printed (W.contents writer.old) (W.contents writer.new) (input_answer input.now) result }
+{
+    let (text, script) = split_input(input);
+    let settings = match document_of_text(alloc, text) {
+        Ok(document) => document.settings,
+        Err(SettingsFault::NoMemory) => return Err(Early::Settings),
+        Err(fault) => return refuse(alloc, text, fault, writer, errors),
+    };
+    // The settings have no fault, so only memory can be refused.
+    match Core::open(alloc, settings) {
+        Ok(core) => run_script(alloc, core, script, writer, errors),
+        Err(_) => Err(Early::Settings),
+    }
+}
+
+/// Reads the input and answers it.
+fn run_whole<R: Read, W: Write, E: Write>(
+    alloc: Global,
+    reader: &mut R,
+    writer: &mut W,
+    errors: &mut E,
+) -> Result<u8, Early>
+    ensures { IfSome (R.remaining reader.old) (λ input. Printed (W.contents writer.old) (W.contents writer.new) (replay_answer input) result) }
+{
+    match read_input(alloc, reader) {
+        Ok(input) => answer_input(alloc, input.as_slice(), writer, errors),
+        Err(InputFault::NoMemory) => Err(Early::Settings),
+        Err(InputFault::Read) => Err(Early::Read),
+        Err(InputFault::TooLong) => Err(Early::TooLong),
+    }
+}
+
+/// Prints the last line of a run that ends early, where memory was refused.
+fn end_early<W: Write>(writer: &mut W, early: Early)
+    ensures { EndsEarly (W.contents writer.old) (W.contents writer.new) }
+{
+    let text = match early {
+        Early::Settings => "settings refused: NoMemory\n",
+        Early::Script => stop_text(Stop::NoMemory),
+        Early::Read | Early::TooLong | Early::Write => return,
+    };
+    let _ = write_text(writer, text);
+}
+
+/// The command `replay`, which answers the exit status, and says in sentences to `errors` what went wrong.
+pub fn replay_and_explain<R: Read, W: Write, E: Write>(
+    alloc: Global,
+    reader: &mut R,
+    writer: &mut W,
+    errors: &mut E,
+) -> u8
+    ensures { IfSome (R.remaining reader.old) (λ input. Replayed (W.contents writer.old) (W.contents writer.new) (replay_answer input) result) }
+{
+    match run_whole(alloc, reader, writer, errors) {
+        Ok(status) => status,
+        Err(early) => {
+            end_early(writer, early);
+            explain(alloc, errors, Place::Run, early.sentence());
+            1
+        }
+    }
+}
+
+/// The command `replay`: reads settings up to a line `---` or the end of the input, then a script; answers each of
+/// its lines, and gives the exit status.
+pub fn replay<R: Read, W: Write>(alloc: Global, reader: &mut R, writer: &mut W) -> u8
+    ensures { IfSome (R.remaining reader.old) (λ input. Replayed (W.contents writer.old) (W.contents writer.new) (replay_answer input) result) }
+{
+    replay_and_explain(alloc, reader, writer, &mut sink())
+}

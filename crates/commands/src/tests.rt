@@ -1,0 +1,4 @@
+//! Scripts, and what they are answered.
+
+mod devices;
+mod scripts;

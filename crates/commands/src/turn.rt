@@ -1,0 +1,125 @@
+//! What a line of a script does.
+
+ghost use Rattle.std.specs.Prelude.{◌≡◌, ◌≤◌, ◌++◌, length, IfOk, string_bytes};
+ghost use Rattle.msg_admin.specs.Request.{request_at, Fits};
+ghost use Rattle.audit_trail.specs.declared.event.Event.TheVariants.{Ask};
+ghost use Rattle.request_handlers.specs.Core.{EventFits};
+ghost use Rattle.commands.specs.Replay.{refusals_at, reply_line, audit_lines, Turns, step_turn, request_turn, frame_turn, line_turn};
+
+use crate::cause::Cause;
+use crate::lines::content;
+use crate::order::{Order, parse_order};
+use crate::text::{closed_text, push_audit_lines, reply_text, stop_text, unreadable_text};
+use acl_binding::Caller;
+use audit_trail::{Event, Receipt};
+use authorizer::Refusal;
+use msg_admin::{FRAME_LIMIT, Header, Request, read_request};
+use request_handlers::{Core, Stop};
+use std::alloc::{AllocError, Global};
+use wire_types::ReadFault;
+
+/// What a line of a script does.
+#[derive(Debug, Drop)]
+pub(crate) enum Turn {
+    /// Prints this, and the script goes on.
+    Goes(String),
+    /// Prints this, and the script ends.
+    Ends(String, Cause),
+}
+
+/// The refusals that the trail keeps at a place.
+fn refusals_at(core: &Core, place: u64) -> &[Refusal]
+    ensures { result.now ≡ refusals_at core.now.trail place }
+{
+    match core.trail().entry(place as usize) {
+        Some(entry) => entry.refusals.as_slice(),
+        None => &[],
+    }
+}
+
+/// What is printed for an event that was answered.
+fn receipt_text(
+    alloc: Global,
+    core: &Core,
+    correlation: i32,
+    receipt: &Receipt,
+) -> Result<String, AllocError>
+    ensures { IfOk result (λ text. string_bytes text ≡ reply_line correlation receipt.now.reply ++ audit_lines (refusals_at core.now.trail receipt.now.place)) }
+{
+    let mut text = reply_text(alloc, correlation, receipt.reply.value())?;
+    push_audit_lines(alloc, &mut text, refusals_at(core, receipt.place))?;
+    Ok(text)
+}
+
+/// Makes the step of an event.
+fn step(alloc: Global, core: &mut Core, correlation: i32, event: Event) -> Result<Turn, AllocError>
+    requires { EventFits event }
+    ensures { IfOk result (Turns (step_turn core.old correlation event) core.new) }
+{
+    match core.step(event) {
+        Ok(receipt) => Ok(Turn::Goes(receipt_text(alloc, core, correlation, &receipt)?)),
+        Err(Stop::NoMemory) => Err(AllocError),
+        Err(stop) => Ok(Turn::Ends(String::from_str(alloc, stop_text(stop))?, Cause::Stop(stop))),
+    }
+}
+
+/// Makes the step of a request.
+fn ask(
+    alloc: Global,
+    core: &mut Core,
+    caller: Caller,
+    header: Header,
+    request: Request,
+) -> Result<Turn, AllocError>
+    requires { Fits request }
+    ensures { IfOk result (Turns (step_turn core.old header.correlation (Ask caller header.client request)) core.new) }
+{
+    let correlation = header.correlation;
+    let event = Event::Ask {
+        caller,
+        client: header.client,
+        request,
+    };
+    step(alloc, core, correlation, event)
+}
+
+/// Answers a frame within the limit.
+fn request_turn(alloc: Global, core: &mut Core, order: Order) -> Result<Turn, AllocError>
+    requires { length order.frame ≤ FRAME_LIMIT }
+    ensures { IfOk result (Turns (request_turn core.old order (request_at order.frame)) core.new) }
+{
+    let Order { caller, frame } = order;
+    match read_request(alloc, &frame) {
+        Ok((header, request)) => ask(alloc, core, caller, header, request),
+        Err(ReadFault::Malformed(_)) => Ok(Turn::Goes(closed_text(alloc)?)),
+        Err(ReadFault::NoMemory) => Err(AllocError),
+    }
+}
+
+/// Answers a frame.
+fn frame_turn(alloc: Global, core: &mut Core, order: Order) -> Result<Turn, AllocError>
+    ensures { IfOk result (Turns (frame_turn core.old order) core.new) }
+{
+    if order.frame.len() > FRAME_LIMIT {
+        return Ok(Turn::Goes(closed_text(alloc)?));
+    }
+    request_turn(alloc, core, order)
+}
+
+/// What the line of this number does.
+pub(crate) fn line_turn(
+    alloc: Global,
+    core: &mut Core,
+    number: u64,
+    line: &[u8],
+) -> Result<Turn, AllocError>
+    ensures { IfOk result (Turns (line_turn core.old number line.now) core.new) }
+{
+    match parse_order(alloc, content(line))? {
+        Ok(order) => frame_turn(alloc, core, order),
+        Err(unreadable) => Ok(Turn::Ends(
+            unreadable_text(alloc, number)?,
+            Cause::Unreadable(unreadable),
+        )),
+    }
+}
