@@ -10,8 +10,8 @@ use Rattle.wire_types.specs.Grammar.{Grammar, Content}
 use Rattle.wire_types.specs.Spelling.{int_written, bool_written, varint_written, behind_written, behind_fits, null_behind_written, null_behind_fits, null_count_fits, compact_null_count_written, compact_null_count_fits, many_fit, many_written}
 use Rattle.wire_types.specs.ListLaws.{and_parts}
 use Rattle.wire_types.specs.NumberLaws.{IsWide, wide8, wide16, wide32, wide64}
-use Rattle.wire_types.specs.Combinators.{◌⨟◌, struct, raw, utf8, items, behind, null_behind}
-use Rattle.wire_types.specs.Schema.{int_grammar, int8, int16, int32, int64, boolean, compact_null_count, count32, compact_count, string, nullable_string, bytes, array, compact_string, compact_nullable_string, compact_array, tags, tagged, fields, no_fields}
+use Rattle.wire_types.specs.Combinators.{◌⨟◌, struct, raw, utf8, items, behind}
+use Rattle.wire_types.specs.Schema.{int_grammar, int8, int16, int32, int64, boolean, compact_null_count, count32, compact_count, string, nullable_string, bytes, array, compact_string, compact_nullable_string, compact_array, tags, tagged, no_fields}
 use Rattle.wire_types.specs.ErrorCode.{error_code, number_of, code_of, code_of-number_of, number_of-code_of}
 use Rattle.wire_types.specs.Topic.{topic_of, flexible_topic_of}
 use Rattle.wire_types.specs.Strings.{is_short, text_of, name_of, no_strings}
