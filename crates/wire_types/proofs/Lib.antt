@@ -4,3 +4,4 @@ pub mod Writes
 pub mod Rooms
 pub mod Sizes
 pub mod OneValue
+pub mod StringLaws

@@ -18,3 +18,4 @@ pub mod Writing
 pub mod Place
 pub mod Laws
 pub mod Device
+pub mod Strings

@@ -12,6 +12,7 @@ mod cursor;
 mod device;
 mod error_code;
 mod fault;
+mod flexible;
 mod items;
 mod laws;
 mod numbers;
@@ -42,6 +43,10 @@ pub use cursor::Cursor;
 pub use device::{INPUT_LIMIT, InputFault, read_input, write_whole};
 pub use error_code::ErrorCode;
 pub use fault::{Malformed, ReadFault, WriteFault};
+pub use flexible::{
+    flexible_topics_room, nullable_flexible_topics_room, read_flexible_topics,
+    read_nullable_flexible_topics, write_flexible_topics, write_nullable_flexible_topics,
+};
 pub use items::Items;
 pub use laws::{found_is_spelled, one_value, read_fits, spelled_is_found, written_is_spelled};
 pub use numbers::{write_bool, write_i8, write_i16, write_i32, write_i64, write_u32};

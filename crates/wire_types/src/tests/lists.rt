@@ -1,10 +1,11 @@
 //! Arrays, tagged sections and topics.
 
 use crate::{
-    Cursor, Items, Malformed, ReadFault, Text, Topic, Wire, read_array, read_compact_array,
-    read_compact_nullable_array, read_nullable_array, read_varint_array, size, write_array,
-    write_compact_array, write_compact_nullable_array, write_no_tags, write_nullable_array,
-    write_varint_array,
+    Cursor, Items, Malformed, ReadFault, Text, Topic, Wire, flexible_topics_room,
+    nullable_flexible_topics_room, read_array, read_compact_array, read_compact_nullable_array,
+    read_flexible_topics, read_nullable_array, read_nullable_flexible_topics, read_varint_array,
+    size, write_array, write_compact_array, write_compact_nullable_array, write_flexible_topics,
+    write_no_tags, write_nullable_array, write_nullable_flexible_topics, write_varint_array,
 };
 use std::test::Fail;
 
@@ -81,5 +82,35 @@ fn a_topic_and_back(rt: HostRuntime) -> Result<(), Fail> {
     assert_eq!(rt; out.as_slice(), bytes.as_slice());
     assert_eq!(rt; size(&topic), Some(15));
     assert!(rt; read == Ok(topic));
+    Ok(())
+}
+
+#[test]
+fn flexible_topics(rt: HostRuntime) -> Result<(), Fail> {
+    let alloc = rt.alloc();
+    let bytes = b"\x02\x02t\x02\x00\x00\x00\x05\x01\x07\x01a";
+    let topics: Items<Topic<i32>> = read_flexible_topics(alloc, &mut Cursor::new(bytes))?;
+    let mut out = Vec::new(alloc);
+    write_flexible_topics(&mut out, &topics)?;
+    assert_eq!(rt;
+        out.as_slice(),
+        b"\x02\x02t\x02\x00\x00\x00\x05\x00".as_slice()
+    );
+    assert_eq!(rt; flexible_topics_room(&topics, 10), Some(1));
+    assert_eq!(rt; flexible_topics_room(&topics, 8), None);
+    Ok(())
+}
+
+#[test]
+fn no_list_of_topics(rt: HostRuntime) -> Result<(), Fail> {
+    let alloc = rt.alloc();
+    let none: Option<Items<Topic<i32>>> = read_nullable_flexible_topics(
+        alloc,
+        &mut Cursor::new(b"\x00"),
+    )?;
+    let mut out = Vec::new(alloc);
+    write_nullable_flexible_topics(&mut out, &none)?;
+    assert_eq!(rt; out.as_slice(), b"\x00".as_slice());
+    assert_eq!(rt; nullable_flexible_topics_room(&none, 1), Some(0));
     Ok(())
 }

@@ -1,0 +1,75 @@
+//! Heartbeat, version 1: a member is still there.
+
+use std::alloc::Global;
+use wire_types::{
+    Cursor, ErrorCode, ReadFault, Text, Wire, WriteFault, room_behind, string_room, write_i32,
+    write_string,
+};
+
+/// Tells that the member is there.
+#[derive(Clone, Debug, Drop, PartialEq, Eq)]
+pub struct HeartbeatRequest {
+    pub group: Text,
+    pub generation: i32,
+    pub member: Text,
+}
+
+/// Whether the member is one of that generation.
+#[derive(Clone, Debug, Drop, PartialEq, Eq)]
+pub struct HeartbeatReply {
+    pub throttle: i32,
+    pub error: ErrorCode,
+}
+
+impl Wire for HeartbeatRequest {
+    ghost use Rattle.msg_group.specs.Heartbeat.{heartbeat_request};
+
+    ghost grammar = { heartbeat_request };
+
+    fn read(alloc: Global, cursor: &mut Cursor<'_>) -> Result<HeartbeatRequest, ReadFault> {
+        let group = cursor.read_string(alloc)?;
+        let generation = cursor.read_i32()?;
+        let member = cursor.read_string(alloc)?;
+        Ok(HeartbeatRequest {
+            group,
+            generation,
+            member,
+        })
+    }
+
+    fn write(&self, out: &mut Vec<u8>) -> Result<(), WriteFault> {
+        write_string(out, &self.group)?;
+        write_i32(out, self.generation)?;
+        write_string(out, &self.member)?;
+        Ok(())
+    }
+
+    fn room_left(&self, room: usize) -> Option<usize> {
+        let room = string_room(&self.group, room)?;
+        let room = room_behind(4, room)?;
+        string_room(&self.member, room)
+    }
+}
+
+impl Wire for HeartbeatReply {
+    ghost use Rattle.msg_group.specs.Heartbeat.{heartbeat_reply};
+
+    ghost grammar = { heartbeat_reply };
+
+    fn read(alloc: Global, cursor: &mut Cursor<'_>) -> Result<HeartbeatReply, ReadFault> {
+        let throttle = cursor.read_i32()?;
+        let error = ErrorCode::read(alloc, cursor)?;
+        Ok(HeartbeatReply { throttle, error })
+    }
+
+    fn write(&self, out: &mut Vec<u8>) -> Result<(), WriteFault> {
+        write_i32(out, self.throttle)?;
+        self.error.write(out)?;
+        Ok(())
+    }
+
+    fn room_left(&self, room: usize) -> Option<usize> {
+        let room = room_behind(4, room)?;
+        self.error.room_left(room)
+    }
+}

@@ -1,0 +1,151 @@
+//! OffsetCommit, version 2: how far a group has come.
+
+use std::alloc::Global;
+use wire_types::{
+    Cursor, ErrorCode, Items, ReadFault, Text, Topic, Wire, WriteFault, array_room, nullable_room,
+    read_array, room_behind, string_room, write_array, write_i32, write_i64, write_nullable,
+    write_string,
+};
+
+/// A partition, and the offset that is to be committed there.
+#[derive(Clone, Debug, Drop, PartialEq, Eq)]
+pub struct OffsetToCommit {
+    pub index: i32,
+    pub offset: i64,
+    pub metadata: Option<Text>,
+}
+
+/// Asks to commit offsets, for a member or (generation -1 and an empty member) for no member.
+#[derive(Clone, Debug, Drop, PartialEq, Eq)]
+pub struct OffsetCommitRequest {
+    pub group: Text,
+    pub generation: i32,
+    pub member: Text,
+    /// Read and not looked at.
+    pub retention: i64,
+    pub topics: Items<Topic<OffsetToCommit>>,
+}
+
+/// Whether the offset of a partition is committed.
+#[derive(Clone, Debug, Drop, PartialEq, Eq)]
+pub struct CommittedOffset {
+    pub index: i32,
+    pub error: ErrorCode,
+}
+
+/// The partitions, in the request's order.
+#[derive(Clone, Debug, Drop, PartialEq, Eq)]
+pub struct OffsetCommitReply {
+    pub topics: Items<Topic<CommittedOffset>>,
+}
+
+impl Wire for OffsetToCommit {
+    ghost use Rattle.msg_group.specs.OffsetCommit.{offset_to_commit};
+
+    ghost grammar = { offset_to_commit };
+
+    fn read(alloc: Global, cursor: &mut Cursor<'_>) -> Result<OffsetToCommit, ReadFault> {
+        let index = cursor.read_i32()?;
+        let offset = cursor.read_i64()?;
+        let metadata = cursor.read_nullable(alloc)?;
+        Ok(OffsetToCommit {
+            index,
+            offset,
+            metadata,
+        })
+    }
+
+    fn write(&self, out: &mut Vec<u8>) -> Result<(), WriteFault> {
+        write_i32(out, self.index)?;
+        write_i64(out, self.offset)?;
+        write_nullable(out, &self.metadata)?;
+        Ok(())
+    }
+
+    fn room_left(&self, room: usize) -> Option<usize> {
+        let room = room_behind(4, room)?;
+        let room = room_behind(8, room)?;
+        nullable_room(&self.metadata, room)
+    }
+}
+
+impl Wire for OffsetCommitRequest {
+    ghost use Rattle.msg_group.specs.OffsetCommit.{offset_commit_request};
+
+    ghost grammar = { offset_commit_request };
+
+    fn read(alloc: Global, cursor: &mut Cursor<'_>) -> Result<OffsetCommitRequest, ReadFault> {
+        let group = cursor.read_string(alloc)?;
+        let generation = cursor.read_i32()?;
+        let member = cursor.read_string(alloc)?;
+        let retention = cursor.read_i64()?;
+        let topics = read_array(alloc, cursor)?;
+        Ok(OffsetCommitRequest {
+            group,
+            generation,
+            member,
+            retention,
+            topics,
+        })
+    }
+
+    fn write(&self, out: &mut Vec<u8>) -> Result<(), WriteFault> {
+        write_string(out, &self.group)?;
+        write_i32(out, self.generation)?;
+        write_string(out, &self.member)?;
+        write_i64(out, self.retention)?;
+        write_array(out, &self.topics)?;
+        Ok(())
+    }
+
+    fn room_left(&self, room: usize) -> Option<usize> {
+        let room = string_room(&self.group, room)?;
+        let room = room_behind(4, room)?;
+        let room = string_room(&self.member, room)?;
+        let room = room_behind(8, room)?;
+        array_room(&self.topics, room)
+    }
+}
+
+impl Wire for CommittedOffset {
+    ghost use Rattle.msg_group.specs.OffsetCommit.{committed_offset};
+
+    ghost grammar = { committed_offset };
+
+    fn read(alloc: Global, cursor: &mut Cursor<'_>) -> Result<CommittedOffset, ReadFault> {
+        let index = cursor.read_i32()?;
+        let error = ErrorCode::read(alloc, cursor)?;
+        Ok(CommittedOffset { index, error })
+    }
+
+    fn write(&self, out: &mut Vec<u8>) -> Result<(), WriteFault> {
+        write_i32(out, self.index)?;
+        self.error.write(out)?;
+        Ok(())
+    }
+
+    fn room_left(&self, room: usize) -> Option<usize> {
+        let room = room_behind(4, room)?;
+        self.error.room_left(room)
+    }
+}
+
+impl Wire for OffsetCommitReply {
+    ghost use Rattle.msg_group.specs.OffsetCommit.{offset_commit_reply};
+
+    ghost grammar = { offset_commit_reply };
+
+    fn read(alloc: Global, cursor: &mut Cursor<'_>) -> Result<OffsetCommitReply, ReadFault> {
+        let topics = read_array(alloc, cursor)?;
+        Ok(OffsetCommitReply { topics })
+    }
+
+    fn write(&self, out: &mut Vec<u8>) -> Result<(), WriteFault> {
+        write_array(out, &self.topics)?;
+        Ok(())
+    }
+
+    fn room_left(&self, room: usize) -> Option<usize> {
+        array_room(&self.topics, room)
+    }
+}

@@ -1,0 +1,113 @@
+//! AddPartitionsToTxn, version 0: partitions become part of a transaction.
+
+use std::alloc::Global;
+use wire_types::{
+    Cursor, ErrorCode, Items, ReadFault, Text, Topic, Wire, WriteFault, array_room, read_array,
+    room_behind, string_room, write_array, write_i16, write_i32, write_i64, write_string,
+};
+
+/// Asks to add partitions to a producer's transaction.
+#[derive(Clone, Debug, Drop, PartialEq, Eq)]
+pub struct AddPartitionsToTxnRequest {
+    pub transactional_id: Text,
+    pub producer: i64,
+    pub epoch: i16,
+    pub topics: Items<Topic<i32>>,
+}
+
+/// How the adding of a partition came off.
+#[derive(Clone, Debug, Drop, PartialEq, Eq)]
+pub struct AddedPartition {
+    pub index: i32,
+    pub error: ErrorCode,
+}
+
+/// The partitions, in the request's order.
+#[derive(Clone, Debug, Drop, PartialEq, Eq)]
+pub struct AddPartitionsToTxnReply {
+    pub throttle: i32,
+    pub topics: Items<Topic<AddedPartition>>,
+}
+
+impl Wire for AddPartitionsToTxnRequest {
+    ghost use Rattle.msg_txn.specs.AddPartitions.{add_partitions_to_txn_request};
+
+    ghost grammar = { add_partitions_to_txn_request };
+
+    fn read(
+        alloc: Global,
+        cursor: &mut Cursor<'_>,
+    ) -> Result<AddPartitionsToTxnRequest, ReadFault> {
+        let transactional_id = cursor.read_string(alloc)?;
+        let producer = cursor.read_i64()?;
+        let epoch = cursor.read_i16()?;
+        let topics = read_array(alloc, cursor)?;
+        Ok(AddPartitionsToTxnRequest {
+            transactional_id,
+            producer,
+            epoch,
+            topics,
+        })
+    }
+
+    fn write(&self, out: &mut Vec<u8>) -> Result<(), WriteFault> {
+        write_string(out, &self.transactional_id)?;
+        write_i64(out, self.producer)?;
+        write_i16(out, self.epoch)?;
+        write_array(out, &self.topics)?;
+        Ok(())
+    }
+
+    fn room_left(&self, room: usize) -> Option<usize> {
+        let room = string_room(&self.transactional_id, room)?;
+        let room = room_behind(8, room)?;
+        let room = room_behind(2, room)?;
+        array_room(&self.topics, room)
+    }
+}
+
+impl Wire for AddedPartition {
+    ghost use Rattle.msg_txn.specs.AddPartitions.{added_partition};
+
+    ghost grammar = { added_partition };
+
+    fn read(alloc: Global, cursor: &mut Cursor<'_>) -> Result<AddedPartition, ReadFault> {
+        let index = cursor.read_i32()?;
+        let error = ErrorCode::read(alloc, cursor)?;
+        Ok(AddedPartition { index, error })
+    }
+
+    fn write(&self, out: &mut Vec<u8>) -> Result<(), WriteFault> {
+        write_i32(out, self.index)?;
+        self.error.write(out)?;
+        Ok(())
+    }
+
+    fn room_left(&self, room: usize) -> Option<usize> {
+        let room = room_behind(4, room)?;
+        self.error.room_left(room)
+    }
+}
+
+impl Wire for AddPartitionsToTxnReply {
+    ghost use Rattle.msg_txn.specs.AddPartitions.{add_partitions_to_txn_reply};
+
+    ghost grammar = { add_partitions_to_txn_reply };
+
+    fn read(alloc: Global, cursor: &mut Cursor<'_>) -> Result<AddPartitionsToTxnReply, ReadFault> {
+        let throttle = cursor.read_i32()?;
+        let topics = read_array(alloc, cursor)?;
+        Ok(AddPartitionsToTxnReply { throttle, topics })
+    }
+
+    fn write(&self, out: &mut Vec<u8>) -> Result<(), WriteFault> {
+        write_i32(out, self.throttle)?;
+        write_array(out, &self.topics)?;
+        Ok(())
+    }
+
+    fn room_left(&self, room: usize) -> Option<usize> {
+        let room = room_behind(4, room)?;
+        array_room(&self.topics, room)
+    }
+}

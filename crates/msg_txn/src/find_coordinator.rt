@@ -1,0 +1,91 @@
+//! FindCoordinator, version 1: the broker that a group or a transactional id belongs to.
+
+use std::alloc::Global;
+use wire_types::{
+    Cursor, ErrorCode, ReadFault, Text, Wire, WriteFault, nullable_room, room_behind, string_room,
+    write_i8, write_i32, write_nullable, write_string,
+};
+
+/// Asks for the coordinator of a group (key type 0) or of a transactional id (key type 1).
+#[derive(Clone, Debug, Drop, PartialEq, Eq)]
+pub struct FindCoordinatorRequest {
+    pub key: Text,
+    /// Any number is read: of another than 0 and 1 the answer tells that it is none.
+    pub key_type: i8,
+}
+
+/// The coordinator, or node -1.
+#[derive(Clone, Debug, Drop, PartialEq, Eq)]
+pub struct FindCoordinatorReply {
+    pub throttle: i32,
+    pub error: ErrorCode,
+    pub message: Option<Text>,
+    pub node: i32,
+    pub host: Text,
+    pub port: i32,
+}
+
+impl Wire for FindCoordinatorRequest {
+    ghost use Rattle.msg_txn.specs.FindCoordinator.{find_coordinator_request};
+
+    ghost grammar = { find_coordinator_request };
+
+    fn read(alloc: Global, cursor: &mut Cursor<'_>) -> Result<FindCoordinatorRequest, ReadFault> {
+        let key = cursor.read_string(alloc)?;
+        let key_type = cursor.read_i8()?;
+        Ok(FindCoordinatorRequest { key, key_type })
+    }
+
+    fn write(&self, out: &mut Vec<u8>) -> Result<(), WriteFault> {
+        write_string(out, &self.key)?;
+        write_i8(out, self.key_type)?;
+        Ok(())
+    }
+
+    fn room_left(&self, room: usize) -> Option<usize> {
+        let room = string_room(&self.key, room)?;
+        room_behind(1, room)
+    }
+}
+
+impl Wire for FindCoordinatorReply {
+    ghost use Rattle.msg_txn.specs.FindCoordinator.{find_coordinator_reply};
+
+    ghost grammar = { find_coordinator_reply };
+
+    fn read(alloc: Global, cursor: &mut Cursor<'_>) -> Result<FindCoordinatorReply, ReadFault> {
+        let throttle = cursor.read_i32()?;
+        let error = ErrorCode::read(alloc, cursor)?;
+        let message = cursor.read_nullable(alloc)?;
+        let node = cursor.read_i32()?;
+        let host = cursor.read_string(alloc)?;
+        let port = cursor.read_i32()?;
+        Ok(FindCoordinatorReply {
+            throttle,
+            error,
+            message,
+            node,
+            host,
+            port,
+        })
+    }
+
+    fn write(&self, out: &mut Vec<u8>) -> Result<(), WriteFault> {
+        write_i32(out, self.throttle)?;
+        self.error.write(out)?;
+        write_nullable(out, &self.message)?;
+        write_i32(out, self.node)?;
+        write_string(out, &self.host)?;
+        write_i32(out, self.port)?;
+        Ok(())
+    }
+
+    fn room_left(&self, room: usize) -> Option<usize> {
+        let room = room_behind(4, room)?;
+        let room = self.error.room_left(room)?;
+        let room = nullable_room(&self.message, room)?;
+        let room = room_behind(4, room)?;
+        let room = string_room(&self.host, room)?;
+        room_behind(4, room)
+    }
+}

@@ -1,0 +1,22 @@
+//! The messages about transactions: what each api is asked and what it answers.
+//!
+//! One file for each api, with the fields in their order on the wire; `specs/` has the grammar of each.
+#![tactic(auto)]
+
+mod add_offsets;
+mod add_partitions;
+mod end_txn;
+mod find_coordinator;
+mod init_producer_id;
+#[cfg(test)]
+mod tests;
+mod txn_offset_commit;
+
+pub use add_offsets::{AddOffsetsToTxnReply, AddOffsetsToTxnRequest};
+pub use add_partitions::{AddPartitionsToTxnReply, AddPartitionsToTxnRequest, AddedPartition};
+pub use end_txn::{EndTxnReply, EndTxnRequest};
+pub use find_coordinator::{FindCoordinatorReply, FindCoordinatorRequest};
+pub use init_producer_id::{InitProducerIdReply, InitProducerIdRequest};
+pub use txn_offset_commit::{
+    OffsetToStage, StagedOffset, TxnOffsetCommitReply, TxnOffsetCommitRequest,
+};

@@ -1,0 +1,189 @@
+//! TxnOffsetCommit, version 3: offsets that are committed with a transaction.
+
+use std::alloc::Global;
+use wire_types::{
+    Cursor, ErrorCode, Items, ReadFault, Text, Topic, Wire, WriteFault, compact_nullable_room,
+    compact_string_room, flexible_topics_room, read_flexible_topics, room_behind,
+    write_compact_nullable, write_compact_string, write_flexible_topics, write_i16, write_i32,
+    write_i64, write_no_tags,
+};
+
+/// A partition, and the offset that is to be committed there.
+#[derive(Clone, Debug, Drop, PartialEq, Eq)]
+pub struct OffsetToStage {
+    pub index: i32,
+    pub offset: i64,
+    /// Read and not looked at.
+    pub leader_epoch: i32,
+    pub metadata: Option<Text>,
+}
+
+/// Asks to commit offsets of a group with a producer's transaction.
+#[derive(Clone, Debug, Drop, PartialEq, Eq)]
+pub struct TxnOffsetCommitRequest {
+    pub transactional_id: Text,
+    pub group: Text,
+    pub producer: i64,
+    pub epoch: i16,
+    pub generation: i32,
+    pub member: Text,
+    /// Read and not looked at.
+    pub instance: Option<Text>,
+    pub topics: Items<Topic<OffsetToStage>>,
+}
+
+/// Whether the offset of a partition waits for the transaction's end.
+#[derive(Clone, Debug, Drop, PartialEq, Eq)]
+pub struct StagedOffset {
+    pub index: i32,
+    pub error: ErrorCode,
+}
+
+/// The partitions, in the request's order.
+#[derive(Clone, Debug, Drop, PartialEq, Eq)]
+pub struct TxnOffsetCommitReply {
+    pub throttle: i32,
+    pub topics: Items<Topic<StagedOffset>>,
+}
+
+impl Wire for OffsetToStage {
+    ghost use Rattle.msg_txn.specs.TxnOffsetCommit.{offset_to_stage};
+
+    ghost grammar = { offset_to_stage };
+
+    fn read(alloc: Global, cursor: &mut Cursor<'_>) -> Result<OffsetToStage, ReadFault> {
+        let index = cursor.read_i32()?;
+        let offset = cursor.read_i64()?;
+        let leader_epoch = cursor.read_i32()?;
+        let metadata = cursor.read_compact_nullable(alloc)?;
+        cursor.skip_tags()?;
+        Ok(OffsetToStage {
+            index,
+            offset,
+            leader_epoch,
+            metadata,
+        })
+    }
+
+    fn write(&self, out: &mut Vec<u8>) -> Result<(), WriteFault> {
+        write_i32(out, self.index)?;
+        write_i64(out, self.offset)?;
+        write_i32(out, self.leader_epoch)?;
+        write_compact_nullable(out, &self.metadata)?;
+        write_no_tags(out)?;
+        Ok(())
+    }
+
+    fn room_left(&self, room: usize) -> Option<usize> {
+        let room = room_behind(4, room)?;
+        let room = room_behind(8, room)?;
+        let room = room_behind(4, room)?;
+        let room = compact_nullable_room(&self.metadata, room)?;
+        room_behind(1, room)
+    }
+}
+
+impl Wire for TxnOffsetCommitRequest {
+    ghost use Rattle.msg_txn.specs.TxnOffsetCommit.{txn_offset_commit_request};
+
+    ghost grammar = { txn_offset_commit_request };
+
+    fn read(alloc: Global, cursor: &mut Cursor<'_>) -> Result<TxnOffsetCommitRequest, ReadFault> {
+        let transactional_id = cursor.read_compact_string(alloc)?;
+        let group = cursor.read_compact_string(alloc)?;
+        let producer = cursor.read_i64()?;
+        let epoch = cursor.read_i16()?;
+        let generation = cursor.read_i32()?;
+        let member = cursor.read_compact_string(alloc)?;
+        let instance = cursor.read_compact_nullable(alloc)?;
+        let topics = read_flexible_topics(alloc, cursor)?;
+        cursor.skip_tags()?;
+        Ok(TxnOffsetCommitRequest {
+            transactional_id,
+            group,
+            producer,
+            epoch,
+            generation,
+            member,
+            instance,
+            topics,
+        })
+    }
+
+    fn write(&self, out: &mut Vec<u8>) -> Result<(), WriteFault> {
+        write_compact_string(out, &self.transactional_id)?;
+        write_compact_string(out, &self.group)?;
+        write_i64(out, self.producer)?;
+        write_i16(out, self.epoch)?;
+        write_i32(out, self.generation)?;
+        write_compact_string(out, &self.member)?;
+        write_compact_nullable(out, &self.instance)?;
+        write_flexible_topics(out, &self.topics)?;
+        write_no_tags(out)?;
+        Ok(())
+    }
+
+    fn room_left(&self, room: usize) -> Option<usize> {
+        let room = compact_string_room(&self.transactional_id, room)?;
+        let room = compact_string_room(&self.group, room)?;
+        let room = room_behind(8, room)?;
+        let room = room_behind(2, room)?;
+        let room = room_behind(4, room)?;
+        let room = compact_string_room(&self.member, room)?;
+        let room = compact_nullable_room(&self.instance, room)?;
+        let room = flexible_topics_room(&self.topics, room)?;
+        room_behind(1, room)
+    }
+}
+
+impl Wire for StagedOffset {
+    ghost use Rattle.msg_txn.specs.TxnOffsetCommit.{staged_offset};
+
+    ghost grammar = { staged_offset };
+
+    fn read(alloc: Global, cursor: &mut Cursor<'_>) -> Result<StagedOffset, ReadFault> {
+        let index = cursor.read_i32()?;
+        let error = ErrorCode::read(alloc, cursor)?;
+        cursor.skip_tags()?;
+        Ok(StagedOffset { index, error })
+    }
+
+    fn write(&self, out: &mut Vec<u8>) -> Result<(), WriteFault> {
+        write_i32(out, self.index)?;
+        self.error.write(out)?;
+        write_no_tags(out)?;
+        Ok(())
+    }
+
+    fn room_left(&self, room: usize) -> Option<usize> {
+        let room = room_behind(4, room)?;
+        let room = self.error.room_left(room)?;
+        room_behind(1, room)
+    }
+}
+
+impl Wire for TxnOffsetCommitReply {
+    ghost use Rattle.msg_txn.specs.TxnOffsetCommit.{txn_offset_commit_reply};
+
+    ghost grammar = { txn_offset_commit_reply };
+
+    fn read(alloc: Global, cursor: &mut Cursor<'_>) -> Result<TxnOffsetCommitReply, ReadFault> {
+        let throttle = cursor.read_i32()?;
+        let topics = read_flexible_topics(alloc, cursor)?;
+        cursor.skip_tags()?;
+        Ok(TxnOffsetCommitReply { throttle, topics })
+    }
+
+    fn write(&self, out: &mut Vec<u8>) -> Result<(), WriteFault> {
+        write_i32(out, self.throttle)?;
+        write_flexible_topics(out, &self.topics)?;
+        write_no_tags(out)?;
+        Ok(())
+    }
+
+    fn room_left(&self, room: usize) -> Option<usize> {
+        let room = room_behind(4, room)?;
+        let room = flexible_topics_room(&self.topics, room)?;
+        room_behind(1, room)
+    }
+}

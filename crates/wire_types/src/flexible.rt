@@ -1,0 +1,174 @@
+//! Topics in the messages of flexible versions: in compact forms, with a tagged section behind each.
+
+ghost use Rattle.std.specs.Prelude.{◌≡◌, ◌++◌};
+ghost use Rattle.wire_types.specs.Reading.{Reads, many_at};
+ghost use Rattle.wire_types.specs.Writing.{Writes, Puts};
+ghost use Rattle.wire_types.specs.Spelling.{many_fit, many_written, many_left};
+ghost use Rattle.wire_types.specs.Combinators.{items};
+ghost use Rattle.wire_types.specs.Schema.{compact_array, compact_nullable_array};
+ghost use Rattle.wire_types.specs.Topic.{flexible_topic_of};
+
+use crate::arrays::{compact_array_room, read_compact_array, write_compact_array};
+use crate::counts::{compact_count_room, write_compact_count, write_compact_null};
+use crate::cursor::Cursor;
+use crate::fault::{Malformed, ReadFault, WriteFault};
+use crate::items::Items;
+use crate::room::room_behind;
+use crate::tags::write_no_tags;
+use crate::texts::{compact_string_room, write_compact_string};
+use crate::topic::Topic;
+use crate::wire::Wire;
+use std::alloc::Global;
+
+#[tactic(auto, unfolding(crate::specs::Topic::flexible_topic_of))]
+fn read_topic<P: Wire>(alloc: Global, cursor: &mut Cursor<'_>) -> Result<Topic<P>, ReadFault>
+    ensures { Reads ((flexible_topic_of P.grammar).reading cursor.old) result cursor.new }
+{
+    let name = cursor.read_compact_string(alloc)?;
+    let partitions = read_compact_array(alloc, cursor)?;
+    cursor.skip_tags()?;
+    Ok(Topic { name, partitions })
+}
+
+#[tactic(auto, unfolding(crate::specs::Topic::flexible_topic_of))]
+fn write_topic<P: Wire>(out: &mut Vec<u8>, topic: &Topic<P>) -> Result<(), WriteFault>
+    ensures { Puts (flexible_topic_of P.grammar) topic.now out.old.items result out.new.items }
+{
+    write_compact_string(out, &topic.name)?;
+    write_compact_array(out, &topic.partitions)?;
+    write_no_tags(out)?;
+    Ok(())
+}
+
+#[tactic(auto, unfolding(crate::specs::Topic::flexible_topic_of))]
+fn topic_room<P: Wire>(topic: &Topic<P>, room: usize) -> Option<usize>
+    ensures { result ≡ (flexible_topic_of P.grammar).left topic.now room }
+{
+    let room = compact_string_room(&topic.name, room)?;
+    let room = compact_array_room(&topic.partitions, room)?;
+    room_behind(1, room)
+}
+
+/// So many topics one after the other.
+fn read_topics<P: Wire>(
+    alloc: Global,
+    cursor: &mut Cursor<'_>,
+    count: u32,
+) -> Result<Items<Topic<P>>, ReadFault>
+    ensures { Reads (many_at (flexible_topic_of P.grammar).reading count cursor.old) result cursor.new }
+{
+    let mut topics = Items::new(alloc);
+    for _ in 0..count {
+        topics.push(read_topic(alloc, cursor)?)?;
+    }
+    Ok(topics)
+}
+
+/// The same, of no more topics than there are bytes left.
+#[tactic(auto, unfolding(crate::specs::Reading::items_at))]
+fn read_counted<P: Wire>(
+    alloc: Global,
+    cursor: &mut Cursor<'_>,
+    count: u32,
+) -> Result<Items<Topic<P>>, ReadFault>
+    ensures { Reads ((items (flexible_topic_of P.grammar)).reading count cursor.old) result cursor.new }
+{
+    if cursor.len() < count as usize {
+        return Err(ReadFault::Malformed(Malformed::Short));
+    }
+    read_topics(alloc, cursor, count)
+}
+
+/// Topics one after the other.
+#[tactic(auto, unfolding(crate::specs::Spelling::many_fit, crate::specs::Spelling::many_written))]
+fn write_topics<P: Wire>(out: &mut Vec<u8>, topics: &[Topic<P>]) -> Result<(), WriteFault>
+    ensures { Writes (many_fit (flexible_topic_of P.grammar).fits topics.now) (out.old.items ++ many_written (flexible_topic_of P.grammar).written topics.now) result out.new.items }
+{
+    for topic in topics {
+        write_topic(out, topic)?;
+    }
+    Ok(())
+}
+
+/// The room that topics leave.
+fn topics_room<P: Wire>(topics: &[Topic<P>], room: usize) -> Option<usize>
+    ensures { result ≡ many_left (flexible_topic_of P.grammar).left topics.now room }
+{
+    let mut left = room;
+    for topic in topics {
+        left = topic_room(topic, left)?;
+    }
+    Some(left)
+}
+
+/// A count and one in a number of variable length, and that many topics.
+#[tactic(auto, unfolding(crate::specs::Reading::behind_at))]
+pub fn read_flexible_topics<P: Wire>(
+    alloc: Global,
+    cursor: &mut Cursor<'_>,
+) -> Result<Items<Topic<P>>, ReadFault>
+    ensures { Reads ((compact_array (flexible_topic_of P.grammar)).reading cursor.old) result cursor.new }
+{
+    let count = cursor.read_compact_count()?;
+    read_counted(alloc, cursor, count)
+}
+
+#[tactic(auto, unfolding(crate::specs::Spelling::behind_fits))]
+pub fn write_flexible_topics<P: Wire>(
+    out: &mut Vec<u8>,
+    topics: &Items<Topic<P>>,
+) -> Result<(), WriteFault>
+    ensures { Puts (compact_array (flexible_topic_of P.grammar)) topics.now out.old.items result out.new.items }
+{
+    write_compact_count(out, topics.len())?;
+    write_topics(out, topics.as_slice())?;
+    Ok(())
+}
+
+pub fn flexible_topics_room<P: Wire>(topics: &Items<Topic<P>>, room: usize) -> Option<usize>
+    ensures { result ≡ (compact_array (flexible_topic_of P.grammar)).left topics.now room }
+{
+    let room = compact_count_room(topics.len(), room)?;
+    topics_room(topics.as_slice(), room)
+}
+
+/// The same, or nothing for null.
+#[tactic(auto, unfolding(crate::specs::Reading::null_behind_at, crate::specs::Reading::null_or))]
+pub fn read_nullable_flexible_topics<P: Wire>(
+    alloc: Global,
+    cursor: &mut Cursor<'_>,
+) -> Result<Option<Items<Topic<P>>>, ReadFault>
+    ensures { Reads ((compact_nullable_array (flexible_topic_of P.grammar)).reading cursor.old) result cursor.new }
+{
+    match cursor.read_compact_null_count()? {
+        None => Ok(None),
+        Some(count) => Ok(Some(read_counted(alloc, cursor, count)?)),
+    }
+}
+
+#[tactic(auto, unfolding(crate::specs::Spelling::behind_fits, crate::specs::Spelling::null_behind_fits, crate::specs::Spelling::null_behind_put, crate::specs::Spelling::null_count_fits, crate::specs::Spelling::compact_null_count_fits))]
+pub fn write_nullable_flexible_topics<P: Wire>(
+    out: &mut Vec<u8>,
+    topics: &Option<Items<Topic<P>>>,
+) -> Result<(), WriteFault>
+    ensures { Puts (compact_nullable_array (flexible_topic_of P.grammar)) topics.now out.old.items result out.new.items }
+{
+    match topics {
+        None => write_compact_null(out)?,
+        Some(topics) => write_flexible_topics(out, topics)?,
+    }
+    Ok(())
+}
+
+#[tactic(auto, unfolding(crate::specs::Spelling::null_behind_left, crate::specs::Spelling::null_count_fits, crate::specs::Spelling::compact_null_count_fits, crate::specs::Spelling::compact_null_count_written, crate::specs::Spelling::varint_written))]
+pub fn nullable_flexible_topics_room<P: Wire>(
+    topics: &Option<Items<Topic<P>>>,
+    room: usize,
+) -> Option<usize>
+    ensures { result ≡ (compact_nullable_array (flexible_topic_of P.grammar)).left topics.now room }
+{
+    match topics {
+        None => room_behind(1, room),
+        Some(topics) => flexible_topics_room(topics, room),
+    }
+}
