@@ -1,0 +1,4 @@
+pub mod Entries
+pub mod DescribeAcls
+pub mod CreateAcls
+pub mod DeleteAcls

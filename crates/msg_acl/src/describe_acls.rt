@@ -1,0 +1,164 @@
+//! DescribeAcls, version 1: the bindings that a filter picks.
+
+use crate::entries::FilterEntry;
+use std::alloc::Global;
+use wire_types::{
+    Cursor, ErrorCode, Items, ReadFault, Text, Wire, WriteFault, array_room, nullable_room,
+    read_array, room_behind, string_room, write_array, write_i8, write_i32, write_nullable,
+    write_string,
+};
+
+/// Asks for the bindings that a filter picks.
+#[derive(Clone, Debug, Drop, PartialEq, Eq)]
+pub struct DescribeAclsRequest {
+    pub filter: FilterEntry,
+}
+
+/// A binding of a resource.
+#[derive(Clone, Debug, Drop, PartialEq, Eq)]
+pub struct DescribedAcl {
+    pub principal: Text,
+    pub host: Text,
+    pub operation: i8,
+    pub permission: i8,
+}
+
+/// A resource, and its bindings.
+#[derive(Clone, Debug, Drop, PartialEq, Eq)]
+pub struct DescribedResource {
+    pub kind: i8,
+    pub name: Text,
+    pub pattern: i8,
+    pub acls: Items<DescribedAcl>,
+}
+
+/// The bindings that were picked, by resource.
+#[derive(Clone, Debug, Drop, PartialEq, Eq)]
+pub struct DescribeAclsReply {
+    pub throttle: i32,
+    pub error: ErrorCode,
+    pub message: Option<Text>,
+    pub resources: Items<DescribedResource>,
+}
+
+impl Wire for DescribeAclsRequest {
+    ghost use Rattle.msg_acl.specs.DescribeAcls.{describe_acls_request};
+
+    ghost grammar = { describe_acls_request };
+
+    fn read(alloc: Global, cursor: &mut Cursor<'_>) -> Result<DescribeAclsRequest, ReadFault> {
+        let filter = FilterEntry::read(alloc, cursor)?;
+        Ok(DescribeAclsRequest { filter })
+    }
+
+    fn write(&self, out: &mut Vec<u8>) -> Result<(), WriteFault> {
+        self.filter.write(out)?;
+        Ok(())
+    }
+
+    fn room_left(&self, room: usize) -> Option<usize> {
+        self.filter.room_left(room)
+    }
+}
+
+impl Wire for DescribedAcl {
+    ghost use Rattle.msg_acl.specs.DescribeAcls.{described_acl};
+
+    ghost grammar = { described_acl };
+
+    fn read(alloc: Global, cursor: &mut Cursor<'_>) -> Result<DescribedAcl, ReadFault> {
+        let principal = cursor.read_string(alloc)?;
+        let host = cursor.read_string(alloc)?;
+        let operation = cursor.read_i8()?;
+        let permission = cursor.read_i8()?;
+        Ok(DescribedAcl {
+            principal,
+            host,
+            operation,
+            permission,
+        })
+    }
+
+    fn write(&self, out: &mut Vec<u8>) -> Result<(), WriteFault> {
+        write_string(out, &self.principal)?;
+        write_string(out, &self.host)?;
+        write_i8(out, self.operation)?;
+        write_i8(out, self.permission)?;
+        Ok(())
+    }
+
+    fn room_left(&self, room: usize) -> Option<usize> {
+        let room = string_room(&self.principal, room)?;
+        let room = string_room(&self.host, room)?;
+        let room = room_behind(1, room)?;
+        room_behind(1, room)
+    }
+}
+
+impl Wire for DescribedResource {
+    ghost use Rattle.msg_acl.specs.DescribeAcls.{described_resource};
+
+    ghost grammar = { described_resource };
+
+    fn read(alloc: Global, cursor: &mut Cursor<'_>) -> Result<DescribedResource, ReadFault> {
+        let kind = cursor.read_i8()?;
+        let name = cursor.read_string(alloc)?;
+        let pattern = cursor.read_i8()?;
+        let acls = read_array(alloc, cursor)?;
+        Ok(DescribedResource {
+            kind,
+            name,
+            pattern,
+            acls,
+        })
+    }
+
+    fn write(&self, out: &mut Vec<u8>) -> Result<(), WriteFault> {
+        write_i8(out, self.kind)?;
+        write_string(out, &self.name)?;
+        write_i8(out, self.pattern)?;
+        write_array(out, &self.acls)?;
+        Ok(())
+    }
+
+    fn room_left(&self, room: usize) -> Option<usize> {
+        let room = room_behind(1, room)?;
+        let room = string_room(&self.name, room)?;
+        let room = room_behind(1, room)?;
+        array_room(&self.acls, room)
+    }
+}
+
+impl Wire for DescribeAclsReply {
+    ghost use Rattle.msg_acl.specs.DescribeAcls.{describe_acls_reply};
+
+    ghost grammar = { describe_acls_reply };
+
+    fn read(alloc: Global, cursor: &mut Cursor<'_>) -> Result<DescribeAclsReply, ReadFault> {
+        let throttle = cursor.read_i32()?;
+        let error = ErrorCode::read(alloc, cursor)?;
+        let message = cursor.read_nullable(alloc)?;
+        let resources = read_array(alloc, cursor)?;
+        Ok(DescribeAclsReply {
+            throttle,
+            error,
+            message,
+            resources,
+        })
+    }
+
+    fn write(&self, out: &mut Vec<u8>) -> Result<(), WriteFault> {
+        write_i32(out, self.throttle)?;
+        self.error.write(out)?;
+        write_nullable(out, &self.message)?;
+        write_array(out, &self.resources)?;
+        Ok(())
+    }
+
+    fn room_left(&self, room: usize) -> Option<usize> {
+        let room = room_behind(4, room)?;
+        let room = self.error.room_left(room)?;
+        let room = nullable_room(&self.message, room)?;
+        array_room(&self.resources, room)
+    }
+}
