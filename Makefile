@@ -6,4 +6,5 @@ run:
 
 test:
 	rt ci
+	scripts/build.sh
 	scripts/refused_memory.py
