@@ -3,7 +3,8 @@
 
 A run that goes on without the memory, as where a buffer that can't grow ahead grows by what is needed, writes what the
 whole run writes. Any other ends with status 1, and has written the front of that, behind which at most one of the
-lines `stop 1` and `settings refused: NoMemory` stands. Each of the two has to be seen.
+lines `stop 1` and `settings refused: NoMemory` stands, the second only where nothing else was written. Each of the two
+has to be seen. A command line that could not be taken in ends with status 2 and writes nothing.
 """
 
 import os
@@ -57,6 +58,8 @@ def main():
             line = last_line(run.stdout, whole.stdout)
             if run.returncode != 1 or line is None:
                 sys.exit(f"refused memory: allocation {refused_at} of {count}: {run}")
+            if line == LAST_LINES[1] and run.stdout != line:
+                sys.exit(f"refused memory: allocation {refused_at}: settings after the script")
             seen.add(line)
         if not seen.issuperset(LAST_LINES[:2]):
             sys.exit(f"refused memory: the last lines were only {seen}")
