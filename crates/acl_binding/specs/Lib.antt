@@ -6,3 +6,6 @@ pub mod Adding
 pub mod Filter
 pub mod Laws
 pub mod Names
+pub mod WireNumbers
+pub mod Creatable
+pub mod Entries

@@ -1,7 +1,7 @@
 //! The book of bindings, each under its creation number.
 
 ghost use Rattle.std.specs.Prelude.{◌≡◌, ◌↔◌, ◌+◌, ◌^◌, ◌<◌, ◌≤◌, [], length, Option, Some, None, IfOk, OnOk, OnErr, IsOk, IsTrue};
-ghost use Rattle.acl_binding.specs.Book.{empty_book, number_of, added, appended};
+ghost use Rattle.acl_binding.specs.Book.{empty_book, number_of, added, appended, IsBook};
 ghost use Rattle.acl_binding.specs.Adding.{adding_answer};
 ghost use Rattle.acl_binding.specs.Filter.{matching, removed};
 ghost use Rattle.acl_binding.specs.Verdict.{verdict_of};
@@ -62,6 +62,14 @@ impl Book {
         ensures { IsTrue result ↔ (self.now.book.entries ≡ []) }
     {
         self.entries.is_empty()
+    }
+
+    /// The bindings in creation order, each with its number.
+    pub fn entries(&self) -> &[Shared<Numbered>]
+        ensures list { result.now ≡ self.now.book.entries }
+        ensures book { IsBook self.now.book }
+    {
+        &self.entries
     }
 
     /// The number that the next new binding gets.

@@ -5,6 +5,8 @@
 
 mod binding;
 mod book;
+mod creatable;
+mod entries;
 mod filter;
 mod laws;
 mod names;
@@ -12,11 +14,15 @@ mod question;
 mod scan;
 #[cfg(test)]
 mod tests;
+mod wire_numbers;
 mod words;
 
 pub use binding::{Binding, Numbered};
 pub use book::{Added, Book};
+pub use creatable::{CLUSTER_NAME, is_principal};
+pub use entries::BadEntry;
 pub use filter::{Filter, FilterPattern};
 pub use laws::{equal_bindings, verdict_is_decided};
 pub use question::{Caller, Question, Verdict};
+pub use scan::{any_grant, first_denial, number_of};
 pub use words::{Kind, Operation, Pattern, Permission};

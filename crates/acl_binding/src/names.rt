@@ -7,16 +7,16 @@ ghost use Rattle.acl_binding.specs.Names.{kind_name, kind_named, all_kinds, patt
 
 use crate::words::{Kind, Operation, Pattern, Permission};
 
-const KINDS: [Kind; 4] = [
+pub(crate) const KINDS: [Kind; 4] = [
     Kind::Topic,
     Kind::Group,
     Kind::Cluster,
     Kind::TransactionalId,
 ];
 
-const PATTERNS: [Pattern; 2] = [Pattern::Literal, Pattern::Prefixed];
+pub(crate) const PATTERNS: [Pattern; 2] = [Pattern::Literal, Pattern::Prefixed];
 
-const OPERATIONS: [Operation; 11] = [
+pub(crate) const OPERATIONS: [Operation; 11] = [
     Operation::All,
     Operation::Read,
     Operation::Write,
@@ -30,7 +30,7 @@ const OPERATIONS: [Operation; 11] = [
     Operation::IdempotentWrite,
 ];
 
-const PERMISSIONS: [Permission; 2] = [Permission::Deny, Permission::Allow];
+pub(crate) const PERMISSIONS: [Permission; 2] = [Permission::Deny, Permission::Allow];
 
 impl Kind {
     /// The kind's name.

@@ -25,3 +25,20 @@ command line that isn't understood.";
 pub(crate) const REPLAY_EXAMPLE: &str = "Example:
 
     kbroker replay < examples/metadata.txt";
+
+pub(crate) const CHECK: &str = "Tells what is wrong with settings";
+
+pub(crate) const CHECK_LONG: &str = "Tells what is wrong with settings.
+
+Standard input holds the settings, from its first line to its last.
+
+Standard output gets `settings ok`, or `settings refused: FAULT`, FAULT being the first of Toml, Key,
+User, Range, TopicName, Twice, Acl, Super and NoMemory that holds. Standard error gets a sentence
+that says which key of which table, and why.
+
+The exit status is 0 where the settings can be taken, 1 where they are refused or can't be read, and
+2 for a command line that isn't understood.";
+
+pub(crate) const CHECK_EXAMPLE: &str = "Example:
+
+    kbroker check < settings.toml";

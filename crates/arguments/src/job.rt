@@ -4,7 +4,7 @@ ghost use Rattle.std.specs.Prelude.{◌≡◌, option_and_then};
 ghost use Rattle.clap.specs.Words.{subcommand_name_of};
 ghost use Rattle.arguments.specs.Job.{job_named};
 
-use crate::help::{PROGRAM, REPLAY, REPLAY_EXAMPLE, REPLAY_LONG};
+use crate::help::{CHECK, CHECK_EXAMPLE, CHECK_LONG, PROGRAM, REPLAY, REPLAY_EXAMPLE, REPLAY_LONG};
 use clap::error::ErrorKind;
 use clap::{ArgMatches, Command, Error};
 use std::alloc::{AllocError, Global};
@@ -14,6 +14,8 @@ use std::alloc::{AllocError, Global};
 pub enum Job {
     /// Answers a script that is read from standard input.
     Replay,
+    /// Tells what is wrong with settings that are read from standard input.
+    Check,
 }
 
 /// The command line that is understood.
@@ -22,11 +24,16 @@ fn command<'a>(alloc: Global) -> Result<Command<'a>, AllocError> {
         .about(REPLAY)
         .long_about(REPLAY_LONG)
         .after_help(REPLAY_EXAMPLE);
+    let check = Command::new(alloc, "check")
+        .about(CHECK)
+        .long_about(CHECK_LONG)
+        .after_help(CHECK_EXAMPLE);
     Command::new(alloc, "kbroker")
         .about(PROGRAM)
         .subcommand_required(true)
         .arg_required_else_help(true)
-        .subcommand(replay)
+        .subcommand(replay)?
+        .subcommand(check)
 }
 
 /// The job of the subcommand that was found in the words.
@@ -35,6 +42,9 @@ fn named_job(matches: &ArgMatches<'_>) -> Option<Job>
 {
     if matches.subcommand_matches("replay").is_some() {
         return Some(Job::Replay);
+    }
+    if matches.subcommand_matches("check").is_some() {
+        return Some(Job::Check);
     }
     None
 }

@@ -11,6 +11,13 @@ fn replay_alone_is_a_job(rt: HostRuntime) -> Result<(), Fail> {
 }
 
 #[test]
+fn check_alone_is_a_job(rt: HostRuntime) -> Result<(), Fail> {
+    let words = ["kbroker", "check"];
+    assert!(rt; matches!(arguments(rt.alloc(), &words), Ok(Job::Check)));
+    Ok(())
+}
+
+#[test]
 fn other_words_are_refused(rt: HostRuntime) -> Result<(), Fail> {
     let words = ["kbroker", "--help"];
     assert!(rt; arguments(rt.alloc(), &words).is_err());

@@ -1,5 +1,5 @@
 -- A change of the book raises the edit number, so that no permit of before is good.
-use Rattle.std.proofs.Common.{◌≡◌, ℕ, suc, ◌+◌, ◌<◌, Option, None, is_some, Bool, true, false, cond, List, [], length, nat_eq, refl, sym, ap, ◌∙◌, arith}
+use Rattle.std.proofs.Common.{◌≡◌, ℕ, ◌+◌, ◌<◌, Option, None, is_some, cond, length, nat_eq, sym, ap, ◌∙◌, arith}
 use Rattle.acl_binding.specs.declared.binding.Binding.{Binding}
 use Rattle.acl_binding.specs.declared.filter.Filter.{Filter}
 use Rattle.acl_binding.specs.Book.{number_of}

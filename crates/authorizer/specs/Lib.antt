@@ -1,3 +1,6 @@
 pub mod Policy
 pub mod Asking
 pub mod Permits
+pub mod Index
+pub mod Looking
+pub mod Kept

@@ -1,6 +1,5 @@
 -- The permits of a part that asks more than one question.
-use Rattle.std.specs.Prelude.{◌≡◌, List, [], ◌∷◌, Option, Some, None, IfSome}
-use Rattle.std.specs.List.{cons_option}
+use Rattle.std.specs.Prelude.{Option, Some, None}
 use Rattle.acl_binding.specs.declared.question.Question.{Question}
 use Rattle.authorizer.specs.declared.permit.Permit.{Permit}
 use Rattle.authorizer.specs.declared.asking.TwoPermits.{TwoPermits}

@@ -1,6 +1,6 @@
 -- A policy: the book of bindings, the super users, and how often the book was changed. A permit: a question that it
 -- granted, with the number of changes at that moment. (Kafka documentation, 'Authorization and ACLs': super.users.)
-use Rattle.std.specs.Prelude.{◌≡◌, ℕ, ◌+◌, ◌<◌, Bool, List, length, nat_eq, is_some, None, if◌then◌else◌}
+use Rattle.std.specs.Prelude.{◌≡◌, ℕ, ◌+◌, ◌*◌, ◌<◌, ◌≤◌, Bool, List, length, nat_eq, is_some, None, if◌then◌else◌}
 use Rattle.std.specs.List.{list_any}
 use Rattle.std.specs.Str.{bytes_eq}
 use Rattle.acl_binding.specs.declared.binding.Binding.{Binding}
@@ -16,6 +16,11 @@ pub record PolicyValue : Type 0 where
   pub book : BookValue
   pub supers : List (List ℕ)
   pub edit : ℕ
+
+-- Each change adds a binding that was not there, or takes out at least one that was added before. So there are fewer
+-- changes than creation numbers, counted twice.
+abbrev pub IsCounted : ℕ → BookValue → Type 0
+IsCounted edit book = edit + length book.entries + 2 ≤ 2 * book.next
 
 -- before the first binding
 abbrev pub first_policy : List (List ℕ) → PolicyValue

@@ -6,7 +6,12 @@
 
 mod answer;
 mod asking;
+mod bucket;
+mod index;
+mod indexed;
 mod laws;
+mod looking;
+mod names;
 mod permit;
 mod policy;
 #[cfg(test)]

@@ -1,14 +1,16 @@
 //! The policy in force: the book of bindings and the super users.
 
-ghost use Rattle.std.specs.Prelude.{◌≡◌, ◌+◌, ◌^◌, ◌<◌, ◌≤◌, length, IfOk, OnOk, OnErr};
+ghost use Rattle.std.specs.Prelude.{◌≡◌, ◌+◌, ◌^◌, ◌<◌, ◌≤◌, true, length, IfOk, OnOk, OnErr};
+ghost use Rattle.std.specs.Str.{chars};
 ghost use Rattle.acl_binding.specs.Adding.{adding_answer};
 ghost use Rattle.acl_binding.specs.Filter.{matching};
 ghost use Rattle.authorizer.specs.Policy.{first_policy, policy_verdict, policy_added, policy_removed, is_super};
 ghost use Rattle.authorizer.specs.Asking.{asking_answer};
 
 use crate::answer::{Answer, Refusal, Why};
+use crate::indexed::IndexedBook;
 use crate::permit::Permit;
-use acl_binding::{Added, Binding, Book, Filter, Question, Verdict};
+use acl_binding::{Added, Binding, Filter, Question, Verdict};
 use std::alloc::{AllocError, Global};
 use std::marker::Model;
 use wire_types::{Items, Text};
@@ -16,7 +18,7 @@ use wire_types::{Items, Text};
 /// The bindings in force and the super users, with the number of changes that the book has seen.
 #[derive(Drop)]
 pub struct Policy {
-    book: Book,
+    book: IndexedBook,
     supers: Items<Text>,
     edit: u64,
 }
@@ -26,7 +28,11 @@ impl Model for Policy {
 
     ghost Value = { PolicyValue };
 
-    ghost view = { λ p. record { book = p.book.book; supers = p.supers; edit = p.edit } };
+    ghost use Rattle.authorizer.specs.Policy.{IsCounted};
+
+    ghost view = { λ p. record { book = p.book; supers = p.supers; edit = p.edit } };
+
+    ghost invariant = { λ p. IsCounted p.edit p.book };
 }
 
 impl Policy {
@@ -35,7 +41,7 @@ impl Policy {
         ensures { result ≡ first_policy supers }
     {
         Policy {
-            book: Book::new(alloc),
+            book: IndexedBook::new(alloc),
             supers,
             edit: 0,
         }
@@ -50,8 +56,7 @@ impl Policy {
 
     /// Adds a binding. The edit number rises where the book changes.
     pub fn add(&mut self, alloc: Global, binding: Binding) -> Result<Added, AllocError>
-        requires next { self.old.book.next + 1 < 2 ^ 64 }
-        requires edit { self.old.edit + 1 < 2 ^ 64 }
+        requires next { self.old.book.next + 1 < 2 ^ 63 }
         requires named { 0 < length binding.name }
         ensures ok { OnOk result (self.new ≡ policy_added self.old binding) }
         ensures number { IfOk result (λ answer. answer ≡ adding_answer self.old.book binding) }
@@ -59,7 +64,6 @@ impl Policy {
 
         // What a caller needs to keep the numbers in their range.
         ensures next { self.new.book.next ≤ self.old.book.next + 1 }
-        ensures edit { self.new.edit ≤ self.old.edit + 1 }
     {
         let answer = self.book.add(alloc, binding)?;
         if let Added::Added(_) = answer {
@@ -78,11 +82,10 @@ impl Policy {
     /// Takes out the bindings that the filter picks, and answers them in creation order. The edit number rises where
     /// there are any.
     pub fn remove(&mut self, alloc: Global, filter: &Filter) -> Result<Items<Binding>, AllocError>
-        requires { self.old.edit + 1 < 2 ^ 64 }
+        requires { self.old.book.next < 2 ^ 63 }
         ensures ok { OnOk result (self.new ≡ policy_removed self.old filter.now) }
         ensures picked { IfOk result (λ list. list ≡ matching self.old.book.entries filter.now) }
         ensures err { OnErr result (self.new ≡ self.old) }
-        ensures edit { self.new.edit ≤ self.old.edit + 1 }
     {
         let picked = self.book.remove(alloc, filter)?;
         if picked.len() != 0 {
@@ -95,11 +98,20 @@ impl Policy {
     pub fn verdict(&self, question: &Question) -> Verdict
         ensures { result ≡ policy_verdict self.now question.now }
     {
+        self.verdict_counted(question).0
+    }
+
+    /// The verdict, and how often a name was looked up for it among the bindings: for a super user never, else at most
+    /// once for each character of the question's name, once for the whole name and once for `*`.
+    pub fn verdict_counted(&self, question: &Question) -> (Verdict, u64)
+        ensures verdict { result.0 ≡ policy_verdict self.now question.now }
+        ensures looked { result.1 ≤ length (chars question.now.name) + 2 }
+        ensures super_user { is_super self.now.supers question.now.who ≡ true → result.1 ≡ 0 }
+    {
         if self.is_super(&question.who) {
-            Verdict::Yes
-        } else {
-            self.book.verdict(question)
+            return (Verdict::Yes, 0);
         }
+        self.book.verdict_counted(question)
     }
 
     /// A permit exactly where the verdict is `Yes`.

@@ -2,6 +2,9 @@
 
 ghost use Rattle.std.specs.Prelude.{◌≡◌, IfOk};
 
+mod by_name;
+mod by_scan;
+
 use crate::{Answer, Policy, TwoPermits, Why, ask_given, ask_one, ask_three, ask_two};
 use acl_binding::{
     Added, Binding, Caller, Kind, Operation, Pattern, Permission, Question, Verdict,
@@ -12,7 +15,7 @@ use wire_types::{Items, Text};
 
 /// A policy with the super user `User:root`.
 fn policy(alloc: Global) -> Result<Policy, AllocError>
-    ensures { IfOk result (λ policy. (policy.book.next ≡ 1) × (policy.edit ≡ 0)) }
+    ensures { IfOk result (λ policy. policy.book.next ≡ 1) }
 {
     let mut supers = Items::new(alloc);
     supers.push(Text::of(alloc, "User:root")?)?;

@@ -1,12 +1,16 @@
 -- What stands written of a script's answer, from line to line.
-use Rattle.std.proofs.Common.{◌≡◌, ℕ, ◌+◌, List, [], ◌∷◌, ◌++◌, refl, ap, sym, ◌∙◌, subst, append_assoc, append-nil, Option, Result, Ok, Err, IsOk, IsErr, IfOk, IfSome, OnOk, Some, None}
+use Rattle.std.proofs.Common.{◌≡◌, ℕ, ◌+◌, Bool, true, ◌==◌, length, List, [], ◌∷◌, ◌++◌, refl, ap, sym, ◌∙◌, subst, append_assoc, append-nil, Option, Result, Ok, Err, IsOk, IsErr, IfOk, IfErr, IfSome, OnOk, Some, None}
 use Rattle.std.specs.Io.KnownBytes.{Appends}
+use Rattle.std.proofs.lemmas.Bool.{eqb-true}
+use Rattle.std.proofs.lemmas.List.{nil_from_length}
 use Rattle.std.proofs.KnownBytes.{Appends-nil, Appends-trans}
 use Rattle.wire_types.specs.Device.{Wrote}
 use Rattle.request_handlers.specs.Core.{CoreValue}
 use Rattle.commands.specs.Lines.{lines_of}
 use Rattle.commands.specs.Replay.{Answer, Turn, goes, ends, line_turn, after, after_turn, script_answer}
-use Rattle.commands.specs.Printed.{Printed, EndsEarly, Replayed, cut}
+use Rattle.commands.specs.declared.cause.Early.{Early}
+use Rattle.commands.specs.declared.cause.Early.TheVariants.{Settings, Write}
+use Rattle.commands.specs.Printed.{IsUnwritten, Printed, EndsEarly, Replayed, cut}
 
 -- a text of two parts before an answer
 after-after : (a b : List ℕ) (x : Answer) → after a (after b x) ≡ after (a ++ b) x
@@ -35,36 +39,48 @@ module _ (w : CoreValue) (n : ℕ) (rest line more done t : List ℕ) (all : Ans
       so_far ∙ ap (λ (ls : List (List ℕ)). after done (script_answer w n ls)) first
       ∙ ap (after done) (ends_here w n line t (lines_of more) turn)
 
+-- a text whose test says so is empty
+pub empty_of : (text : List ℕ) (b : Bool) → b ≡ (length text == 0) → b ≡ true → text ≡ []
+empty_of text b is holds = nil_from_length text (eqb-true (length text) 0 (sym is ∙ holds))
+
+-- no line is left
+pub script_over : (w : CoreValue) (n : ℕ) (rest done : List ℕ) (all : Answer) → rest ≡ [] → all ≡ after done (script_answer w n (lines_of rest)) → (all.text ≡ done) × (all.status ≡ 0)
+script_over w n rest done all empty so_far =
+    let over : all ≡ after done (record { text = []; status = 0 }) = so_far ∙ ap (λ (l : List ℕ). after done (script_answer w n (lines_of l))) empty in
+    (ap (λ (a : Answer). a.text) over ∙ append-nil done, ap (λ (a : Answer). a.status) over)
+
 -- an Ok write appended the whole text
 pub wrote_all : {A E : Type 0} (u v : Option (List ℕ)) (t : List ℕ) (r : Result A E) → Wrote u v t r → IsOk r → Appends u v t
 wrote_all u v t (Ok x) w ok = subst (Appends u v) (sym (w.split ∙ ap (λ l. w.done ++ l) w.all ∙ append-nil w.done)) w.grew
 wrote_all u v t (Err e) w ok = cc
 
-none_if_err : {A E : Type 0} (P : A → Type 0) (r : Result A E) → IsErr r → IfOk r P
-none_if_err P (Ok x) h = cc
-none_if_err P (Err e) h = tt
+-- only refused settings want that nothing was written
+unwritten : (early : Early) (done : List ℕ) → early ≡ Write → IsUnwritten early done
+unwritten early done write settings = absurd (let clash : Write ≡ Settings = sym write ∙ settings in cc)
 
 -- a write that failed cut the answer's text
-pub printed_cut : {A E F : Type 0} (u v w : Option (List ℕ)) (all : Answer) (done t tail : List ℕ) (r : Result A F) (result : Result ℕ E)
-    → all.text ≡ done ++ (t ++ tail) → Appends u v done → Wrote v w t r → IsErr result → Printed u w all result
-printed_cut u v w all done t tail r result split grew wrote err = record {
+pub printed_cut : {A F : Type 0} (u v w : Option (List ℕ)) (all : Answer) (done t tail : List ℕ) (r : Result A F)
+    → all.text ≡ done ++ (t ++ tail) → Appends u v done → Wrote v w t r → Printed u w all (Err Write)
+printed_cut u v w all done t tail r split grew wrote = record {
   done = done ++ wrote.done;
   left = wrote.left ++ tail;
   split = split ∙ ap (λ l. done ++ (l ++ tail)) wrote.split ∙ ap (λ l. done ++ l) (append_assoc wrote.done wrote.left tail)
       ∙ sym (append_assoc done wrote.done (wrote.left ++ tail));
   grew = Appends-trans _ _ _ _ _ grew wrote.grew;
-  all = none_if_err _ result err;
+  all = tt;
+  early = unwritten Write (done ++ wrote.done) refl;
 }
 
 -- the whole text stands written
-pub printed_whole : {E : Type 0} (u v : Option (List ℕ)) (all : Answer) (status : ℕ) (done : List ℕ)
-    → all.text ≡ done → status ≡ all.status → Appends u v done → Printed {E = E} u v all (Ok status)
+pub printed_whole : (u v : Option (List ℕ)) (all : Answer) (status : ℕ) (done : List ℕ)
+    → all.text ≡ done → status ≡ all.status → Appends u v done → Printed u v all (Ok status)
 printed_whole u v all status done text same grew = record {
   done = done;
   left = [];
   split = text ∙ sym (append-nil done);
   grew = grew;
   all = (refl, same);
+  early = tt;
 }
 
 -- a fact of the known bytes from another
@@ -73,9 +89,11 @@ if_some_then P Q None p step = tt
 if_some_then P Q (Some x) p step = step x p
 
 -- a run that ends early
-pub ended_early : {E : Type 0} (u v w : Option (List ℕ)) (answer : Answer) (r : Result ℕ E) → Printed u v answer r → EndsEarly v w → Replayed u w answer 1
-ended_early u v w answer r p (last, is_last, grew) = cut p.done p.left last p.split is_last (Appends-trans _ _ _ _ _ p.grew grew) refl
+pub ended_early : (u v w : Option (List ℕ)) (answer : Answer) (r : Result ℕ Early) (early : Early) → r ≡ Err early → Printed u v answer r → EndsEarly v w early → Replayed u w answer 1
+ended_early u v w answer r early is p (last, is_last, grew) =
+    let unwritten : IsUnwritten early p.done = subst (λ (x : Result ℕ Early). IfErr x (λ e. IsUnwritten e p.done)) is p.early in
+    cut early p.done p.left last p.split unwritten is_last (Appends-trans _ _ _ _ _ p.grew grew) refl
 
 -- a run that wrote nothing and fails
-pub printed_nothing : {E : Type 0} (u : Option (List ℕ)) (answer : Answer) (e : E) → Printed u u answer (Err e)
-printed_nothing u answer e = record { done = []; left = answer.text; split = refl; grew = Appends-nil u; all = tt }
+pub printed_nothing : (u : Option (List ℕ)) (answer : Answer) (early : Early) → Printed u u answer (Err early)
+printed_nothing u answer early = record { done = []; left = answer.text; split = refl; grew = Appends-nil u; all = tt; early = λ settings. refl }

@@ -148,6 +148,10 @@ opened_answer (Ok d) lines = script_answer (opened d.settings) 1 lines
 abbrev pub input_answer : List ℕ → Answer
 input_answer input = opened_answer (document_of_text (settings_part (lines_of input))) (script_part (lines_of input))
 
--- what `replay` is to write for an input, and its status: an input above the limit is a failed read
+-- an input above the limit is a failed read
+abbrev pub within_limit : List ℕ → Answer → Answer
+within_limit input answer = if nat_lt INPUT_LIMIT (length input) then record { text = []; status = 1 } else answer
+
+-- what `replay` is to write for an input, and its status
 abbrev pub replay_answer : List ℕ → Answer
-replay_answer input = if nat_lt INPUT_LIMIT (length input) then record { text = []; status = 1 } else input_answer input
+replay_answer input = within_limit input (input_answer input)

@@ -2,6 +2,7 @@
 #![tactic(auto)]
 
 mod cause;
+mod command;
 mod lines;
 mod order;
 mod run;
@@ -10,4 +11,4 @@ mod tests;
 mod text;
 mod turn;
 
-pub use run::{replay, replay_and_explain};
+pub use run::{check, check_and_explain, replay, replay_and_explain};

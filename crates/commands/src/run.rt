@@ -1,13 +1,17 @@
-//! The command `replay`: settings and a script in, what the broker answers out.
+//! The commands `replay` and `check`: settings and a script in, what the broker answers out; settings in, what is
+//! wrong with them out.
 
-ghost use Rattle.std.specs.Prelude.{◌≡◌, IfSome};
+ghost use Rattle.std.specs.Prelude.{◌≡◌, IfSome, IfErr};
 ghost use Rattle.wire_types.specs.Device.{Wrote};
 ghost use Rattle.request_handlers.specs.Core.{opened};
 ghost use Rattle.commands.specs.Lines.{lines_of};
 ghost use Rattle.commands.specs.Replay.{script_answer, refused_answer, input_answer, replay_answer};
-ghost use Rattle.commands.specs.Printed.{Printed, EndsEarly, Replayed};
+ghost use Rattle.commands.specs.Check.{settings_answer, check_answer, answer_to, command_answer};
+ghost use Rattle.commands.specs.Printed.{Printed, last_words, EndsEarly, Replayed};
+ghost use Rattle.commands.specs.declared.cause.Early.TheVariants.{Write as EarlyWrite};
 
 use crate::cause::{Cause, Early};
+use crate::command::Command;
 use crate::lines::{split_input, split_line};
 use crate::text::{refused_text, stop_text};
 use crate::turn::{Turn, line_turn};
@@ -19,7 +23,8 @@ use wire_types::{InputFault, read_input, write_whole};
 
 /// Writes a text; where a write fails, some of it stands written, from the front.
 fn write_text<W: Write>(writer: &mut W, text: &str) -> Result<(), Early>
-    ensures { Wrote (W.contents writer.old) (W.contents writer.new) text.now result }
+    ensures wrote { Wrote (W.contents writer.old) (W.contents writer.new) text.now result }
+    ensures cause { IfErr result (λ early. early ≡ EarlyWrite) }
 {
     match write_whole(writer, text.as_bytes()) {
         Ok(()) => Ok(()),
@@ -62,9 +67,15 @@ fn run_script<W: Write, E: Write>(
     while !rest.is_empty() {
         let (line, more) = split_line(rest);
         match line_turn(alloc, &mut core, number, line) {
-            Ok(Turn::Goes(text)) => write_text(writer, text.as_str())?,
+            Ok(Turn::Goes(text)) => {
+                if write_text(writer, text.as_str()).is_err() {
+                    return Err(Early::Write);
+                }
+            }
             Ok(Turn::Ends(text, cause)) => {
-                write_text(writer, text.as_str())?;
+                if write_text(writer, text.as_str()).is_err() {
+                    return Err(Early::Write);
+                }
                 explain(alloc, errors, Place::Line(number), cause.sentence());
                 return Ok(1);
             }
@@ -118,33 +129,95 @@ fn answer_input<W: Write, E: Write>(
     }
 }
 
+/// Tells whether settings can be taken.
+fn check_settings<W: Write, E: Write>(
+    alloc: Global,
+    input: &[u8],
+    writer: &mut W,
+    errors: &mut E,
+) -> Result<u8, Early>
+    ensures { Printed (W.contents writer.old) (W.contents writer.new) (settings_answer input.now) result }
+{
+    match document_of_text(alloc, input) {
+        Ok(_document) => {
+            write_text(writer, "settings ok\n")?;
+            Ok(0)
+        }
+        Err(SettingsFault::NoMemory) => Err(Early::Settings),
+        Err(fault) => refuse(alloc, input, fault, writer, errors),
+    }
+}
+
+/// Does what the command asks with a whole input.
+fn answer_to<W: Write, E: Write>(
+    alloc: Global,
+    command: Command,
+    input: &[u8],
+    writer: &mut W,
+    errors: &mut E,
+) -> Result<u8, Early>
+    ensures { Printed (W.contents writer.old) (W.contents writer.new) (answer_to command input.now) result }
+{
+    match command {
+        Command::Replay => answer_input(alloc, input, writer, errors),
+        Command::Check => check_settings(alloc, input, writer, errors),
+    }
+}
+
 /// Reads the input and answers it.
 fn run_whole<R: Read, W: Write, E: Write>(
     alloc: Global,
+    command: Command,
     reader: &mut R,
     writer: &mut W,
     errors: &mut E,
 ) -> Result<u8, Early>
-    ensures { IfSome (R.remaining reader.old) (λ input. Printed (W.contents writer.old) (W.contents writer.new) (replay_answer input) result) }
+    ensures { IfSome (R.remaining reader.old) (λ input. Printed (W.contents writer.old) (W.contents writer.new) (command_answer command input) result) }
 {
     match read_input(alloc, reader) {
-        Ok(input) => answer_input(alloc, input.as_slice(), writer, errors),
+        Ok(input) => answer_to(alloc, command, input.as_slice(), writer, errors),
         Err(InputFault::NoMemory) => Err(Early::Settings),
         Err(InputFault::Read) => Err(Early::Read),
         Err(InputFault::TooLong) => Err(Early::TooLong),
     }
 }
 
-/// Prints the last line of a run that ends early, where memory was refused.
-fn end_early<W: Write>(writer: &mut W, early: Early)
-    ensures { EndsEarly (W.contents writer.old) (W.contents writer.new) }
+/// What is printed last where a run ends early: a line where memory was refused, and else nothing.
+fn last_words(early: Early) -> &'static str
+    ensures { result.now ≡ last_words early }
 {
-    let text = match early {
+    match early {
         Early::Settings => "settings refused: NoMemory\n",
         Early::Script => stop_text(Stop::NoMemory),
-        Early::Read | Early::TooLong | Early::Write => return,
-    };
-    let _ = write_text(writer, text);
+        Early::Read | Early::TooLong | Early::Write => "",
+    }
+}
+
+/// Prints the last words of a run that ends early.
+fn end_early<W: Write>(writer: &mut W, early: Early)
+    ensures { EndsEarly (W.contents writer.old) (W.contents writer.new) early }
+{
+    let _ = write_text(writer, last_words(early));
+}
+
+/// Runs a command, and says in sentences to `errors` what went wrong.
+fn run_and_explain<R: Read, W: Write, E: Write>(
+    alloc: Global,
+    command: Command,
+    reader: &mut R,
+    writer: &mut W,
+    errors: &mut E,
+) -> u8
+    ensures { IfSome (R.remaining reader.old) (λ input. Replayed (W.contents writer.old) (W.contents writer.new) (command_answer command input) result) }
+{
+    match run_whole(alloc, command, reader, writer, errors) {
+        Ok(status) => status,
+        Err(early) => {
+            end_early(writer, early);
+            explain(alloc, errors, Place::Run, early.sentence());
+            1
+        }
+    }
 }
 
 /// The command `replay`, which answers the exit status, and says in sentences to `errors` what went wrong.
@@ -156,14 +229,7 @@ pub fn replay_and_explain<R: Read, W: Write, E: Write>(
 ) -> u8
     ensures { IfSome (R.remaining reader.old) (λ input. Replayed (W.contents writer.old) (W.contents writer.new) (replay_answer input) result) }
 {
-    match run_whole(alloc, reader, writer, errors) {
-        Ok(status) => status,
-        Err(early) => {
-            end_early(writer, early);
-            explain(alloc, errors, Place::Run, early.sentence());
-            1
-        }
-    }
+    run_and_explain(alloc, Command::Replay, reader, writer, errors)
 }
 
 /// The command `replay`: reads settings up to a line `---` or the end of the input, then a script; answers each of
@@ -172,4 +238,24 @@ pub fn replay<R: Read, W: Write>(alloc: Global, reader: &mut R, writer: &mut W) 
     ensures { IfSome (R.remaining reader.old) (λ input. Replayed (W.contents writer.old) (W.contents writer.new) (replay_answer input) result) }
 {
     replay_and_explain(alloc, reader, writer, &mut sink())
+}
+
+/// The command `check`, which answers the exit status, and says in sentences to `errors` what went wrong.
+pub fn check_and_explain<R: Read, W: Write, E: Write>(
+    alloc: Global,
+    reader: &mut R,
+    writer: &mut W,
+    errors: &mut E,
+) -> u8
+    ensures { IfSome (R.remaining reader.old) (λ input. Replayed (W.contents writer.old) (W.contents writer.new) (check_answer input) result) }
+{
+    run_and_explain(alloc, Command::Check, reader, writer, errors)
+}
+
+/// The command `check`: reads settings up to the end of the input, prints `settings ok` or what is wrong with them
+/// first, and gives the exit status.
+pub fn check<R: Read, W: Write>(alloc: Global, reader: &mut R, writer: &mut W) -> u8
+    ensures { IfSome (R.remaining reader.old) (λ input. Replayed (W.contents writer.old) (W.contents writer.new) (check_answer input) result) }
+{
+    check_and_explain(alloc, reader, writer, &mut sink())
 }

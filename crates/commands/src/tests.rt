@@ -1,4 +1,6 @@
 //! Scripts, and what they are answered.
 
+mod acls;
 mod devices;
+mod producers;
 mod scripts;

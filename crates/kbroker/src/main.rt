@@ -2,7 +2,7 @@
 #![tactic(auto)]
 
 use arguments::{Job, arguments};
-use commands::replay_and_explain;
+use commands::{check_and_explain, replay_and_explain};
 use std::alloc::{AllocError, Global};
 use std::io;
 use std::process::ExitCode;
@@ -31,6 +31,7 @@ fn main(rt: HostRuntime) -> io::Result<ExitCode> {
     let mut errors = rt.stderr();
     let status = match job {
         Job::Replay => replay_and_explain(alloc, &mut reader, &mut writer, &mut errors),
+        Job::Check => check_and_explain(alloc, &mut reader, &mut writer, &mut errors),
     };
     Ok(ExitCode::from(status))
 }

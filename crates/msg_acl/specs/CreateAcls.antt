@@ -1,9 +1,11 @@
 -- The grammars of the CreateAcls messages, version 1 (Kafka protocol guide, "CreateAcls API (Key: 30)").
-use Rattle.std.specs.Prelude.{refl}
+use Rattle.std.specs.Prelude.{ℕ, List, refl}
+use Rattle.std.specs.List.{flat_map}
 use Rattle.wire_types.specs.Grammar.{Grammar}
 use Rattle.wire_types.specs.Combinators.{◌⨟◌, struct}
 use Rattle.wire_types.specs.Schema.{array, nullable_string, int32}
 use Rattle.wire_types.specs.ErrorCode.{error_code}
+use Rattle.wire_types.specs.Strings.{text_of}
 use Rattle.msg_acl.specs.Entries.{binding_entry}
 use Rattle.msg_acl.specs.declared.create_acls.CreateAclsRequest.{CreateAclsRequest}
 use Rattle.msg_acl.specs.declared.create_acls.CreatedAcl.{CreatedAcl}
@@ -34,3 +36,11 @@ create_acls_reply = struct
     (λ x. refl) (λ c. refl)
     (int32  -- throttle_time_ms
     ⨟ array created_acl)  -- results
+
+-- ---- the texts of an answer behind a length of two bytes
+
+abbrev pub created_acl_strings : CreatedAcl → List (List ℕ)
+created_acl_strings c = text_of c.message
+
+abbrev pub create_acls_strings : CreateAclsReply → List (List ℕ)
+create_acls_strings c = flat_map created_acl_strings c.results

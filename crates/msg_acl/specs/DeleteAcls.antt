@@ -1,10 +1,12 @@
 -- The grammars of the DeleteAcls messages, version 1 (Kafka protocol guide, "DeleteAcls API (Key: 31)").
-use Rattle.std.specs.Prelude.{refl}
+use Rattle.std.specs.Prelude.{ℕ, List, ◌++◌, refl}
+use Rattle.std.specs.List.{flat_map}
 use Rattle.wire_types.specs.Grammar.{Grammar}
 use Rattle.wire_types.specs.Combinators.{◌⨟◌, struct}
 use Rattle.wire_types.specs.Schema.{array, nullable_string, int32}
 use Rattle.wire_types.specs.ErrorCode.{error_code}
-use Rattle.msg_acl.specs.Entries.{binding_entry, filter_entry}
+use Rattle.wire_types.specs.Strings.{text_of}
+use Rattle.msg_acl.specs.Entries.{binding_entry, filter_entry, binding_strings}
 use Rattle.msg_acl.specs.declared.delete_acls.DeleteAclsRequest.{DeleteAclsRequest}
 use Rattle.msg_acl.specs.declared.delete_acls.DeletedAcl.{DeletedAcl}
 use Rattle.msg_acl.specs.declared.delete_acls.DeletedAcls.{DeletedAcls}
@@ -46,3 +48,14 @@ delete_acls_reply = struct
     (λ x. refl) (λ d. refl)
     (int32  -- throttle_time_ms
     ⨟ array deleted_acls)  -- filter_results
+
+-- ---- the texts of an answer behind a length of two bytes
+
+abbrev pub deleted_acl_strings : DeletedAcl → List (List ℕ)
+deleted_acl_strings d = text_of d.message ++ binding_strings d.binding
+
+abbrev pub deleted_acls_strings : DeletedAcls → List (List ℕ)
+deleted_acls_strings d = text_of d.message ++ flat_map deleted_acl_strings d.matches
+
+abbrev pub delete_acls_strings : DeleteAclsReply → List (List ℕ)
+delete_acls_strings d = flat_map deleted_acls_strings d.results

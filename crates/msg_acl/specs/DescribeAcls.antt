@@ -1,9 +1,11 @@
 -- The grammars of the DescribeAcls messages, version 1 (Kafka protocol guide, "DescribeAcls API (Key: 29)").
-use Rattle.std.specs.Prelude.{refl}
+use Rattle.std.specs.Prelude.{ℕ, List, [], ◌∷◌, ◌++◌, refl}
+use Rattle.std.specs.List.{flat_map}
 use Rattle.wire_types.specs.Grammar.{Grammar}
 use Rattle.wire_types.specs.Combinators.{◌⨟◌, struct}
 use Rattle.wire_types.specs.Schema.{string, int8, array, int32, nullable_string}
 use Rattle.wire_types.specs.ErrorCode.{error_code}
+use Rattle.wire_types.specs.Strings.{text_of}
 use Rattle.msg_acl.specs.Entries.{filter_entry}
 use Rattle.msg_acl.specs.declared.describe_acls.DescribeAclsRequest.{DescribeAclsRequest}
 use Rattle.msg_acl.specs.declared.describe_acls.DescribedAcl.{DescribedAcl}
@@ -50,3 +52,14 @@ describe_acls_reply = struct
     ⨟ error_code  -- error_code
     ⨟ nullable_string  -- error_message
     ⨟ array described_resource)  -- resources
+
+-- ---- the texts of an answer behind a length of two bytes
+
+abbrev pub described_acl_strings : DescribedAcl → List (List ℕ)
+described_acl_strings d = d.principal ∷ d.host ∷ []
+
+abbrev pub described_resource_strings : DescribedResource → List (List ℕ)
+described_resource_strings d = d.name ∷ flat_map described_acl_strings d.acls
+
+abbrev pub describe_acls_strings : DescribeAclsReply → List (List ℕ)
+describe_acls_strings d = text_of d.message ++ flat_map described_resource_strings d.resources

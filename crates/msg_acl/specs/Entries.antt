@@ -1,5 +1,5 @@
 -- Bindings and filters in the messages about access control (Kafka protocol guide, "CreateAcls API (Key: 30)", "DescribeAcls API (Key: 29)").
-use Rattle.std.specs.Prelude.{refl}
+use Rattle.std.specs.Prelude.{ℕ, List, [], ◌∷◌, refl}
 use Rattle.wire_types.specs.Grammar.{Grammar}
 use Rattle.wire_types.specs.Combinators.{◌⨟◌, struct}
 use Rattle.wire_types.specs.Schema.{int8, string, nullable_string}
@@ -33,3 +33,7 @@ filter_entry = struct
     ⨟ nullable_string  -- host_filter
     ⨟ int8  -- operation
     ⨟ int8)  -- permission_type
+
+-- the texts behind a length of two bytes
+abbrev pub binding_strings : BindingEntry → List (List ℕ)
+binding_strings b = b.name ∷ b.principal ∷ b.host ∷ []

@@ -5,28 +5,32 @@ use Rattle.std.specs.Option.{IsSomeAnd}
 use Rattle.std.proofs.lemmas.List.{length-append, drop_at}
 use Rattle.wire_types.specs.declared.fault.ReadFault.{ReadFault}
 use Rattle.wire_types.specs.Grammar.{Grammar, IsBytes}
-use Rattle.wire_types.specs.Spelling.{int_written, null_behind_written}
 use Rattle.wire_types.specs.ListLaws.{and_parts}
 use Rattle.wire_types.specs.NumberLaws.{ok_is, IsBytes-front, IsBytes-rest}
 use Rattle.wire_types.specs.Combinators.{◌⨟◌}
-use Rattle.wire_types.specs.Schema.{int16, int32, nullable_string}
+use Rattle.wire_types.specs.Schema.{int32}
 use Rattle.msg_data.specs.Produce.{produce_request}
 use Rattle.msg_data.specs.Fetch.{fetch_request}
 use Rattle.msg_data.specs.ListOffsets.{list_offsets_request}
 use Rattle.msg_data.specs.Metadata.{metadata_request}
+use Rattle.msg_acl.specs.DescribeAcls.{describe_acls_request}
+use Rattle.msg_acl.specs.CreateAcls.{create_acls_request}
+use Rattle.msg_acl.specs.DeleteAcls.{delete_acls_request}
+use Rattle.msg_txn.specs.InitProducerId.{init_producer_id_request}
 use Rattle.msg_admin.specs.declared.api.Api.{Api}
 use Rattle.msg_admin.specs.declared.api.Api.TheVariants as apis
 use Rattle.msg_admin.specs.declared.header.Header.{Header}
 use Rattle.msg_admin.specs.declared.request.Request.{Request}
 use Rattle.msg_admin.specs.declared.request.Request.TheVariants as requests
 use Rattle.msg_admin.specs.declared.reply.Reply.{Reply}
-use Rattle.msg_admin.specs.Api.{api_at}
-use Rattle.msg_admin.specs.Header.{header}
-use Rattle.msg_admin.specs.Bodies.{api_of, sent_as, request_body, reply_body, asked_produce, produce-asked, asked_fetch, fetch-asked, asked_list_offsets, list_offsets-asked, asked_metadata, metadata-asked}
+use Rattle.msg_admin.specs.Api.{api_at, is_flexible}
+use Rattle.msg_admin.specs.Header.{header, request_header, response_header, least_header}
+use Rattle.msg_admin.specs.Bodies.{api_of, sent_as, request_body, reply_body, asked_produce, produce-asked, asked_fetch, fetch-asked, asked_list_offsets, list_offsets-asked, asked_metadata, metadata-asked, asked_init_producer_id, init_producer_id-asked, asked_describe_acls, describe_acls-asked, asked_create_acls, create_acls-asked, asked_delete_acls, delete_acls-asked}
 use Rattle.msg_admin.specs.Frame.{framed}
 use Rattle.msg_admin.specs.Request.{IsRequest, Fits, is_writable}
 use Rattle.msg_admin.specs.Response.{response_as, response_text, sendable_as}
 use Rattle.msg_admin.specs.Laws.{OneRequest, WrittenIsRead, SpellsFitting, OneReply}
+use Rattle.msg_admin.proofs.Headers.{headed-in_type, header_len}
 use Rattle.msg_admin.proofs.Readings.{request-again}
 use Rattle.msg_admin.proofs.Replies.{sendable, int32_len}
 
@@ -38,8 +42,9 @@ one_request bytes g h q r i j =
 pub written_is_read : WrittenIsRead
 unfolding is_writable
 written_is_read h r types served writable =
-    let fits = and_parts (header.fits h) ((request_body (api_of r)).fits r) (and_parts (header.fits h && (request_body (api_of r)).fits r) _ writable).0 in
-    (header.written h, (request_body (api_of r)).written r, api_of r, refl, header.canonical h types.0 fits.0, served, (request_body (api_of r)).canonical r types.1 fits.1)
+    let head = request_header (api_of r) in
+    let fits = and_parts (head.fits h) ((request_body (api_of r)).fits r) (and_parts (head.fits h && (request_body (api_of r)).fits r) _ writable).0 in
+    (head.written h, (request_body (api_of r)).written r, api_of r, refl, head.canonical h (headed-in_type header (is_flexible (api_of r)) h types.0) fits.0, served, (request_body (api_of r)).canonical r types.1 fits.1)
 
 -- ---- what was read fits
 
@@ -54,24 +59,19 @@ spelled_api apis.Produce text r h = ap api_of (sym (of_variant requests.Produce 
 spelled_api apis.Fetch text r h = ap api_of (sym (of_variant requests.Fetch asked_fetch (fetch_request.Spells text) r (fetch-asked r) (asked_fetch r) refl h).1)
 spelled_api apis.ListOffsets text r h = ap api_of (sym (of_variant requests.ListOffsets asked_list_offsets (list_offsets_request.Spells text) r (list_offsets-asked r) (asked_list_offsets r) refl h).1)
 spelled_api apis.Metadata text r h = ap api_of (sym (of_variant requests.Metadata asked_metadata (metadata_request.Spells text) r (metadata-asked r) (asked_metadata r) refl h).1)
-
-client_len : (client : Option (List ℕ)) → 2 ≤ length (nullable_string.written client)
-unfolding null_behind_written int_written
-client_len None = omega arith
-client_len (Some text) = omega arith
-
-header_len : (h : Header) → 10 ≤ length (header.written h)
-unfolding int_written
-header_len h = omega (arith, client_len h.client, length-append (int16.written h.key) (int16.written h.version))
+spelled_api apis.InitProducerId text r h = ap api_of (sym (of_variant requests.InitProducerId asked_init_producer_id (init_producer_id_request.Spells text) r (init_producer_id-asked r) (asked_init_producer_id r) refl h).1)
+spelled_api apis.DescribeAcls text r h = ap api_of (sym (of_variant requests.DescribeAcls asked_describe_acls (describe_acls_request.Spells text) r (describe_acls-asked r) (asked_describe_acls r) refl h).1)
+spelled_api apis.CreateAcls text r h = ap api_of (sym (of_variant requests.CreateAcls asked_create_acls (create_acls_request.Spells text) r (create_acls-asked r) (asked_create_acls r) refl h).1)
+spelled_api apis.DeleteAcls text r h = ap api_of (sym (of_variant requests.DeleteAcls asked_delete_acls (delete_acls_request.Spells text) r (delete_acls-asked r) (asked_delete_acls r) refl h).1)
 
 pub read_fits : (bytes : List ℕ) → IsBytes bytes → SpellsFitting bytes
 read_fits bytes are within h r i =
     let parts : IsBytes (i.0 ++ i.1) = subst IsBytes i.3 are in
-    let head = header.shortest i.0 h (IsBytes-front i.0 i.1 parts) i.4 in
+    let head = (request_header i.2).shortest i.0 h (IsBytes-front i.0 i.1 parts) i.4 in
     let body = (request_body i.2).shortest i.1 r (IsBytes-rest i.0 i.1 parts) i.6 in
     let lens : length bytes ≡ length i.0 + length i.1 = ap length i.3 ∙ length-append i.0 i.1 in
-    let short : 10 + length ((request_body i.2).written r) ≤ 104857600 = omega (arith, head.2, body.2, header_len h, lens) in
-    subst (λ (api : Api). ((request_body api).fits r ≡ true) × (10 + length ((request_body api).written r) ≤ 104857600)) (sym (spelled_api i.2 i.1 r i.6)) (body.1, short)
+    let short : least_header (is_flexible i.2) + length ((request_body i.2).written r) ≤ 104857600 = omega (arith, head.2, body.2, header_len (is_flexible i.2) h, lens) in
+    subst (λ (api : Api). ((request_body api).fits r ≡ true) × (least_header (is_flexible api) + length ((request_body api).written r) ≤ 104857600)) (sym (spelled_api i.2 i.1 r i.6)) (body.1, short)
 
 -- ---- what was written fixes the reply
 
@@ -89,17 +89,18 @@ behind_size text = drop_at (int32.written (pos (length text))) text 4 (int32_len
 as_api : (o : Option Api) (api : Api) (c : ℤ) (r : Reply) → o ≡ Some api → response_as o c r ≡ framed (response_text c api r)
 as_api o api c r e = ap (λ (x : Option Api). response_as x c r) e
 
-fits_as : (o : Option Api) (api : Api) (c : ℤ) (r : Reply) → o ≡ Some api → sendable_as o c r ≡ true → (reply_body api).fits r ≡ true
-fits_as o api c r e all = (and_parts ((reply_body api).fits r) _ (sym (ap (λ (x : Option Api). sendable_as x c r) e) ∙ all)).0
+fits_as : (o : Option Api) (api : Api) (c : ℤ) (r : Reply) → o ≡ Some api → sendable_as o c r ≡ true → ((response_header api).fits c && (reply_body api).fits r) ≡ true
+fits_as o api c r e all = (and_parts ((response_header api).fits c && (reply_body api).fits r) _ (sym (ap (λ (x : Option Api). sendable_as x c r) e) ∙ all)).0
 
 pub one_reply : OneReply
 one_reply api c d q r as_q as_r type_q type_r short_q short_r e =
-    let both : Grammar (ℤ × Reply) = int32 ⨟ reply_body api in
+    let both : Grammar (ℤ × Reply) = response_header api ⨟ reply_body api in
+    let typed : (z : ℤ) → int32.InType z → (response_header api).InType z = headed-in_type int32 (is_flexible api) in
     let fit_q = fits_as (sent_as q) api c q as_q (sendable c q short_q) in
     let fit_r = fits_as (sent_as r) api d r as_r (sendable d r short_r) in
     let frames : framed (response_text c api q) ≡ framed (response_text d api r) = sym (as_api (sent_as q) api c q as_q) ∙ e ∙ as_api (sent_as r) api d r as_r in
     let texts : response_text c api q ≡ response_text d api r = sym (behind_size (response_text c api q)) ∙ ap (drop 4) frames ∙ behind_size (response_text d api r) in
-    let same : (c, q) ≡ (d, r) = one_value both (c, q) (d, r) type_q type_r fit_q fit_r texts in
+    let same : (c, q) ≡ (d, r) = one_value both (c, q) (d, r) (typed c type_q.0, type_q.1) (typed d type_r.0, type_r.1) fit_q fit_r texts in
     (ap (λ (x : ℤ × Reply). x.0) same, ap (λ (x : ℤ × Reply). x.1) same)
 
 pub found_fits : (bytes : List ℕ) (result : Result (Header × Request) ReadFault) → SpellsFitting bytes → IfOk result (λ x. IsRequest bytes x.0 x.1)

@@ -1,5 +1,5 @@
 -- Which replies are too long, and what the bytes of a response say.
-use Rattle.std.proofs.Common.{◌≡◌, ℕ, ℤ, ◌+◌, ◌<◌, suc, ◌^◌, ◌⊎◌, Bool, true, false, ltb, leb, List, [], ◌∷◌, length, get_or, Option, Some, None, Result, Ok, Err, refl, sym, ap, ◌∙◌, arith, inl, inr}
+use Rattle.std.proofs.Common.{◌≡◌, ℕ, ℤ, ◌+◌, ◌<◌, suc, ◌^◌, ◌⊎◌, Bool, true, false, ◌&&◌, ltb, leb, List, [], ◌∷◌, length, get_or, Option, Some, None, Result, Ok, Err, refl, sym, ap, ◌∙◌, arith, inl, inr}
 use Rattle.std.specs.Prelude.{OnOk}
 use Rattle.std.specs.List.{Any, list_all}
 use Rattle.std.proofs.lemmas.Bool.{lt-ltb, ltb-true, lt-leb, cases_lt, le-leb}
@@ -11,12 +11,16 @@ use Rattle.wire_types.specs.ListLaws.{and_parts}
 use Rattle.wire_types.specs.Spelling.{int_written}
 use Rattle.wire_types.specs.Schema.{int32}
 use Rattle.msg_data.specs.Strings.{is_short}
+use Rattle.msg_acl.proofs.ReplyStrings.{describe_acls_tells, create_acls_tells, delete_acls_tells}
+use Rattle.msg_txn.proofs.ReplyStrings.{init_producer_id_tells}
 use Rattle.msg_data.proofs.ReplyStrings.{produce_tells, fetch_tells, list_offsets_tells, metadata_tells}
 use Rattle.msg_admin.specs.declared.api.Api.{Api}
 use Rattle.msg_admin.specs.declared.reply.Reply.{Reply}
 use Rattle.msg_admin.specs.declared.reply.Reply.TheVariants as replies
+use Rattle.msg_admin.specs.Header.{response_header}
 use Rattle.msg_admin.specs.Bodies.{sent_as, strings_of, reply_body}
 use Rattle.msg_admin.specs.Response.{response_text, IsTooLongAs, IsTooLong, sendable_as, is_sendable, GivesReply}
+use Rattle.msg_admin.proofs.Headers.{correlation_fits}
 
 differ : (b : Bool) → b ≡ true → b ≡ false → ⊥
 differ b p q = cc
@@ -57,6 +61,10 @@ decided (replies.SilentProduce m) = tt
 decided (replies.Fetch m) = (fetch_tells.short m, fetch_tells.fits m)
 decided (replies.ListOffsets m) = (list_offsets_tells.short m, list_offsets_tells.fits m)
 decided (replies.Metadata m) = (metadata_tells.short m, metadata_tells.fits m)
+decided (replies.InitProducerId m) = (init_producer_id_tells.short m, init_producer_id_tells.fits m)
+decided (replies.DescribeAcls m) = (describe_acls_tells.short m, describe_acls_tells.fits m)
+decided (replies.CreateAcls m) = (create_acls_tells.short m, create_acls_tells.fits m)
+decided (replies.DeleteAcls m) = (delete_acls_tells.short m, delete_acls_tells.fits m)
 
 -- ---- too long, or not
 
@@ -64,13 +72,15 @@ pub int32_len : (z : ℤ) → length (int32.written z) ≡ 4
 unfolding int_written
 int32_len z = refl
 
-text_len : (api : Api) (c : ℤ) (r : Reply) → length (response_text c api r) ≡ 4 + length ((reply_body api).written r)
-text_len api c r = length-append (int32.written c) ((reply_body api).written r) ∙ ap (λ (n : ℕ). n + length ((reply_body api).written r)) (int32_len c)
+text_len : (api : Api) (c : ℤ) (r : Reply) → length (response_text c api r) ≡ length ((response_header api).written c) + length ((reply_body api).written r)
+text_len api c r = length-append ((response_header api).written c) ((reply_body api).written r)
 
 not_long : (o : Option Api) (c : ℤ) (r : Reply) → Decided o r → sendable_as o c r ≡ true → IsTooLongAs o c r → ⊥
 not_long None c r d e long = long
-not_long (Some api) c r d e (inl long) = short_everywhere (strings_of r) (d.0 (and_parts _ _ e).0) long
-not_long (Some api) c r d e (inr long) = absurd (omega (arith, long, ltb-true _ _ (and_parts ((reply_body api).fits r) _ e).1))
+not_long (Some api) c r d e (inl long) =
+    let both = (and_parts ((response_header api).fits c && (reply_body api).fits r) _ e).0 in
+    short_everywhere (strings_of r) (d.0 (and_parts ((response_header api).fits c) _ both).1) long
+not_long (Some api) c r d e (inr long) = absurd (omega (arith, long, ltb-true _ _ (and_parts ((response_header api).fits c && (reply_body api).fits r) _ e).1))
 
 too_long : (o : Option Api) (c : ℤ) (r : Reply) → Decided o r → sendable_as o c r ≡ false → IsTooLongAs o c r
 too_long None c r d e = absurd cc
@@ -83,7 +93,7 @@ too_long (Some api) c r d e =
             | inr within ↦
                 let lt : ltb (length (response_text c api r)) (2 ^ 31) ≡ true = lt-ltb _ _ (omega arith) in
                 let fits : (reply_body api).fits r ≡ true = d.1 short (omega (arith, text_len api c r)) in
-                absurd (differ (sendable_as (Some api) c r) (rw (fits, lt) refl) e)
+                absurd (differ (sendable_as (Some api) c r) (rw (correlation_fits api c, fits, lt) refl) e)
           ]
     ]
 

@@ -103,3 +103,13 @@ frame_is {A} {B} f g x y size sized headed whole is first second third =
     let both : Grammar (A × B) = f ⨟ g in
     let put : whole ≡ both.put sized (x, y) = third ∙ ap (λ (t : List ℕ). g.put t y) second in
     put ∙ both.puts sized (x, y) ∙ ap (λ (t : List ℕ). t ++ both.written (x, y)) (first ∙ ap (λ (n : ℕ). int32.written (pos n)) is)
+
+-- ---- a header alone
+
+pub alone_refused : {A : Type 0} (g : Grammar A) (x : A) (e : WriteFault) (r : Result (List ℕ) WriteFault) (whole new : List ℕ)
+    → Writes {T = Unit {0}} (g.fits x) whole (Err e) new → IsErrAnd r (λ d. d ≡ e) → GivesFrame g x r
+unfolding frame_fits
+alone_refused g x e r whole new h is = passed_on g x e r (refused (g.fits x) (frame_fits g x) e whole new (λ no. rw no refl) h) is
+
+pub alone_is : {A : Type 0} (g : Grammar A) (x : A) (size : ℕ) (sized whole : List ℕ) → size ≡ length (g.written x) → sized ≡ int32.written (pos size) → whole ≡ g.put sized x → whole ≡ framed (g.written x)
+alone_is g x size sized whole is first second = second ∙ g.puts sized x ∙ ap (λ (t : List ℕ). t ++ g.written x) (first ∙ ap (λ (n : ℕ). int32.written (pos n)) is)

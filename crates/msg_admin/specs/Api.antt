@@ -1,5 +1,5 @@
 -- The apis that are served, each under its key in one version (Kafka protocol guide, "Api Keys").
-use Rattle.std.specs.Prelude.{◌≡◌, ℤ, pos, ◌&&◌, List, [], ◌∷◌, Option, Some, refl}
+use Rattle.std.specs.Prelude.{◌≡◌, ℤ, pos, Bool, false, ◌&&◌, List, [], ◌∷◌, Option, Some, refl}
 use Rattle.std.specs.List.{find}
 use Rattle.std.specs.Ordering.{int_eq}
 use Rattle.msg_admin.specs.declared.api.Api.{Api}
@@ -10,15 +10,34 @@ key_of apis.Produce = pos 0
 key_of apis.Fetch = pos 1
 key_of apis.ListOffsets = pos 2
 key_of apis.Metadata = pos 3
+key_of apis.InitProducerId = pos 22
+key_of apis.DescribeAcls = pos 29
+key_of apis.CreateAcls = pos 30
+key_of apis.DeleteAcls = pos 31
 
 unfoldable pub version_of : Api → ℤ
 version_of apis.Produce = pos 3
 version_of apis.Fetch = pos 4
 version_of apis.ListOffsets = pos 2
 version_of apis.Metadata = pos 1
+version_of apis.InitProducerId = pos 0
+version_of apis.DescribeAcls = pos 1
+version_of apis.CreateAcls = pos 1
+version_of apis.DeleteAcls = pos 1
+
+-- whether that version is a flexible one (KIP-482, "The Kafka Protocol should Support Optional Tagged Fields")
+unfoldable pub is_flexible : Api → Bool
+is_flexible apis.Produce = false
+is_flexible apis.Fetch = false
+is_flexible apis.ListOffsets = false
+is_flexible apis.Metadata = false
+is_flexible apis.InitProducerId = false
+is_flexible apis.DescribeAcls = false
+is_flexible apis.CreateAcls = false
+is_flexible apis.DeleteAcls = false
 
 unfoldable pub all_apis : List Api
-all_apis = apis.Produce ∷ apis.Fetch ∷ apis.ListOffsets ∷ apis.Metadata ∷ []
+all_apis = apis.Produce ∷ apis.Fetch ∷ apis.ListOffsets ∷ apis.Metadata ∷ apis.InitProducerId ∷ apis.DescribeAcls ∷ apis.CreateAcls ∷ apis.DeleteAcls ∷ []
 
 -- the api that is served under a key in a version
 unfoldable pub api_at : ℤ → ℤ → Option Api
@@ -31,3 +50,7 @@ api_at-own apis.Produce = refl
 api_at-own apis.Fetch = refl
 api_at-own apis.ListOffsets = refl
 api_at-own apis.Metadata = refl
+api_at-own apis.InitProducerId = refl
+api_at-own apis.DescribeAcls = refl
+api_at-own apis.CreateAcls = refl
+api_at-own apis.DeleteAcls = refl

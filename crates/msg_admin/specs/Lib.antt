@@ -4,4 +4,5 @@ pub mod Frame
 pub mod Bodies
 pub mod Request
 pub mod Response
+pub mod Versions
 pub mod Laws

@@ -1,16 +1,16 @@
--- Responses: Response Header v0 => correlation_id, and the answer behind it (Kafka protocol guide, "Request and Response Headers").
+-- Responses: a header that has the correlation id, and the answer behind it (Kafka protocol guide, "Common Request and Response Structure").
 use Rattle.std.specs.Prelude.{◌<◌, ◌^◌, ◌⊎◌, ℕ, ℤ, List, [], ◌++◌, length, Bool, true, ◌&&◌, nat_lt, Option, Some, None, Result}
 use Rattle.std.specs.List.{Any}
 use Rattle.wire_types.specs.declared.fault.WriteFault.{WriteFault}
-use Rattle.wire_types.specs.Schema.{int32}
 use Rattle.msg_admin.specs.declared.api.Api.{Api}
 use Rattle.msg_admin.specs.declared.reply.Reply.{Reply}
+use Rattle.msg_admin.specs.Header.{response_header}
 use Rattle.msg_admin.specs.Bodies.{sent_as, strings_of, reply_body}
 use Rattle.msg_admin.specs.Frame.{framed, Gives}
 
 -- what stands behind the size field
 abbrev pub response_text : ℤ → Api → Reply → List ℕ
-response_text correlation api r = int32.written correlation ++ (reply_body api).written r
+response_text correlation api r = (response_header api).written correlation ++ (reply_body api).written r
 
 abbrev pub response_as : Option Api → ℤ → Reply → List ℕ
 response_as None correlation r = []
@@ -36,7 +36,7 @@ IsTooLong correlation r = IsTooLongAs (sent_as r) correlation r
 
 abbrev pub sendable_as : Option Api → ℤ → Reply → Bool
 sendable_as None correlation r = true
-sendable_as (Some api) correlation r = (reply_body api).fits r && nat_lt (length (response_text correlation api r)) (2 ^ 31)
+sendable_as (Some api) correlation r = ((response_header api).fits correlation && (reply_body api).fits r) && nat_lt (length (response_text correlation api r)) (2 ^ 31)
 
 unfoldable pub is_sendable : ℤ → Reply → Bool
 is_sendable correlation r = sendable_as (sent_as r) correlation r

@@ -3,7 +3,7 @@
 ghost use Rattle.std.specs.Prelude.{◌≡◌, ◌&&◌};
 ghost use Rattle.std.specs.List.{find};
 ghost use Rattle.std.specs.Ordering.{int_eq};
-ghost use Rattle.msg_admin.specs.Api.{key_of, version_of, api_at};
+ghost use Rattle.msg_admin.specs.Api.{key_of, version_of, is_flexible, api_at};
 
 /// What a request may ask for.
 #[derive(Clone, Copy, Debug, PartialEq, Eq)]
@@ -12,11 +12,24 @@ pub enum Api {
     Fetch = 1,
     ListOffsets = 2,
     Metadata = 3,
+    InitProducerId = 22,
+    DescribeAcls = 29,
+    CreateAcls = 30,
+    DeleteAcls = 31,
 }
 
 impl Api {
     /// Every api, in rising order of keys.
-    pub const ALL: [Api; 4] = [Api::Produce, Api::Fetch, Api::ListOffsets, Api::Metadata];
+    pub const ALL: [Api; 8] = [
+        Api::Produce,
+        Api::Fetch,
+        Api::ListOffsets,
+        Api::Metadata,
+        Api::InitProducerId,
+        Api::DescribeAcls,
+        Api::CreateAcls,
+        Api::DeleteAcls,
+    ];
 
     /// The number under which a request names the api.
     #[tactic(auto, unfolding(crate::specs::Api::key_of))]
@@ -36,6 +49,22 @@ impl Api {
             Api::Fetch => 4,
             Api::ListOffsets => 2,
             Api::Metadata => 1,
+            Api::InitProducerId => 0,
+            Api::DescribeAcls => 1,
+            Api::CreateAcls => 1,
+            Api::DeleteAcls => 1,
+        }
+    }
+
+    /// Whether that version is a flexible one, whose headers end in a tagged section.
+    #[tactic(auto, unfolding(crate::specs::Api::is_flexible))]
+    pub fn is_flexible(self) -> bool
+        ensures { result ≡ is_flexible self }
+    {
+        match self {
+            Api::Produce | Api::Fetch | Api::ListOffsets | Api::Metadata => false,
+            Api::InitProducerId => false,
+            Api::DescribeAcls | Api::CreateAcls | Api::DeleteAcls => false,
         }
     }
 

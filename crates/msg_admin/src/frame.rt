@@ -2,8 +2,10 @@
 
 ghost use Rattle.std.specs.Prelude.{◌≡◌};
 ghost use Rattle.wire_types.specs.Combinators.{◌⨟◌};
+ghost use Rattle.msg_admin.specs.Header.{headed};
 ghost use Rattle.msg_admin.specs.Frame.{GivesFrame, TellsSize};
 
+use crate::header::{header_room, write_header};
 use bytes::Bytes;
 use std::alloc::Global;
 use wire_types::{Wire, WriteFault, write_i32};
@@ -14,35 +16,68 @@ const GREATEST: usize = 2_147_483_647;
 /// The size of a header and a body, and the two.
 pub(crate) fn write_frame<H: Wire, B: Wire>(
     alloc: Global,
+    flexible: bool,
     header: &H,
     body: &B,
 ) -> Result<Bytes, WriteFault>
-    ensures { GivesFrame (H.grammar ⨟ B.grammar) (header.now, body.now) result }
+    ensures { GivesFrame (headed flexible H.grammar ⨟ B.grammar) (header.now, body.now) result }
 {
-    let Some(size) = frame_size(header, body) else {
+    let Some(size) = frame_size(flexible, header, body) else {
         return Err(WriteFault::TooLong);
     };
     let mut out = Vec::with_capacity(alloc, 4 + size)?;
     write_i32(&mut out, size as i32)?;
-    header.write(&mut out)?;
+    write_header(&mut out, flexible, header)?;
     body.write(&mut out)?;
     Ok(Bytes::from_vec(out)?)
 }
 
 /// What the size field tells of a header and a body, if it can.
-fn frame_size<H: Wire, B: Wire>(header: &H, body: &B) -> Option<usize>
-    ensures { TellsSize (H.grammar ⨟ B.grammar) (header.now, body.now) result }
+fn frame_size<H: Wire, B: Wire>(flexible: bool, header: &H, body: &B) -> Option<usize>
+    ensures { TellsSize (headed flexible H.grammar ⨟ B.grammar) (header.now, body.now) result }
 {
-    match room_behind_both(header, body, GREATEST) {
+    match room_behind_both(flexible, header, body, GREATEST) {
         Some(left) => Some(GREATEST - left),
         None => None,
     }
 }
 
 /// What a header and a body leave of a room.
-fn room_behind_both<H: Wire, B: Wire>(header: &H, body: &B, room: usize) -> Option<usize>
-    ensures { result ≡ (H.grammar ⨟ B.grammar).left (header.now, body.now) room }
+fn room_behind_both<H: Wire, B: Wire>(
+    flexible: bool,
+    header: &H,
+    body: &B,
+    room: usize,
+) -> Option<usize>
+    ensures { result ≡ (headed flexible H.grammar ⨟ B.grammar).left (header.now, body.now) room }
 {
-    let room = header.room_left(room)?;
+    let room = header_room(flexible, header, room)?;
     body.room_left(room)
+}
+
+/// The size of a header alone, and the header: a request whose body is empty.
+pub(crate) fn write_header_frame<H: Wire>(
+    alloc: Global,
+    flexible: bool,
+    header: &H,
+) -> Result<Bytes, WriteFault>
+    ensures { GivesFrame (headed flexible H.grammar) header.now result }
+{
+    let Some(count) = header_size(flexible, header) else {
+        return Err(WriteFault::TooLong);
+    };
+    let mut out = Vec::with_capacity(alloc, 4 + count)?;
+    write_i32(&mut out, count as i32)?;
+    write_header(&mut out, flexible, header)?;
+    Ok(Bytes::from_vec(out)?)
+}
+
+/// What the size field tells of a header alone, if it can.
+fn header_size<H: Wire>(flexible: bool, header: &H) -> Option<usize>
+    ensures { TellsSize (headed flexible H.grammar) header.now result }
+{
+    match header_room(flexible, header, GREATEST) {
+        Some(room) => Some(GREATEST - room),
+        None => None,
+    }
 }

@@ -1,12 +1,15 @@
-//! What stands before a request's body.
+//! What stands before the body of a request or a response.
 
 ghost use Rattle.std.specs.Prelude.{◌≡◌, Some};
+ghost use Rattle.wire_types.specs.Reading.{Reads};
+ghost use Rattle.wire_types.specs.Writing.{Puts};
+ghost use Rattle.msg_admin.specs.Header.{headed, sender, least_header};
 
 use crate::api::Api;
 use std::alloc::Global;
 use wire_types::{
     Cursor, ReadFault, Text, Wire, WriteFault, nullable_room, room_behind, write_i16, write_i32,
-    write_nullable,
+    write_no_tags, write_nullable,
 };
 
 /// A request's api, the number that its answer carries again, and the name that the client goes by.
@@ -71,5 +74,55 @@ impl Wire for Header {
         let room = room_behind(2, room)?;
         let room = room_behind(4, room)?;
         nullable_room(&self.client, room)
+    }
+}
+
+/// The bytes of a request's header whose client is null.
+pub(crate) fn least_header(flexible: bool) -> usize
+    ensures { result ≡ least_header flexible }
+{
+    if flexible { 11 } else { 10 }
+}
+
+/// What stands behind key and version: the correlation id and the client.
+pub(crate) fn read_sender(
+    alloc: Global,
+    flexible: bool,
+    cursor: &mut Cursor<'_>,
+) -> Result<(i32, Option<Text>), ReadFault>
+    ensures { Reads ((headed flexible sender).reading cursor.old) result cursor.new }
+{
+    let correlation = cursor.read_i32()?;
+    let client = cursor.read_nullable(alloc)?;
+    if flexible {
+        cursor.skip_tags()?;
+    }
+    Ok((correlation, client))
+}
+
+/// Puts a header behind what is there.
+pub(crate) fn write_header<H: Wire>(
+    out: &mut Vec<u8>,
+    flexible: bool,
+    header: &H,
+) -> Result<(), WriteFault>
+    ensures { Puts (headed flexible H.grammar) header.now out.old.items result out.new.items }
+{
+    header.write(out)?;
+    if flexible {
+        write_no_tags(out)?;
+    }
+    Ok(())
+}
+
+/// What a header leaves of a room.
+pub(crate) fn header_room<H: Wire>(flexible: bool, header: &H, room: usize) -> Option<usize>
+    ensures { result ≡ (headed flexible H.grammar).left header.now room }
+{
+    let room = header.room_left(room)?;
+    if flexible {
+        room_behind(1, room)
+    } else {
+        Some(room)
     }
 }

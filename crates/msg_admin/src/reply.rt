@@ -4,9 +4,12 @@ ghost use Rattle.std.specs.Prelude.{◌≡◌, IfOk, OnOk, Err};
 ghost use Rattle.wire_types.specs.declared.fault.WriteFault.TheVariants as faults;
 ghost use Rattle.msg_admin.specs.Response.{response, IsTooLong, GivesReply};
 
+use crate::api::Api;
 use crate::frame::write_frame;
 use bytes::Bytes;
+use msg_acl::{CreateAclsReply, DeleteAclsReply, DescribeAclsReply};
 use msg_data::{FetchReply, ListOffsetsReply, MetadataReply, ProduceReply};
+use msg_txn::InitProducerIdReply;
 use std::alloc::Global;
 use wire_types::WriteFault;
 
@@ -19,6 +22,10 @@ pub enum Reply {
     Fetch(FetchReply),
     ListOffsets(ListOffsetsReply),
     Metadata(MetadataReply),
+    InitProducerId(InitProducerIdReply),
+    DescribeAcls(DescribeAclsReply),
+    CreateAcls(CreateAclsReply),
+    DeleteAcls(DeleteAclsReply),
 }
 
 /// The whole response, with its size field; no bytes for a reply that isn't sent.
@@ -37,10 +44,35 @@ fn write_response(alloc: Global, correlation: i32, reply: &Reply) -> Result<Byte
     ensures { GivesReply correlation reply.now result }
 {
     match reply {
-        Reply::Produce(answer) => write_frame(alloc, &correlation, answer),
+        Reply::Produce(answer) => {
+            write_frame(alloc, Api::Produce.is_flexible(), &correlation, answer)
+        }
         Reply::SilentProduce(_) => Ok(Bytes::new()),
-        Reply::Fetch(answer) => write_frame(alloc, &correlation, answer),
-        Reply::ListOffsets(answer) => write_frame(alloc, &correlation, answer),
-        Reply::Metadata(answer) => write_frame(alloc, &correlation, answer),
+        Reply::Fetch(answer) => {
+            write_frame(alloc, Api::Fetch.is_flexible(), &correlation, answer)
+        }
+        Reply::ListOffsets(answer) => {
+            write_frame(alloc, Api::ListOffsets.is_flexible(), &correlation, answer)
+        }
+        Reply::Metadata(answer) => {
+            write_frame(alloc, Api::Metadata.is_flexible(), &correlation, answer)
+        }
+        Reply::InitProducerId(answer) => {
+            write_frame(
+                alloc,
+                Api::InitProducerId.is_flexible(),
+                &correlation,
+                answer,
+            )
+        }
+        Reply::DescribeAcls(answer) => {
+            write_frame(alloc, Api::DescribeAcls.is_flexible(), &correlation, answer)
+        }
+        Reply::CreateAcls(answer) => {
+            write_frame(alloc, Api::CreateAcls.is_flexible(), &correlation, answer)
+        }
+        Reply::DeleteAcls(answer) => {
+            write_frame(alloc, Api::DeleteAcls.is_flexible(), &correlation, answer)
+        }
     }
 }

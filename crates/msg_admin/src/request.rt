@@ -11,18 +11,17 @@ ghost use Rattle.msg_admin.specs.declared.request.Request.{Request};
 
 use crate::api::Api;
 use crate::frame::write_frame;
-use crate::header::Header;
+use crate::header::{Header, least_header, read_sender};
 use crate::laws::read_fits;
 use bytes::Bytes;
+use msg_acl::{CreateAclsRequest, DeleteAclsRequest, DescribeAclsRequest};
 use msg_data::{FetchRequest, ListOffsetsRequest, MetadataRequest, ProduceRequest};
+use msg_txn::InitProducerIdRequest;
 use std::alloc::Global;
 use wire_types::{Cursor, Malformed, ReadFault, Wire, WriteFault};
 
 /// The greatest size that a request's frame may tell of itself.
 pub const FRAME_LIMIT: usize = 104_857_600;
-
-/// The bytes of a header whose client is null.
-const SHORTEST_HEADER: usize = 10;
 
 /// What a client asks for.
 #[derive(Clone, Debug, Drop, PartialEq, Eq)]
@@ -31,6 +30,10 @@ pub enum Request {
     Fetch(FetchRequest),
     ListOffsets(ListOffsetsRequest),
     Metadata(MetadataRequest),
+    InitProducerId(InitProducerIdRequest),
+    DescribeAcls(DescribeAclsRequest),
+    CreateAcls(CreateAclsRequest),
+    DeleteAcls(DeleteAclsRequest),
 }
 
 impl Request {
@@ -43,6 +46,10 @@ impl Request {
             Request::Fetch(_) => Api::Fetch,
             Request::ListOffsets(_) => Api::ListOffsets,
             Request::Metadata(_) => Api::Metadata,
+            Request::InitProducerId(_) => Api::InitProducerId,
+            Request::DescribeAcls(_) => Api::DescribeAcls,
+            Request::CreateAcls(_) => Api::CreateAcls,
+            Request::DeleteAcls(_) => Api::DeleteAcls,
         }
     }
 
@@ -51,7 +58,8 @@ impl Request {
     pub fn fits(&self) -> bool
         ensures { IsTrue result ↔ Fits self.now }
     {
-        self.room_left(FRAME_LIMIT - SHORTEST_HEADER).is_some()
+        let header = least_header(self.api().is_flexible());
+        self.room_left(FRAME_LIMIT - header).is_some()
     }
 
     /// What the request's body leaves of a room.
@@ -64,6 +72,10 @@ impl Request {
             Request::Fetch(body) => body.room_left(room),
             Request::ListOffsets(body) => body.room_left(room),
             Request::Metadata(body) => body.room_left(room),
+            Request::InitProducerId(body) => body.room_left(room),
+            Request::DescribeAcls(body) => body.room_left(room),
+            Request::CreateAcls(body) => body.room_left(room),
+            Request::DeleteAcls(body) => body.room_left(room),
         }
     }
 }
@@ -78,6 +90,13 @@ fn read_body(alloc: Global, api: Api, cursor: &mut Cursor<'_>) -> Result<Request
         Api::Fetch => Ok(Request::Fetch(FetchRequest::read(alloc, cursor)?)),
         Api::ListOffsets => Ok(Request::ListOffsets(ListOffsetsRequest::read(alloc, cursor)?)),
         Api::Metadata => Ok(Request::Metadata(MetadataRequest::read(alloc, cursor)?)),
+        Api::InitProducerId => {
+            let body = InitProducerIdRequest::read(alloc, cursor)?;
+            Ok(Request::InitProducerId(body))
+        }
+        Api::DescribeAcls => Ok(Request::DescribeAcls(DescribeAclsRequest::read(alloc, cursor)?)),
+        Api::CreateAcls => Ok(Request::CreateAcls(CreateAclsRequest::read(alloc, cursor)?)),
+        Api::DeleteAcls => Ok(Request::DeleteAcls(DeleteAclsRequest::read(alloc, cursor)?)),
     }
 }
 
@@ -91,8 +110,7 @@ fn read_whole(alloc: Global, frame: &Bytes) -> Result<(Header, Request), ReadFau
     let Some(api) = Api::of(key, version) else {
         return Err(ReadFault::Malformed(Malformed::Unknown));
     };
-    let correlation = cursor.read_i32()?;
-    let client = cursor.read_nullable(alloc)?;
+    let (correlation, client) = read_sender(alloc, api.is_flexible(), &mut cursor)?;
     let request = read_body(alloc, api, &mut cursor)?;
     if cursor.len() != 0 {
         return Err(ReadFault::Malformed(Malformed::Rest));
@@ -134,10 +152,15 @@ pub fn write_request(alloc: Global, header: &Header, request: &Request) -> Resul
     requires { api_at header.now.key header.now.version ≡ Some (api_of request.now) }
     ensures { GivesRequest header.now request.now result }
 {
+    let flexible = request.api().is_flexible();
     match request {
-        Request::Produce(body) => write_frame(alloc, header, body),
-        Request::Fetch(body) => write_frame(alloc, header, body),
-        Request::ListOffsets(body) => write_frame(alloc, header, body),
-        Request::Metadata(body) => write_frame(alloc, header, body),
+        Request::Produce(body) => write_frame(alloc, flexible, header, body),
+        Request::Fetch(body) => write_frame(alloc, flexible, header, body),
+        Request::ListOffsets(body) => write_frame(alloc, flexible, header, body),
+        Request::Metadata(body) => write_frame(alloc, flexible, header, body),
+        Request::InitProducerId(body) => write_frame(alloc, flexible, header, body),
+        Request::DescribeAcls(body) => write_frame(alloc, flexible, header, body),
+        Request::CreateAcls(body) => write_frame(alloc, flexible, header, body),
+        Request::DeleteAcls(body) => write_frame(alloc, flexible, header, body),
     }
 }

@@ -1,6 +1,7 @@
 //! Whole frames of Metadata, as they travel.
 
 mod data;
+mod versions;
 
 use crate::api::Api;
 use crate::header::Header;
@@ -34,19 +35,116 @@ const TWO_TOPICS: &[u8] =
 const BOTH_REFUSED: &[u8] =
     b"\x00\x00\x00\x31\x00\x00\x00\x02\x00\x00\x00\x01\x00\x00\x00\x01\x00\x01h\x00\x00\x23\x84\xff\xff\x00\x00\x00\x01\x00\x00\x00\x02\x00\x1d\x00\x01a\x00\x00\x00\x00\x00\x00\x1d\x00\x01x\x00\x00\x00\x00\x00";
 
-/// The answer of a cluster of the one node 1 at `h:9092`.
-fn reply_of(alloc: Global, topics: Vec<TopicInfo>) -> Result<Reply, AllocError> {
-    let broker = BrokerInfo {
+/// What stands behind a frame's size field, read.
+fn read(alloc: Global, frame: &'static [u8]) -> Result<(Header, Request), ReadFault> {
+    let (_size, bytes) = frame.split_at(frame.len().min(4));
+    read_request(alloc, &Bytes::from_static(bytes))
+}
+
+/// The frame is that of the request, both ways.
+fn is_frame_of(alloc: Global, frame: &'static [u8], request: &Request) -> Option<bool> {
+    let (header, read) = read(alloc, frame).ok()?;
+    let again = Header::new(request.api(), header.correlation, None);
+    let written = write_request(alloc, &again, request).ok()?;
+    Some(read == *request && written.as_slice() == frame)
+}
+
+fn is_sent_as(alloc: Global, correlation: i32, reply: &Reply, frame: &[u8]) -> Option<bool> {
+    let written = write_reply(alloc, correlation, reply).ok()?;
+    Some(written.as_slice() == frame)
+}
+
+/// The frame's header is that of a Metadata without a client.
+fn has_header(alloc: Global, frame: &'static [u8], correlation: i32) -> Option<bool> {
+    let (header, _request) = read(alloc, frame).ok()?;
+    Some(header == Header::new(Api::Metadata, correlation, None))
+}
+
+#[test]
+fn headers(rt: HostRuntime) {
+    assert_eq!(rt; has_header(rt.alloc(), ALL_TOPICS, 1), Some(true));
+    assert_eq!(rt; has_header(rt.alloc(), NO_NAMES, 1), Some(true));
+    assert_eq!(rt; has_header(rt.alloc(), TWO_TOPICS, 2), Some(true));
+}
+
+#[test]
+fn asks_for_all_topics(rt: HostRuntime) {
+    let request = Request::Metadata(MetadataRequest { topics: None });
+    assert_eq!(rt; is_frame_of(rt.alloc(), ALL_TOPICS, &request), Some(true));
+}
+
+#[test]
+fn asks_for_no_topics(rt: HostRuntime) {
+    let topics = Some(Items::new(rt.alloc()));
+    let request = Request::Metadata(MetadataRequest { topics });
+    assert_eq!(rt; is_frame_of(rt.alloc(), NO_NAMES, &request), Some(true));
+}
+
+fn two_names(alloc: Global) -> Result<Items<Text>, AllocError> {
+    let mut names = Items::new(alloc);
+    names.push(Text::of(alloc, "a")?)?;
+    names.push(Text::of(alloc, "x")?)?;
+    Ok(names)
+}
+
+#[test]
+fn asks_for_two_topics(rt: HostRuntime) -> Result<(), Fail> {
+    let topics = Some(two_names(rt.alloc())?);
+    let request = Request::Metadata(MetadataRequest { topics });
+    assert!(rt; request.fits());
+    assert_eq!(rt; is_frame_of(rt.alloc(), TWO_TOPICS, &request), Some(true));
+    Ok(())
+}
+
+/// The node 1 at `h:9092`.
+fn brokers(alloc: Global) -> Result<Items<BrokerInfo>, AllocError> {
+    let mut brokers = Items::new(alloc);
+    brokers.push(BrokerInfo {
         node: 1,
         host: Text::of(alloc, "h")?,
         port: 9092,
         rack: None,
-    };
+    })?;
+    Ok(brokers)
+}
+
+/// The answer of a cluster of that one node.
+fn reply_of(alloc: Global, topics: Items<TopicInfo>) -> Result<Reply, AllocError> {
     Ok(Reply::Metadata(MetadataReply {
-        brokers: Items::from(vec![in alloc; broker]?),
+        brokers: brokers(alloc)?,
         controller: 1,
-        topics: Items::from(topics),
+        topics,
     }))
+}
+
+fn only_node(alloc: Global) -> Result<Items<i32>, AllocError> {
+    let mut nodes = Items::new(alloc);
+    nodes.push(1)?;
+    Ok(nodes)
+}
+
+fn only_partition(alloc: Global) -> Result<Items<PartitionInfo>, AllocError> {
+    let mut partitions = Items::new(alloc);
+    partitions.push(PartitionInfo {
+        error: ErrorCode::None,
+        index: 0,
+        leader: 1,
+        replicas: only_node(alloc)?,
+        in_sync: only_node(alloc)?,
+    })?;
+    Ok(partitions)
+}
+
+/// The topic `b` with one partition.
+fn only_topic(alloc: Global) -> Result<Items<TopicInfo>, AllocError> {
+    let mut topics = Items::new(alloc);
+    topics.push(TopicInfo {
+        error: ErrorCode::None,
+        name: Text::of(alloc, "b")?,
+        internal: false,
+        partitions: only_partition(alloc)?,
+    })?;
+    Ok(topics)
 }
 
 fn refused(alloc: Global, name: &str) -> Result<TopicInfo, AllocError> {
@@ -58,81 +156,36 @@ fn refused(alloc: Global, name: &str) -> Result<TopicInfo, AllocError> {
     })
 }
 
-/// What stands behind a frame's size field, read.
-fn read(alloc: Global, frame: &'static [u8]) -> Result<(Header, Request), ReadFault> {
-    let (_size, bytes) = frame.split_at(frame.len().min(4));
-    read_request(alloc, &Bytes::from_static(bytes))
+fn both_refused(alloc: Global) -> Result<Items<TopicInfo>, AllocError> {
+    let mut topics = Items::new(alloc);
+    topics.push(refused(alloc, "a")?)?;
+    topics.push(refused(alloc, "x")?)?;
+    Ok(topics)
+}
+
+/// The answer of these topics is this frame.
+fn tells(alloc: Global, correlation: i32, topics: Items<TopicInfo>, frame: &[u8]) -> Option<bool> {
+    let reply = reply_of(alloc, topics).ok()?;
+    is_sent_as(alloc, correlation, &reply, frame)
 }
 
 #[test]
-fn all_topics(rt: HostRuntime) -> Result<(), Fail> {
-    let (header, request) = read(rt.alloc(), ALL_TOPICS)?;
-    assert_eq!(rt; header.key, 3);
-    assert_eq!(rt; header.version, 1);
-    assert_eq!(rt; header.correlation, 1);
-    assert_eq!(rt; header.client, None);
-    assert_eq!(rt;
-        request,
-        Request::Metadata(MetadataRequest { topics: None })
-    );
-    let again = Header::new(request.api(), 1, None);
-    assert_eq!(rt;
-        write_request(rt.alloc(), &again, &request)?.as_slice(),
-        ALL_TOPICS
-    );
-
-    let partition = PartitionInfo {
-        error: ErrorCode::None,
-        index: 0,
-        leader: 1,
-        replicas: Items::from(vec![in rt.alloc(); 1]?),
-        in_sync: Items::from(vec![in rt.alloc(); 1]?),
-    };
-    let topic = TopicInfo {
-        error: ErrorCode::None,
-        name: Text::of(rt.alloc(), "b")?,
-        internal: false,
-        partitions: Items::from(vec![in rt.alloc(); partition]?),
-    };
-    let reply = reply_of(rt.alloc(), vec![in rt.alloc(); topic]?)?;
-    assert_eq!(rt; write_reply(rt.alloc(), 1, &reply)?.as_slice(), ONE_TOPIC);
+fn tells_a_topic(rt: HostRuntime) -> Result<(), Fail> {
+    let topics = only_topic(rt.alloc())?;
+    assert_eq!(rt; tells(rt.alloc(), 1, topics, ONE_TOPIC), Some(true));
     Ok(())
 }
 
 #[test]
-fn no_topics(rt: HostRuntime) -> Result<(), Fail> {
-    let (header, request) = read(rt.alloc(), NO_NAMES)?;
-    let none = Some(Items::new(rt.alloc()));
-    assert_eq!(rt;
-        request,
-        Request::Metadata(MetadataRequest { topics: none })
-    );
-    assert_eq!(rt; header, Header::new(request.api(), 1, None));
-    let reply = reply_of(rt.alloc(), Vec::new(rt.alloc()))?;
-    assert_eq!(rt; write_reply(rt.alloc(), 1, &reply)?.as_slice(), NO_TOPICS);
-    Ok(())
+fn tells_no_topics(rt: HostRuntime) {
+    let topics = Items::new(rt.alloc());
+    assert_eq!(rt; tells(rt.alloc(), 1, topics, NO_TOPICS), Some(true));
 }
 
 #[test]
-fn refused_topics(rt: HostRuntime) -> Result<(), Fail> {
-    let (header, request) = read(rt.alloc(), TWO_TOPICS)?;
-    let names = vec![in rt.alloc(); Text::of(rt.alloc(), "a")?, Text::of(rt.alloc(), "x")?]?;
-    let topics = Some(Items::from(names));
-    assert_eq!(rt; request, Request::Metadata(MetadataRequest { topics }));
-    assert_eq!(rt; header, Header::new(Api::Metadata, 2, None));
-    assert!(rt; request.fits());
-    let again = Header::new(request.api(), 2, None);
-    assert_eq!(rt;
-        write_request(rt.alloc(), &again, &request)?.as_slice(),
-        TWO_TOPICS
-    );
-
-    let topics = vec![in rt.alloc(); refused(rt.alloc(), "a")?, refused(rt.alloc(), "x")?]?;
-    let reply = reply_of(rt.alloc(), topics)?;
-    assert_eq!(rt;
-        write_reply(rt.alloc(), 2, &reply)?.as_slice(),
-        BOTH_REFUSED
-    );
+fn tells_refused_topics(rt: HostRuntime) -> Result<(), Fail> {
+    let topics = both_refused(rt.alloc())?;
+    assert_eq!(rt; tells(rt.alloc(), 2, topics, BOTH_REFUSED), Some(true));
     Ok(())
 }
 

@@ -11,3 +11,4 @@ pub mod Fetched
 pub mod Entries
 pub mod Rows
 pub mod Steps
+pub mod Accepted

@@ -5,7 +5,7 @@ use Rattle.std.specs.List.{filter_map, cons_option}
 use Rattle.std.proofs.lemmas.List.{length-append, length_push}
 use Rattle.acl_binding.specs.declared.question.Caller.{Caller}
 use Rattle.authorizer.specs.declared.answer.Refusal.{Refusal}
-use Rattle.authorizer.specs.Asking.{Rules}
+use Rattle.authorizer.specs.Asking.{Rules, part_refusal}
 use Rattle.wire_types.specs.declared.topic.Topic.{Topic}
 use Rattle.wire_types.specs.Grammar.{Grammar}
 use Rattle.wire_types.specs.Spelling.{many_written, null_behind_written, behind_written, int_written}
@@ -25,10 +25,12 @@ use Rattle.msg_data.specs.Produce.{produced_records, produce_request}
 use Rattle.msg_data.specs.Fetch.{fetch_partition, fetch_request}
 use Rattle.msg_data.specs.ListOffsets.{wanted_offset, list_offsets_request}
 use Rattle.msg_admin.specs.declared.request.Request.{Request}
+use Rattle.msg_acl.specs.declared.create_acls.CreateAclsRequest.{CreateAclsRequest}
+use Rattle.acl_binding.specs.Book.{BookValue, empty_book}
 use Rattle.walk.specs.Rule.{PartRule, refusal_of}
 use Rattle.walk.specs.Walk.{world_after, parts_refused, refusals, parts_weight, topics_weight}
 use Rattle.walk.proofs.Weights.{walk_takes}
-use Rattle.msg_admin.specs.declared.request.Request.TheVariants.{Produce, Fetch, ListOffsets, Metadata}
+use Rattle.msg_admin.specs.declared.request.Request.TheVariants.{Produce, Fetch, ListOffsets, Metadata, InitProducerId, DescribeAcls, CreateAcls, DeleteAcls}
 use Rattle.msg_admin.specs.Request.{Fits}
 use Rattle.msg_admin.specs.Bodies.{request_body}
 use Rattle.audit_trail.specs.declared.event.Event.{Event}
@@ -42,9 +44,16 @@ use Rattle.request_handlers.specs.Judged.{records_size}
 use Rattle.request_handlers.specs.Produce.{producing}
 use Rattle.request_handlers.specs.Fetch.{fetch_rule}
 use Rattle.request_handlers.specs.ListOffsets.{list_rule}
+use Rattle.request_handlers.specs.Whole.{Served}
+use Rattle.request_handlers.specs.DescribeAcls.{describe_acls_questions, describe_acls_error, describe_acls_reply}
+use Rattle.request_handlers.specs.CreateAcls.{alter_questions, book_created, create_acls_reply}
+use Rattle.request_handlers.specs.DeleteAcls.{book_deleted}
+use Rattle.request_handlers.specs.InitProducerId.{init_question, initialized}
+use Rattle.request_handlers.proofs.ProducerBounds.{initialized_topics, initialized_book, producers_outcome, no_producers}
 use Rattle.request_handlers.specs.Step.{outcome, refusals_of}
-use Rattle.request_handlers.specs.Core.{CoreValue, IsCore, IsBounded, EventFits, most_parts, trail_limit, advanced, entry_of}
+use Rattle.request_handlers.specs.Core.{CoreValue, IsCore, IsBounded, EventFits, most_parts, most_bindings, trail_limit, advanced, entry_of}
 use Rattle.request_handlers.proofs.Histories.{events_outcome, history_goes_on}
+use Rattle.request_handlers.proofs.BookBounds.{with_next, created_next, deleted_next, few_creations, whole_next, whole_refusals, whole_topics}
 
 -- no more are kept than there are
 few_kept : {A B : Type 0} (f : A → Option B) (xs : List A) → length (filter_map f xs) ≤ length xs
@@ -180,6 +189,18 @@ few_refusals w (Ask caller client (Fetch r)) fits =
 few_refusals w (Ask caller client (ListOffsets r)) fits =
     omega (arith, fits.1, few_walked (list_rule caller w.topics) (rules_of w) r.topics, within_array wanted_offset (λ p. 1) wanted_some r.topics, list_topics r)
 few_refusals w (Ask caller client (Metadata r)) fits = few_topics (rules_of w) caller r.topics (omega (arith, fits.1))
+few_refusals w (Ask caller client (InitProducerId r)) fits =
+    let few : length (refusals_of w (Ask caller client (InitProducerId r))) ≤ 1 = whole_refusals (part_refusal (rules_of w) (init_question caller r.transactional_id ∷ [])) w _ _ in
+    omega (arith, few)
+few_refusals w (Ask caller client (DescribeAcls r)) fits =
+    let few : length (refusals_of w (Ask caller client (DescribeAcls r))) ≤ 1 = whole_refusals (part_refusal (rules_of w) (describe_acls_questions caller)) w _ _ in
+    omega (arith, few)
+few_refusals w (Ask caller client (CreateAcls r)) fits =
+    let few : length (refusals_of w (Ask caller client (CreateAcls r))) ≤ 1 = whole_refusals (part_refusal (rules_of w) (alter_questions caller)) w _ _ in
+    omega (arith, few)
+few_refusals w (Ask caller client (DeleteAcls r)) fits =
+    let few : length (refusals_of w (Ask caller client (DeleteAcls r))) ≤ 1 = whole_refusals (part_refusal (rules_of w) (alter_questions caller)) w _ _ in
+    omega (arith, few)
 
 -- a Produce adds at most as many records to a log as its frame has bytes
 produce_weight : (w : World) (caller : Caller) (r : ProduceRequest) → Fits (Produce r) → topics_weight (producing w caller r) r.topics ≤ most_parts
@@ -189,6 +210,9 @@ produce_weight w caller r fits =
 
 pub produce_light : (w : World) (caller : Caller) (q : Request) (r : ProduceRequest) → q ≡ Produce r → Fits q → topics_weight (producing w caller r) r.topics ≤ most_parts
 produce_light w caller q r is fits = produce_weight w caller r (subst Fits is fits)
+
+same_ends : {us vs : List TopicValue} → us ≡ vs → most_end us ≤ most_end vs + most_parts
+same_ends {us} {vs} same = subst (λ (ts : List TopicValue). most_end ts ≤ most_end vs + most_parts) (sym same) (omega arith)
 
 ends_outcome : (w : World) (e : Event) → EventFits e → most_parts + most_end w.topics < 9223372036854775807 → most_end (outcome w e).world.topics ≤ most_end w.topics + most_parts
 ends_outcome w (Ask caller client (Produce r)) fits room =
@@ -200,6 +224,36 @@ ends_outcome w (Ask caller client (Produce r)) fits room =
 ends_outcome w (Ask caller client (Fetch r)) fits room = omega arith
 ends_outcome w (Ask caller client (ListOffsets r)) fits room = omega arith
 ends_outcome w (Ask caller client (Metadata r)) fits room = omega arith
+ends_outcome w (Ask caller client (InitProducerId r)) fits room = same_ends (whole_topics (part_refusal (rules_of w) (init_question caller r.transactional_id ∷ [])) w _ _ (initialized_topics w r.transactional_id))
+ends_outcome w (Ask caller client (DescribeAcls r)) fits room = same_ends (whole_topics (part_refusal (rules_of w) (describe_acls_questions caller)) w _ _ refl)
+ends_outcome w (Ask caller client (CreateAcls r)) fits room = same_ends (whole_topics (part_refusal (rules_of w) (alter_questions caller)) w _ _ refl)
+ends_outcome w (Ask caller client (DeleteAcls r)) fits room = same_ends (whole_topics (part_refusal (rules_of w) (alter_questions caller)) w _ _ refl)
+
+-- ---- creation numbers
+
+-- a CreateAcls gives out at most as many as its frame has bytes
+creations_fit : (r : CreateAclsRequest) → Fits (CreateAcls r) → length r.creations ≤ most_parts
+unfolding request_body
+creations_fit r fits = omega (arith, fits.1, few_creations r)
+
+pub few_created : (q : Request) (r : CreateAclsRequest) → q ≡ CreateAcls r → Fits q → length r.creations ≤ most_parts
+few_created q r is fits = creations_fit r (subst Fits is fits)
+
+numbers_outcome : (w : World) (e : Event) → EventFits e → (outcome w e).world.book.next ≤ w.book.next + most_parts
+numbers_outcome w (Ask caller client (Produce r)) fits = omega arith
+numbers_outcome w (Ask caller client (Fetch r)) fits = omega arith
+numbers_outcome w (Ask caller client (ListOffsets r)) fits = omega arith
+numbers_outcome w (Ask caller client (Metadata r)) fits = omega arith
+numbers_outcome w (Ask caller client (InitProducerId r)) fits =
+    let few : (initialized w r.transactional_id).world.book.next ≤ w.book.next + most_parts = omega (arith, ap (λ (b : BookValue). b.next) (initialized_book w r.transactional_id)) in
+    whole_next (part_refusal (rules_of w) (init_question caller r.transactional_id ∷ [])) w _ _ most_parts few
+numbers_outcome w (Ask caller client (DescribeAcls r)) fits = whole_next (part_refusal (rules_of w) (describe_acls_questions caller)) w _ _ most_parts (omega arith)
+numbers_outcome w (Ask caller client (CreateAcls r)) fits =
+    let few : (book_created w.book r.creations).next ≤ w.book.next + most_parts = omega (arith, created_next w.book r.creations, creations_fit r fits) in
+    whole_next (part_refusal (rules_of w) (alter_questions caller)) w _ _ most_parts few
+numbers_outcome w (Ask caller client (DeleteAcls r)) fits =
+    let few : (book_deleted w.book r.filters).next ≤ w.book.next + most_parts = omega (arith, deleted_next w.book r.filters) in
+    whole_next (part_refusal (rules_of w) (alter_questions caller)) w _ _ most_parts few
 
 -- the first logs are empty
 no_ends_in : (n : ℕ) → most_of (empty_logs n) ≤ 0
@@ -213,8 +267,11 @@ no_ends_of (t ∷ ts) = omega (arith, no_ends_in (magnitude t.partitions), no_en
 no_ends : (w : World) (s : Settings) → w ≡ first_world s → most_end w.topics ≤ 0
 no_ends w s is = subst (λ (v : World). most_end v.topics ≤ 0) (sym is) (no_ends_of s.topics)
 
-pub opened_is_core : (s : Settings) (w : World) → w ≡ first_world s → trail_limit s ≤ 1073741824 → IsCore (record { settings = s; world = w; trail = []; down = false })
-opened_is_core s w is limit = record {
+first_next : (w : World) (s : Settings) → w ≡ first_world s → length s.acls ≤ 100000 → w.book.next ≤ most_bindings
+first_next w s is few = subst (λ (v : World). v.book.next ≤ most_bindings) (sym is) (omega (arith, with_next empty_book s.acls, few))
+
+pub opened_is_core : (s : Settings) (w : World) → w ≡ first_world s → trail_limit s ≤ 1073741824 → length s.acls ≤ 100000 → IsCore (record { settings = s; world = w; trail = []; down = false })
+opened_is_core s w is limit few = record {
   history = record { entries = refl; world = λ up. is };
   bounded = record {
     limit = limit;
@@ -222,6 +279,8 @@ opened_is_core s w is limit = record {
     events = λ up. ap (λ (v : World). v.events) is;
     refusals = omega arith;
     ends = λ up. omega (arith, no_ends w s is);
+    producers = λ up. omega (arith, no_producers w s is);
+    numbers = λ up. omega (arith, first_next w s is few);
   };
 }
 
@@ -236,6 +295,8 @@ bounded_goes_on core e up room fits h =
       events = λ _. ap (λ n. n + 1) (events_outcome core.world e ∙ h.events up) ∙ sym longer;
       refusals = omega (arith, count_push core.trail entry, h.refusals);
       ends = λ _. omega (arith, ends_outcome core.world e fits (omega (arith, h.ends up, h.limit, h.trail)), h.ends up);
+      producers = λ _. omega (arith, producers_outcome core.world e, h.producers up, longer);
+      numbers = λ _. omega (arith, numbers_outcome core.world e fits, h.numbers up, longer);
     }
 
 pub core_goes_on : (core : CoreValue) (e : Event) → core.down ≡ false → length core.trail < trail_limit core.settings → EventFits e → IsCore core → IsCore (advanced core e)

@@ -17,7 +17,6 @@ use Rattle.authorizer.specs.Asking.{Rules, refusal_by, first_of, part_refusal}
 use Rattle.wire_types.specs.declared.error_code.ErrorCode.{ErrorCode}
 use Rattle.wire_types.specs.declared.topic.Topic.{Topic}
 use Rattle.record_batch.specs.Batch.{BatchData}
-use Rattle.partition_log.specs.Log.{at_end}
 use Rattle.msg_data.specs.declared.produce.ProducedRecords.{ProducedRecords}
 use Rattle.msg_data.specs.declared.fetch.FetchPartition.{FetchPartition}
 use Rattle.msg_admin.specs.declared.reply.Reply.TheVariants as replies
@@ -31,7 +30,8 @@ use Rattle.request_handlers.specs.declared.room.Room.{Room}
 use Rattle.request_handlers.specs.World.{World, TopicValue, LogValue, rules_of, find_topic}
 use Rattle.request_handlers.specs.declared.node.Node.{Node}
 use Rattle.request_handlers.specs.First.{magnitude}
-use Rattle.request_handlers.specs.Logs.{log_of, log_at, logs_with, with_log, appended_by, appended}
+use Rattle.request_handlers.specs.Logs.{log_after, log_of, log_at, logs_with, with_log, appended_by, appended}
+use Rattle.request_handlers.specs.Producers.{GivenIds}
 use Rattle.request_handlers.specs.Judged.{judged, topics_produced}
 use Rattle.request_handlers.specs.Produce.{produce_questions, produced, produced_by, produce_rule, producing, produce_reply}
 use Rattle.request_handlers.specs.Fetch.{served_by, served_at, fetched, room_after, fetch_rule, whole_room}
@@ -135,7 +135,7 @@ find_appended us vs name other index b here there =
 
       by_log : (o : Option LogValue) → find_topic (appended_by us name index b o) other ≡ find_topic (appended_by vs name index b o) other
       by_log None = there
-      by_log (Some log) = by_name (bytes_eq name other) refl (log ++ at_end log b ∷ [])
+      by_log (Some log) = by_name (bytes_eq name other) refl (log_after log b)
 
 -- ---- the topics that a request names
 
@@ -185,32 +185,34 @@ unfolding AgreeOn
 agree_after rules caller id ts (Err code) us vs name index here agree other is none = agree other is none
 agree_after rules caller id ts (Ok b) us vs name index here agree other is none = find_appended us vs name other index b here (agree other is none)
 
-produce_alike : (rules : Rules) (caller : Caller) (most : ℕ) (id : Option (List ℕ)) (acks : ℤ) (ts : List (Topic ProducedRecords)) → AreAlike (produce_rule caller most id acks) (produce_rule caller most id acks) rules (λ name p. Named name ts) (AgreeOn rules caller id ts)
+produce_alike : (rules : Rules) (caller : Caller) (most : ℕ) (given : GivenIds) (id : Option (List ℕ)) (acks : ℤ) (ts : List (Topic ProducedRecords)) → AreAlike (produce_rule caller most given id acks) (produce_rule caller most given id acks) rules (λ name p. Named name ts) (AgreeOn rules caller id ts)
 unfolding AgreeOn
-produce_alike rules caller most id acks ts = record {
+produce_alike rules caller most given id acks ts = record {
   questions = λ name p. refl;
   refused = λ code name p. refl;
-  plain = λ us vs name p is agree none. same_produced (judged most id acks p.records) us vs name p (agree name is none);
-  after = λ us vs name p is agree none. agree_after rules caller id ts (judged most id acks p.records) us vs name p.index (agree name is none) agree;
+  plain = λ us vs name p is agree none. same_produced (judged most given id acks p.records) us vs name p (agree name is none);
+  after = λ us vs name p is agree none. agree_after rules caller id ts (judged most given id acks p.records) us vs name p.index (agree name is none) agree;
 }
 
 pub produce_depends : ProduceDependsOnGrants
 produce_depends v w caller r base same =
     let rule = producing w caller r in
     let alike = answer_alike rule rule (rules_of w) (λ name p. Named name r.topics) (AgreeOn (rules_of w) caller r.transactional_id r.topics)
-    (produce_alike (rules_of w) caller (magnitude w.node.max_batch) r.transactional_id r.acks r.topics) v.topics w.topics r.topics
+    (produce_alike (rules_of w) caller (magnitude w.node.max_batch) w.producers r.transactional_id r.acks r.topics) v.topics w.topics r.topics
     (named_topics r.topics r.topics (λ name is. is)) (agree_first v w caller r.transactional_id r.topics same) in
-    let told = ap (λ (rules : Rules). answers (producing v caller r) rules v.topics r.topics) base.rules ∙ ap (λ (n : Node). answers (produce_rule caller (magnitude n.max_batch) r.transactional_id r.acks) (rules_of w) v.topics r.topics) base.node ∙ alike.answers in
+    let told = ap (λ (rules : Rules). answers (producing v caller r) rules v.topics r.topics) base.rules ∙ ap (λ (n : Node). answers (produce_rule caller (magnitude n.max_batch) v.producers r.transactional_id r.acks) (rules_of w) v.topics r.topics) base.node
+    ∙ ap (λ (g : GivenIds). answers (produce_rule caller (magnitude w.node.max_batch) g r.transactional_id r.acks) (rules_of w) v.topics r.topics) base.producers ∙ alike.answers in
     record {
       reply = ap (produce_reply r.acks) told;
-      refusals = ap (λ (rules : Rules). refusals (producing v caller r) rules r.topics) base.rules ∙ ap (λ (n : Node). refusals (produce_rule caller (magnitude n.max_batch) r.transactional_id r.acks) (rules_of w) r.topics) base.node ∙ alike.refusals;
+      refusals = ap (λ (rules : Rules). refusals (producing v caller r) rules r.topics) base.rules ∙ ap (λ (n : Node). refusals (produce_rule caller (magnitude n.max_batch) v.producers r.transactional_id r.acks) (rules_of w) r.topics) base.node
+          ∙ ap (λ (g : GivenIds). refusals (produce_rule caller (magnitude w.node.max_batch) g r.transactional_id r.acks) (rules_of w) r.topics) base.producers ∙ alike.refusals;
     }
 
 -- ---- Produce: a topic that isn't granted
 
 kept_append : (topics : List TopicValue) (name other : List ℕ) (index : ℤ) (b : BatchData) (o : Option LogValue) → bytes_eq name other ≡ false → find_topic (appended_by topics name index b o) other ≡ find_topic topics other
 kept_append topics name other index b None differ = refl
-kept_append topics name other index b (Some log) differ = find_other topics name other index (log ++ at_end log b ∷ []) differ
+kept_append topics name other index b (Some log) differ = find_other topics name other index (log_after log b) differ
 
 kept_batch : (topics : List TopicValue) (name other : List ℕ) (index : ℤ) (batch : Result BatchData ErrorCode) → (name ≡ other → ⊥) → find_topic (topics_produced batch topics name index) other ≡ find_topic topics other
 kept_batch topics name other index (Err code) differ = refl
@@ -219,26 +221,26 @@ kept_batch topics name other index (Ok b) differ = kept_append topics name other
   by_test true e = absurd (differ ((bytes_eq-Decides name other).0 e))
   by_test false e = e
 
-kept_part : (rules : Rules) (caller : Caller) (most : ℕ) (id : Option (List ℕ)) (acks : ℤ) (other : List ℕ) → (part_refusal rules (produce_questions caller id other) ≡ None → ⊥) → (topics : List TopicValue) (name : List ℕ) (p : ProducedRecords)
-    → find_topic (part_world (produce_rule caller most id acks) rules topics name p) other ≡ find_topic topics other
-kept_part rules caller most id acks other refused topics name p = by_refusal (part_refusal rules (produce_questions caller id name)) refl where
-  by_refusal : (r : Option Refusal) → part_refusal rules (produce_questions caller id name) ≡ r → find_topic (world_by (produce_rule caller most id acks) r topics name p) other ≡ find_topic topics other
+kept_part : (rules : Rules) (caller : Caller) (most : ℕ) (given : GivenIds) (id : Option (List ℕ)) (acks : ℤ) (other : List ℕ) → (part_refusal rules (produce_questions caller id other) ≡ None → ⊥) → (topics : List TopicValue) (name : List ℕ) (p : ProducedRecords)
+    → find_topic (part_world (produce_rule caller most given id acks) rules topics name p) other ≡ find_topic topics other
+kept_part rules caller most given id acks other refused topics name p = by_refusal (part_refusal rules (produce_questions caller id name)) refl where
+  by_refusal : (r : Option Refusal) → part_refusal rules (produce_questions caller id name) ≡ r → find_topic (world_by (produce_rule caller most given id acks) r topics name p) other ≡ find_topic topics other
   by_refusal (Some r) e = refl
-  by_refusal None e = kept_batch topics name other p.index (judged most id acks p.records) (λ same. refused (subst (λ n. part_refusal rules (produce_questions caller id n) ≡ None) same e))
+  by_refusal None e = kept_batch topics name other p.index (judged most given id acks p.records) (λ same. refused (subst (λ n. part_refusal rules (produce_questions caller id n) ≡ None) same e))
 
-kept_parts : (rules : Rules) (caller : Caller) (most : ℕ) (id : Option (List ℕ)) (acks : ℤ) (other : List ℕ) → (part_refusal rules (produce_questions caller id other) ≡ None → ⊥) → (topics : List TopicValue) (name : List ℕ) (ps : List ProducedRecords)
-    → find_topic (parts_world (produce_rule caller most id acks) rules topics name ps) other ≡ find_topic topics other
-kept_parts rules caller most id acks other refused topics name [] = refl
-kept_parts rules caller most id acks other refused topics name (p ∷ ps) =
-    kept_parts rules caller most id acks other refused (part_world (produce_rule caller most id acks) rules topics name p) name ps ∙ kept_part rules caller most id acks other refused topics name p
+kept_parts : (rules : Rules) (caller : Caller) (most : ℕ) (given : GivenIds) (id : Option (List ℕ)) (acks : ℤ) (other : List ℕ) → (part_refusal rules (produce_questions caller id other) ≡ None → ⊥) → (topics : List TopicValue) (name : List ℕ) (ps : List ProducedRecords)
+    → find_topic (parts_world (produce_rule caller most given id acks) rules topics name ps) other ≡ find_topic topics other
+kept_parts rules caller most given id acks other refused topics name [] = refl
+kept_parts rules caller most given id acks other refused topics name (p ∷ ps) =
+    kept_parts rules caller most given id acks other refused (part_world (produce_rule caller most given id acks) rules topics name p) name ps ∙ kept_part rules caller most given id acks other refused topics name p
 
-kept_topics : (rules : Rules) (caller : Caller) (most : ℕ) (id : Option (List ℕ)) (acks : ℤ) (other : List ℕ) → (part_refusal rules (produce_questions caller id other) ≡ None → ⊥) → (topics : List TopicValue) (ts : List (Topic ProducedRecords))
-    → find_topic (topics_world (produce_rule caller most id acks) rules topics ts) other ≡ find_topic topics other
-kept_topics rules caller most id acks other refused topics [] = refl
-kept_topics rules caller most id acks other refused topics (t ∷ ts) =
-    kept_topics rules caller most id acks other refused (parts_world (produce_rule caller most id acks) rules topics t.name t.partitions) ts ∙ kept_parts rules caller most id acks other refused topics t.name t.partitions
+kept_topics : (rules : Rules) (caller : Caller) (most : ℕ) (given : GivenIds) (id : Option (List ℕ)) (acks : ℤ) (other : List ℕ) → (part_refusal rules (produce_questions caller id other) ≡ None → ⊥) → (topics : List TopicValue) (ts : List (Topic ProducedRecords))
+    → find_topic (topics_world (produce_rule caller most given id acks) rules topics ts) other ≡ find_topic topics other
+kept_topics rules caller most given id acks other refused topics [] = refl
+kept_topics rules caller most given id acks other refused topics (t ∷ ts) =
+    kept_topics rules caller most given id acks other refused (parts_world (produce_rule caller most given id acks) rules topics t.name t.partitions) ts ∙ kept_parts rules caller most given id acks other refused topics t.name t.partitions
 
 pub produce_keeps : ProduceKeepsTheRest
 produce_keeps w caller r name refused =
     ap (λ (topics : List TopicValue). find_topic topics name) (sym (woven (producing w caller r) (rules_of w) w.topics r.topics).world)
-    ∙ kept_topics (rules_of w) caller (magnitude w.node.max_batch) r.transactional_id r.acks name refused w.topics r.topics
+    ∙ kept_topics (rules_of w) caller (magnitude w.node.max_batch) w.producers r.transactional_id r.acks name refused w.topics r.topics

@@ -3,6 +3,8 @@ use Rattle.std.specs.Prelude.{◌≡◌, ◌≤◌, ◌⊎◌, ℕ, ℤ, pos, ne
 use Rattle.std.specs.List.{AllByRecursion}
 use Rattle.wire_types.specs.declared.error_code.ErrorCode.TheVariants as codes
 use Rattle.record_batch.specs.Batch.{BatchData, IsBatch, next_offset}
+use Rattle.producer_state.specs.declared.judgment.Judgment.TheVariants.{Next, Repeat}
+use Rattle.producer_state.specs.Sequences.{judged as judged_by_log}
 use Rattle.partition_log.specs.Log.{end_of, at_end, stable}
 use Rattle.partition_log.specs.Laws.{total_bytes}
 use Rattle.msg_data.specs.declared.produce.ProducedRecords.{ProducedRecords}
@@ -13,6 +15,7 @@ use Rattle.msg_data.specs.declared.list_offsets.WantedOffset.{WantedOffset}
 use Rattle.request_handlers.specs.declared.room.Room.{Room}
 use Rattle.request_handlers.specs.World.{TopicValue, LogValue}
 use Rattle.request_handlers.specs.Logs.{log_at}
+use Rattle.request_handlers.specs.Producers.{GivenIds}
 use Rattle.request_handlers.specs.Judged.{judged, topics_produced}
 use Rattle.request_handlers.specs.Produce.{produced}
 use Rattle.request_handlers.specs.Fetch.{room_for, less, is_outside, served_at, fetched, room_after, batch_bytes}
@@ -27,22 +30,33 @@ pub record IsAppended (topics after : List TopicValue) (name : List ℕ) (p : Pr
   pub there : log_at topics name p.index ≡ Some log
   pub is_batch : IsBatch batch
   pub sent : p.records ≡ Some batch.bytes
+  pub next : judged_by_log log batch ≡ Next
   pub offset : answer.base_offset ≡ end_of log
   pub goes_on : log_at after name p.index ≡ Some (log ++ at_end log batch ∷ [])
+
+-- the batch was sent before: the offset that is answered is the one at which it stands, and nothing is changed
+pub record IsRepeated (topics after : List TopicValue) (name : List ℕ) (p : ProducedRecords) (answer : ProducedOffset) : Type 0 where
+  pub log : LogValue
+  pub batch : BatchData
+  pub there : log_at topics name p.index ≡ Some log
+  pub sent : p.records ≡ Some batch.bytes
+  pub again : judged_by_log log batch ≡ Repeat answer.base_offset
+  pub same : after ≡ topics
 
 -- nothing is changed, and no offset is answered
 pub record IsUnchanged (topics after : List TopicValue) (answer : ProducedOffset) : Type 0 where
   pub same : after ≡ topics
   pub offset : answer.base_offset ≡ negsuc 0
 
--- a partition is answered no error exactly where its batch was appended
+-- a partition is answered no error exactly where its batch was appended, now or before
 pub record ProducesAsAnswered : Type 0 where
-  pub appends : (most : ℕ) (id : Option (List ℕ)) (acks : ℤ) (topics : List TopicValue) (name : List ℕ) (p : ProducedRecords)
-      → (produced (judged most id acks p.records) topics name p).error ≡ codes.None
-      → IsAppended topics (topics_produced (judged most id acks p.records) topics name p.index) name p (produced (judged most id acks p.records) topics name p)
-  pub refuses : (most : ℕ) (id : Option (List ℕ)) (acks : ℤ) (topics : List TopicValue) (name : List ℕ) (p : ProducedRecords)
-      → ((produced (judged most id acks p.records) topics name p).error ≡ codes.None → ⊥)
-      → IsUnchanged topics (topics_produced (judged most id acks p.records) topics name p.index) (produced (judged most id acks p.records) topics name p)
+  pub appends : (most : ℕ) (given : GivenIds) (id : Option (List ℕ)) (acks : ℤ) (topics : List TopicValue) (name : List ℕ) (p : ProducedRecords)
+      → (produced (judged most given id acks p.records) topics name p).error ≡ codes.None
+      → IsAppended topics (topics_produced (judged most given id acks p.records) topics name p.index) name p (produced (judged most given id acks p.records) topics name p)
+      ⊎ IsRepeated topics (topics_produced (judged most given id acks p.records) topics name p.index) name p (produced (judged most given id acks p.records) topics name p)
+  pub refuses : (most : ℕ) (given : GivenIds) (id : Option (List ℕ)) (acks : ℤ) (topics : List TopicValue) (name : List ℕ) (p : ProducedRecords)
+      → ((produced (judged most given id acks p.records) topics name p).error ≡ codes.None → ⊥)
+      → IsUnchanged topics (topics_produced (judged most given id acks p.records) topics name p.index) (produced (judged most given id acks p.records) topics name p)
 
 -- ---- ListOffsets
 

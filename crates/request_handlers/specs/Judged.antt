@@ -9,6 +9,9 @@ use Rattle.record_batch.specs.BatchHeader.{is_transactional}
 use Rattle.record_batch.specs.Batch.{BatchData}
 use Rattle.record_batch.specs.Fault.{code_of}
 use Rattle.request_handlers.specs.World.{TopicValue}
+use Rattle.request_handlers.specs.declared.given.Given.{Given}
+use Rattle.request_handlers.specs.declared.given.Given.TheVariants.{Never, Free, Owned}
+use Rattle.request_handlers.specs.Producers.{GivenIds, given_to}
 use Rattle.request_handlers.specs.Logs.{appended}
 use Rattle.request_handlers.specs.Sent.{sent}
 
@@ -21,26 +24,32 @@ abbrev pub unknown_id : Option (List ℕ) → ErrorCode
 unknown_id None = codes.InvalidTxnState
 unknown_id (Some id) = codes.InvalidProducerIdMapping
 
--- The transaction check. No producer id was given out yet, so that no batch of a producer passes.
-abbrev pub producer_code : Option (List ℕ) → BatchHeader → Option ErrorCode
-producer_code id h = if is_transactional h then Some (unknown_id id) else if int_lt h.producer_id (pos 0) then None else Some codes.InvalidProducerIdMapping
+-- a producer id has to be one that was given out, and one of a transactional id is for its transactions alone
+abbrev pub given_code : Given → Option ErrorCode
+given_code Never = Some codes.InvalidProducerIdMapping
+given_code Free = None
+given_code Owned = Some codes.InvalidTxnState
+
+-- the transaction check: a batch without a producer passes
+abbrev pub producer_code : GivenIds → Option (List ℕ) → BatchHeader → Option ErrorCode
+producer_code given id h = if is_transactional h then Some (unknown_id id) else if int_lt h.producer_id (pos 0) then None else given_code (given_to given h.producer_id)
 
 abbrev pub passed_by : Option ErrorCode → BatchData → Result BatchData ErrorCode
 passed_by (Some code) b = Err code
 passed_by None b = Ok b
 
-abbrev pub passed : Option (List ℕ) → Result BatchData BatchFault → Result BatchData ErrorCode
-passed id (Err fault) = Err (code_of fault)
-passed id (Ok b) = passed_by (producer_code id b.header) b
+abbrev pub passed : GivenIds → Option (List ℕ) → Result BatchData BatchFault → Result BatchData ErrorCode
+passed given id (Err fault) = Err (code_of fault)
+passed given id (Ok b) = passed_by (producer_code given id b.header) b
 
 -- there have to be records
-abbrev pub batch_in : ℕ → Option (List ℕ) → Option (List ℕ) → Result BatchData ErrorCode
-batch_in most id None = Err codes.InvalidRecord
-batch_in most id (Some records) = if length records == 0 then Err codes.InvalidRecord else passed id (sent most records)
+abbrev pub batch_in : ℕ → GivenIds → Option (List ℕ) → Option (List ℕ) → Result BatchData ErrorCode
+batch_in most given id None = Err codes.InvalidRecord
+batch_in most given id (Some records) = if length records == 0 then Err codes.InvalidRecord else passed given id (sent most records)
 
 -- the batch to be appended, or why none is, whatever partition it is for
-abbrev pub judged : ℕ → Option (List ℕ) → ℤ → Option (List ℕ) → Result BatchData ErrorCode
-judged most id acks records = if are_acks acks then batch_in most id records else Err codes.InvalidRequiredAcks
+abbrev pub judged : ℕ → GivenIds → Option (List ℕ) → ℤ → Option (List ℕ) → Result BatchData ErrorCode
+judged most given id acks records = if are_acks acks then batch_in most given id records else Err codes.InvalidRequiredAcks
 
 -- ---- what it changes
 

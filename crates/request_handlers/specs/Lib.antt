@@ -1,5 +1,6 @@
 pub mod World
 pub mod First
+pub mod Producers
 pub mod Logs
 pub mod Outcome
 pub mod Metadata
@@ -10,9 +11,17 @@ pub mod RoomLaws
 pub mod Produce
 pub mod Fetch
 pub mod ListOffsets
+pub mod Whole
+pub mod DescribeAcls
+pub mod CreateAcls
+pub mod DeleteAcls
+pub mod InitProducerId
 pub mod Step
 pub mod Core
 pub mod Headline
 pub mod Tenants
 pub mod DataLaws
 pub mod DataTenants
+pub mod AclLaws
+pub mod ProducerLaws
+pub mod DescribeLaws

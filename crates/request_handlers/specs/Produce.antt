@@ -23,7 +23,8 @@ use Rattle.walk.specs.Walk.{world_after, answers, refusals}
 use Rattle.request_handlers.specs.World.{World, TopicValue, LogValue, rules_of}
 use Rattle.request_handlers.specs.First.{magnitude}
 use Rattle.request_handlers.specs.Outcome.{Outcome}
-use Rattle.request_handlers.specs.Logs.{log_at, room_of}
+use Rattle.request_handlers.specs.Producers.{GivenIds}
+use Rattle.request_handlers.specs.Logs.{log_at, room_of, offset_in}
 use Rattle.request_handlers.specs.Judged.{judged, topics_produced, records_size}
 use Rattle.request_handlers.specs.RoomLaws.{produce_takes}
 
@@ -41,10 +42,10 @@ produced_error code p = record { index = p.index; error = code; base_offset = ne
 abbrev pub produced_at : ℤ → ProducedRecords → ProducedOffset
 produced_at offset p = record { index = p.index; error = codes.None; base_offset = offset; log_append_time = negsuc 0 }
 
--- the batch goes to the end of the log
-abbrev pub produced_to : ProducedRecords → Option ℤ → ProducedOffset
-produced_to p None = produced_error codes.UnknownTopicOrPartition p
-produced_to p (Some offset) = produced_at offset p
+-- the batch stands at an offset now, or why it doesn't
+abbrev pub produced_to : ProducedRecords → Result ℤ ErrorCode → ProducedOffset
+produced_to p (Err code) = produced_error code p
+produced_to p (Ok offset) = produced_at offset p
 
 -- whether the partition is there comes before what is wrong with the batch
 abbrev pub unproduced : ErrorCode → ProducedRecords → Option LogValue → ProducedOffset
@@ -52,28 +53,28 @@ unproduced code p None = produced_error codes.UnknownTopicOrPartition p
 unproduced code p (Some log) = produced_error code p
 
 abbrev pub produced_by : Result BatchData ErrorCode → ProducedRecords → Option LogValue → ProducedOffset
-produced_by (Ok b) p log = produced_to p (option_map end_of log)
+produced_by (Ok b) p log = produced_to p (offset_in b log)
 produced_by (Err code) p log = unproduced code p log
 
 abbrev pub produced : Result BatchData ErrorCode → List TopicValue → List ℕ → ProducedRecords → ProducedOffset
 produced batch topics name p = produced_by batch p (log_at topics name p.index)
 
 -- A batch has no more records than bytes.
-abbrev pub produce_rule : Caller → ℕ → Option (List ℕ) → ℤ → PartRule ProducedRecords ProducedOffset (List TopicValue)
-produce_rule caller most id acks = record {
+abbrev pub produce_rule : Caller → ℕ → GivenIds → Option (List ℕ) → ℤ → PartRule ProducedRecords ProducedOffset (List TopicValue)
+produce_rule caller most given id acks = record {
   questions = λ name p. produce_questions caller id name;
-  plain = λ topics name p. produced (judged most id acks p.records) topics name p;
-  after = λ topics name p. topics_produced (judged most id acks p.records) topics name p.index;
+  plain = λ topics name p. produced (judged most given id acks p.records) topics name p;
+  after = λ topics name p. topics_produced (judged most given id acks p.records) topics name p.index;
   refused = λ code name p. produced_error code p;
   weight = λ p. records_size p.records;
   room = room_of;
-  takes = λ topics name p. produce_takes most id acks topics name p;
+  takes = λ topics name p. produce_takes most given id acks topics name p;
 }
 
 -- ---- the request
 
 abbrev pub producing : World → Caller → ProduceRequest → PartRule ProducedRecords ProducedOffset (List TopicValue)
-producing w caller r = produce_rule caller (magnitude w.node.max_batch) r.transactional_id r.acks
+producing w caller r = produce_rule caller (magnitude w.node.max_batch) w.producers r.transactional_id r.acks
 
 -- with acks 0 nothing is sent
 abbrev pub produce_reply : ℤ → List (Topic ProducedOffset) → Reply

@@ -13,6 +13,10 @@ use Rattle.request_handlers.specs.Metadata.{metadata_outcome}
 use Rattle.request_handlers.specs.Produce.{produce_outcome}
 use Rattle.request_handlers.specs.Fetch.{fetch_outcome}
 use Rattle.request_handlers.specs.ListOffsets.{list_offsets_outcome}
+use Rattle.request_handlers.specs.InitProducerId.{init_producer_id_outcome}
+use Rattle.request_handlers.specs.DescribeAcls.{describe_acls_outcome}
+use Rattle.request_handlers.specs.CreateAcls.{create_acls_outcome}
+use Rattle.request_handlers.specs.DeleteAcls.{delete_acls_outcome}
 
 -- permissions are those of the book at the event's start
 abbrev pub request_outcome : World → Caller → Request → Outcome
@@ -20,6 +24,10 @@ request_outcome w caller (requests.Produce r) = produce_outcome w caller r
 request_outcome w caller (requests.Fetch r) = fetch_outcome w caller r
 request_outcome w caller (requests.ListOffsets r) = list_offsets_outcome w caller r
 request_outcome w caller (requests.Metadata r) = metadata_outcome w caller r
+request_outcome w caller (requests.InitProducerId r) = init_producer_id_outcome w caller r
+request_outcome w caller (requests.DescribeAcls r) = describe_acls_outcome w caller r
+request_outcome w caller (requests.CreateAcls r) = create_acls_outcome w caller r
+request_outcome w caller (requests.DeleteAcls r) = delete_acls_outcome w caller r
 
 abbrev pub outcome : World → Event → Outcome
 outcome w (Ask caller client request) = request_outcome w caller request
@@ -49,6 +57,10 @@ is_reading_request (requests.Produce r) = false
 is_reading_request (requests.Fetch r) = true
 is_reading_request (requests.ListOffsets r) = true
 is_reading_request (requests.Metadata r) = true
+is_reading_request (requests.InitProducerId r) = false
+is_reading_request (requests.DescribeAcls r) = true
+is_reading_request (requests.CreateAcls r) = false
+is_reading_request (requests.DeleteAcls r) = false
 
 -- the event changes nothing but the number of events
 abbrev pub is_reading : Event → Bool

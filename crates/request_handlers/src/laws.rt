@@ -4,7 +4,10 @@ ghost use Rattle.request_handlers.specs.Core.{WholeRuns};
 ghost use Rattle.request_handlers.specs.Headline.{AnswersEachTopic, RefusesEachTopic};
 ghost use Rattle.request_handlers.specs.Tenants.{DependsOnGrants};
 ghost use Rattle.request_handlers.specs.DataLaws.{ProducesAsAnswered, FetchesRuns, ListsEnds};
-ghost use Rattle.request_handlers.specs.DataTenants.{ProduceKeepsTheRest, ProduceDependsOnGrants, FetchDependsOnGrants, ListOffsetsDependsOnGrants};
+ghost use Rattle.request_handlers.specs.ProducerLaws.{HoldsOnce, InitsOnce, InitDependsOnGrants};
+ghost use Rattle.request_handlers.specs.AclLaws.{CreatesEach, DeletesEach, RefusedEditNothing, AclsDependOnTheBook, AclsKeepTopics};
+ghost use Rattle.request_handlers.specs.DescribeLaws.{DescribesEach};
+ghost use Rattle.request_handlers.specs.DataTenants.{ProduceKeepsTheRest, ProduceKeepsOtherPartitions, ProduceDependsOnGrants, FetchDependsOnGrants, ListOffsetsDependsOnGrants};
 
 /// A run without a stop has a receipt for each event, and leaves the core where the events lead.
 pub fn whole_runs()
@@ -47,6 +50,11 @@ pub fn produce_keeps_the_rest()
     ensures { ProduceKeepsTheRest }
 {}
 
+/// A partition for which a Produce has no granted part is as before.
+pub fn produce_keeps_other_partitions()
+    ensures { ProduceKeepsOtherPartitions }
+{}
+
 /// A Produce is answered by what its questions were granted alone.
 pub fn produce_depends_on_grants()
     ensures { ProduceDependsOnGrants }
@@ -60,4 +68,49 @@ pub fn fetch_depends_on_grants()
 /// A ListOffsets is answered by what its questions were granted alone.
 pub fn list_offsets_depends_on_grants()
     ensures { ListOffsetsDependsOnGrants }
+{}
+
+/// After a CreateAcls each entry that is a binding stands in the book.
+pub fn creates_each()
+    ensures { CreatesEach }
+{}
+
+/// After a DeleteAcls none of its filters picks anything.
+pub fn deletes_each()
+    ensures { DeletesEach }
+{}
+
+/// A DescribeAcls tells each binding of the book that its filter picks once, in groups by kind, name and pattern.
+pub fn describes_each()
+    ensures { DescribesEach }
+{}
+
+/// A CreateAcls or DeleteAcls that the book of before refuses changes nothing.
+pub fn refused_edit_nothing()
+    ensures { RefusedEditNothing }
+{}
+
+/// The answers about access control, and the book that they leave, depend on the book alone.
+pub fn acls_depend_on_the_book()
+    ensures { AclsDependOnTheBook }
+{}
+
+/// Edits of the book touch no log.
+pub fn acls_keep_topics()
+    ensures { AclsKeepTopics }
+{}
+
+/// Each log holds what a producer wrote in an epoch once, in order and without a gap, whatever the events were.
+pub fn holds_once()
+    ensures { HoldsOnce }
+{}
+
+/// An InitProducerId without a transactional id gives out a producer id that was never given out, where it is allowed.
+pub fn inits_once()
+    ensures { InitsOnce }
+{}
+
+/// An InitProducerId is answered by what its question was granted and by the producer ids given out, and touches no log.
+pub fn init_depends_on_grants()
+    ensures { InitDependsOnGrants }
 {}

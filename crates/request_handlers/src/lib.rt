@@ -2,7 +2,12 @@
 //! keeps what it answered and refused in a trail.
 #![tactic(auto)]
 
+mod create_acls;
+mod delete_acls;
+mod describe_acls;
 mod fetch;
+mod given;
+mod init_producer_id;
 mod laws;
 mod list_offsets;
 mod logs;
@@ -12,6 +17,7 @@ mod node;
 mod numbers;
 mod outcome;
 mod produce;
+mod producer_ids;
 mod reading;
 mod room;
 mod slot;
@@ -20,15 +26,21 @@ mod stop;
 #[cfg(test)]
 mod tests;
 mod topics;
+mod whole;
 
+pub use given::Given;
 pub use laws::{
-    fetch_depends_on_grants, fetches_runs, list_offsets_depends_on_grants, lists_ends,
-    metadata_answers_each_topic, metadata_depends_on_grants, metadata_refuses_each_topic,
-    produce_depends_on_grants, produce_keeps_the_rest, produces_as_answered, whole_runs,
+    acls_depend_on_the_book, acls_keep_topics, creates_each, deletes_each, describes_each,
+    fetch_depends_on_grants, fetches_runs, holds_once, init_depends_on_grants, inits_once,
+    list_offsets_depends_on_grants, lists_ends, metadata_answers_each_topic,
+    metadata_depends_on_grants, metadata_refuses_each_topic, produce_depends_on_grants,
+    produce_keeps_other_partitions, produce_keeps_the_rest, produces_as_answered,
+    refused_edit_nothing, whole_runs,
 };
 pub use logs::Logs;
 pub use machine::Core;
 pub use node::Node;
+pub use producer_ids::ProducerIds;
 pub use reading::is_reading;
 pub use slot::Slot;
 pub use state::State;

@@ -5,11 +5,13 @@ ghost use Rattle.std.specs.Option.{option_copied};
 ghost use Rattle.walk.specs.Walk.{topics_weight};
 ghost use Rattle.request_handlers.specs.Logs.{MayWrite, room_of, most_end};
 ghost use Rattle.request_handlers.specs.Sent.{sent};
-ghost use Rattle.request_handlers.specs.Judged.{are_acks, producer_code, passed, batch_in, judged, topics_produced, records_size};
+ghost use Rattle.request_handlers.specs.Judged.{are_acks, given_code, producer_code, passed, batch_in, judged, topics_produced, records_size};
 ghost use Rattle.request_handlers.specs.Produce.{produced_error, produced_at, produced_to, unproduced, produced, producing, produce_reply, produce_outcome};
 
+use crate::given::Given;
 use crate::numbers::magnitude;
 use crate::outcome::Outcome;
+use crate::producer_ids::ProducerIds;
 use crate::state::State;
 use crate::topics::Topics;
 use acl_binding::{Caller, Kind, Operation};
@@ -23,19 +25,20 @@ use std::alloc::{AllocError, Global};
 use walk::{Part, PartApi, refusal_code, walk};
 use wire_types::{ErrorCode, Items, Text, Topic};
 
-/// What a Produce says of all its partitions, and the greatest size of a batch.
+/// What a Produce says of all its partitions, the greatest size of a batch, and the producer ids that were given out.
 #[derive(Drop)]
 pub(crate) struct Producing<'a> {
     pub(crate) caller: &'a Caller,
     pub(crate) id: &'a Option<Text>,
     pub(crate) acks: i16,
     pub(crate) most: u32,
+    pub(crate) given: &'a ProducerIds,
 }
 
 impl<'a> PartApi<ProducedRecords, ProducedOffset, Topics> for Producing<'a> {
     ghost use Rattle.request_handlers.specs.Produce.{produce_rule};
 
-    ghost rule = { λ api. produce_rule api.caller.now api.most api.id.now api.acks };
+    ghost rule = { λ api. produce_rule api.caller.now api.most api.given.now api.id.now api.acks };
 
     fn serve(
         &self,
@@ -79,8 +82,8 @@ impl<'a> Producing<'a> {
         requires permit { MayWrite policy.now name.now permit }
         requires records { records ≡ part.now.records }
         requires room { records_size part.now.records ≤ room_of topics.old }
-        ensures topics { OnOk result (topics.new ≡ topics_produced (judged self.now.most self.now.id.now self.now.acks part.now.records) topics.old name.now part.now.index) }
-        ensures answer { IfOk result (λ answer. answer ≡ produced (judged self.now.most self.now.id.now self.now.acks part.now.records) topics.old name.now part.now) }
+        ensures topics { OnOk result (topics.new ≡ topics_produced (judged self.now.most self.now.given.now self.now.id.now self.now.acks part.now.records) topics.old name.now part.now.index) }
+        ensures answer { IfOk result (λ answer. answer ≡ produced (judged self.now.most self.now.given.now self.now.id.now self.now.acks part.now.records) topics.old name.now part.now) }
     {
         let batch = self.judge(records);
         produce(alloc, policy, permit, topics, name, part, batch)
@@ -88,12 +91,12 @@ impl<'a> Producing<'a> {
 
     /// The batch to be appended, or why none is, whatever partition it is for.
     fn judge(&self, records: Option<Bytes>) -> Result<Batch, ErrorCode>
-        ensures { result ≡ judged self.now.most self.now.id.now self.now.acks records }
+        ensures { result ≡ judged self.now.most self.now.given.now self.now.id.now self.now.acks records }
     {
         if !are_acks(self.acks) {
             return Err(ErrorCode::InvalidRequiredAcks);
         }
-        batch_in(records, self.most, self.id)
+        batch_in(records, self.most, self.given, self.id)
     }
 }
 
@@ -146,13 +149,13 @@ fn produced_at(offset: i64, part: &ProducedRecords) -> ProducedOffset
     }
 }
 
-/// The answer where the batch was appended at an offset, or the partition isn't there.
-fn produced_to(part: &ProducedRecords, offset: Option<i64>) -> ProducedOffset
+/// The answer where the batch stands at an offset, or why it doesn't.
+fn produced_to(part: &ProducedRecords, offset: Result<i64, ErrorCode>) -> ProducedOffset
     ensures { result ≡ produced_to part.now offset }
 {
     match offset {
-        Some(offset) => produced_at(offset, part),
-        None => produced_error(ErrorCode::UnknownTopicOrPartition, part),
+        Ok(offset) => produced_at(offset, part),
+        Err(code) => produced_error(code, part),
     }
 }
 
@@ -167,21 +170,30 @@ fn unproduced(code: ErrorCode, part: &ProducedRecords, log: Option<&Log>) -> Pro
 }
 
 /// The batch, if there are records.
-fn batch_in(records: Option<Bytes>, most: u32, id: &Option<Text>) -> Result<Batch, ErrorCode>
-    ensures { result ≡ batch_in most id.now records }
+fn batch_in(
+    records: Option<Bytes>,
+    most: u32,
+    given: &ProducerIds,
+    id: &Option<Text>,
+) -> Result<Batch, ErrorCode>
+    ensures { result ≡ batch_in most given.now id.now records }
 {
     match records {
-        Some(records) if records.len() != 0 => passed(id, sent(records, most)),
+        Some(records) if records.len() != 0 => passed(given, id, sent(records, most)),
         _ => Err(ErrorCode::InvalidRecord),
     }
 }
 
 /// The batch, if its producer may send it.
-fn passed(id: &Option<Text>, batch: Result<Batch, BatchFault>) -> Result<Batch, ErrorCode>
-    ensures { result ≡ passed id.now batch }
+fn passed(
+    given: &ProducerIds,
+    id: &Option<Text>,
+    batch: Result<Batch, BatchFault>,
+) -> Result<Batch, ErrorCode>
+    ensures { result ≡ passed given.now id.now batch }
 {
     match batch {
-        Ok(batch) => match producer_code(id, batch.header()) {
+        Ok(batch) => match producer_code(given, id, batch.header()) {
             Some(code) => Err(code),
             None => Ok(batch),
         },
@@ -202,9 +214,9 @@ fn sent(bytes: Bytes, most: u32) -> Result<Batch, BatchFault>
     Batch::check(bytes, most)
 }
 
-/// Why a batch of a producer or of a transaction is refused: no producer id was given out yet.
-fn producer_code(id: &Option<Text>, header: &BatchHeader) -> Option<ErrorCode>
-    ensures { result ≡ producer_code id.now header.now }
+/// Why a batch of a producer or of a transaction is refused, whatever partition it is for.
+fn producer_code(given: &ProducerIds, id: &Option<Text>, header: &BatchHeader) -> Option<ErrorCode>
+    ensures { result ≡ producer_code given.now id.now header.now }
 {
     if header.is_transactional() {
         return Some(match id {
@@ -215,7 +227,18 @@ fn producer_code(id: &Option<Text>, header: &BatchHeader) -> Option<ErrorCode>
     if header.producer_id < 0 {
         return None;
     }
-    Some(ErrorCode::InvalidProducerIdMapping)
+    given_code(given.given_to(header.producer_id))
+}
+
+/// Why a batch that isn't of a transaction is refused by whom its producer id was given to.
+fn given_code(given: Given) -> Option<ErrorCode>
+    ensures { result ≡ given_code given }
+{
+    match given {
+        Given::Never => Some(ErrorCode::InvalidProducerIdMapping),
+        Given::Free => None,
+        Given::Owned => Some(ErrorCode::InvalidTxnState),
+    }
 }
 
 /// The reply with these answers. With acks 0 it isn't sent.
@@ -251,6 +274,7 @@ impl State {
             id: &request.transactional_id,
             acks: request.acks,
             most: magnitude(self.node.max_batch),
+            given: &self.producers,
         };
         let topics = request.topics.as_slice();
         let walked = walk(alloc, &api, &self.policy, &mut self.topics, topics)?;

@@ -14,6 +14,10 @@ fn is_reading_request(request: &Request) -> bool
         Request::Fetch(_) => true,
         Request::ListOffsets(_) => true,
         Request::Metadata(_) => true,
+        Request::InitProducerId(_) => false,
+        Request::DescribeAcls(_) => true,
+        Request::CreateAcls(_) => false,
+        Request::DeleteAcls(_) => false,
     }
 }
 

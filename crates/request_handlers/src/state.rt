@@ -4,7 +4,8 @@ ghost use Rattle.std.specs.Prelude.{◌≡◌, ◌+◌, ◌<◌, ◌^◌, ◌≤
 ghost use Rattle.std.specs.List.{list_all};
 ghost use Rattle.authorizer.specs.Asking.{policy_rules};
 ghost use Rattle.acl_binding.specs.Book.{empty_book};
-ghost use Rattle.settings.specs.Fault.{is_in_range, is_creatable};
+ghost use Rattle.acl_binding.specs.Creatable.{is_creatable};
+ghost use Rattle.settings.specs.Fault.{is_in_range};
 ghost use Rattle.request_handlers.specs.World.{rules_of};
 ghost use Rattle.request_handlers.specs.First.{first_world, with_bindings};
 ghost use Rattle.msg_admin.specs.Request.{Fits};
@@ -14,6 +15,7 @@ ghost use Rattle.request_handlers.specs.Step.{request_outcome, outcome, reply_to
 
 use crate::node::Node;
 use crate::outcome::Outcome;
+use crate::producer_ids::ProducerIds;
 use crate::topics::Topics;
 use acl_binding::{Binding, Caller};
 use audit_trail::Event;
@@ -30,6 +32,7 @@ pub struct State {
     pub(crate) node: Node,
     pub(crate) policy: Policy,
     pub(crate) topics: Topics,
+    pub(crate) producers: ProducerIds,
     events: u64,
 }
 
@@ -39,7 +42,7 @@ impl Model for State {
 
     ghost Value = { World };
 
-    ghost view = { λ s. record { node = s.node; supers = s.policy.supers; book = s.policy.book; topics = s.topics; producers = []; transactions = []; groups = []; warrants = []; moment = 0; events = s.events } };
+    ghost view = { λ s. record { node = s.node; supers = s.policy.supers; book = s.policy.book; topics = s.topics; producers = s.producers; transactions = []; groups = []; warrants = []; moment = 0; events = s.events } };
 }
 
 impl State {
@@ -53,6 +56,7 @@ impl State {
             node: Node::first(settings)?,
             policy: first_policy(alloc, &settings.supers, settings.acls.as_slice())?,
             topics: Topics::first(alloc, settings.topics.as_slice())?,
+            producers: ProducerIds::new(),
             events: 0,
         })
     }
@@ -80,6 +84,8 @@ impl State {
     pub(crate) fn apply(&mut self, alloc: Global, event: &Event) -> Result<Outcome, AllocError>
         requires fits { EventFits event.now }
         requires room { most_parts ≤ room_of self.old.topics }
+        requires numbers { self.old.book.next + most_parts < 2 ^ 63 }
+        requires producers { length self.old.producers < 2 ^ 63 }
         ensures world { OnOk result (self.new ≡ (outcome self.old event.now).world) }
         ensures reply { IfOk result (λ o. o.reply ≡ reply_to self.old event.now) }
         ensures refusals { IfOk result (λ o. o.refusals ≡ refusals_of self.old event.now) }
@@ -103,6 +109,8 @@ impl State {
     ) -> Result<Outcome, AllocError>
         requires fits { Fits request.now }
         requires room { most_parts ≤ room_of self.old.topics }
+        requires numbers { self.old.book.next + most_parts < 2 ^ 63 }
+        requires producers { length self.old.producers < 2 ^ 63 }
         ensures world { OnOk result (self.new ≡ (request_outcome self.old caller.now request.now).world) }
         ensures reply { IfOk result (λ o. o.reply ≡ (request_outcome self.old caller.now request.now).reply) }
         ensures refusals { IfOk result (λ o. o.refusals ≡ (request_outcome self.old caller.now request.now).refusals) }
@@ -112,6 +120,10 @@ impl State {
             Request::Produce(request) => self.produce(alloc, caller, request),
             Request::Fetch(request) => self.fetch(alloc, caller, request),
             Request::ListOffsets(request) => self.list_offsets(alloc, caller, request),
+            Request::DescribeAcls(request) => self.describe_acls(alloc, caller, request),
+            Request::CreateAcls(request) => self.create_acls(alloc, caller, request),
+            Request::DeleteAcls(request) => self.delete_acls(alloc, caller, request),
+            Request::InitProducerId(request) => self.init_producer_id(alloc, caller, request),
             Request::Metadata(request) => {
                 let (reply, refusals) = self.metadata(alloc, caller, request)?;
                 Ok(Outcome {

@@ -1,11 +1,10 @@
 -- What can be wrong with settings. Faults are looked for over the whole settings, one kind after the other.
-use Rattle.std.specs.Prelude.{ℕ, ℤ, pos, negsuc, Bool, true, false, not, ◌&&◌, ◌||◌, ◌==◌, nat_le, List, [], ◌∷◌, length, map, Option, Some, None, if◌then◌else◌, codes}
+use Rattle.std.specs.Prelude.{ℕ, ℤ, pos, negsuc, Bool, true, false, not, ◌&&◌, nat_le, List, [], ◌∷◌, length, map, Option, Some, None, if◌then◌else◌}
 use Rattle.std.specs.List.{list_all, list_any}
 use Rattle.std.specs.Str.{bytes_eq}
 use Rattle.acl_binding.specs.declared.binding.Binding.{Binding}
-use Rattle.acl_binding.specs.declared.words.Kind.{Kind}
-use Rattle.acl_binding.specs.declared.words.Kind.TheVariants.{Topic, Group, Cluster, TransactionalId}
-use Rattle.settings.specs.Names.{is_topic_name, is_principal}
+use Rattle.acl_binding.specs.Creatable.{is_principal, is_creatable}
+use Rattle.settings.specs.Names.{is_topic_name}
 use Rattle.settings.specs.declared.settings.Settings.{Settings}
 use Rattle.settings.specs.declared.settings.TopicSetting.{TopicSetting}
 use Rattle.settings.specs.declared.fault.OpenFault.{OpenFault}
@@ -59,21 +58,6 @@ are_topic_names topics = list_all (λ (t : TopicSetting). is_topic_name t.name) 
 abbrev pub are_distinct : List TopicSetting → Bool
 are_distinct [] = true
 are_distinct (t ∷ ts) = not (list_any (λ (u : TopicSetting). bytes_eq t.name u.name) ts) && are_distinct ts
-
--- ---- bindings
-
--- the one name that the cluster has
-abbrev pub cluster_name : List ℕ
-cluster_name = codes "kafka-cluster"
-
-abbrev pub is_resource_name : Kind → List ℕ → Bool
-is_resource_name Cluster name = bytes_eq name cluster_name
-is_resource_name kind name = not (length name == 0)
-
--- a binding that may be created: its name and host aren't empty, the cluster has its one name, and its
--- principal is a user
-abbrev pub is_creatable : Binding → Bool
-is_creatable b = is_resource_name b.kind b.name && (is_principal b.principal && not (length b.host == 0))
 
 -- ---- the first fault
 

@@ -1,5 +1,5 @@
--- Names of topics and of principals (Kafka documentation, "Topic configs" and "Authorization and ACLs").
-use Rattle.std.specs.Prelude.{ℕ, Bool, not, ◌&&◌, ◌||◌, ◌==◌, nat_le, List, length, take, codes}
+-- Names of topics (Kafka documentation, "Topic configs").
+use Rattle.std.specs.Prelude.{ℕ, Bool, not, ◌&&◌, ◌||◌, ◌==◌, nat_le, List, length, codes}
 use Rattle.std.specs.Char.{is_ascii_alphanumeric}
 use Rattle.std.specs.List.{list_all}
 use Rattle.std.specs.Str.{bytes_eq}
@@ -13,7 +13,3 @@ abbrev pub is_topic_name : List ℕ → Bool
 is_topic_name name =
     (nat_le 1 (length name) && nat_le (length name) 249)
     && (not (bytes_eq name (codes ".") || bytes_eq name (codes "..")) && list_all is_name_byte name)
-
--- `User:` and at least one character
-abbrev pub is_principal : List ℕ → Bool
-is_principal text = nat_le 6 (length text) && bytes_eq (take 5 text) (codes "User:")

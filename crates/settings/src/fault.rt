@@ -1,14 +1,15 @@
 //! What can be wrong with settings.
 
-ghost use Rattle.std.specs.Prelude.{◌≡◌, ◌==◌, not, length};
+ghost use Rattle.std.specs.Prelude.{◌≡◌};
 ghost use Rattle.std.specs.Str.{bytes_eq};
 ghost use Rattle.std.specs.List.{list_all, list_any};
-ghost use Rattle.settings.specs.Fault.{is_within, are_numbers_within, is_host_within, is_topic_within, are_topics_within, is_text_within, is_binding_within, are_bindings_within, is_in_range, are_topic_names, are_distinct, is_resource_name, is_creatable, first_fault};
-ghost use Rattle.settings.specs.Names.{is_topic_name, is_principal};
+ghost use Rattle.acl_binding.specs.Creatable.{is_principal, is_creatable};
+ghost use Rattle.settings.specs.Fault.{is_within, are_numbers_within, is_host_within, is_topic_within, are_topics_within, is_text_within, is_binding_within, are_bindings_within, is_in_range, are_topic_names, are_distinct, first_fault};
+ghost use Rattle.settings.specs.Names.{is_topic_name};
 
-use crate::names::{is_principal, is_topic_name};
+use crate::names::is_topic_name;
 use crate::settings::{Settings, TopicSetting};
-use acl_binding::{Binding, Kind};
+use acl_binding::{Binding, is_principal};
 use wire_types::Text;
 
 /// Why settings are refused: the first in this order that holds.
@@ -175,27 +176,10 @@ fn are_distinct(topics: &[TopicSetting]) -> bool
     true
 }
 
-fn is_resource_name(kind: Kind, name: &Text) -> bool
-    ensures { result ≡ is_resource_name kind name.now }
-{
-    match kind {
-        Kind::Cluster => name.as_str() == "kafka-cluster",
-        _ => !name.is_empty(),
-    }
-}
-
-pub(crate) fn is_creatable(binding: &Binding) -> bool
-    ensures { result ≡ is_creatable binding.now }
-{
-    is_resource_name(binding.kind, &binding.name)
-        && is_principal(binding.principal.as_str())
-        && !binding.host.is_empty()
-}
-
 fn are_creatable(acls: &[Binding]) -> bool
     ensures { result ≡ list_all is_creatable acls.now }
 {
-    acls.iter().all(|binding| is_creatable(binding))
+    acls.iter().all(|binding| binding.is_creatable())
 }
 
 fn are_principals(supers: &[Text]) -> bool

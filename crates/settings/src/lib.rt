@@ -9,6 +9,6 @@ mod settings;
 mod tests;
 
 pub use fault::{OpenFault, first_fault};
-pub use names::{is_principal, is_topic_name};
+pub use names::is_topic_name;
 pub use sentences::explain;
 pub use settings::{Settings, TopicSetting};

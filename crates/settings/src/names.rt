@@ -1,8 +1,8 @@
-//! Names of topics and of principals.
+//! Names of topics.
 
 ghost use Rattle.std.specs.Prelude.{◌≡◌};
 ghost use Rattle.std.specs.List.{list_all};
-ghost use Rattle.settings.specs.Names.{is_name_byte, is_topic_name, is_principal};
+ghost use Rattle.settings.specs.Names.{is_name_byte, is_topic_name};
 
 /// Whether the byte may stand in a topic's name.
 fn is_name_byte(byte: u8) -> bool
@@ -29,14 +29,4 @@ pub fn is_topic_name(name: &str) -> bool
         return false;
     }
     are_name_bytes(name.as_bytes())
-}
-
-/// Whether the text is `User:` and at least one character.
-pub fn is_principal(text: &str) -> bool
-    ensures { result ≡ is_principal text.now }
-{
-    match text.strip_prefix("User:") {
-        Some(name) => !name.is_empty(),
-        None => false,
-    }
 }

@@ -2,10 +2,11 @@
 
 use crate::fault::{
     Limits, MAX_BATCH, MAX_TXN_TIMEOUT, NODE_ID, OpenFault, PARTITIONS, PORT, TRAIL_LIMIT,
-    is_among, is_binding_within, is_creatable, is_host_within, is_text_within, is_within,
+    is_among, is_binding_within, is_host_within, is_text_within, is_within,
 };
-use crate::names::{is_principal, is_topic_name};
+use crate::names::is_topic_name;
 use crate::settings::{Settings, TopicSetting};
+use acl_binding::is_principal;
 use std::alloc::{AllocError, Global};
 
 /// Says what is wrong with an entry of a list, which is told by its number from 1.
@@ -115,7 +116,7 @@ pub fn explain(alloc: Global, settings: &Settings, fault: OpenFault) -> Result<S
         }
         OpenFault::Twice => of_entry(alloc, "topic", repeated(topics), "`name` stands twice"),
         OpenFault::Acl => {
-            let place = acls.iter().position(|binding| !is_creatable(binding));
+            let place = acls.iter().position(|binding| !binding.is_creatable());
             of_entry(
                 alloc,
                 "acl",

@@ -12,7 +12,7 @@ const ASK: &str = "req ann h 0000000e0003000100000001ffffffffffff";
 
 const ANSWER: &str = "0000001d00000001000000010000000100016800002384ffff0000000100000000\n";
 
-fn is_answered(alloc: Global, input: &[u8], text: &str, status: u8) -> bool {
+pub(super) fn is_answered(alloc: Global, input: &[u8], text: &str, status: u8) -> bool {
     let mut reader = input;
     let mut writer = Vec::new(alloc);
     let ended = replay(alloc, &mut reader, &mut writer);

@@ -1,8 +1,8 @@
 //! Whole frames of Produce, Fetch and ListOffsets, as they travel.
 
-use crate::header::Header;
-use crate::reply::{Reply, write_reply};
-use crate::request::{Request, read_request, write_request};
+use super::{is_frame_of, is_sent_as};
+use crate::reply::Reply;
+use crate::request::Request;
 use bytes::Bytes;
 use msg_data::{
     FetchPartition, FetchReply, FetchRequest, FetchedRecords, FoundOffset, Isolation,
@@ -42,20 +42,6 @@ fn only_b<P: Drop>(alloc: Global, partition: P) -> Result<Items<Topic<P>>, Alloc
         partitions,
     })?;
     Ok(topics)
-}
-
-/// The frame is that of the request, both ways.
-fn is_frame_of(alloc: Global, frame: &'static [u8], request: &Request) -> Option<bool> {
-    let (_size, bytes) = frame.split_at(frame.len().min(4));
-    let (header, read) = read_request(alloc, &Bytes::from_static(bytes)).ok()?;
-    let again = Header::new(request.api(), header.correlation, None);
-    let written = write_request(alloc, &again, request).ok()?;
-    Some(read == *request && written.as_slice() == frame)
-}
-
-fn is_sent_as(alloc: Global, correlation: i32, reply: &Reply, frame: &[u8]) -> Option<bool> {
-    let written = write_reply(alloc, correlation, reply).ok()?;
-    Some(written.as_slice() == frame)
 }
 
 #[test]

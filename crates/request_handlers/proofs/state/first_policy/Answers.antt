@@ -1,6 +1,6 @@
 use Rattle.std.proofs.Common.{rules, arith, ap, ◌∙◌}
 use Rattle.authorizer.specs.Policy.{PolicyValue}
-use Rattle.settings.specs.Fault.{is_creatable}
+use Rattle.acl_binding.specs.Creatable.{is_creatable}
 use Rattle.request_handlers.proofs.Parts.{book_goes_on, all_rest}
 use Rattle.request_handlers.proofs.state.first_policy.Goals as goal
 
@@ -9,6 +9,5 @@ loop-binding-preserved c = record {
   book = book_goes_on _ _ _ _ _ _ _ c.loop-binding-test.true c.binding-item.is (search rules) c.in_ok-add.ensures.ok c.loop-binding.invariant.book;
   supers = ap (λ (p : PolicyValue). p.supers) c.in_ok-add.ensures.ok ∙ c.loop-binding.invariant.supers;
   next = omega (arith, c.in_ok-add.ensures.next, c.loop-binding.invariant.next);
-  edit = omega (arith, c.in_ok-add.ensures.edit, c.loop-binding.invariant.edit);
   creatable = all_rest is_creatable _ _ _ c.loop-binding-test.true c.binding-item.is c.loop-binding.invariant.creatable;
 }

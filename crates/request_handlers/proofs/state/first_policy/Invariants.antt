@@ -1,7 +1,7 @@
 use Rattle.std.proofs.Common.{◌≡◌, ◌+◌, ◌≤◌, drop, true}
 use Rattle.std.specs.List.{list_all}
 use Rattle.acl_binding.specs.Book.{empty_book}
-use Rattle.settings.specs.Fault.{is_creatable}
+use Rattle.acl_binding.specs.Creatable.{is_creatable}
 use Rattle.request_handlers.specs.First.{with_bindings}
 use Rattle.request_handlers.proofs.state.first_policy.Given as goal
 
@@ -10,6 +10,5 @@ invariant-loop-binding l = record {
   book : with_bindings l.policy.book (drop l.binding-index l.acls) ≡ with_bindings empty_book l.acls;
   supers : l.policy.supers ≡ l.supers;
   next : l.policy.book.next ≤ l.binding-index + 1;
-  edit : l.policy.edit ≤ l.binding-index;
   creatable : list_all is_creatable (drop l.binding-index l.acls) ≡ true;
 }

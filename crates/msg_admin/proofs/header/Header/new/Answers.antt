@@ -11,6 +11,10 @@ key_again apis.Produce = refl
 key_again apis.Fetch = refl
 key_again apis.ListOffsets = refl
 key_again apis.Metadata = refl
+key_again apis.InitProducerId = refl
+key_again apis.DescribeAcls = refl
+key_again apis.CreateAcls = refl
+key_again apis.DeleteAcls = refl
 
 version_again : (api : Api) → to_z w16 (of_z w16 (version_of api)) ≡ version_of api
 unfolding version_of
@@ -18,6 +22,10 @@ version_again apis.Produce = refl
 version_again apis.Fetch = refl
 version_again apis.ListOffsets = refl
 version_again apis.Metadata = refl
+version_again apis.InitProducerId = refl
+version_again apis.DescribeAcls = refl
+version_again apis.CreateAcls = refl
+version_again apis.DeleteAcls = refl
 
 pub returns-clause-served : goal.returns-clause-served
 returns-clause-served c = rw (c.key.ensures, c.version.ensures, key_again, version_again) (api_at-own c.args.api)

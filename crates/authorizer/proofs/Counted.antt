@@ -1,0 +1,22 @@
+-- Each removal takes a binding out, so that edit numbers stay below twice the creation numbers.
+use Rattle.std.proofs.Common.{◌≡◌, ℕ, suc, ◌+◌, ◌<◌, Bool, true, false, cond, not, List, [], ◌∷◌, filter, length, refl, arith}
+use Rattle.acl_binding.specs.declared.binding.Numbered.{Numbered}
+use Rattle.acl_binding.specs.declared.filter.Filter.{Filter}
+use Rattle.acl_binding.specs.Book.{BookValue}
+use Rattle.acl_binding.specs.Filter.{matches, matching, stays, removed}
+use Rattle.authorizer.specs.Policy.{IsCounted}
+
+-- what is taken out and what stays are all
+split_size : (f : Filter) (es : List Numbered) → length (filter (stays f) es) + length (matching es f) ≡ length es
+split_size f [] = refl
+split_size f (e ∷ es) = by_match (matches f e.binding) (split_size f es) where
+  by_match : (m : Bool) → length (filter (stays f) es) + length (matching es f) ≡ length es
+      → length (cond (not m) (e ∷ filter (stays f) es) (filter (stays f) es)) + length (cond m (e.binding ∷ matching es f) (matching es f)) ≡ suc (length es)
+  by_match true rest = omega (arith, rest)
+  by_match false rest = omega (arith, rest)
+
+pub counted_removed : (edit : ℕ) (book : BookValue) (f : Filter) → 0 < length (matching book.entries f) → IsCounted edit book → IsCounted (edit + 1) (removed book f)
+counted_removed edit book f some counted = omega (arith, split_size f book.entries, some, counted)
+
+pub counted_kept : (edit : ℕ) (book : BookValue) (f : Filter) → IsCounted edit book → IsCounted edit (removed book f)
+counted_kept edit book f counted = omega (arith, split_size f book.entries, counted)

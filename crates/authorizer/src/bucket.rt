@@ -1,0 +1,59 @@
+//! The bindings of one kind, pattern and name.
+
+ghost use Rattle.std.specs.Prelude.{◌≡◌, [], ◌∷◌, ◌++◌, length, nat_eq, not, is_ok, if◌then◌else◌, IfOk, filter as kept};
+ghost use Rattle.acl_binding.specs.Filter.{stays};
+
+use acl_binding::{Filter, Numbered};
+use std::alloc::{AllocError, Global};
+use std::marker::Model;
+use wire_types::Shared;
+
+/// Bindings in creation order, seen as their list.
+#[derive(Drop)]
+pub struct Bucket {
+    entries: Vec<Shared<Numbered>>,
+}
+
+impl Model for Bucket {
+    ghost use Rattle.std.specs.Prelude.{List};
+    ghost use Rattle.acl_binding.specs.declared.binding.Numbered.{Numbered};
+
+    ghost Value = { List Numbered };
+
+    ghost view = { λ b. b.entries.items };
+}
+
+impl Bucket {
+    /// A bucket with its first binding.
+    pub(crate) fn of(alloc: Global, entry: Shared<Numbered>) -> Result<Bucket, AllocError>
+        ensures { IfOk result (λ bucket. bucket ≡ entry ∷ []) }
+    {
+        let mut entries = Vec::new(alloc);
+        entries.push(entry)?;
+        Ok(Bucket { entries })
+    }
+
+    pub(crate) fn as_slice(&self) -> &[Shared<Numbered>]
+        ensures { result.now ≡ self.now }
+    {
+        &self.entries
+    }
+
+    /// One more binding, the last.
+    pub(crate) fn push(&mut self, entry: Shared<Numbered>) -> Result<(), AllocError>
+        ensures { self.new ≡ (if is_ok result then self.old ++ entry ∷ [] else self.old) }
+    {
+        self.entries.push(entry)?;
+        Ok(())
+    }
+
+    /// Leaves what the filter doesn't pick, and answers whether that is anything.
+    pub(crate) fn leave(&mut self, filter: &Filter) -> bool
+        ensures left { self.new ≡ kept (stays filter.now) self.old }
+        ensures any { result ≡ not (nat_eq (length self.new) 0) }
+    {
+        self.entries
+            .retain(|entry| !filter.matches(&entry.value().binding));
+        self.entries.len() != 0
+    }
+}

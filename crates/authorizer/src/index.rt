@@ -1,0 +1,127 @@
+//! The bindings by kind, pattern and name.
+
+ghost use Rattle.std.specs.Prelude.{◌≡◌, List, [], ◌∷◌, ◌++◌, OnOk, OnErr, filter as kept};
+ghost use Rattle.std.specs.Str.{IsUtf8};
+ghost use Rattle.acl_binding.specs.declared.binding.Numbered.{Numbered as Entry};
+ghost use Rattle.acl_binding.specs.declared.words.Kind.{Kind as AnyKind};
+ghost use Rattle.acl_binding.specs.Book.{number_of};
+ghost use Rattle.acl_binding.specs.Filter.{stays};
+ghost use Rattle.acl_binding.specs.Words.{kind_number};
+ghost use Rattle.authorizer.specs.Looking.{IsKindIndexed, IsIndexed, kind_index};
+
+use crate::names::Names;
+use acl_binding::{Binding, Filter, Kind, Numbered, Pattern};
+use std::alloc::{AllocError, Global};
+use wire_types::Shared;
+
+/// The bindings of one kind.
+#[derive(Drop)]
+pub struct KindIndex {
+    pub(crate) literal: Names,
+    pub(crate) prefixed: Names,
+}
+
+/// The bindings of each kind.
+#[derive(Drop)]
+pub struct Index {
+    topics: KindIndex,
+    groups: KindIndex,
+    cluster: KindIndex,
+    ids: KindIndex,
+}
+
+impl KindIndex {
+    fn new(alloc: Global) -> KindIndex
+        ensures { (kind : AnyKind) → IsKindIndexed result kind [] }
+    {
+        KindIndex {
+            literal: Names::new(alloc),
+            prefixed: Names::new(alloc),
+        }
+    }
+
+    fn number_of(&self, binding: &Binding) -> Option<u64>
+        ensures { (es : List Entry) → IsKindIndexed self.now binding.now.kind es → result ≡ number_of es binding.now }
+    {
+        match binding.pattern {
+            Pattern::Literal => self.literal.number_of(binding),
+            Pattern::Prefixed => self.prefixed.number_of(binding),
+        }
+    }
+
+    fn add(&mut self, alloc: Global, entry: &Shared<Numbered>) -> Result<(), AllocError>
+        ensures ok { OnOk result ((kind : AnyKind) (es : List Entry) → kind_number entry.now.binding.kind ≡ kind_number kind → IsKindIndexed self.old kind es → IsKindIndexed self.new kind (es ++ entry.now ∷ [])) }
+        ensures err { OnErr result ((kind : AnyKind) (es : List Entry) → IsKindIndexed self.old kind es → IsKindIndexed self.new kind es) }
+        ensures text { IsUtf8 entry.now.binding.name }
+    {
+        let name = entry.value().binding.name.as_str();
+        let shared = entry.share()?;
+        match entry.value().binding.pattern {
+            Pattern::Literal => self.literal.add(alloc, name, shared),
+            Pattern::Prefixed => self.prefixed.add(alloc, name, shared),
+        }
+    }
+
+    fn clean(&mut self, filter: &Filter)
+        ensures { (kind : AnyKind) (es : List Entry) → IsKindIndexed self.old kind es → IsKindIndexed self.new kind (kept (stays filter.now) es) }
+    {
+        self.literal.clean(filter);
+        self.prefixed.clean(filter);
+    }
+}
+
+impl Index {
+    pub(crate) fn new(alloc: Global) -> Index
+        ensures { IsIndexed result [] }
+    {
+        Index {
+            topics: KindIndex::new(alloc),
+            groups: KindIndex::new(alloc),
+            cluster: KindIndex::new(alloc),
+            ids: KindIndex::new(alloc),
+        }
+    }
+
+    /// The bindings of this kind.
+    pub(crate) fn of(&self, kind: Kind) -> &KindIndex
+        ensures { result.now ≡ kind_index self.now kind }
+    {
+        match kind {
+            Kind::Topic => &self.topics,
+            Kind::Group => &self.groups,
+            Kind::Cluster => &self.cluster,
+            Kind::TransactionalId => &self.ids,
+        }
+    }
+
+    /// The creation number of an equal binding.
+    pub(crate) fn number_of(&self, binding: &Binding) -> Option<u64>
+        ensures { (es : List Entry) → IsIndexed self.now es → result ≡ number_of es binding.now }
+    {
+        self.of(binding.kind).number_of(binding)
+    }
+
+    /// One more binding, after all others.
+    pub(crate) fn add(&mut self, alloc: Global, entry: &Shared<Numbered>) -> Result<(), AllocError>
+        ensures ok { OnOk result ((es : List Entry) → IsIndexed self.old es → IsIndexed self.new (es ++ entry.now ∷ [])) }
+        ensures err { OnErr result ((es : List Entry) → IsIndexed self.old es → IsIndexed self.new es) }
+        ensures text { IsUtf8 entry.now.binding.name }
+    {
+        match entry.value().binding.kind {
+            Kind::Topic => self.topics.add(alloc, entry),
+            Kind::Group => self.groups.add(alloc, entry),
+            Kind::Cluster => self.cluster.add(alloc, entry),
+            Kind::TransactionalId => self.ids.add(alloc, entry),
+        }
+    }
+
+    /// Takes out the bindings that the filter picks.
+    pub(crate) fn clean(&mut self, filter: &Filter)
+        ensures { (es : List Entry) → IsIndexed self.old es → IsIndexed self.new (kept (stays filter.now) es) }
+    {
+        self.topics.clean(filter);
+        self.groups.clean(filter);
+        self.cluster.clean(filter);
+        self.ids.clean(filter);
+    }
+}

@@ -1,0 +1,144 @@
+//! The book of bindings with its index.
+
+ghost use Rattle.std.specs.Prelude.{◌≡◌, ◌+◌, ◌^◌, ◌<◌, ◌≤◌, length, None, IfOk, OnOk, OnErr};
+ghost use Rattle.std.specs.Str.{chars};
+ghost use Rattle.acl_binding.specs.declared.book.Added.TheVariants as answers;
+ghost use Rattle.acl_binding.specs.Adding.{adding_answer};
+ghost use Rattle.acl_binding.specs.Book.{empty_book, number_of, added, appended};
+ghost use Rattle.acl_binding.specs.Filter.{matching, removed};
+ghost use Rattle.acl_binding.specs.Verdict.{verdict_of};
+ghost use Rattle.authorizer.specs.Looking.{finding};
+
+use crate::index::Index;
+use crate::looking::{Finding, look, look_prefixes};
+use acl_binding::{Added, Binding, Book, Filter, Numbered, Question, Verdict};
+use std::alloc::{AllocError, Global};
+use std::marker::Model;
+use wire_types::{Items, Shared};
+
+/// The name that stands for all of them.
+const ANY_NAME: &str = "*";
+
+/// The bindings in the order of their creation, and by kind, pattern and name.
+pub struct IndexedBook {
+    book: Book,
+    index: Index,
+}
+
+/// Written out, so that a proof has one call where a policy is let go, and not the drops of all its tables.
+impl Drop for IndexedBook {
+    fn drop(self) {
+        let IndexedBook {
+            book: _book,
+            index: _index,
+        } = self;
+    }
+}
+
+impl Model for IndexedBook {
+    ghost use Rattle.acl_binding.specs.Book.{BookValue};
+    ghost use Rattle.authorizer.specs.Kept.{IsKept};
+
+    ghost Value = { BookValue };
+
+    ghost view = { λ b. b.book.book };
+
+    ghost invariant = { λ b. IsKept b.index b.book.book };
+}
+
+impl IndexedBook {
+    pub(crate) fn new(alloc: Global) -> IndexedBook
+        ensures { result ≡ empty_book }
+    {
+        IndexedBook {
+            book: Book::new(alloc),
+            index: Index::new(alloc),
+        }
+    }
+
+    /// Adds a binding under the next creation number, unless an equal one is there.
+    pub(crate) fn add(&mut self, alloc: Global, binding: Binding) -> Result<Added, AllocError>
+        requires next { self.old.next + 1 < 2 ^ 64 }
+        requires named { 0 < length binding.name }
+        ensures ok { OnOk result (self.new ≡ added self.old binding) }
+        ensures number { IfOk result (λ answer. answer ≡ adding_answer self.old binding) }
+        ensures grows { self.new.next ≤ self.old.next + 1 }
+        ensures err { OnErr result (self.new ≡ self.old) }
+    {
+        if let Some(number) = self.index.number_of(&binding) {
+            return Ok(Added::There(number));
+        }
+        self.insert(alloc, binding)
+    }
+
+    /// Takes a new binding under the next number.
+    fn insert(&mut self, alloc: Global, binding: Binding) -> Result<Added, AllocError>
+        requires next { self.old.next + 1 < 2 ^ 64 }
+        requires named { 0 < length binding.name }
+        requires absent { number_of self.old.entries binding ≡ None }
+        ensures ok { OnOk result (self.new ≡ appended self.old binding) }
+        ensures number { IfOk result (λ answer. answer ≡ answers.Added self.old.next) }
+        ensures err { OnErr result (self.new ≡ self.old) }
+    {
+        let number = self.book.next();
+        let entry = Shared::new(alloc, Numbered { number, binding })?;
+        self.book.reserve()?;
+        self.index.add(alloc, &entry)?;
+        self.book.append(entry).unwrap();
+        Ok(Added::Added(number))
+    }
+
+    /// Copies of the bindings that the filter picks, in creation order.
+    pub(crate) fn matching(
+        &self,
+        alloc: Global,
+        filter: &Filter,
+    ) -> Result<Items<Binding>, AllocError>
+        ensures { IfOk result (λ picked. picked ≡ matching self.now.entries filter.now) }
+    {
+        self.book.matching(alloc, filter)
+    }
+
+    /// Takes out the bindings that the filter picks, and answers them in creation order.
+    pub(crate) fn remove(
+        &mut self,
+        alloc: Global,
+        filter: &Filter,
+    ) -> Result<Items<Binding>, AllocError>
+        ensures ok { OnOk result (self.new ≡ removed self.old filter.now) }
+        ensures picked { IfOk result (λ list. list ≡ matching self.old.entries filter.now) }
+        ensures err { OnErr result (self.new ≡ self.old) }
+    {
+        let picked = self.book.remove(alloc, filter)?;
+        self.index.clean(filter);
+        Ok(picked)
+    }
+
+    /// What the bindings answer to the question, deny before allow, and how often a name was looked up for it.
+    pub(crate) fn verdict_counted(&self, question: &Question) -> (Verdict, u64)
+        ensures verdict { result.0 ≡ verdict_of self.now.entries question.now }
+        ensures looked { result.1 ≡ length (chars question.now.name) + 2 }
+    {
+        let (finding, looked) = self.found(question);
+        (finding.verdict(), looked)
+    }
+
+    /// What the bindings that may cover the question's name say: those of the name, of `*` and of its beginnings.
+    fn found(&self, question: &Question) -> (Finding, u64)
+        ensures finding { result.0 ≡ finding self.now.entries question.now }
+        ensures looked { result.1 ≡ length (chars question.now.name) + 2 }
+    {
+        let _entries = self.book.entries();
+        let names = self.index.of(question.kind);
+        let mut looked = 0;
+        let own = look(
+            &names.literal,
+            question.name.as_str(),
+            question,
+            &mut looked,
+        );
+        let any = look(&names.literal, ANY_NAME, question, &mut looked);
+        let prefixed = look_prefixes(&names.prefixed, question, &mut looked);
+        (own.joined(any.joined(prefixed)), looked)
+    }
+}

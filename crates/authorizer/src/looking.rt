@@ -1,0 +1,100 @@
+//! What the bindings under a name say of a question.
+
+ghost use Rattle.std.specs.Prelude.{◌≡◌, ◌+◌, ◌^◌, ◌<◌, false, List, ℕ, length, filter as kept, None};
+ghost use Rattle.std.specs.List.{AllByRecursion};
+ghost use Rattle.std.specs.Str.{chars};
+ghost use Rattle.acl_binding.specs.declared.binding.Numbered.{Numbered as Entry};
+ghost use Rattle.acl_binding.specs.declared.words.Pattern.TheVariants.{Prefixed};
+ghost use Rattle.acl_binding.specs.Book.{IsRising};
+ghost use Rattle.acl_binding.specs.Verdict.{decided};
+ghost use Rattle.authorizer.specs.Index.{held_by};
+ghost use Rattle.authorizer.specs.Looking.{finding, joined, sooner, is_longer, IsNamed, IsTableOf};
+
+use crate::names::Names;
+use acl_binding::{Numbered, Question, Verdict, any_grant, first_denial};
+use wire_types::Shared;
+
+/// The first binding that denies, and whether one allows.
+#[derive(Clone, Copy)]
+pub struct Finding {
+    pub denied: Option<u64>,
+    pub allowed: bool,
+}
+
+impl Finding {
+    fn none() -> Finding
+        ensures { result ≡ record { denied = None; allowed = false } }
+    {
+        Finding {
+            denied: None,
+            allowed: false,
+        }
+    }
+
+    fn of(entries: &[Shared<Numbered>], question: &Question) -> Finding
+        requires { IsRising 1 entries.now }
+        ensures { result ≡ finding entries.now question.now }
+    {
+        Finding {
+            denied: first_denial(entries, question),
+            allowed: any_grant(entries, question),
+        }
+    }
+
+    pub(crate) fn joined(self, other: Finding) -> Finding
+        ensures { result ≡ joined self other }
+    {
+        Finding {
+            denied: sooner(self.denied, other.denied),
+            allowed: self.allowed || other.allowed,
+        }
+    }
+
+    /// Deny before allow.
+    pub(crate) fn verdict(self) -> Verdict
+        ensures { result ≡ decided self.denied self.allowed }
+    {
+        match self.denied {
+            Some(number) => Verdict::Denied(number),
+            None if self.allowed => Verdict::Yes,
+            None => Verdict::Nothing,
+        }
+    }
+}
+
+fn sooner(a: Option<u64>, b: Option<u64>) -> Option<u64>
+    ensures { result ≡ sooner a b }
+{
+    match (a, b) {
+        (None, b) => b,
+        (Some(a), None) => Some(a),
+        (Some(a), Some(b)) => Some(a.min(b)),
+    }
+}
+
+/// What the bindings of this name say: one look-up.
+pub(crate) fn look(names: &Names, name: &str, question: &Question, looked: &mut u64) -> Finding
+    requires rising { IsRising 1 (held_by names.now name.now) }
+    requires count { looked.old + 1 < 2 ^ 64 }
+    ensures finding { result ≡ finding (held_by names.now name.now) question.now }
+    ensures looked { looked.new ≡ looked.old + 1 }
+{
+    Finding::of(names.look_up(name, looked), question)
+}
+
+/// What the prefixed bindings whose names begin the question's say: a look-up for each of its characters.
+pub(crate) fn look_prefixes(names: &Names, question: &Question, looked: &mut u64) -> Finding
+    requires rising { (name : List ℕ) → IsRising 1 (held_by names.now name) }
+    requires count { looked.old + length question.now.name + 1 < 2 ^ 64 }
+    ensures finding { (es : List Entry) → AllByRecursion IsNamed es → IsTableOf names.now question.now.kind Prefixed es → result ≡ finding (kept (is_longer question.now.kind question.now.name 0) es) question.now }
+    ensures looked { looked.new ≡ looked.old + length (chars question.now.name) }
+{
+    let name = question.name.as_str();
+    let mut finding = Finding::none();
+    let mut end = 0;
+    for c in name.chars() {
+        end += c.len_utf8();
+        finding = finding.joined(look(names, &name[..end], question, looked));
+    }
+    finding
+}

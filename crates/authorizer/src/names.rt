@@ -1,0 +1,109 @@
+//! The bindings of one kind and one pattern, by their names.
+
+ghost use Rattle.std.specs.Prelude.{◌≡◌, ◌+◌, ◌^◌, ◌<◌, [], ◌∷◌, List, ℕ, Some, if◌then◌else◌, OnOk, OnErr};
+ghost use Rattle.std.specs.HashMap.{get_by_text};
+ghost use Rattle.std.specs.Str.{bytes_eq};
+ghost use Rattle.acl_binding.specs.Book.{number_of};
+ghost use Rattle.authorizer.specs.Index.{held_by, HasMore, HasSame, HasLess};
+
+use crate::bucket::Bucket;
+use acl_binding::{Binding, Filter, Numbered, number_of};
+use indexmap::IndexMap;
+use std::alloc::{AllocError, Global};
+use std::marker::Model;
+use wire_types::Shared;
+
+/// Each name with its bindings in creation order, seen as a list of both. A name without bindings isn't in the table.
+#[derive(Drop)]
+pub struct Names {
+    buckets: IndexMap<String, Bucket>,
+}
+
+impl Model for Names {
+    ghost use Rattle.std.specs.Prelude.{List, ℕ};
+    ghost use Rattle.acl_binding.specs.declared.binding.Numbered.{Numbered};
+    ghost use Rattle.authorizer.specs.Index.{rows};
+
+    ghost Value = { List (List ℕ × List Numbered) };
+
+    ghost view = { λ n. rows n.buckets.entries };
+}
+
+impl Names {
+    pub(crate) fn new(alloc: Global) -> Names
+        ensures { result ≡ [] }
+    {
+        Names {
+            buckets: IndexMap::new(alloc),
+        }
+    }
+
+    fn held(&self, name: &str) -> &[Shared<Numbered>]
+        ensures { result.now ≡ held_by self.now name.now }
+    {
+        match self.buckets.get(name) {
+            Some(bucket) => bucket.as_slice(),
+            None => &[],
+        }
+    }
+
+    /// The bindings of this name, by a look-up that is counted.
+    pub(crate) fn look_up(&self, name: &str, looked: &mut u64) -> &[Shared<Numbered>]
+        requires { looked.old + 1 < 2 ^ 64 }
+        ensures held { result.now ≡ held_by self.now name.now }
+        ensures looked { looked.new ≡ looked.old + 1 }
+    {
+        *looked += 1;
+        self.held(name)
+    }
+
+    /// The creation number of an equal binding under its name.
+    pub(crate) fn number_of(&self, binding: &Binding) -> Option<u64>
+        ensures { result ≡ number_of (held_by self.now binding.now.name) binding.now }
+    {
+        number_of(self.held(binding.name.as_str()), binding)
+    }
+
+    /// One more binding, the last one of its name.
+    pub(crate) fn add(
+        &mut self,
+        alloc: Global,
+        name: &str,
+        entry: Shared<Numbered>,
+    ) -> Result<(), AllocError>
+        ensures ok { OnOk result (HasMore self.old self.new name.now entry) }
+        ensures err { OnErr result (HasSame self.old self.new) }
+    {
+        match self.buckets.get_mut(name) {
+            Some(bucket) => bucket.push(entry)?,
+            None => add_name(&mut self.buckets, alloc, name, entry)?,
+        }
+        Ok(())
+    }
+
+    /// Takes out the bindings that the filter picks, and the names of which nothing is left.
+    pub(crate) fn clean(&mut self, filter: &Filter)
+        ensures { HasLess self.old self.new filter.now }
+    {
+        if self.buckets.len() == 0 {
+            return;
+        }
+        self.buckets.retain(|_, bucket| bucket.leave(filter));
+    }
+}
+
+/// A name that isn't in the table yet, with its first binding.
+fn add_name(
+    buckets: &mut IndexMap<String, Bucket>,
+    alloc: Global,
+    name: &str,
+    entry: Shared<Numbered>,
+) -> Result<(), AllocError>
+    ensures ok { OnOk result ((other : List ℕ) → get_by_text buckets.new other ≡ (if bytes_eq name.now other then Some (entry ∷ []) else get_by_text buckets.old other)) }
+    ensures err { OnErr result (buckets.new.entries ≡ buckets.old.entries) }
+{
+    let bucket = Bucket::of(alloc, entry)?;
+    let name = String::from_str(alloc, name)?;
+    buckets.insert(name, bucket)?;
+    Ok(())
+}

@@ -1,0 +1,5 @@
+pub mod Places
+pub mod Following
+pub mod Waiting
+pub mod Apart
+pub mod Rows

@@ -1,0 +1,6 @@
+pub mod Offsets
+pub mod Turn
+pub mod Group
+pub mod Joining
+pub mod Groups
+pub mod Laws

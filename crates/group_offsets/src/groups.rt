@@ -1,0 +1,277 @@
+//! The groups, by their names.
+
+ghost use Rattle.std.specs.Prelude.{◌≡◌, ◌↔◌, IsTrue, ◌<◌, ◌<ℤ◌, pos, [], ◌∷◌, ◌++◌, if◌then◌else◌, is_ok, map, length, IfOk, IfSome, OnOk, OnErr};
+ghost use Rattle.acl_binding.specs.declared.words.Operation.TheVariants as operations;
+ghost use Rattle.group_offsets.specs.Turn.{answered};
+ghost use Rattle.group_offsets.specs.Group.{expired};
+ghost use Rattle.group_offsets.specs.Groups.{MayUse, group_of, turned, join, sync, beat, leave, commit, stage, decide, nobody, place_of};
+
+use crate::event::{OffsetEvent, PartitionOffset};
+use crate::group::Group;
+use crate::member::Joined;
+use crate::offsets::Offsets;
+use authorizer::{Permit, Policy};
+use bytes::Bytes;
+use msg_group::{HeartbeatRequest, JoinGroupRequest, LeaveGroupRequest, SyncGroupRequest};
+use record_batch::Outcome;
+use std::alloc::{AllocError, Global};
+use std::marker::Model;
+use wire_types::{ErrorCode, Text};
+
+/// The groups in the order of their beginning.
+#[derive(Drop)]
+pub struct Groups {
+    groups: Vec<Group>,
+    nothing: Offsets,
+}
+
+impl Model for Groups {
+    ghost use Rattle.std.specs.Prelude.{List, ◌≡◌, []};
+    ghost use Rattle.group_offsets.specs.declared.group.Group.{Group};
+
+    ghost Value = { List Group };
+
+    ghost view = { λ g. g.groups.items };
+
+    ghost invariant = { λ g. g.nothing ≡ [] };
+}
+
+impl Groups {
+    /// No group. It takes no memory.
+    pub fn new(alloc: Global) -> Groups
+        ensures { result ≡ [] }
+    {
+        Groups {
+            groups: Vec::new(alloc),
+            nothing: Offsets::new(alloc),
+        }
+    }
+
+    /// Whether a new generation may begin in the group of this name.
+    pub fn may_begin(&self, name: &Text) -> bool
+        ensures { IsTrue result ↔ ((group_of self.now name.now).generation <ℤ pos 2147483647) }
+    {
+        match place_of(&self.groups, name) {
+            Some(at) => self.groups[at].may_begin(),
+            None => true,
+        }
+    }
+
+    /// A member joins by the event at this place. It needs a permit of READ.
+    pub fn join(
+        &mut self,
+        alloc: Global,
+        policy: &Policy,
+        permit: Permit,
+        request: &JoinGroupRequest,
+        place: u64,
+        moment: u64,
+    ) -> Result<Result<Joined, ErrorCode>, AllocError>
+        requires permit { MayUse policy.now operations.Read request.now.group permit }
+        requires generation { (group_of self.old request.now.group).generation <ℤ pos 2147483647 }
+        ensures groups { OnOk result (self.new ≡ turned self.old (join self.old request.now place moment)) }
+        ensures answer { IfOk result (λ answer. answer ≡ answered (join self.old request.now place moment)) }
+        ensures err { OnErr result (self.new ≡ self.old) }
+    {
+        permit.spend(policy);
+        if let Some(at) = place_of(&self.groups, &request.group) {
+            return self.groups[at].join(alloc, request, place, moment);
+        }
+        let mut group = Group::fresh(alloc, &request.group)?;
+        let answer = group.join(alloc, request, place, moment)?;
+        self.keep(group, &answer)?;
+        Ok(answer)
+    }
+
+    /// The member asks for its assignment, or brings it where that is awaited. It needs a permit of READ.
+    pub fn sync(
+        &mut self,
+        policy: &Policy,
+        permit: Permit,
+        request: &SyncGroupRequest,
+        moment: u64,
+    ) -> Result<Result<Bytes, ErrorCode>, AllocError>
+        requires { MayUse policy.now operations.Read request.now.group permit }
+        ensures groups { OnOk result (self.new ≡ turned self.old (sync self.old request.now moment)) }
+        ensures answer { IfOk result (λ answer. answer ≡ answered (sync self.old request.now moment)) }
+        ensures err { OnErr result (self.new ≡ self.old) }
+    {
+        permit.spend(policy);
+        match place_of(&self.groups, &request.group) {
+            Some(at) => self.groups[at].sync(request, moment),
+            None => Ok(Err(nobody(&request.group))),
+        }
+    }
+
+    /// The member tells that it is there. It needs a permit of READ.
+    pub fn beat(
+        &mut self,
+        policy: &Policy,
+        permit: Permit,
+        request: &HeartbeatRequest,
+        moment: u64,
+    ) -> Result<(), ErrorCode>
+        requires { MayUse policy.now operations.Read request.now.group permit }
+        ensures groups { self.new ≡ turned self.old (beat self.old request.now moment) }
+        ensures answer { result ≡ answered (beat self.old request.now moment) }
+    {
+        permit.spend(policy);
+        match place_of(&self.groups, &request.group) {
+            Some(at) => self.groups[at].beat(request, moment),
+            None => Err(nobody(&request.group)),
+        }
+    }
+
+    /// The member leaves. It needs a permit of READ.
+    pub fn leave(
+        &mut self,
+        policy: &Policy,
+        permit: Permit,
+        request: &LeaveGroupRequest,
+    ) -> Result<(), ErrorCode>
+        requires { MayUse policy.now operations.Read request.now.group permit }
+        ensures groups { self.new ≡ turned self.old (leave self.old request.now) }
+        ensures answer { result ≡ answered (leave self.old request.now) }
+    {
+        permit.spend(policy);
+        match place_of(&self.groups, &request.group) {
+            Some(at) => self.groups[at].leave(request),
+            None => Err(nobody(&request.group)),
+        }
+    }
+
+    /// An offset is committed for a group. It needs a permit of READ.
+    pub fn commit(
+        &mut self,
+        alloc: Global,
+        policy: &Policy,
+        permit: Permit,
+        name: &Text,
+        generation: i32,
+        member: &Text,
+        offset: PartitionOffset,
+    ) -> Result<Result<(), ErrorCode>, AllocError>
+        requires { MayUse policy.now operations.Read name.now permit }
+        ensures groups { OnOk result (self.new ≡ turned self.old (commit self.old name.now generation member.now offset)) }
+        ensures answer { IfOk result (λ answer. answer ≡ answered (commit self.old name.now generation member.now offset)) }
+        ensures err { OnErr result (self.new ≡ self.old) }
+    {
+        permit.spend(policy);
+        if let Some(at) = place_of(&self.groups, name) {
+            return self.groups[at].commit(generation, member, offset);
+        }
+        let mut group = Group::fresh(alloc, name)?;
+        let answer = group.commit(generation, member, offset)?;
+        self.keep(group, &answer)?;
+        Ok(answer)
+    }
+
+    /// A producer commits an offset for a group with its transaction. It needs a permit of READ.
+    pub fn stage(
+        &mut self,
+        alloc: Global,
+        policy: &Policy,
+        permit: Permit,
+        name: &Text,
+        producer: i64,
+        generation: i32,
+        member: &Text,
+        offset: PartitionOffset,
+    ) -> Result<Result<(), ErrorCode>, AllocError>
+        requires { MayUse policy.now operations.Read name.now permit }
+        ensures groups { OnOk result (self.new ≡ turned self.old (stage self.old name.now producer generation member.now offset)) }
+        ensures answer { IfOk result (λ answer. answer ≡ answered (stage self.old name.now producer generation member.now offset)) }
+        ensures err { OnErr result (self.new ≡ self.old) }
+    {
+        permit.spend(policy);
+        if let Some(at) = place_of(&self.groups, name) {
+            return self.groups[at].stage(producer, generation, member, offset);
+        }
+        let mut group = Group::fresh(alloc, name)?;
+        let answer = group.stage(producer, generation, member, offset)?;
+        self.keep(group, &answer)?;
+        Ok(answer)
+    }
+
+    /// A producer's transaction is over, and what it staged for a group is decided.
+    pub fn decide(
+        &mut self,
+        alloc: Global,
+        name: &Text,
+        producer: i64,
+        outcome: Outcome,
+    ) -> Result<(), AllocError>
+        ensures ok { OnOk result (self.new ≡ turned self.old (decide self.old name.now producer outcome)) }
+        ensures err { OnErr result (self.new ≡ self.old) }
+    {
+        if let Some(at) = place_of(&self.groups, name) {
+            return self.groups[at].decide(producer, outcome);
+        }
+        let mut group = Group::fresh(alloc, name)?;
+        group.decide(producer, outcome)?;
+        self.groups.push(group)?;
+        Ok(())
+    }
+
+    /// What is committed and staged for a group. It needs a permit of DESCRIBE.
+    pub fn fetch(&self, policy: &Policy, permit: Permit, name: &Text) -> &Offsets
+        requires { MayUse policy.now operations.Describe name.now permit }
+        ensures { result.now ≡ (group_of self.now name.now).offsets }
+    {
+        permit.spend(policy);
+        match place_of(&self.groups, name) {
+            Some(at) => &self.groups[at].offsets,
+            None => &self.nothing,
+        }
+    }
+
+    /// Keeps a group that begins, where its first call wasn't refused.
+    fn keep<A>(&mut self, group: Group, answer: &Result<A, ErrorCode>) -> Result<(), AllocError>
+        ensures ok { OnOk result (self.new ≡ (if is_ok answer.now then self.old ++ group ∷ [] else self.old)) }
+        ensures err { OnErr result (self.new ≡ self.old) }
+    {
+        if answer.is_ok() {
+            self.groups.push(group)?;
+        }
+        Ok(())
+    }
+
+    /// Lets each member go that was not heard of for longer than its session timeout.
+    pub fn expire(&mut self, moment: u64)
+        ensures { self.new ≡ map (expired moment) self.old }
+    {
+        expire_all(&mut self.groups, moment);
+    }
+}
+
+fn expire_all(groups: &mut [Group], moment: u64)
+    ensures { groups.new ≡ map (expired moment) groups.old }
+{
+    for group in groups.iter_mut() {
+        group.expire(moment);
+    }
+}
+
+/// Why a group that nobody joined yet refuses its member's calls.
+fn nobody(name: &Text) -> ErrorCode
+    ensures { result ≡ nobody name.now }
+{
+    if name.as_bytes().is_empty() {
+        ErrorCode::InvalidGroupId
+    } else {
+        ErrorCode::UnknownMemberId
+    }
+}
+
+/// The place of the first group of this name.
+fn place_of(groups: &[Group], name: &Text) -> Option<usize>
+    ensures place { result ≡ place_of groups.now name.now }
+    ensures within { IfSome result (λ place. place < length groups.now) }
+{
+    for (place, group) in groups.iter().enumerate() {
+        if group.name == *name {
+            return Some(place);
+        }
+    }
+    None
+}

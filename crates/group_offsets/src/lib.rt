@@ -1,0 +1,24 @@
+//! Consumer groups of at most one member, and the offsets that are committed for them.
+//!
+//! [`Groups`] are the groups of a broker. The calls of members are the group membership APIs of the Kafka protocol guide;
+//! each lends the policy and spends a permit for its group, whatever it answers.
+#![tactic(auto)]
+
+mod event;
+mod group;
+mod groups;
+mod joining;
+mod laws;
+mod member;
+mod offsets;
+#[cfg(test)]
+mod tests;
+
+pub use event::{OffsetEvent, PartitionOffset};
+pub use group::Group;
+pub use groups::Groups;
+pub use laws::{
+    answers_are_apart, committed_goes_on, groups_are_apart, pending_goes_on, staged_is_pending,
+};
+pub use member::{Joined, Member};
+pub use offsets::Offsets;

@@ -1,0 +1,5 @@
+//! Groups by a super user, step by step.
+
+mod fixtures;
+mod members;
+mod offsets;

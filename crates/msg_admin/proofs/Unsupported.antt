@@ -1,0 +1,81 @@
+-- ApiVersions in a version that is not served: what is found is asked, and what is asked is found.
+use Rattle.std.proofs.Common.{◌≡◌, ℕ, ℤ, pos, Bool, true, false, not, ◌&&◌, cond, List, ◌++◌, Option, Some, None, Result, Ok, Err, refl, sym, ap, subst, ◌∙◌, append_assoc, true≢false}
+use Rattle.std.specs.Prelude.{IfSome, OnSome}
+use Rattle.std.specs.Bool.{Decides}
+use Rattle.std.specs.Option.{option_and_then}
+use Rattle.std.specs.Ordering.{int_eq}
+use Rattle.std.specs.Result.{result_ok}
+use Rattle.std.proofs.lemmas.Bool.Decides.{Decides-int_eq, Decides-not, Decides-and}
+use Rattle.wire_types.specs.declared.fault.Malformed.TheVariants.{Unknown}
+use Rattle.wire_types.specs.declared.fault.WriteFault.{WriteFault}
+use Rattle.wire_types.specs.declared.fault.WriteFault.TheVariants as faults
+use Rattle.wire_types.specs.Reading.{Found}
+use Rattle.wire_types.specs.Spelling.{int_written, behind_written, behind_fits, many_written, many_fit, null_count_fits}
+use Rattle.wire_types.specs.Combinators.{◌⨟◌}
+use Rattle.wire_types.specs.Schema.{int32}
+use Rattle.msg_login.specs.declared.api_versions.ApiVersionsReply.{ApiVersionsReply}
+use Rattle.msg_login.specs.ApiVersions.{api_versions_reply}
+use Rattle.msg_admin.specs.Frame.{frame_fits, GivesFrame}
+use Rattle.msg_admin.specs.Api.{api_at, all_apis, key_of, version_of}
+use Rattle.msg_admin.specs.Header.{names}
+use Rattle.msg_admin.specs.Request.{request_at}
+use Rattle.msg_admin.specs.Versions.{start, AsksUnsupported, asked_unsupported, unsupported_at, unsupported_reply}
+
+other_version : (version : ℤ) → Decides (not (int_eq version (pos 0))) (version ≡ pos 0 → ⊥)
+other_version version = Decides-not (int_eq version (pos 0)) (Decides-int_eq version (pos 0))
+
+asks : (key version : ℤ) → Decides (int_eq key (pos 18) && not (int_eq version (pos 0))) ((key ≡ pos 18) × (version ≡ pos 0 → ⊥))
+asks key version = Decides-and (int_eq key (pos 18)) (not (int_eq version (pos 0))) (Decides-int_eq key (pos 18)) (other_version version)
+
+told : (b : Bool) (x y : ℤ) → cond b (Some x) None ≡ Some y → (b ≡ true) × (x ≡ y)
+told true x y e = (refl, cc)
+told false x y e = absurd cc
+
+found_in : (bytes : List ℕ) (o : Found ((ℤ × ℤ) × ℤ)) (c : ℤ) → start.reading bytes ≡ o → option_and_then (λ x. asked_unsupported x.0) (result_ok o) ≡ Some c → AsksUnsupported bytes c
+found_in bytes (Err e) c is said = absurd cc
+found_in bytes (Ok x) c is said =
+    let key = x.0.0.0 in
+    let version = x.0.0.1 in
+    let p = start.sound bytes x.0 x.1 is in
+    let t = told (int_eq key (pos 18) && not (int_eq version (pos 0))) x.0.1 c said in
+    let d = (asks key version).0 t.0 in
+    let named : start.Spells p.0 ((pos 18, version), x.0.1) = subst (λ (k : ℤ). start.Spells p.0 ((k, version), x.0.1)) d.0 p.2 in
+    (p.0, x.1, version, p.1, subst (λ (z : ℤ). start.Spells p.0 ((pos 18, version), z)) t.1 named, d.1)
+
+pub asked : (bytes : List ℕ) (o : Option ℤ) → o ≡ unsupported_at bytes → IfSome o (AsksUnsupported bytes)
+unfolding unsupported_at
+asked bytes None e = tt
+asked bytes (Some c) e = found_in bytes (start.reading bytes) c refl (sym e)
+
+pub asked-again : (bytes : List ℕ) (c : ℤ) → AsksUnsupported bytes c → unsupported_at bytes ≡ Some c
+unfolding unsupported_at
+asked-again bytes c i =
+    let other : not (int_eq i.2 (pos 0)) ≡ true = (other_version i.2).1 i.5 in
+    ap unsupported_at i.3 ∙ rw (start.complete i.0 i.1 ((pos 18, i.2), c) i.4, other) refl
+
+unknown : (version : ℤ) → api_at (pos 18) version ≡ None
+unfolding api_at all_apis key_of version_of
+unknown version = refl
+
+unread_bytes : (bytes : List ℕ) (c : ℤ) → AsksUnsupported bytes c → request_at bytes ≡ Err Unknown
+unfolding request_at
+unread_bytes bytes c i =
+    let s = i.4 in
+    let regrouped : bytes ≡ s.0 ++ (s.1 ++ i.1) = i.3 ∙ ap (λ (t : List ℕ). t ++ i.1) s.2 ∙ append_assoc s.0 s.1 i.1 in
+    ap request_at regrouped ∙ rw (names.complete s.0 (s.1 ++ i.1) (pos 18, i.2) s.3, unknown i.2) refl
+
+pub unread : (bytes : List ℕ) (o : Option ℤ) → IfSome o (AsksUnsupported bytes) → OnSome o (request_at bytes ≡ Err Unknown)
+unread bytes None i = tt
+unread bytes (Some c) i = unread_bytes bytes c i
+
+-- ---- the answer
+
+answer_fits : (c : ℤ) → frame_fits (int32 ⨟ api_versions_reply) (c, unsupported_reply) ≡ true
+unfolding frame_fits int_written behind_written behind_fits many_written many_fit null_count_fits
+answer_fits c = refl
+
+pub never_long : (c : ℤ) (r : ApiVersionsReply) (e : WriteFault) → r ≡ unsupported_reply → e ≡ faults.TooLong → GivesFrame (int32 ⨟ api_versions_reply) (c, r) (Err e) → ⊥
+never_long c r faults.NoMemory is long given = absurd cc
+never_long c r faults.TooLong is long given =
+    let fits : frame_fits (int32 ⨟ api_versions_reply) (c, r) ≡ true = ap (λ (x : ApiVersionsReply). frame_fits (int32 ⨟ api_versions_reply) (c, x)) is ∙ answer_fits c in
+    true≢false (sym fits ∙ given)

@@ -1,0 +1,86 @@
+//! Headers of flexible versions, and ApiVersions in a version that isn't served.
+
+use crate::frame::write_frame;
+use crate::header::{Header, read_sender};
+use crate::versions::{unsupported_versions, write_unsupported_versions, write_versions_request};
+use bytes::Bytes;
+use std::test::Fail;
+use wire_types::{Cursor, Text};
+
+/// A request of ApiVersions 3, without its size field, and its answer.
+const ASKS_IN_THREE: &[u8] = b"\x00\x12\x00\x03\x00\x00\x00\x07\x00\x01c\x00\x02a\x021\x00";
+
+const SERVED_IN_ZERO: &[u8] =
+    b"\x00\x00\x00\x10\x00\x00\x00\x07\x00\x23\x00\x00\x00\x01\x00\x12\x00\x00\x00\x00";
+
+#[test]
+fn another_version(rt: HostRuntime) -> Result<(), Fail> {
+    let frame = Bytes::from_static(ASKS_IN_THREE);
+    assert_eq!(rt; unsupported_versions(&frame), Some(7));
+    let answer = write_unsupported_versions(rt.alloc(), 7)?;
+    assert_eq!(rt; answer.as_slice(), SERVED_IN_ZERO);
+    Ok(())
+}
+
+/// A request in version 0 is a header alone.
+#[test]
+fn a_request_without_a_body(rt: HostRuntime) -> Result<(), Fail> {
+    let frame = write_versions_request(rt.alloc(), 7, None)?;
+    assert_eq!(rt;
+        frame.as_slice(),
+        b"\x00\x00\x00\x0a\x00\x12\x00\x00\x00\x00\x00\x07\xff\xff".as_slice()
+    );
+    Ok(())
+}
+
+fn told(frame: &'static [u8]) -> Option<i32> {
+    unsupported_versions(&Bytes::from_static(frame))
+}
+
+#[test]
+fn only_the_start_is_read(rt: HostRuntime) {
+    assert_eq!(rt; told(b"\x00\x12\x00\x03\x00\x00\x00\x07"), Some(7));
+    assert_eq!(rt; told(b"\x00\x12\xff\xff\xff\xff\xff\xff\xff"), Some(-1));
+    assert_eq!(rt; told(b"\x00\x12\x00\x03\x00\x00\x00"), None);
+    assert_eq!(rt; told(b"\x00\x12\x00\x00\x00\x00\x00\x07\xff\xff"), None);
+    assert_eq!(rt; told(b"\x00\x11\x00\x03\x00\x00\x00\x07\xff\xff"), None);
+}
+
+/// The header of a request in a flexible version, and a body of four bytes.
+#[test]
+fn a_flexible_request(rt: HostRuntime) -> Result<(), Fail> {
+    let header = Header {
+        key: 26,
+        version: 3,
+        correlation: 5,
+        client: None,
+    };
+    let frame = write_frame(rt.alloc(), true, &header, &0)?;
+    assert_eq!(rt;
+        frame.as_slice(),
+        b"\x00\x00\x00\x0f\x00\x1a\x00\x03\x00\x00\x00\x05\xff\xff\x00\x00\x00\x00\x00".as_slice()
+    );
+    Ok(())
+}
+
+/// The same of a response.
+#[test]
+fn a_flexible_response(rt: HostRuntime) -> Result<(), Fail> {
+    let frame = write_frame(rt.alloc(), true, &5, &0)?;
+    assert_eq!(rt;
+        frame.as_slice(),
+        b"\x00\x00\x00\x09\x00\x00\x00\x05\x00\x00\x00\x00\x00".as_slice()
+    );
+    Ok(())
+}
+
+/// What stands behind key and version, with the field 5 of two bytes.
+#[test]
+fn a_tagged_field_is_skipped(rt: HostRuntime) -> Result<(), Fail> {
+    let mut cursor = Cursor::new(b"\x00\x00\x00\x05\x00\x01c\x01\x05\x02\xaa\xbb\x2a");
+    let (correlation, client) = read_sender(rt.alloc(), true, &mut cursor)?;
+    assert_eq!(rt; correlation, 5);
+    assert_eq!(rt; client, Some(Text::of(rt.alloc(), "c")?));
+    assert_eq!(rt; cursor.len(), 1);
+    Ok(())
+}

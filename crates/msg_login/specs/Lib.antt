@@ -1,0 +1,3 @@
+pub mod SaslHandshake
+pub mod SaslAuthenticate
+pub mod ApiVersions

@@ -1,0 +1,14 @@
+//! The messages before and at a login: what each api is asked and what it answers.
+//!
+//! One file for each api, with the fields in their order on the wire; `specs/` has the grammar of each.
+#![tactic(auto)]
+
+mod api_versions;
+mod sasl_authenticate;
+mod sasl_handshake;
+#[cfg(test)]
+mod tests;
+
+pub use api_versions::{ApiVersionsReply, ServedVersions};
+pub use sasl_authenticate::{SaslAuthenticateReply, SaslAuthenticateRequest};
+pub use sasl_handshake::{SaslHandshakeReply, SaslHandshakeRequest};

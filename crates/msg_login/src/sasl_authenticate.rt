@@ -1,0 +1,72 @@
+//! SaslAuthenticate, version 0: what a mechanism has client and broker tell each other.
+
+use bytes::Bytes;
+use std::alloc::Global;
+use wire_types::{
+    Cursor, ErrorCode, ReadFault, Text, Wire, WriteFault, bytes_room, nullable_room, write_bytes,
+    write_nullable,
+};
+
+/// What the client tells by its mechanism, such as its name and password.
+#[derive(Clone, Debug, Drop, PartialEq, Eq)]
+pub struct SaslAuthenticateRequest {
+    pub auth: Bytes,
+}
+
+/// Whether the client is logged in, and what the mechanism has the broker tell.
+#[derive(Clone, Debug, Drop, PartialEq, Eq)]
+pub struct SaslAuthenticateReply {
+    pub error: ErrorCode,
+    pub message: Option<Text>,
+    pub auth: Bytes,
+}
+
+impl Wire for SaslAuthenticateRequest {
+    ghost use Rattle.msg_login.specs.SaslAuthenticate.{sasl_authenticate_request};
+
+    ghost grammar = { sasl_authenticate_request };
+
+    fn read(alloc: Global, cursor: &mut Cursor<'_>) -> Result<SaslAuthenticateRequest, ReadFault> {
+        let auth = cursor.read_bytes(alloc)?;
+        Ok(SaslAuthenticateRequest { auth })
+    }
+
+    fn write(&self, out: &mut Vec<u8>) -> Result<(), WriteFault> {
+        write_bytes(out, &self.auth)?;
+        Ok(())
+    }
+
+    fn room_left(&self, room: usize) -> Option<usize> {
+        bytes_room(&self.auth, room)
+    }
+}
+
+impl Wire for SaslAuthenticateReply {
+    ghost use Rattle.msg_login.specs.SaslAuthenticate.{sasl_authenticate_reply};
+
+    ghost grammar = { sasl_authenticate_reply };
+
+    fn read(alloc: Global, cursor: &mut Cursor<'_>) -> Result<SaslAuthenticateReply, ReadFault> {
+        let error = ErrorCode::read(alloc, cursor)?;
+        let message = cursor.read_nullable(alloc)?;
+        let auth = cursor.read_bytes(alloc)?;
+        Ok(SaslAuthenticateReply {
+            error,
+            message,
+            auth,
+        })
+    }
+
+    fn write(&self, out: &mut Vec<u8>) -> Result<(), WriteFault> {
+        self.error.write(out)?;
+        write_nullable(out, &self.message)?;
+        write_bytes(out, &self.auth)?;
+        Ok(())
+    }
+
+    fn room_left(&self, room: usize) -> Option<usize> {
+        let room = self.error.room_left(room)?;
+        let room = nullable_room(&self.message, room)?;
+        bytes_room(&self.auth, room)
+    }
+}

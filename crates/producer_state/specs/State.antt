@@ -1,0 +1,105 @@
+-- What is kept of a log's producers: of each its epoch, the sequence number that is expected of it, and its last five
+-- data batches of that epoch.
+use Rattle.std.specs.Prelude.{◌≡◌, ◌≤ℤ◌, ℤ, pos, Bool, true, false, ◌&&◌, List, [], ◌∷◌, map, take, int_lt, if◌then◌else◌, Option, Some, None}
+use Rattle.std.specs.Ordering.{int_eq}
+use Rattle.std.specs.Option.{option_map}
+use Rattle.std.specs.List.{find}
+use Rattle.std.specs.Map.{lookup}
+use Rattle.wire_types.specs.declared.error_code.ErrorCode.TheVariants.{OutOfOrderSequenceNumber, InvalidProducerEpoch}
+use Rattle.record_batch.specs.Batch.{BatchData}
+use Rattle.producer_state.specs.declared.judgment.Judgment.{Judgment}
+use Rattle.producer_state.specs.declared.judgment.Judgment.TheVariants.{Next, Repeat, Refused}
+use Rattle.producer_state.specs.declared.known.Known.{Known}
+use Rattle.producer_state.specs.declared.known.Written.{Written}
+use Rattle.producer_state.specs.Sequences.{next_after, last_of, is_data, epochs, greatest, latest_by, expected_after, begun}
+
+-- a data batch's first and last sequence number and its offset
+abbrev pub written_of : BatchData → Written
+written_of b = record { first = b.header.base_sequence; last = last_of b; offset = b.header.base_offset }
+
+pub record State : Type 0 where
+  pub epoch : ℤ
+  pub expected : ℤ
+  pub latest : List Written
+
+-- ---- as the log says it
+
+abbrev pub state_in : List BatchData → ℤ → Option ℤ → Option State
+state_in log id None = None
+state_in log id (Some epoch) = Some (record {
+  epoch = epoch;
+  expected = expected_after (latest_by id epoch log);
+  latest = map written_of (take 5 (latest_by id epoch log));
+})
+
+abbrev pub state_of : List BatchData → ℤ → Option State
+state_of log id = state_in log id (greatest (epochs id log))
+
+-- ---- as it is kept
+
+-- the batches up to the first empty place
+abbrev pub filled : List (Option Written) → List Written
+filled [] = []
+filled (None ∷ places) = []
+filled (Some w ∷ places) = w ∷ filled places
+
+abbrev pub state_by : Known → State
+state_by k = record { epoch = k.epoch; expected = k.expected; latest = filled k.latest }
+
+abbrev pub is_key : ℤ → ℤ → Bool
+is_key id key = int_eq id key
+
+-- what is kept of a producer, if anything is
+abbrev pub known : List (ℤ × Known) → ℤ → Option State
+known table id = option_map state_by (lookup (is_key id) table)
+
+-- of each producer what the log says is kept
+abbrev pub Describes : List (ℤ × Known) → List BatchData → Type 0
+Describes table log = (id : ℤ) → pos 0 ≤ℤ id → known table id ≡ state_of log id
+
+-- ---- judging by it
+
+abbrev pub has_sequences_of : BatchData → Written → Bool
+has_sequences_of b w = int_eq w.first b.header.base_sequence && int_eq w.last (last_of b)
+
+abbrev pub goes_on : ℤ → BatchData → Option Written → Judgment
+goes_on expected b (Some w) = Repeat w.offset
+goes_on expected b None = if int_eq b.header.base_sequence expected then Next else Refused OutOfOrderSequenceNumber
+
+abbrev pub judged_by : Option State → BatchData → Judgment
+judged_by None b = begun b
+judged_by (Some s) b =
+    if int_lt b.header.producer_epoch s.epoch then Refused InvalidProducerEpoch
+    else (if int_lt s.epoch b.header.producer_epoch then begun b else goes_on s.expected b (find (has_sequences_of b) s.latest))
+
+-- ---- one batch or marker more
+
+-- an epoch of which nothing is written
+abbrev pub fresh : ℤ → State
+fresh epoch = record { epoch = epoch; expected = pos 0; latest = [] }
+
+-- once a batch or marker tells an epoch, the greatest one counts
+abbrev pub told : Option State → ℤ → State
+told None epoch = fresh epoch
+told (Some s) epoch = if int_lt s.epoch epoch then fresh epoch else s
+
+-- a data batch more in the same epoch
+abbrev pub followed : State → BatchData → State
+followed s b = record { epoch = s.epoch; expected = next_after b; latest = take 5 (written_of b ∷ s.latest) }
+
+abbrev pub followed_if : Bool → State → BatchData → State
+followed_if true s b = followed s b
+followed_if false s b = s
+
+abbrev pub noted : Option State → BatchData → State
+noted old b = followed_if (is_data b && int_eq (told old b.header.producer_epoch).epoch b.header.producer_epoch) (told old b.header.producer_epoch) b
+
+-- the marker that ends a transaction of this producer in this epoch
+pub record IsMarkerOf (id epoch : ℤ) (marker : BatchData) : Type 0 where
+  pub control : is_data marker ≡ false
+  pub producer : marker.header.producer_id ≡ id
+  pub epoch_told : marker.header.producer_epoch ≡ epoch
+
+-- of this producer this is kept now, and of the others what was kept
+abbrev pub IsEntered : List (ℤ × Known) → List (ℤ × Known) → ℤ → State → Type 0
+IsEntered old new producer s = (id : ℤ) → known new id ≡ (if int_eq producer id then Some s else known old id)

@@ -1,0 +1,18 @@
+//! Idempotent producers: which sequence numbers each producer of a partition has written, and how the batch that it
+//! sends next is judged by that.
+//!
+//! [`Producers`] keeps of each producer what the partition's log says of it. Nothing is forgotten.
+#![tactic(auto)]
+
+mod judgment;
+mod known;
+mod laws;
+mod producers;
+mod sequence;
+#[cfg(test)]
+mod tests;
+
+pub use judgment::Judgment;
+pub use laws::{accepted_once, newer_fences, next_is_count, numbers_alone, sent_again_repeats};
+pub use producers::Producers;
+pub use sequence::{last_sequence, next_sequence};

@@ -1,0 +1,58 @@
+-- A request that is one part: what is told where it was refused, and what a request that only reads leaves.
+use Rattle.std.proofs.Common.{◌≡◌, true, false, List, [], ◌∷◌, Option, Some, None, Result, Ok, Err, IfOk, OnOk, OnErr, refl, sym, ap, ◌∙◌}
+use Rattle.acl_binding.specs.declared.question.Caller.{Caller}
+use Rattle.acl_binding.specs.declared.question.Question.{Question}
+use Rattle.authorizer.specs.declared.answer.Refusal.{Refusal}
+use Rattle.authorizer.specs.Asking.{Rules, part_refusal}
+use Rattle.wire_types.specs.declared.error_code.ErrorCode.{ErrorCode}
+use Rattle.msg_acl.specs.declared.describe_acls.DescribeAclsRequest.{DescribeAclsRequest}
+use Rattle.msg_admin.specs.declared.reply.Reply.{Reply}
+use Rattle.msg_admin.specs.declared.request.Request.{Request}
+use Rattle.msg_admin.specs.declared.request.Request.TheVariants.{Produce, Fetch, ListOffsets, Metadata, InitProducerId, DescribeAcls, CreateAcls, DeleteAcls}
+use Rattle.audit_trail.specs.declared.event.Event.{Event}
+use Rattle.audit_trail.specs.declared.event.Event.TheVariants.{Ask}
+use Rattle.walk.specs.Codes.{refusal_code}
+use Rattle.request_handlers.specs.declared.outcome.Outcome.{Outcome as Told}
+use Rattle.request_handlers.specs.World.{World, rules_of}
+use Rattle.request_handlers.specs.Whole.{Served, whole_by, whole}
+use Rattle.request_handlers.specs.DescribeAcls.{describe_acls_questions, describe_acls_outcome}
+use Rattle.request_handlers.specs.Step.{request_outcome, outcome, is_reading}
+
+pub on_ok : {T E P : Type 0} (r : Result T E) → P → OnOk r P
+on_ok (Ok x) p = p
+on_ok (Err e) p = tt
+
+pub on_err : {T E P : Type 0} (r : Result T E) → P → OnErr r P
+on_err (Ok x) p = tt
+on_err (Err e) p = p
+
+-- the reply of a request that was refused
+pub refused_told : {E : Type 0} (w : World) (rules : Rules) (q p : Question) (refused : ErrorCode → Reply) (served : Served) (r : Refusal) (reply : Reply) (result : Result Told E)
+    → rules_of w ≡ rules → q ≡ p → part_refusal rules (q ∷ []) ≡ Some r → reply ≡ refused (refusal_code r) → IfOk result (λ o. o ≡ record { reply = reply; refusals = r ∷ [] })
+    → IfOk result (λ o. o.reply ≡ (whole w (p ∷ []) refused served).reply)
+refused_told w rules q p refused served r reply (Err e) same asked is told all = tt
+refused_told w rules q p refused served r reply (Ok o) same asked is told all =
+    let here : part_refusal (rules_of w) (p ∷ []) ≡ Some r = ap (λ (x : Rules). part_refusal x (p ∷ [])) same ∙ ap (λ (x : Question). part_refusal rules (x ∷ [])) (sym asked) ∙ is in
+    ap (λ (x : Told). x.reply) all ∙ told ∙ sym (ap (λ (x : Option Refusal). (whole_by x w refused served).reply) here)
+
+-- ---- what only reads changes nothing
+
+whole_keeps : (o : Option Refusal) (w : World) (refused : ErrorCode → Reply) (reply : Reply) → (whole_by o w refused (record { world = w; reply = reply })).world ≡ w
+whole_keeps None w refused reply = refl
+whole_keeps (Some r) w refused reply = refl
+
+pub describe_keeps : (w : World) (caller : Caller) (r : DescribeAclsRequest) → (describe_acls_outcome w caller r).world ≡ w
+describe_keeps w caller r = whole_keeps (part_refusal (rules_of w) (describe_acls_questions caller)) w _ _
+
+pub described_world : (w : World) (caller : Caller) (q : Request) (r : DescribeAclsRequest) → q ≡ DescribeAcls r → w ≡ (request_outcome w caller q).world
+described_world w caller q r is = sym (ap (λ (x : Request). (request_outcome w caller x).world) is ∙ describe_keeps w caller r)
+
+pub reading_keeps : (w : World) (e : Event) → is_reading e ≡ true → (outcome w e).world ≡ w
+reading_keeps w (Ask caller client (Produce r)) reads = absurd (let clash : false ≡ true = reads in cc)
+reading_keeps w (Ask caller client (Fetch r)) reads = refl
+reading_keeps w (Ask caller client (ListOffsets r)) reads = refl
+reading_keeps w (Ask caller client (Metadata r)) reads = refl
+reading_keeps w (Ask caller client (InitProducerId r)) reads = absurd (let clash : false ≡ true = reads in cc)
+reading_keeps w (Ask caller client (DescribeAcls r)) reads = describe_keeps w caller r
+reading_keeps w (Ask caller client (CreateAcls r)) reads = absurd (let clash : false ≡ true = reads in cc)
+reading_keeps w (Ask caller client (DeleteAcls r)) reads = absurd (let clash : false ≡ true = reads in cc)

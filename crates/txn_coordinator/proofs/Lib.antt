@@ -1,0 +1,4 @@
+pub mod Table
+pub mod Ranges
+pub mod Rows
+pub mod Kept

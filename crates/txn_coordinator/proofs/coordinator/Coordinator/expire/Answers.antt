@@ -1,0 +1,13 @@
+use Rattle.std.proofs.Common.{◌≡◌, ◌++◌, ◌∷◌, [], ℕ, List, Option, Some, None, Ok, Err, length, sym, subst, ap, refl, ◌∙◌, arith, rules}
+use Rattle.std.proofs.lemmas.Grind.{common_steps}
+use Rattle.txn_coordinator.proofs.Ranges.{all_can_raise, expired_range}
+use Rattle.txn_coordinator.proofs.coordinator.Coordinator.expire.Goals as goal
+
+pub expiry_markers-requires : goal.expiry_markers-requires
+expiry_markers-requires c = rw c.deref.ensures.value (all_can_raise (length c.self.inside.given.items) c.self.inside.transactions.items c.self.invariant)
+
+pub expire_all-requires : goal.expire_all-requires
+expire_all-requires c = rw c.deref_mut.ensures.value (all_can_raise (length c.self.inside.given.items) c.self.inside.transactions.items c.self.invariant)
+
+pub invariant_of-self-2 : goal.invariant_of-self-2
+invariant_of-self-2 c = grind (arith, common_steps, expired_range (length c.self.inside.given.items) c.args.moment c.self.inside.transactions.items c.self.invariant)

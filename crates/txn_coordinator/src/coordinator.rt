@@ -1,0 +1,380 @@
+//! The coordinator: transactional ids, producer ids given out, and the markers that are owed.
+
+ghost use Rattle.std.specs.Prelude.{◌≡◌, ◌+◌, ◌<◌, ◌^◌, ◌++◌, ◌∷◌, [], IfOk, IfSome, OnOk, OnErr, Some, None, length};
+ghost use Rattle.txn_coordinator.specs.Coordinator.{no_transactions, turned, turn_code, turn_answer, pair_answer, recorded, fresh, owner, given_by, given_free};
+ghost use Rattle.txn_coordinator.specs.InitProducerId.{init};
+ghost use Rattle.txn_coordinator.specs.Adding.{add_partitions, add_group, open_transaction};
+ghost use Rattle.txn_coordinator.specs.EndTxn.{end};
+ghost use Rattle.txn_coordinator.specs.Expiry.{expire};
+ghost use Rattle.txn_coordinator.specs.Holding.{holds, is_usable};
+ghost use Rattle.txn_coordinator.specs.Warrants.{next_warrant, written};
+ghost use Rattle.txn_coordinator.specs.Bounds.{IsInRange, IsTurnInRange};
+ghost use Rattle.txn_coordinator.specs.Permission.{MayWrite};
+
+use crate::ending::EndForm;
+use crate::expiry::{expire_all, expiry_markers};
+use crate::init::{created, timeout_within};
+use crate::marker::{Outcome, OwedMarker};
+use crate::pair::{Given, Pair, PairAnswer};
+use crate::records::{complete, owes, put, recorded};
+use crate::target::{Target, TopicPartition};
+use crate::transaction::{LAST_EPOCH, Transaction};
+use crate::turn::Turn;
+use crate::warrant::Warrant;
+use authorizer::{Permit, Policy};
+use std::alloc::{AllocError, Global};
+use std::marker::Model;
+use wire_types::{ErrorCode, Shared, Text};
+
+/// What is kept of transactional ids, of producer ids and of markers that are owed.
+#[derive(Drop)]
+pub struct Coordinator {
+    transactions: Vec<Transaction>,
+    given: Vec<Option<Text>>,
+    warrants: Vec<Shared<OwedMarker>>,
+}
+
+impl Model for Coordinator {
+    ghost use Rattle.txn_coordinator.specs.Coordinator.{CoordinatorValue};
+    ghost use Rattle.txn_coordinator.specs.Bounds.{AreInRange};
+
+    ghost Value = { CoordinatorValue };
+
+    ghost view = { λ c. record { transactions = c.transactions.items; given = c.given.items; warrants = c.warrants.items } };
+
+    ghost use Rattle.std.specs.Prelude.{length};
+
+    ghost invariant = { λ c. AreInRange (length c.given.items) c.transactions.items };
+}
+
+impl Coordinator {
+    /// No transactional id, no producer id given out, nothing owed. It takes no memory.
+    pub fn new(alloc: Global) -> Coordinator
+        ensures { result ≡ no_transactions }
+    {
+        Coordinator {
+            transactions: Vec::new(alloc),
+            given: Vec::new(alloc),
+            warrants: Vec::new(alloc),
+        }
+    }
+
+    /// InitProducerId for a transactional id, with its timeout in milliseconds and the greatest that is allowed.
+    pub fn init(
+        &mut self,
+        alloc: Global,
+        policy: &Policy,
+        permit: Permit,
+        id: &Text,
+        timeout: i32,
+        greatest: i32,
+    ) -> Result<PairAnswer, AllocError>
+        requires { MayWrite policy.now permit id.now }
+        ensures ok { OnOk result (self.new ≡ turned self.old (init self.old id.now timeout greatest)) }
+        ensures answer { IfOk result (λ answer. answer ≡ turn_answer self.old id.now (init self.old id.now timeout greatest)) }
+        ensures err { OnErr result (self.new ≡ self.old) }
+    {
+        permit.spend(policy);
+        let turn = self.init_turn(alloc, id, timeout, greatest)?;
+        let code = self.take(turn)?;
+        Ok(self.answer(id, code))
+    }
+
+    /// AddPartitionsToTxn, at this moment in milliseconds.
+    pub fn add_partitions(
+        &mut self,
+        alloc: Global,
+        policy: &Policy,
+        permit: Permit,
+        id: &Text,
+        pair: Pair,
+        moment: u64,
+        partitions: &[TopicPartition],
+    ) -> Result<ErrorCode, AllocError>
+        requires { MayWrite policy.now permit id.now }
+        ensures ok { OnOk result (self.new ≡ turned self.old (add_partitions self.old id.now pair moment partitions.now)) }
+        ensures code { IfOk result (λ code. code ≡ turn_code (add_partitions self.old id.now pair moment partitions.now)) }
+        ensures err { OnErr result (self.new ≡ self.old) }
+    {
+        permit.spend(policy);
+        let turn = self.partitions_turn(alloc, id, pair, moment, partitions)?;
+        self.take(turn)
+    }
+
+    /// AddOffsetsToTxn, at this moment in milliseconds.
+    pub fn add_group(
+        &mut self,
+        alloc: Global,
+        policy: &Policy,
+        permit: Permit,
+        id: &Text,
+        pair: Pair,
+        moment: u64,
+        group: &Text,
+    ) -> Result<ErrorCode, AllocError>
+        requires { MayWrite policy.now permit id.now }
+        ensures ok { OnOk result (self.new ≡ turned self.old (add_group self.old id.now pair moment group.now)) }
+        ensures code { IfOk result (λ code. code ≡ turn_code (add_group self.old id.now pair moment group.now)) }
+        ensures err { OnErr result (self.new ≡ self.old) }
+    {
+        permit.spend(policy);
+        let turn = self.group_turn(alloc, id, pair, moment, group)?;
+        self.take(turn)
+    }
+
+    /// EndTxn. Before version 5 the pair of the answer is left out.
+    pub fn end(
+        &mut self,
+        alloc: Global,
+        policy: &Policy,
+        permit: Permit,
+        form: EndForm,
+        id: &Text,
+        pair: Pair,
+        outcome: Outcome,
+    ) -> Result<PairAnswer, AllocError>
+        requires { MayWrite policy.now permit id.now }
+        ensures ok { OnOk result (self.new ≡ turned self.old (end self.old form id.now pair outcome)) }
+        ensures answer { IfOk result (λ answer. answer ≡ turn_answer self.old id.now (end self.old form id.now pair outcome)) }
+        ensures err { OnErr result (self.new ≡ self.old) }
+    {
+        permit.spend(policy);
+        let turn = self.end_turn(alloc, form, id, pair, outcome)?;
+        let code = self.take(turn)?;
+        Ok(self.answer(id, code))
+    }
+
+    /// Gives a producer id out to no transactional id (InitProducerId with the null id).
+    pub fn fresh(&mut self) -> Result<i64, AllocError>
+        ensures ok { OnOk result (self.new ≡ given_free self.old) }
+        ensures id { IfOk result (λ producer. producer ≡ fresh self.old) }
+        ensures err { OnErr result (self.new ≡ self.old) }
+    {
+        let next = self.next_id();
+        self.given.push(None)?;
+        Ok(next)
+    }
+
+    /// To whom a producer id was given. A negative one was never given out. It takes no memory.
+    pub fn given(&self, producer: i64) -> Given
+        ensures { result ≡ given_by (owner self.now producer) }
+    {
+        let Ok(place) = usize::try_from(producer) else {
+            return Given::Never;
+        };
+        match self.given.get(place) {
+            None => Given::Never,
+            Some(None) => Given::Free,
+            Some(Some(_)) => Given::Owned,
+        }
+    }
+
+    /// Whether a transactional batch of the pair may be written to a partition, or offsets of it staged for a group: no
+    /// error, or the code of the refusal. It takes no memory.
+    pub fn holds(&self, id: &Text, pair: Pair, target: &Target) -> ErrorCode
+        ensures { result ≡ holds self.now id.now pair target.now }
+    {
+        let Some(transaction) = recorded(&self.transactions, id) else {
+            return ErrorCode::InvalidProducerIdMapping;
+        };
+        if transaction.pair.producer != pair.producer {
+            return ErrorCode::InvalidProducerIdMapping;
+        }
+        if transaction.pair.epoch != pair.epoch || !is_usable(target, pair.epoch) {
+            return ErrorCode::InvalidProducerEpoch;
+        }
+        if transaction.phase.is_ongoing() && transaction.has_target(target) {
+            ErrorCode::None
+        } else {
+            ErrorCode::InvalidTxnState
+        }
+    }
+
+    /// Prepares each transaction to abort whose time is over at this moment, in milliseconds.
+    pub fn expire(&mut self, alloc: Global, moment: u64) -> Result<(), AllocError>
+        ensures ok { OnOk result (self.new ≡ expire self.old moment) }
+        ensures err { OnErr result (self.new ≡ self.old) }
+    {
+        let owed = expiry_markers(alloc, &self.transactions, moment)?;
+        self.warrants.append(&mut Vec::from(owed))?;
+        expire_all(&mut self.transactions, moment);
+        Ok(())
+    }
+
+    /// A warrant for the front marker, if one is owed. The marker stays owed until it is written.
+    pub fn next_warrant(&self) -> Result<Option<Warrant>, AllocError>
+        ensures { IfOk result (λ warrant. warrant ≡ next_warrant self.now) }
+    {
+        match self.warrants.first() {
+            Some(marker) => Ok(Some(Warrant::new(marker.share()?))),
+            None => Ok(None),
+        }
+    }
+
+    /// The front marker was written. The last one of an id completes its transaction. It takes no memory.
+    pub fn written(&mut self, warrant: Warrant)
+        requires { next_warrant self.old ≡ Some warrant }
+        ensures { self.new ≡ written self.old }
+    {
+        warrant.give_back();
+        let front = self.warrants.remove(0);
+        let marker = front.value();
+        if !owes(&self.warrants, &marker.id) {
+            complete(&mut self.transactions, &marker.id, marker.outcome);
+        }
+    }
+}
+
+impl Coordinator {
+    fn next_id(&self) -> i64
+        ensures { result ≡ fresh self.now }
+    {
+        self.given.len() as i64
+    }
+
+    fn answer(&self, id: &Text, code: ErrorCode) -> PairAnswer
+        ensures { result ≡ pair_answer code (recorded self.now.transactions id.now) }
+    {
+        match (code, recorded(&self.transactions, id)) {
+            (ErrorCode::None, Some(transaction)) => PairAnswer {
+                code,
+                pair: transaction.pair,
+            },
+            _ => PairAnswer {
+                code,
+                pair: Pair::NONE,
+            },
+        }
+    }
+
+    fn init_turn(
+        &self,
+        alloc: Global,
+        id: &Text,
+        timeout: i32,
+        greatest: i32,
+    ) -> Result<Turn, AllocError>
+        ensures turn { IfOk result (λ turn. turn ≡ init self.now id.now timeout greatest) }
+        ensures in_range { IfOk result (λ turn. IsTurnInRange (length self.now.given) turn) }
+    {
+        if id.is_empty() {
+            return Ok(Turn::Stays(ErrorCode::InvalidRequest));
+        }
+        let Some(timeout) = timeout_within(timeout, greatest) else {
+            return Ok(Turn::Stays(ErrorCode::InvalidTransactionTimeout));
+        };
+        match recorded(&self.transactions, id) {
+            Some(transaction) => transaction.inited(alloc, self.next_id(), timeout),
+            None => created(alloc, id, self.next_id(), timeout),
+        }
+    }
+
+    /// The transaction that a call with this pair adds to, or its refusal.
+    fn open_transaction(
+        &self,
+        id: &Text,
+        pair: Pair,
+        moment: u64,
+    ) -> Result<Result<Transaction, ErrorCode>, AllocError>
+        ensures opened { IfOk result (λ opened. opened ≡ open_transaction self.now id.now pair moment) }
+        ensures in_range { IfOk result (λ opened. IfOk opened (IsInRange (length self.now.given))) }
+    {
+        if id.is_empty() {
+            return Ok(Err(ErrorCode::InvalidRequest));
+        }
+        let Some(transaction) = recorded(&self.transactions, id) else {
+            return Ok(Err(ErrorCode::InvalidProducerIdMapping));
+        };
+        match transaction.pair_refusal(ErrorCode::InvalidProducerEpoch, pair) {
+            Some(code) => Ok(Err(code)),
+            None => Ok(transaction.copied()?.open(moment)),
+        }
+    }
+
+    fn partitions_turn(
+        &self,
+        alloc: Global,
+        id: &Text,
+        pair: Pair,
+        moment: u64,
+        partitions: &[TopicPartition],
+    ) -> Result<Turn, AllocError>
+        ensures turn { IfOk result (λ turn. turn ≡ add_partitions self.now id.now pair moment partitions.now) }
+        ensures in_range { IfOk result (λ turn. IsTurnInRange (length self.now.given) turn) }
+    {
+        if partitions.is_empty() {
+            return Ok(Turn::Stays(ErrorCode::None));
+        }
+        match self.open_transaction(id, pair, moment)? {
+            Ok(transaction) => Ok(Turn::puts(alloc, transaction.with_partitions(partitions)?)),
+            Err(code) => Ok(Turn::Stays(code)),
+        }
+    }
+
+    fn group_turn(
+        &self,
+        alloc: Global,
+        id: &Text,
+        pair: Pair,
+        moment: u64,
+        group: &Text,
+    ) -> Result<Turn, AllocError>
+        ensures turn { IfOk result (λ turn. turn ≡ add_group self.now id.now pair moment group.now) }
+        ensures in_range { IfOk result (λ turn. IsTurnInRange (length self.now.given) turn) }
+    {
+        match self.open_transaction(id, pair, moment)? {
+            Ok(transaction) => Ok(Turn::puts(alloc, transaction.with_group(group)?)),
+            Err(code) => Ok(Turn::Stays(code)),
+        }
+    }
+
+    fn end_turn(
+        &self,
+        alloc: Global,
+        form: EndForm,
+        id: &Text,
+        pair: Pair,
+        outcome: Outcome,
+    ) -> Result<Turn, AllocError>
+        ensures turn { IfOk result (λ turn. turn ≡ end self.now form id.now pair outcome) }
+        ensures in_range { IfOk result (λ turn. IsTurnInRange (length self.now.given) turn) }
+    {
+        if id.is_empty() {
+            return Ok(Turn::Stays(ErrorCode::InvalidRequest));
+        }
+        match recorded(&self.transactions, id) {
+            Some(transaction) => transaction.ended(alloc, form, self.next_id(), pair, outcome),
+            None => Ok(Turn::Stays(ErrorCode::InvalidProducerIdMapping)),
+        }
+    }
+
+    /// Does what a call comes to. All that needs memory comes first.
+    fn take(&mut self, turn: Turn) -> Result<ErrorCode, AllocError>
+        requires { IsTurnInRange (length self.old.given) turn }
+        ensures ok { OnOk result (self.new ≡ turned self.old turn) }
+        ensures code { IfOk result (λ code. code ≡ turn_code turn) }
+        ensures err { OnErr result (self.new ≡ self.old) }
+    {
+        match turn {
+            Turn::Stays(code) => Ok(code),
+            Turn::Puts(code, transaction, given, owed) => {
+                let mut given = Vec::from(given);
+                self.transactions.reserve(1)?;
+                self.given.reserve(given.len())?;
+                self.warrants.append(&mut Vec::from(owed))?;
+                self.given.append(&mut given).unwrap();
+                put(&mut self.transactions, transaction);
+                Ok(code)
+            }
+        }
+    }
+}
+
+fn is_usable(target: &Target, epoch: i16) -> bool
+    ensures { result ≡ is_usable target.now epoch }
+{
+    match target {
+        Target::Partition(_) => true,
+        Target::Group(_) => epoch < LAST_EPOCH,
+    }
+}
