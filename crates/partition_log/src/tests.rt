@@ -5,6 +5,7 @@ use crate::isolation::Isolation;
 use crate::log::Log;
 use crate::view::consumer_view;
 use bytes::Bytes;
+use producer_state::Judgment;
 use record_batch::{Batch, Outcome};
 use std::alloc::Global;
 use std::process::Abort;
@@ -18,10 +19,10 @@ const ONE: [u8; 69] = [
 
 // Three records of a transaction of producer 9.
 const RICH: [u8; 95] = [
-    0, 0, 0, 0, 0, 0, 0, 40, 0, 0, 0, 83, 0, 0, 0, 7, 2, 17, 85, 176, 145, 0, 16, 0, 0, 0, 2, 0, 0,
-    0, 0, 0, 0, 3, 232, 0, 0, 0, 0, 0, 0, 3, 237, 0, 0, 0, 0, 0, 0, 0, 9, 0, 2, 0, 0, 0, 4, 0, 0,
-    0, 3, 28, 0, 10, 0, 2, 107, 1, 4, 2, 104, 2, 118, 2, 255, 1, 12, 0, 0, 2, 1, 0, 0, 22, 0, 5, 4,
-    0, 10, 118, 97, 108, 117, 101, 0,
+    0, 0, 0, 0, 0, 0, 0, 40, 0, 0, 0, 83, 0, 0, 0, 7, 2, 146, 173, 181, 105, 0, 16, 0, 0, 0, 2, 0,
+    0, 0, 0, 0, 0, 3, 232, 0, 0, 0, 0, 0, 0, 3, 237, 0, 0, 0, 0, 0, 0, 0, 9, 0, 2, 0, 0, 0, 0, 0,
+    0, 0, 3, 28, 0, 10, 0, 2, 107, 1, 4, 2, 104, 2, 118, 2, 255, 1, 12, 0, 0, 2, 1, 0, 0, 22, 0, 5,
+    4, 0, 10, 118, 97, 108, 117, 101, 0,
 ];
 
 fn put(rt: &impl Abort, alloc: Global, log: &mut Log, bytes: &[u8]) -> i64 {
@@ -29,6 +30,8 @@ fn put(rt: &impl Abort, alloc: Global, log: &mut Log, bytes: &[u8]) -> i64 {
     let batch = Batch::check(bytes, 1000).expect(rt, "a batch");
     let has_room = log.has_room(&batch);
     assert!(rt; has_room);
+    let judgment = log.judge(&batch);
+    assert!(rt; matches!(judgment, Judgment::Next));
     log.append(alloc, batch).expect(rt, "memory")
 }
 
