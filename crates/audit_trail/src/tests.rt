@@ -1,11 +1,12 @@
-//! Lines of refusals, as they are printed.
+//! Lines of refusals, as they are printed, and entries of events that are no requests.
 
-use crate::line;
+use crate::{Entry, Event, Trail, line};
 use acl_binding::{Kind, Operation, Question};
 use authorizer::{Refusal, Why};
+use msg_admin::Reply;
 use std::alloc::{AllocError, Global};
 use std::test::Fail;
-use wire_types::Text;
+use wire_types::{Items, Shared, Text};
 
 fn refusal(alloc: Global, who: &str, name: &str, why: Why) -> Result<Refusal, AllocError> {
     Ok(Refusal {
@@ -40,5 +41,23 @@ fn lines(rt: HostRuntime) -> Result<(), Fail> {
         let refusal = refusal(alloc, who, name, why)?;
         assert_eq!(rt; line(alloc, &refusal)?.as_str(), text);
     }
+    Ok(())
+}
+
+fn entry(alloc: Global, event: Event, reply: Reply) -> Result<Entry, AllocError> {
+    Ok(Entry {
+        event: Shared::new(alloc, event)?,
+        reply: Shared::new(alloc, reply)?,
+        refusals: Items::new(alloc),
+    })
+}
+
+/// A moment at which a marker is owed, and its writing.
+#[test]
+fn events_that_are_no_requests(rt: HostRuntime) -> Result<(), Fail> {
+    let mut trail = Trail::new(rt.alloc());
+    trail.push(entry(rt.alloc(), Event::Tick(5), Reply::Ticked { left: 1 })?)?;
+    trail.push(entry(rt.alloc(), Event::Mark, Reply::Marked { left: 0 })?)?;
+    assert_eq!(rt; (trail.len(), trail.refusals()), (2, 0));
     Ok(())
 }

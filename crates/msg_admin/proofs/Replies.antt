@@ -12,7 +12,7 @@ use Rattle.wire_types.specs.Spelling.{int_written}
 use Rattle.wire_types.specs.Schema.{int32}
 use Rattle.msg_data.specs.Strings.{is_short}
 use Rattle.msg_acl.proofs.ReplyStrings.{describe_acls_tells, create_acls_tells, delete_acls_tells}
-use Rattle.msg_txn.proofs.ReplyStrings.{init_producer_id_tells}
+use Rattle.msg_txn.proofs.ReplyStrings.{init_producer_id_tells, add_partitions_to_txn_tells, end_txn_tells}
 use Rattle.msg_data.proofs.ReplyStrings.{produce_tells, fetch_tells, list_offsets_tells, metadata_tells}
 use Rattle.msg_admin.specs.declared.api.Api.{Api}
 use Rattle.msg_admin.specs.declared.reply.Reply.{Reply}
@@ -62,9 +62,14 @@ decided (replies.Fetch m) = (fetch_tells.short m, fetch_tells.fits m)
 decided (replies.ListOffsets m) = (list_offsets_tells.short m, list_offsets_tells.fits m)
 decided (replies.Metadata m) = (metadata_tells.short m, metadata_tells.fits m)
 decided (replies.InitProducerId m) = (init_producer_id_tells.short m, init_producer_id_tells.fits m)
+decided (replies.AddPartitionsToTxn m) = (add_partitions_to_txn_tells.short m, add_partitions_to_txn_tells.fits m)
+decided (replies.EndTxn m) = (end_txn_tells.short m, end_txn_tells.fits m)
 decided (replies.DescribeAcls m) = (describe_acls_tells.short m, describe_acls_tells.fits m)
 decided (replies.CreateAcls m) = (create_acls_tells.short m, create_acls_tells.fits m)
 decided (replies.DeleteAcls m) = (delete_acls_tells.short m, delete_acls_tells.fits m)
+decided (replies.Marked left) = tt
+decided replies.Idle = tt
+decided (replies.Ticked left) = tt
 
 -- ---- too long, or not
 

@@ -11,6 +11,8 @@ key_of apis.Fetch = pos 1
 key_of apis.ListOffsets = pos 2
 key_of apis.Metadata = pos 3
 key_of apis.InitProducerId = pos 22
+key_of apis.AddPartitionsToTxn = pos 24
+key_of apis.EndTxn = pos 26
 key_of apis.DescribeAcls = pos 29
 key_of apis.CreateAcls = pos 30
 key_of apis.DeleteAcls = pos 31
@@ -21,6 +23,8 @@ version_of apis.Fetch = pos 4
 version_of apis.ListOffsets = pos 2
 version_of apis.Metadata = pos 1
 version_of apis.InitProducerId = pos 0
+version_of apis.AddPartitionsToTxn = pos 0
+version_of apis.EndTxn = pos 0
 version_of apis.DescribeAcls = pos 1
 version_of apis.CreateAcls = pos 1
 version_of apis.DeleteAcls = pos 1
@@ -32,12 +36,14 @@ is_flexible apis.Fetch = false
 is_flexible apis.ListOffsets = false
 is_flexible apis.Metadata = false
 is_flexible apis.InitProducerId = false
+is_flexible apis.AddPartitionsToTxn = false
+is_flexible apis.EndTxn = false
 is_flexible apis.DescribeAcls = false
 is_flexible apis.CreateAcls = false
 is_flexible apis.DeleteAcls = false
 
 unfoldable pub all_apis : List Api
-all_apis = apis.Produce ∷ apis.Fetch ∷ apis.ListOffsets ∷ apis.Metadata ∷ apis.InitProducerId ∷ apis.DescribeAcls ∷ apis.CreateAcls ∷ apis.DeleteAcls ∷ []
+all_apis = apis.Produce ∷ apis.Fetch ∷ apis.ListOffsets ∷ apis.Metadata ∷ apis.InitProducerId ∷ apis.AddPartitionsToTxn ∷ apis.EndTxn ∷ apis.DescribeAcls ∷ apis.CreateAcls ∷ apis.DeleteAcls ∷ []
 
 -- the api that is served under a key in a version
 unfoldable pub api_at : ℤ → ℤ → Option Api
@@ -51,6 +57,8 @@ api_at-own apis.Fetch = refl
 api_at-own apis.ListOffsets = refl
 api_at-own apis.Metadata = refl
 api_at-own apis.InitProducerId = refl
+api_at-own apis.AddPartitionsToTxn = refl
+api_at-own apis.EndTxn = refl
 api_at-own apis.DescribeAcls = refl
 api_at-own apis.CreateAcls = refl
 api_at-own apis.DeleteAcls = refl

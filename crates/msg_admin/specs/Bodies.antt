@@ -1,5 +1,5 @@
 -- The grammars of the bodies: what each api is asked, and what it answers.
-use Rattle.std.specs.Prelude.{◌≡◌, ℕ, List, Option, Some, None, refl}
+use Rattle.std.specs.Prelude.{◌≡◌, ℕ, List, [], Option, Some, None, refl}
 use Rattle.wire_types.specs.Grammar.{Grammar, Body}
 use Rattle.wire_types.specs.Combinators.{variant, body_of}
 use Rattle.msg_data.specs.declared.produce.ProduceRequest.{ProduceRequest}
@@ -21,6 +21,12 @@ use Rattle.wire_types.specs.Strings.{no_strings}
 use Rattle.msg_txn.specs.declared.init_producer_id.InitProducerIdRequest.{InitProducerIdRequest}
 use Rattle.msg_txn.specs.declared.init_producer_id.InitProducerIdReply.{InitProducerIdReply}
 use Rattle.msg_txn.specs.InitProducerId.{init_producer_id_request, init_producer_id_reply}
+use Rattle.msg_txn.specs.declared.add_partitions.AddPartitionsToTxnRequest.{AddPartitionsToTxnRequest}
+use Rattle.msg_txn.specs.declared.add_partitions.AddPartitionsToTxnReply.{AddPartitionsToTxnReply}
+use Rattle.msg_txn.specs.AddPartitions.{add_partitions_to_txn_request, add_partitions_to_txn_reply, add_partitions_to_txn_strings}
+use Rattle.msg_txn.specs.declared.end_txn.EndTxnRequest.{EndTxnRequest}
+use Rattle.msg_txn.specs.declared.end_txn.EndTxnReply.{EndTxnReply}
+use Rattle.msg_txn.specs.EndTxn.{end_txn_request, end_txn_reply}
 use Rattle.msg_acl.specs.declared.create_acls.CreateAclsRequest.{CreateAclsRequest}
 use Rattle.msg_acl.specs.declared.create_acls.CreateAclsReply.{CreateAclsReply}
 use Rattle.msg_acl.specs.CreateAcls.{create_acls_request, create_acls_reply, create_acls_strings}
@@ -41,11 +47,13 @@ api_of (requests.Fetch r) = apis.Fetch
 api_of (requests.ListOffsets r) = apis.ListOffsets
 api_of (requests.Metadata r) = apis.Metadata
 api_of (requests.InitProducerId r) = apis.InitProducerId
+api_of (requests.AddPartitionsToTxn r) = apis.AddPartitionsToTxn
+api_of (requests.EndTxn r) = apis.EndTxn
 api_of (requests.DescribeAcls r) = apis.DescribeAcls
 api_of (requests.CreateAcls r) = apis.CreateAcls
 api_of (requests.DeleteAcls r) = apis.DeleteAcls
 
--- the api whose answer a reply is sent as, if it is sent
+-- the api whose answer a reply is sent as, if it is sent; what is no answer to a request is not
 abbrev pub sent_as : Reply → Option Api
 sent_as (replies.Produce r) = Some apis.Produce
 sent_as (replies.SilentProduce r) = None
@@ -53,9 +61,14 @@ sent_as (replies.Fetch r) = Some apis.Fetch
 sent_as (replies.ListOffsets r) = Some apis.ListOffsets
 sent_as (replies.Metadata r) = Some apis.Metadata
 sent_as (replies.InitProducerId r) = Some apis.InitProducerId
+sent_as (replies.AddPartitionsToTxn r) = Some apis.AddPartitionsToTxn
+sent_as (replies.EndTxn r) = Some apis.EndTxn
 sent_as (replies.DescribeAcls r) = Some apis.DescribeAcls
 sent_as (replies.CreateAcls r) = Some apis.CreateAcls
 sent_as (replies.DeleteAcls r) = Some apis.DeleteAcls
+sent_as (replies.Marked left) = None
+sent_as replies.Idle = None
+sent_as (replies.Ticked left) = None
 
 -- the texts of a reply that stand behind a length of two bytes
 abbrev pub strings_of : Reply → List (List ℕ)
@@ -65,9 +78,14 @@ strings_of (replies.Fetch r) = fetch_strings r
 strings_of (replies.ListOffsets r) = list_offsets_strings r
 strings_of (replies.Metadata r) = metadata_strings r
 strings_of (replies.InitProducerId r) = no_strings r
+strings_of (replies.AddPartitionsToTxn r) = add_partitions_to_txn_strings r
+strings_of (replies.EndTxn r) = no_strings r
 strings_of (replies.DescribeAcls r) = describe_acls_strings r
 strings_of (replies.CreateAcls r) = create_acls_strings r
 strings_of (replies.DeleteAcls r) = delete_acls_strings r
+strings_of (replies.Marked left) = []
+strings_of replies.Idle = []
+strings_of (replies.Ticked left) = []
 
 -- ---- Produce
 
@@ -159,6 +177,42 @@ pub init_producer_id-answered : (r : Reply) (x : InitProducerIdReply) → answer
 init_producer_id-answered (replies.InitProducerId y) x e = cc
 init_producer_id-answered _ x e = absurd cc
 
+-- ---- AddPartitionsToTxn
+
+abbrev pub asked_add_partitions_to_txn : Request → Option AddPartitionsToTxnRequest
+asked_add_partitions_to_txn (requests.AddPartitionsToTxn r) = Some r
+asked_add_partitions_to_txn _ = None
+
+pub add_partitions_to_txn-asked : (r : Request) (x : AddPartitionsToTxnRequest) → asked_add_partitions_to_txn r ≡ Some x → requests.AddPartitionsToTxn x ≡ r
+add_partitions_to_txn-asked (requests.AddPartitionsToTxn y) x e = cc
+add_partitions_to_txn-asked _ x e = absurd cc
+
+abbrev pub answered_add_partitions_to_txn : Reply → Option AddPartitionsToTxnReply
+answered_add_partitions_to_txn (replies.AddPartitionsToTxn r) = Some r
+answered_add_partitions_to_txn _ = None
+
+pub add_partitions_to_txn-answered : (r : Reply) (x : AddPartitionsToTxnReply) → answered_add_partitions_to_txn r ≡ Some x → replies.AddPartitionsToTxn x ≡ r
+add_partitions_to_txn-answered (replies.AddPartitionsToTxn y) x e = cc
+add_partitions_to_txn-answered _ x e = absurd cc
+
+-- ---- EndTxn
+
+abbrev pub asked_end_txn : Request → Option EndTxnRequest
+asked_end_txn (requests.EndTxn r) = Some r
+asked_end_txn _ = None
+
+pub end_txn-asked : (r : Request) (x : EndTxnRequest) → asked_end_txn r ≡ Some x → requests.EndTxn x ≡ r
+end_txn-asked (requests.EndTxn y) x e = cc
+end_txn-asked _ x e = absurd cc
+
+abbrev pub answered_end_txn : Reply → Option EndTxnReply
+answered_end_txn (replies.EndTxn r) = Some r
+answered_end_txn _ = None
+
+pub end_txn-answered : (r : Reply) (x : EndTxnReply) → answered_end_txn r ≡ Some x → replies.EndTxn x ≡ r
+end_txn-answered (replies.EndTxn y) x e = cc
+end_txn-answered _ x e = absurd cc
+
 -- ---- DescribeAcls
 
 abbrev pub asked_describe_acls : Request → Option DescribeAclsRequest
@@ -221,6 +275,8 @@ request_body apis.Fetch = body_of (variant requests.Fetch asked_fetch (λ x. ref
 request_body apis.ListOffsets = body_of (variant requests.ListOffsets asked_list_offsets (λ x. refl) list_offsets-asked list_offsets_request)
 request_body apis.Metadata = body_of (variant requests.Metadata asked_metadata (λ x. refl) metadata-asked metadata_request)
 request_body apis.InitProducerId = body_of (variant requests.InitProducerId asked_init_producer_id (λ x. refl) init_producer_id-asked init_producer_id_request)
+request_body apis.AddPartitionsToTxn = body_of (variant requests.AddPartitionsToTxn asked_add_partitions_to_txn (λ x. refl) add_partitions_to_txn-asked add_partitions_to_txn_request)
+request_body apis.EndTxn = body_of (variant requests.EndTxn asked_end_txn (λ x. refl) end_txn-asked end_txn_request)
 request_body apis.DescribeAcls = body_of (variant requests.DescribeAcls asked_describe_acls (λ x. refl) describe_acls-asked describe_acls_request)
 request_body apis.CreateAcls = body_of (variant requests.CreateAcls asked_create_acls (λ x. refl) create_acls-asked create_acls_request)
 request_body apis.DeleteAcls = body_of (variant requests.DeleteAcls asked_delete_acls (λ x. refl) delete_acls-asked delete_acls_request)
@@ -231,6 +287,8 @@ reply_body apis.Fetch = variant replies.Fetch answered_fetch (λ x. refl) fetch-
 reply_body apis.ListOffsets = variant replies.ListOffsets answered_list_offsets (λ x. refl) list_offsets-answered list_offsets_reply
 reply_body apis.Metadata = variant replies.Metadata answered_metadata (λ x. refl) metadata-answered metadata_reply
 reply_body apis.InitProducerId = variant replies.InitProducerId answered_init_producer_id (λ x. refl) init_producer_id-answered init_producer_id_reply
+reply_body apis.AddPartitionsToTxn = variant replies.AddPartitionsToTxn answered_add_partitions_to_txn (λ x. refl) add_partitions_to_txn-answered add_partitions_to_txn_reply
+reply_body apis.EndTxn = variant replies.EndTxn answered_end_txn (λ x. refl) end_txn-answered end_txn_reply
 reply_body apis.DescribeAcls = variant replies.DescribeAcls answered_describe_acls (λ x. refl) describe_acls-answered describe_acls_reply
 reply_body apis.CreateAcls = variant replies.CreateAcls answered_create_acls (λ x. refl) create_acls-answered create_acls_reply
 reply_body apis.DeleteAcls = variant replies.DeleteAcls answered_delete_acls (λ x. refl) delete_acls-answered delete_acls_reply

@@ -13,6 +13,8 @@ pub enum Api {
     ListOffsets = 2,
     Metadata = 3,
     InitProducerId = 22,
+    AddPartitionsToTxn = 24,
+    EndTxn = 26,
     DescribeAcls = 29,
     CreateAcls = 30,
     DeleteAcls = 31,
@@ -20,12 +22,14 @@ pub enum Api {
 
 impl Api {
     /// Every api, in rising order of keys.
-    pub const ALL: [Api; 8] = [
+    pub const ALL: [Api; 10] = [
         Api::Produce,
         Api::Fetch,
         Api::ListOffsets,
         Api::Metadata,
         Api::InitProducerId,
+        Api::AddPartitionsToTxn,
+        Api::EndTxn,
         Api::DescribeAcls,
         Api::CreateAcls,
         Api::DeleteAcls,
@@ -50,6 +54,8 @@ impl Api {
             Api::ListOffsets => 2,
             Api::Metadata => 1,
             Api::InitProducerId => 0,
+            Api::AddPartitionsToTxn => 0,
+            Api::EndTxn => 0,
             Api::DescribeAcls => 1,
             Api::CreateAcls => 1,
             Api::DeleteAcls => 1,
@@ -63,7 +69,7 @@ impl Api {
     {
         match self {
             Api::Produce | Api::Fetch | Api::ListOffsets | Api::Metadata => false,
-            Api::InitProducerId => false,
+            Api::InitProducerId | Api::AddPartitionsToTxn | Api::EndTxn => false,
             Api::DescribeAcls | Api::CreateAcls | Api::DeleteAcls => false,
         }
     }

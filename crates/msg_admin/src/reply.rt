@@ -9,11 +9,11 @@ use crate::frame::write_frame;
 use bytes::Bytes;
 use msg_acl::{CreateAclsReply, DeleteAclsReply, DescribeAclsReply};
 use msg_data::{FetchReply, ListOffsetsReply, MetadataReply, ProduceReply};
-use msg_txn::InitProducerIdReply;
+use msg_txn::{AddPartitionsToTxnReply, EndTxnReply, InitProducerIdReply};
 use std::alloc::Global;
 use wire_types::WriteFault;
 
-/// What a request is answered.
+/// What an event is answered. Only an answer to a request is sent.
 #[derive(Clone, Debug, Drop, PartialEq, Eq)]
 pub enum Reply {
     Produce(ProduceReply),
@@ -23,9 +23,17 @@ pub enum Reply {
     ListOffsets(ListOffsetsReply),
     Metadata(MetadataReply),
     InitProducerId(InitProducerIdReply),
+    AddPartitionsToTxn(AddPartitionsToTxnReply),
+    EndTxn(EndTxnReply),
     DescribeAcls(DescribeAclsReply),
     CreateAcls(CreateAclsReply),
     DeleteAcls(DeleteAclsReply),
+    /// A marker was written, and so many are still owed.
+    Marked { left: u64 },
+    /// No marker was owed.
+    Idle,
+    /// The moment was set, and so many markers are owed.
+    Ticked { left: u64 },
 }
 
 /// The whole response, with its size field; no bytes for a reply that isn't sent.
@@ -48,6 +56,7 @@ fn write_response(alloc: Global, correlation: i32, reply: &Reply) -> Result<Byte
             write_frame(alloc, Api::Produce.is_flexible(), &correlation, answer)
         }
         Reply::SilentProduce(_) => Ok(Bytes::new()),
+        Reply::Marked { .. } | Reply::Idle | Reply::Ticked { .. } => Ok(Bytes::new()),
         Reply::Fetch(answer) => {
             write_frame(alloc, Api::Fetch.is_flexible(), &correlation, answer)
         }
@@ -64,6 +73,17 @@ fn write_response(alloc: Global, correlation: i32, reply: &Reply) -> Result<Byte
                 &correlation,
                 answer,
             )
+        }
+        Reply::AddPartitionsToTxn(answer) => {
+            write_frame(
+                alloc,
+                Api::AddPartitionsToTxn.is_flexible(),
+                &correlation,
+                answer,
+            )
+        }
+        Reply::EndTxn(answer) => {
+            write_frame(alloc, Api::EndTxn.is_flexible(), &correlation, answer)
         }
         Reply::DescribeAcls(answer) => {
             write_frame(alloc, Api::DescribeAcls.is_flexible(), &correlation, answer)

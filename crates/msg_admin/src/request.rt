@@ -16,7 +16,7 @@ use crate::laws::read_fits;
 use bytes::Bytes;
 use msg_acl::{CreateAclsRequest, DeleteAclsRequest, DescribeAclsRequest};
 use msg_data::{FetchRequest, ListOffsetsRequest, MetadataRequest, ProduceRequest};
-use msg_txn::InitProducerIdRequest;
+use msg_txn::{AddPartitionsToTxnRequest, EndTxnRequest, InitProducerIdRequest};
 use std::alloc::Global;
 use wire_types::{Cursor, Malformed, ReadFault, Wire, WriteFault};
 
@@ -31,6 +31,8 @@ pub enum Request {
     ListOffsets(ListOffsetsRequest),
     Metadata(MetadataRequest),
     InitProducerId(InitProducerIdRequest),
+    AddPartitionsToTxn(AddPartitionsToTxnRequest),
+    EndTxn(EndTxnRequest),
     DescribeAcls(DescribeAclsRequest),
     CreateAcls(CreateAclsRequest),
     DeleteAcls(DeleteAclsRequest),
@@ -47,6 +49,8 @@ impl Request {
             Request::ListOffsets(_) => Api::ListOffsets,
             Request::Metadata(_) => Api::Metadata,
             Request::InitProducerId(_) => Api::InitProducerId,
+            Request::AddPartitionsToTxn(_) => Api::AddPartitionsToTxn,
+            Request::EndTxn(_) => Api::EndTxn,
             Request::DescribeAcls(_) => Api::DescribeAcls,
             Request::CreateAcls(_) => Api::CreateAcls,
             Request::DeleteAcls(_) => Api::DeleteAcls,
@@ -73,6 +77,8 @@ impl Request {
             Request::ListOffsets(body) => body.room_left(room),
             Request::Metadata(body) => body.room_left(room),
             Request::InitProducerId(body) => body.room_left(room),
+            Request::AddPartitionsToTxn(body) => body.room_left(room),
+            Request::EndTxn(body) => body.room_left(room),
             Request::DescribeAcls(body) => body.room_left(room),
             Request::CreateAcls(body) => body.room_left(room),
             Request::DeleteAcls(body) => body.room_left(room),
@@ -94,6 +100,11 @@ fn read_body(alloc: Global, api: Api, cursor: &mut Cursor<'_>) -> Result<Request
             let body = InitProducerIdRequest::read(alloc, cursor)?;
             Ok(Request::InitProducerId(body))
         }
+        Api::AddPartitionsToTxn => {
+            let body = AddPartitionsToTxnRequest::read(alloc, cursor)?;
+            Ok(Request::AddPartitionsToTxn(body))
+        }
+        Api::EndTxn => Ok(Request::EndTxn(EndTxnRequest::read(alloc, cursor)?)),
         Api::DescribeAcls => Ok(Request::DescribeAcls(DescribeAclsRequest::read(alloc, cursor)?)),
         Api::CreateAcls => Ok(Request::CreateAcls(CreateAclsRequest::read(alloc, cursor)?)),
         Api::DeleteAcls => Ok(Request::DeleteAcls(DeleteAclsRequest::read(alloc, cursor)?)),
@@ -159,6 +170,8 @@ pub fn write_request(alloc: Global, header: &Header, request: &Request) -> Resul
         Request::ListOffsets(body) => write_frame(alloc, flexible, header, body),
         Request::Metadata(body) => write_frame(alloc, flexible, header, body),
         Request::InitProducerId(body) => write_frame(alloc, flexible, header, body),
+        Request::AddPartitionsToTxn(body) => write_frame(alloc, flexible, header, body),
+        Request::EndTxn(body) => write_frame(alloc, flexible, header, body),
         Request::DescribeAcls(body) => write_frame(alloc, flexible, header, body),
         Request::CreateAcls(body) => write_frame(alloc, flexible, header, body),
         Request::DeleteAcls(body) => write_frame(alloc, flexible, header, body),

@@ -1,6 +1,7 @@
 //! Whole frames of Metadata, as they travel.
 
 mod data;
+mod transactions;
 mod versions;
 
 use crate::api::Api;
@@ -12,7 +13,7 @@ use bytes::Bytes;
 use msg_data::{BrokerInfo, MetadataReply, MetadataRequest, PartitionInfo, TopicInfo};
 use std::alloc::{AllocError, Global};
 use std::test::Fail;
-use wire_types::{ErrorCode, Items, Malformed, ReadFault, Text};
+use wire_types::{ErrorCode, Items, Malformed, ReadFault, Text, Topic};
 
 /// The frame that asks for all topics, and its answer of one topic with one partition.
 const ALL_TOPICS: &[u8] =
@@ -52,6 +53,18 @@ fn is_frame_of(alloc: Global, frame: &'static [u8], request: &Request) -> Option
 fn is_sent_as(alloc: Global, correlation: i32, reply: &Reply, frame: &[u8]) -> Option<bool> {
     let written = write_reply(alloc, correlation, reply).ok()?;
     Some(written.as_slice() == frame)
+}
+
+/// The topic `b` with one partition.
+fn only_b<P: Drop>(alloc: Global, partition: P) -> Result<Items<Topic<P>>, AllocError> {
+    let mut partitions = Items::new(alloc);
+    partitions.push(partition)?;
+    let mut topics = Items::new(alloc);
+    topics.push(Topic {
+        name: Text::of(alloc, "b")?,
+        partitions,
+    })?;
+    Ok(topics)
 }
 
 /// The frame's header is that of a Metadata without a client.
@@ -226,6 +239,7 @@ fn apis(rt: HostRuntime) {
     assert_eq!(rt; Api::of(3, 0), None);
     assert_eq!(rt; Api::of(1, 3), None);
     assert_eq!(rt; Api::of(1, 4), Some(Api::Fetch));
+    assert_eq!(rt; Api::of(25, 0), None);
     assert_eq!(rt; (Api::Metadata.key(), Api::Metadata.version()), (3, 1));
 }
 

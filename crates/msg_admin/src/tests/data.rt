@@ -1,6 +1,6 @@
 //! Whole frames of Produce, Fetch and ListOffsets, as they travel.
 
-use super::{is_frame_of, is_sent_as};
+use super::{is_frame_of, is_sent_as, only_b};
 use crate::reply::Reply;
 use crate::request::Request;
 use bytes::Bytes;
@@ -8,9 +8,9 @@ use msg_data::{
     FetchPartition, FetchReply, FetchRequest, FetchedRecords, FoundOffset, Isolation,
     ListOffsetsReply, ListOffsetsRequest, ProduceReply, ProduceRequest, WantedOffset,
 };
-use std::alloc::{AllocError, Global};
+use std::alloc::Global;
 use std::test::Fail;
-use wire_types::{ErrorCode, Items, Text, Topic};
+use wire_types::{ErrorCode, Items};
 
 /// The frame that asks where partition 0 of `b` ends, and its answer.
 const ASKS_THE_END: &[u8] =
@@ -31,18 +31,6 @@ const FETCHES: &[u8] =
 
 const NOTHING_FETCHED: &[u8] =
     b"\x00\x00\x00\x31\x00\x00\x00\x07\x00\x00\x00\x00\x00\x00\x00\x01\x00\x01b\x00\x00\x00\x01\x00\x00\x00\x00\x00\x00\x00\x00\x00\x00\x00\x00\x00\x00\x00\x00\x00\x00\x00\x00\x00\x00\xff\xff\xff\xff\x00\x00\x00\x00";
-
-/// The topic `b` with one partition.
-fn only_b<P: Drop>(alloc: Global, partition: P) -> Result<Items<Topic<P>>, AllocError> {
-    let mut partitions = Items::new(alloc);
-    partitions.push(partition)?;
-    let mut topics = Items::new(alloc);
-    topics.push(Topic {
-        name: Text::of(alloc, "b")?,
-        partitions,
-    })?;
-    Ok(topics)
-}
 
 #[test]
 fn list_offsets_request(rt: HostRuntime) -> Result<(), Fail> {
