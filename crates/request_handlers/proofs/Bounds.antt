@@ -1,6 +1,6 @@
 -- The numbers of a core stay below the ends of their types: an event has at most so many refusals as its request
 -- has parts, and a request that fits a frame has fewer parts than bytes.
-use Rattle.std.proofs.Common.{◌≡◌, ℕ, zero, suc, ℤ, ◌+◌, ◌<◌, ◌≤◌, subst, false, List, [], ◌∷◌, ◌++◌, length, Option, Some, None, refl, sym, ap, ◌∙◌, arith}
+use Rattle.std.proofs.Common.{◌≡◌, ℕ, zero, suc, Bool, true, cond, ℤ, ◌+◌, ◌<◌, ◌≤◌, subst, false, List, [], ◌∷◌, ◌++◌, length, Option, Some, None, refl, sym, ap, ◌∙◌, arith}
 use Rattle.std.specs.List.{filter_map, cons_option}
 use Rattle.std.proofs.lemmas.List.{length-append, length_push}
 use Rattle.acl_binding.specs.declared.question.Caller.{Caller}
@@ -30,11 +30,11 @@ use Rattle.acl_binding.specs.Book.{BookValue, empty_book}
 use Rattle.walk.specs.Rule.{PartRule, refusal_of}
 use Rattle.walk.specs.Walk.{world_after, parts_refused, refusals, parts_weight, topics_weight}
 use Rattle.walk.proofs.Weights.{walk_takes}
-use Rattle.msg_admin.specs.declared.request.Request.TheVariants.{Produce, Fetch, ListOffsets, Metadata, InitProducerId, DescribeAcls, CreateAcls, DeleteAcls}
+use Rattle.msg_admin.specs.declared.request.Request.TheVariants.{Produce, Fetch, ListOffsets, Metadata, InitProducerId, AddPartitionsToTxn, EndTxn, DescribeAcls, CreateAcls, DeleteAcls}
 use Rattle.msg_admin.specs.Request.{Fits}
 use Rattle.msg_admin.specs.Bodies.{request_body}
 use Rattle.audit_trail.specs.declared.event.Event.{Event}
-use Rattle.audit_trail.specs.declared.event.Event.TheVariants.{Ask}
+use Rattle.audit_trail.specs.declared.event.Event.TheVariants.{Ask, Mark, Tick}
 use Rattle.audit_trail.proofs.Counts.{count_push}
 use Rattle.request_handlers.specs.World.{World, TopicValue, rules_of}
 use Rattle.request_handlers.specs.Metadata.{topic_refusal, topic_refusals}
@@ -48,8 +48,18 @@ use Rattle.request_handlers.specs.Whole.{Served}
 use Rattle.request_handlers.specs.DescribeAcls.{describe_acls_questions, describe_acls_error, describe_acls_reply}
 use Rattle.request_handlers.specs.CreateAcls.{alter_questions, book_created, create_acls_reply}
 use Rattle.request_handlers.specs.DeleteAcls.{book_deleted}
-use Rattle.request_handlers.specs.InitProducerId.{init_question, initialized}
-use Rattle.request_handlers.proofs.ProducerBounds.{initialized_topics, initialized_book, producers_outcome, no_producers}
+use Rattle.request_handlers.specs.InitProducerId.{init_question}
+use Rattle.msg_txn.specs.declared.add_partitions.AddPartitionsToTxnRequest.{AddPartitionsToTxnRequest}
+use Rattle.msg_txn.specs.AddPartitions.{add_partitions_to_txn_request}
+use Rattle.txn_coordinator.specs.declared.marker.OwedMarker.{OwedMarker}
+use Rattle.txn_coordinator.specs.declared.target.Target.{Target}
+use Rattle.txn_coordinator.specs.declared.target.Target.TheVariants.{Partition, Group}
+use Rattle.txn_coordinator.specs.Warrants.{next_warrant}
+use Rattle.request_handlers.specs.EndTxn.{id_question}
+use Rattle.request_handlers.specs.AddPartitions.{cut_rule, is_cut, cut_outcome, added_outcome}
+use Rattle.request_handlers.specs.Marks.{marker_batch, marked_at, mark_by}
+use Rattle.request_handlers.specs.RoomLaws.{marked_within}
+use Rattle.request_handlers.proofs.Adds.{add_keeps, mark_keeps}
 use Rattle.request_handlers.specs.Step.{outcome, refusals_of}
 use Rattle.request_handlers.specs.Core.{CoreValue, IsCore, IsBounded, EventFits, most_parts, most_bindings, trail_limit, advanced, entry_of}
 use Rattle.request_handlers.proofs.Histories.{events_outcome, history_goes_on}
@@ -156,6 +166,9 @@ produced_some p = omega (arith, int32_bytes p.index, length-append (int32.writte
 fetch_some : (p : FetchPartition) → 1 ≤ length (fetch_partition.written p)
 fetch_some p = omega (arith, int32_bytes p.index, length-append (int32.written p.index) ((int64 ⨟ int32).written (p.offset, p.max_bytes)))
 
+index_some : (z : ℤ) → 1 ≤ length (int32.written z)
+index_some z = omega (arith, int32_bytes z)
+
 wanted_some : (p : WantedOffset) → 1 ≤ length (wanted_offset.written p)
 wanted_some p = omega (arith, int32_bytes p.index, length-append (int32.written p.index) (int64.written p.timestamp))
 
@@ -178,6 +191,11 @@ fetch_topics r =
 list_topics : (r : ListOffsetsRequest) → length ((array (topic_of wanted_offset)).written r.topics) ≤ length (list_offsets_request.written r)
 list_topics r = behind_two (int32.written r.replica) (isolation.written r.isolation) ((array (topic_of wanted_offset)).written r.topics)
 
+add_topics : (r : AddPartitionsToTxnRequest) → length ((array (topic_of int32)).written r.topics) ≤ length (add_partitions_to_txn_request.written r)
+add_topics r =
+    let rest = int16.written r.epoch ++ (array (topic_of int32)).written r.topics in
+    omega (arith, behind_two (string.written r.transactional_id) (int64.written r.producer) rest, length-append (int16.written r.epoch) ((array (topic_of int32)).written r.topics))
+
 -- ---- an event
 
 pub few_refusals : (w : World) (e : Event) → EventFits e → length (refusals_of w e) ≤ most_parts
@@ -192,6 +210,16 @@ few_refusals w (Ask caller client (Metadata r)) fits = few_topics (rules_of w) c
 few_refusals w (Ask caller client (InitProducerId r)) fits =
     let few : length (refusals_of w (Ask caller client (InitProducerId r))) ≤ 1 = whole_refusals (part_refusal (rules_of w) (init_question caller r.transactional_id ∷ [])) w _ _ in
     omega (arith, few)
+few_refusals w (Ask caller client (AddPartitionsToTxn r)) fits = by_cut (is_cut caller r.transactional_id w.topics (rules_of w) r.topics) where
+  few : length (refusals (cut_rule caller r.transactional_id w.topics) (rules_of w) r.topics) ≤ most_parts
+  few = omega (arith, fits.1, few_walked (cut_rule caller r.transactional_id w.topics) (rules_of w) r.topics, within_array int32 (λ p. 1) index_some r.topics, add_topics r)
+
+  by_cut : (b : Bool) → length (cond b (cut_outcome w caller r) (added_outcome w r)).refusals ≤ most_parts
+  by_cut true = few
+  by_cut false = omega arith
+few_refusals w (Ask caller client (EndTxn r)) fits =
+    let few : length (refusals_of w (Ask caller client (EndTxn r))) ≤ 1 = whole_refusals (part_refusal (rules_of w) (id_question caller r.transactional_id ∷ [])) w _ _ in
+    omega (arith, few)
 few_refusals w (Ask caller client (DescribeAcls r)) fits =
     let few : length (refusals_of w (Ask caller client (DescribeAcls r))) ≤ 1 = whole_refusals (part_refusal (rules_of w) (describe_acls_questions caller)) w _ _ in
     omega (arith, few)
@@ -201,6 +229,11 @@ few_refusals w (Ask caller client (CreateAcls r)) fits =
 few_refusals w (Ask caller client (DeleteAcls r)) fits =
     let few : length (refusals_of w (Ask caller client (DeleteAcls r))) ≤ 1 = whole_refusals (part_refusal (rules_of w) (alter_questions caller)) w _ _ in
     omega (arith, few)
+few_refusals w Mark fits = by_front (next_warrant w.coordinator) where
+  by_front : (o : Option OwedMarker) → length (mark_by w o).refusals ≤ most_parts
+  by_front None = omega arith
+  by_front (Some m) = omega arith
+few_refusals w (Tick told) fits = omega arith
 
 -- a Produce adds at most as many records to a log as its frame has bytes
 produce_weight : (w : World) (caller : Caller) (r : ProduceRequest) → Fits (Produce r) → topics_weight (producing w caller r) r.topics ≤ most_parts
@@ -224,10 +257,21 @@ ends_outcome w (Ask caller client (Produce r)) fits room =
 ends_outcome w (Ask caller client (Fetch r)) fits room = omega arith
 ends_outcome w (Ask caller client (ListOffsets r)) fits room = omega arith
 ends_outcome w (Ask caller client (Metadata r)) fits room = omega arith
-ends_outcome w (Ask caller client (InitProducerId r)) fits room = same_ends (whole_topics (part_refusal (rules_of w) (init_question caller r.transactional_id ∷ [])) w _ _ (initialized_topics w r.transactional_id))
+ends_outcome w (Ask caller client (InitProducerId r)) fits room = same_ends (whole_topics (part_refusal (rules_of w) (init_question caller r.transactional_id ∷ [])) w _ _ refl)
+ends_outcome w (Ask caller client (AddPartitionsToTxn r)) fits room = same_ends (add_keeps (λ v. v.topics) (λ v c. refl) w caller r)
+ends_outcome w (Ask caller client (EndTxn r)) fits room = same_ends (whole_topics (part_refusal (rules_of w) (id_question caller r.transactional_id ∷ [])) w _ _ refl)
 ends_outcome w (Ask caller client (DescribeAcls r)) fits room = same_ends (whole_topics (part_refusal (rules_of w) (describe_acls_questions caller)) w _ _ refl)
 ends_outcome w (Ask caller client (CreateAcls r)) fits room = same_ends (whole_topics (part_refusal (rules_of w) (alter_questions caller)) w _ _ refl)
 ends_outcome w (Ask caller client (DeleteAcls r)) fits room = same_ends (whole_topics (part_refusal (rules_of w) (alter_questions caller)) w _ _ refl)
+ends_outcome w Mark fits room = by_front (next_warrant w.coordinator) where
+  by_target : (m : OwedMarker) (t : Target) → most_end (marked_at w.topics t (marker_batch m w.moment)) ≤ most_end w.topics + 1
+  by_target m (Partition p) = marked_within w.topics p.topic p.index m w.moment
+  by_target m (Group g) = omega arith
+
+  by_front : (o : Option OwedMarker) → most_end (mark_by w o).world.topics ≤ most_end w.topics + most_parts
+  by_front None = omega arith
+  by_front (Some m) = omega (arith, by_target m m.target)
+ends_outcome w (Tick told) fits room = omega arith
 
 -- ---- creation numbers
 
@@ -244,9 +288,9 @@ numbers_outcome w (Ask caller client (Produce r)) fits = omega arith
 numbers_outcome w (Ask caller client (Fetch r)) fits = omega arith
 numbers_outcome w (Ask caller client (ListOffsets r)) fits = omega arith
 numbers_outcome w (Ask caller client (Metadata r)) fits = omega arith
-numbers_outcome w (Ask caller client (InitProducerId r)) fits =
-    let few : (initialized w r.transactional_id).world.book.next ≤ w.book.next + most_parts = omega (arith, ap (λ (b : BookValue). b.next) (initialized_book w r.transactional_id)) in
-    whole_next (part_refusal (rules_of w) (init_question caller r.transactional_id ∷ [])) w _ _ most_parts few
+numbers_outcome w (Ask caller client (InitProducerId r)) fits = whole_next (part_refusal (rules_of w) (init_question caller r.transactional_id ∷ [])) w _ _ most_parts (omega arith)
+numbers_outcome w (Ask caller client (AddPartitionsToTxn r)) fits = omega (arith, add_keeps (λ v. v.book.next) (λ v c. refl) w caller r)
+numbers_outcome w (Ask caller client (EndTxn r)) fits = whole_next (part_refusal (rules_of w) (id_question caller r.transactional_id ∷ [])) w _ _ most_parts (omega arith)
 numbers_outcome w (Ask caller client (DescribeAcls r)) fits = whole_next (part_refusal (rules_of w) (describe_acls_questions caller)) w _ _ most_parts (omega arith)
 numbers_outcome w (Ask caller client (CreateAcls r)) fits =
     let few : (book_created w.book r.creations).next ≤ w.book.next + most_parts = omega (arith, created_next w.book r.creations, creations_fit r fits) in
@@ -254,6 +298,8 @@ numbers_outcome w (Ask caller client (CreateAcls r)) fits =
 numbers_outcome w (Ask caller client (DeleteAcls r)) fits =
     let few : (book_deleted w.book r.filters).next ≤ w.book.next + most_parts = omega (arith, deleted_next w.book r.filters) in
     whole_next (part_refusal (rules_of w) (alter_questions caller)) w _ _ most_parts few
+numbers_outcome w Mark fits = omega (arith, mark_keeps (λ v. v.book.next) (λ v topics c. refl) w)
+numbers_outcome w (Tick told) fits = omega arith
 
 -- the first logs are empty
 no_ends_in : (n : ℕ) → most_of (empty_logs n) ≤ 0
@@ -279,7 +325,6 @@ opened_is_core s w is limit few = record {
     events = λ up. ap (λ (v : World). v.events) is;
     refusals = omega arith;
     ends = λ up. omega (arith, no_ends w s is);
-    producers = λ up. omega (arith, no_producers w s is);
     numbers = λ up. omega (arith, first_next w s is few);
   };
 }
@@ -295,7 +340,6 @@ bounded_goes_on core e up room fits h =
       events = λ _. ap (λ n. n + 1) (events_outcome core.world e ∙ h.events up) ∙ sym longer;
       refusals = omega (arith, count_push core.trail entry, h.refusals);
       ends = λ _. omega (arith, ends_outcome core.world e fits (omega (arith, h.ends up, h.limit, h.trail)), h.ends up);
-      producers = λ _. omega (arith, producers_outcome core.world e, h.producers up, longer);
       numbers = λ _. omega (arith, numbers_outcome core.world e fits, h.numbers up, longer);
     }
 

@@ -20,10 +20,12 @@ use Rattle.msg_data.specs.declared.produce.ProducedRecords.{ProducedRecords}
 use Rattle.request_handlers.specs.World.{TopicValue, LogValue, find_topic}
 use Rattle.request_handlers.specs.Logs.{log_in, log_of, log_at, logs_with, with_log, log_by, offset_by, appended_by}
 use Rattle.request_handlers.specs.Sent.{sent}
-use Rattle.request_handlers.specs.declared.given.Given.{Given}
-use Rattle.request_handlers.specs.declared.given.Given.TheVariants.{Never, Free, Owned}
-use Rattle.request_handlers.specs.Producers.{GivenIds, given_to}
-use Rattle.request_handlers.specs.Judged.{are_acks, unknown_id, given_code, producer_code, passed_by, passed, batch_in, judged, topics_produced}
+use Rattle.txn_coordinator.specs.declared.pair.Given.{Given}
+use Rattle.txn_coordinator.specs.declared.pair.Given.TheVariants.{Never, Free, Owned}
+use Rattle.txn_coordinator.specs.declared.target.Target.{Target}
+use Rattle.txn_coordinator.specs.Holding.{holds}
+use Rattle.txn_coordinator.specs.Coordinator.{CoordinatorValue, owner, given_by}
+use Rattle.request_handlers.specs.Judged.{partition_at, pair_of, refused_by, held_code, are_acks, given_code, producer_code, passed_by, passed, batch_in, judged, topics_produced}
 use Rattle.request_handlers.specs.RoomLaws.{IsGoodBatch, judged_batch}
 use Rattle.request_handlers.specs.Produce.{produced_to, produced_by, produced}
 use Rattle.request_handlers.specs.ListOffsets.{listed_by, listed_at, listed_error}
@@ -92,43 +94,79 @@ same_code c d r p q = cc
 abbrev IsCalled : Result BatchData ErrorCode → Type 0
 IsCalled r = r ≡ Err codes.None → ⊥
 
-unknown_called : (id : Option (List ℕ)) → unknown_id id ≡ codes.None → ⊥
-unknown_called None e = cc
-unknown_called (Some id) e = cc
+refused_called : (code other : ErrorCode) → refused_by code ≡ Some other → other ≡ codes.None → ⊥
+refused_called codes.None other is none = let clash : None ≡ Some other = is in cc
+refused_called codes.OffsetOutOfRange other is none = let same : codes.OffsetOutOfRange ≡ other = cc in let clash : codes.OffsetOutOfRange ≡ codes.None = same ∙ none in cc
+refused_called codes.CorruptMessage other is none = let same : codes.CorruptMessage ≡ other = cc in let clash : codes.CorruptMessage ≡ codes.None = same ∙ none in cc
+refused_called codes.UnknownTopicOrPartition other is none = let same : codes.UnknownTopicOrPartition ≡ other = cc in let clash : codes.UnknownTopicOrPartition ≡ codes.None = same ∙ none in cc
+refused_called codes.MessageTooLarge other is none = let same : codes.MessageTooLarge ≡ other = cc in let clash : codes.MessageTooLarge ≡ codes.None = same ∙ none in cc
+refused_called codes.InvalidRequiredAcks other is none = let same : codes.InvalidRequiredAcks ≡ other = cc in let clash : codes.InvalidRequiredAcks ≡ codes.None = same ∙ none in cc
+refused_called codes.IllegalGeneration other is none = let same : codes.IllegalGeneration ≡ other = cc in let clash : codes.IllegalGeneration ≡ codes.None = same ∙ none in cc
+refused_called codes.InconsistentGroupProtocol other is none = let same : codes.InconsistentGroupProtocol ≡ other = cc in let clash : codes.InconsistentGroupProtocol ≡ codes.None = same ∙ none in cc
+refused_called codes.InvalidGroupId other is none = let same : codes.InvalidGroupId ≡ other = cc in let clash : codes.InvalidGroupId ≡ codes.None = same ∙ none in cc
+refused_called codes.UnknownMemberId other is none = let same : codes.UnknownMemberId ≡ other = cc in let clash : codes.UnknownMemberId ≡ codes.None = same ∙ none in cc
+refused_called codes.InvalidSessionTimeout other is none = let same : codes.InvalidSessionTimeout ≡ other = cc in let clash : codes.InvalidSessionTimeout ≡ codes.None = same ∙ none in cc
+refused_called codes.RebalanceInProgress other is none = let same : codes.RebalanceInProgress ≡ other = cc in let clash : codes.RebalanceInProgress ≡ codes.None = same ∙ none in cc
+refused_called codes.TopicAuthorizationFailed other is none = let same : codes.TopicAuthorizationFailed ≡ other = cc in let clash : codes.TopicAuthorizationFailed ≡ codes.None = same ∙ none in cc
+refused_called codes.GroupAuthorizationFailed other is none = let same : codes.GroupAuthorizationFailed ≡ other = cc in let clash : codes.GroupAuthorizationFailed ≡ codes.None = same ∙ none in cc
+refused_called codes.ClusterAuthorizationFailed other is none = let same : codes.ClusterAuthorizationFailed ≡ other = cc in let clash : codes.ClusterAuthorizationFailed ≡ codes.None = same ∙ none in cc
+refused_called codes.InvalidTimestamp other is none = let same : codes.InvalidTimestamp ≡ other = cc in let clash : codes.InvalidTimestamp ≡ codes.None = same ∙ none in cc
+refused_called codes.UnsupportedSaslMechanism other is none = let same : codes.UnsupportedSaslMechanism ≡ other = cc in let clash : codes.UnsupportedSaslMechanism ≡ codes.None = same ∙ none in cc
+refused_called codes.IllegalSaslState other is none = let same : codes.IllegalSaslState ≡ other = cc in let clash : codes.IllegalSaslState ≡ codes.None = same ∙ none in cc
+refused_called codes.UnsupportedVersion other is none = let same : codes.UnsupportedVersion ≡ other = cc in let clash : codes.UnsupportedVersion ≡ codes.None = same ∙ none in cc
+refused_called codes.InvalidRequest other is none = let same : codes.InvalidRequest ≡ other = cc in let clash : codes.InvalidRequest ≡ codes.None = same ∙ none in cc
+refused_called codes.OutOfOrderSequenceNumber other is none = let same : codes.OutOfOrderSequenceNumber ≡ other = cc in let clash : codes.OutOfOrderSequenceNumber ≡ codes.None = same ∙ none in cc
+refused_called codes.InvalidProducerEpoch other is none = let same : codes.InvalidProducerEpoch ≡ other = cc in let clash : codes.InvalidProducerEpoch ≡ codes.None = same ∙ none in cc
+refused_called codes.InvalidTxnState other is none = let same : codes.InvalidTxnState ≡ other = cc in let clash : codes.InvalidTxnState ≡ codes.None = same ∙ none in cc
+refused_called codes.InvalidProducerIdMapping other is none = let same : codes.InvalidProducerIdMapping ≡ other = cc in let clash : codes.InvalidProducerIdMapping ≡ codes.None = same ∙ none in cc
+refused_called codes.InvalidTransactionTimeout other is none = let same : codes.InvalidTransactionTimeout ≡ other = cc in let clash : codes.InvalidTransactionTimeout ≡ codes.None = same ∙ none in cc
+refused_called codes.ConcurrentTransactions other is none = let same : codes.ConcurrentTransactions ≡ other = cc in let clash : codes.ConcurrentTransactions ≡ codes.None = same ∙ none in cc
+refused_called codes.TransactionalIdAuthorizationFailed other is none = let same : codes.TransactionalIdAuthorizationFailed ≡ other = cc in let clash : codes.TransactionalIdAuthorizationFailed ≡ codes.None = same ∙ none in cc
+refused_called codes.OperationNotAttempted other is none = let same : codes.OperationNotAttempted ≡ other = cc in let clash : codes.OperationNotAttempted ≡ codes.None = same ∙ none in cc
+refused_called codes.SaslAuthenticationFailed other is none = let same : codes.SaslAuthenticationFailed ≡ other = cc in let clash : codes.SaslAuthenticationFailed ≡ codes.None = same ∙ none in cc
+refused_called codes.UnsupportedCompressionType other is none = let same : codes.UnsupportedCompressionType ≡ other = cc in let clash : codes.UnsupportedCompressionType ≡ codes.None = same ∙ none in cc
+refused_called codes.GroupMaxSizeReached other is none = let same : codes.GroupMaxSizeReached ≡ other = cc in let clash : codes.GroupMaxSizeReached ≡ codes.None = same ∙ none in cc
+refused_called codes.InvalidRecord other is none = let same : codes.InvalidRecord ≡ other = cc in let clash : codes.InvalidRecord ≡ codes.None = same ∙ none in cc
+refused_called codes.UnstableOffsetCommit other is none = let same : codes.UnstableOffsetCommit ≡ other = cc in let clash : codes.UnstableOffsetCommit ≡ codes.None = same ∙ none in cc
+refused_called codes.ProducerFenced other is none = let same : codes.ProducerFenced ≡ other = cc in let clash : codes.ProducerFenced ≡ codes.None = same ∙ none in cc
 
-producer_called : (given : GivenIds) (id : Option (List ℕ)) (h : BatchHeader) (code : ErrorCode) → producer_code given id h ≡ Some code → code ≡ codes.None → ⊥
-producer_called given id h code is none = by_transactional (is_transactional h) is where
+producer_called : (c : CoordinatorValue) (id : Option (List ℕ)) (target : Target) (h : BatchHeader) (code : ErrorCode) → producer_code c id target h ≡ Some code → code ≡ codes.None → ⊥
+producer_called c id target h code is none = by_transactional (is_transactional h) is where
   by_given : (g : Given) → given_code g ≡ Some code → ⊥
   by_given Never e = let clash : codes.InvalidProducerIdMapping ≡ code = cc in let other : codes.InvalidProducerIdMapping ≡ codes.None = clash ∙ none in cc
   by_given Free e = let clash : None ≡ Some code = e in cc
   by_given Owned e = let clash : codes.InvalidTxnState ≡ code = cc in let other : codes.InvalidTxnState ≡ codes.None = clash ∙ none in cc
 
-  by_id : (b : Bool) → cond b None (given_code (given_to given h.producer_id)) ≡ Some code → ⊥
+  by_id : (b : Bool) → cond b None (given_code (given_by (owner c h.producer_id))) ≡ Some code → ⊥
   by_id true e = let clash : None ≡ Some code = e in cc
-  by_id false e = by_given (given_to given h.producer_id) e
+  by_id false e = by_given (given_by (owner c h.producer_id)) e
 
-  by_transactional : (t : Bool) → cond t (Some (unknown_id id)) (cond (int_lt h.producer_id (pos 0)) None (given_code (given_to given h.producer_id))) ≡ Some code → ⊥
-  by_transactional true e = let same : unknown_id id ≡ code = cc in unknown_called id (same ∙ none)
+  by_held : (o : Option (List ℕ)) → held_code c o (pair_of h) target ≡ Some code → ⊥
+  by_held None e = let clash : codes.InvalidTxnState ≡ code = cc in let other : codes.InvalidTxnState ≡ codes.None = clash ∙ none in cc
+  by_held (Some name) e = refused_called (holds c name (pair_of h) target) code e none
+
+  by_transactional : (t : Bool) → cond t (held_code c id (pair_of h) target) (cond (int_lt h.producer_id (pos 0)) None (given_code (given_by (owner c h.producer_id)))) ≡ Some code → ⊥
+  by_transactional true e = by_held id e
   by_transactional false e = by_id (int_lt h.producer_id (pos 0)) e
 
-passed_called : (given : GivenIds) (id : Option (List ℕ)) (r : Result BatchData BatchFault) → IsCalled (passed given id r)
-passed_called given id (Err fault) e = fault_code fault (same_code (code_of fault) codes.None (Err (code_of fault)) refl e)
-passed_called given id (Ok b) e = by_code (producer_code given id b.header) refl e where
-  by_code : (o : Option ErrorCode) → producer_code given id b.header ≡ o → passed_by o b ≡ Err codes.None → ⊥
-  by_code None is h = let clash : Ok b ≡ Err codes.None = h in cc
-  by_code (Some code) is h = producer_called given id b.header code is (same_code code codes.None (Err code) refl h)
+passed_called : (c : CoordinatorValue) (id : Option (List ℕ)) (target : Target) (r : Result BatchData BatchFault) → IsCalled (passed c id target r)
+passed_called c id target (Err fault) e = fault_code fault (same_code (code_of fault) codes.None (Err (code_of fault)) refl e)
+passed_called c id target (Ok b) e = by_code (producer_code c id target b.header) refl e where
+  by_code : (o : Option ErrorCode) → producer_code c id target b.header ≡ o → passed_by o b ≡ Err codes.None → ⊥
+  by_code None is h = cc
+  by_code (Some code) is h = producer_called c id target b.header code is (same_code code codes.None (Err code) refl h)
 
-batch_called : (most : ℕ) (given : GivenIds) (id records : Option (List ℕ)) → IsCalled (batch_in most given id records)
-batch_called most given id None e = cc
-batch_called most given id (Some records) e = by_length (eqb (length records) 0) e where
-  by_length : (b : Bool) → cond b (Err codes.InvalidRecord) (passed given id (sent most records)) ≡ Err codes.None → ⊥
+batch_called : (most : ℕ) (c : CoordinatorValue) (id : Option (List ℕ)) (target : Target) (records : Option (List ℕ)) → IsCalled (batch_in most c id target records)
+batch_called most c id target None e = cc
+batch_called most c id target (Some records) e = by_length (eqb (length records) 0) e where
+  by_length : (b : Bool) → cond b (Err codes.InvalidRecord) (passed c id target (sent most records)) ≡ Err codes.None → ⊥
   by_length true h = let clash : Err codes.InvalidRecord ≡ Err codes.None = h in cc
-  by_length false h = passed_called given id (sent most records) h
+  by_length false h = passed_called c id target (sent most records) h
 
-judged_called : (most : ℕ) (given : GivenIds) (id : Option (List ℕ)) (acks : ℤ) (records : Option (List ℕ)) → IsCalled (judged most given id acks records)
-judged_called most given id acks records e = by_acks (are_acks acks) e where
-  by_acks : (b : Bool) → cond b (batch_in most given id records) (Err codes.InvalidRequiredAcks) ≡ Err codes.None → ⊥
-  by_acks true h = batch_called most given id records h
+judged_called : (most : ℕ) (c : CoordinatorValue) (id : Option (List ℕ)) (acks : ℤ) (target : Target) (records : Option (List ℕ)) → IsCalled (judged most c id acks target records)
+judged_called most c id acks target records e = by_acks (are_acks acks) e where
+  by_acks : (b : Bool) → cond b (batch_in most c id target records) (Err codes.InvalidRequiredAcks) ≡ Err codes.None → ⊥
+  by_acks true h = batch_called most c id target records h
   by_acks false h = let clash : Err codes.InvalidRequiredAcks ≡ Err codes.None = h in cc
 
 -- ---- no judgment is called no error
@@ -183,10 +221,10 @@ module _ (topics : List TopicValue) (name : List ℕ) (p : ProducedRecords) wher
   left_by b log (Repeat offset) good there is none = inr (record { log = log; batch = b; there = there; sent = good.sent; again = is; same = log_again topics name p.index log there })
   left_by b log (Refused code) good there is none = absurd (log_called log b (is ∙ ap Refused none))
 
-  refused_by : (b : BatchData) (log : LogValue) (j : Judgment) → log_at topics name p.index ≡ Some log → ((produced_to p (offset_by j log)).error ≡ codes.None → ⊥) → IsUnchanged topics (with_log topics name p.index (log_by j log b)) (produced_to p (offset_by j log))
-  refused_by b log Next there some = absurd (some refl)
-  refused_by b log (Repeat offset) there some = absurd (some refl)
-  refused_by b log (Refused code) there some = record { same = log_again topics name p.index log there; offset = refl }
+  refused_part : (b : BatchData) (log : LogValue) (j : Judgment) → log_at topics name p.index ≡ Some log → ((produced_to p (offset_by j log)).error ≡ codes.None → ⊥) → IsUnchanged topics (with_log topics name p.index (log_by j log b)) (produced_to p (offset_by j log))
+  refused_part b log Next there some = absurd (some refl)
+  refused_part b log (Repeat offset) there some = absurd (some refl)
+  refused_part b log (Refused code) there some = record { same = log_again topics name p.index log there; offset = refl }
 
   -- the same of a partition that may be missing
   Answered : Result BatchData ErrorCode → Option LogValue → Type 0
@@ -216,7 +254,7 @@ module _ (topics : List TopicValue) (name : List ℕ) (p : ProducedRecords) wher
   refuses (Err code) None there some = record { same = refl; offset = refl }
   refuses (Err code) (Some log) there some = record { same = refl; offset = refl }
   refuses (Ok b) None there some = record { same = refl; offset = refl }
-  refuses (Ok b) (Some log) there some = refused_by b log (judged_by_log log b) there some
+  refuses (Ok b) (Some log) there some = refused_part b log (judged_by_log log b) there some
 
   kept_at : (r : Result BatchData ErrorCode) (o : Option LogValue) → log_at topics name p.index ≡ o → Unchanged r o → IsUnchanged topics (topics_produced r topics name p.index) (produced r topics name p)
   unfolding Unchanged
@@ -225,10 +263,10 @@ module _ (topics : List TopicValue) (name : List ℕ) (p : ProducedRecords) wher
 
 pub produces_as_answered : ProducesAsAnswered
 produces_as_answered = record {
-  appends = λ most given id acks topics name p none.
-      at_log topics name p (judged most given id acks p.records) (log_at topics name p.index) refl
-      (appends topics name p (judged most given id acks p.records) (log_at topics name p.index) (λ b is. judged_batch most given id acks p.records b is) (judged_called most given id acks p.records) refl none);
-  refuses = λ most given id acks topics name p some.
-      kept_at topics name p (judged most given id acks p.records) (log_at topics name p.index) refl
-      (refuses topics name p (judged most given id acks p.records) (log_at topics name p.index) refl some);
+  appends = λ most c id acks topics name p none.
+      at_log topics name p (judged most c id acks (partition_at name p.index) p.records) (log_at topics name p.index) refl
+      (appends topics name p (judged most c id acks (partition_at name p.index) p.records) (log_at topics name p.index) (λ b is. judged_batch most c id acks (partition_at name p.index) p.records b is) (judged_called most c id acks (partition_at name p.index) p.records) refl none);
+  refuses = λ most c id acks topics name p some.
+      kept_at topics name p (judged most c id acks (partition_at name p.index) p.records) (log_at topics name p.index) refl
+      (refuses topics name p (judged most c id acks (partition_at name p.index) p.records) (log_at topics name p.index) refl some);
 }

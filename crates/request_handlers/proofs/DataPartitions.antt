@@ -17,8 +17,8 @@ use Rattle.walk.proofs.Weaving.{woven}
 use Rattle.request_handlers.specs.World.{World, TopicValue, LogValue, rules_of, find_topic}
 use Rattle.request_handlers.specs.First.{magnitude}
 use Rattle.request_handlers.specs.Logs.{log_after, log_in, log_of, log_at, logs_with, with_log, appended_by}
-use Rattle.request_handlers.specs.Producers.{GivenIds}
-use Rattle.request_handlers.specs.Judged.{judged, topics_produced}
+use Rattle.txn_coordinator.specs.Coordinator.{CoordinatorValue}
+use Rattle.request_handlers.specs.Judged.{partition_at, judged, topics_produced}
 use Rattle.request_handlers.specs.Produce.{produce_questions, produce_rule, producing}
 use Rattle.request_handlers.specs.DataTenants.{IsAnother, ProduceKeepsOtherPartitions}
 use Rattle.request_handlers.proofs.DataGrants.{find_same, find_other}
@@ -65,24 +65,24 @@ batch_kept (Ok b) topics n name i j differ = append_kept topics n name i j b (lo
 
 -- ---- the walk
 
-module _ (rules : Rules) (caller : Caller) (most : ℕ) (given : GivenIds) (id : Option (List ℕ)) (acks : ℤ) (name : List ℕ) (index : ℤ) where
-  part_kept : (topics : List TopicValue) (n : List ℕ) (p : ProducedRecords) → IsAnother rules caller id name index n p → log_at (part_world (produce_rule caller most given id acks) rules topics n p) name index ≡ log_at topics name index
+module _ (rules : Rules) (caller : Caller) (most : ℕ) (c : CoordinatorValue) (id : Option (List ℕ)) (acks : ℤ) (name : List ℕ) (index : ℤ) where
+  part_kept : (topics : List TopicValue) (n : List ℕ) (p : ProducedRecords) → IsAnother rules caller id name index n p → log_at (part_world (produce_rule caller most c id acks) rules topics n p) name index ≡ log_at topics name index
   part_kept topics n p another = by_refusal (part_refusal rules (produce_questions caller id n)) refl where
-    by_refusal : (r : Option Refusal) → part_refusal rules (produce_questions caller id n) ≡ r → log_at (world_by (produce_rule caller most given id acks) r topics n p) name index ≡ log_at topics name index
+    by_refusal : (r : Option Refusal) → part_refusal rules (produce_questions caller id n) ≡ r → log_at (world_by (produce_rule caller most c id acks) r topics n p) name index ≡ log_at topics name index
     by_refusal (Some r) e = refl
-    by_refusal None e = batch_kept (judged most given id acks p.records) topics n name p.index index (another e)
+    by_refusal None e = batch_kept (judged most c id acks (partition_at n p.index) p.records) topics n name p.index index (another e)
 
-  parts_kept : (topics : List TopicValue) (n : List ℕ) (ps : List ProducedRecords) → AllParts (IsAnother rules caller id name index) n ps → log_at (parts_world (produce_rule caller most given id acks) rules topics n ps) name index ≡ log_at topics name index
+  parts_kept : (topics : List TopicValue) (n : List ℕ) (ps : List ProducedRecords) → AllParts (IsAnother rules caller id name index) n ps → log_at (parts_world (produce_rule caller most c id acks) rules topics n ps) name index ≡ log_at topics name index
   parts_kept topics n [] others = refl
   parts_kept topics n (p ∷ ps) others =
-      parts_kept (part_world (produce_rule caller most given id acks) rules topics n p) n ps others.1 ∙ part_kept topics n p others.0
+      parts_kept (part_world (produce_rule caller most c id acks) rules topics n p) n ps others.1 ∙ part_kept topics n p others.0
 
-  topics_kept : (topics : List TopicValue) (ts : List (Topic ProducedRecords)) → AllTopics (IsAnother rules caller id name index) ts → log_at (topics_world (produce_rule caller most given id acks) rules topics ts) name index ≡ log_at topics name index
+  topics_kept : (topics : List TopicValue) (ts : List (Topic ProducedRecords)) → AllTopics (IsAnother rules caller id name index) ts → log_at (topics_world (produce_rule caller most c id acks) rules topics ts) name index ≡ log_at topics name index
   topics_kept topics [] others = refl
   topics_kept topics (t ∷ ts) others =
-      topics_kept (parts_world (produce_rule caller most given id acks) rules topics t.name t.partitions) ts others.1 ∙ parts_kept topics t.name t.partitions others.0
+      topics_kept (parts_world (produce_rule caller most c id acks) rules topics t.name t.partitions) ts others.1 ∙ parts_kept topics t.name t.partitions others.0
 
 pub produce_keeps_partitions : ProduceKeepsOtherPartitions
 produce_keeps_partitions w caller r name index others =
     ap (λ (topics : List TopicValue). log_at topics name index) (sym (woven (producing w caller r) (rules_of w) w.topics r.topics).world)
-    ∙ topics_kept (rules_of w) caller (magnitude w.node.max_batch) w.producers r.transactional_id r.acks name index w.topics r.topics others
+    ∙ topics_kept (rules_of w) caller (magnitude w.node.max_batch) w.coordinator r.transactional_id r.acks name index w.topics r.topics others

@@ -3,9 +3,9 @@ pub mod Parts
 pub mod AclParts
 pub mod Places
 pub mod Offsets
+pub mod Adds
 pub mod Histories
 pub mod BookBounds
-pub mod ProducerBounds
 pub mod Bounds
 pub mod Runs
 pub mod Headlines
@@ -17,5 +17,6 @@ pub mod DataFetches
 pub mod AclEdits
 pub mod Groups
 pub mod Wholes
+pub mod Recorded
 pub mod Initials
 pub mod Sequenced

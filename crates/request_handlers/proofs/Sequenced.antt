@@ -20,16 +20,16 @@ use Rattle.partition_log.specs.Log.{end_of, at_end}
 use Rattle.partition_log.proofs.Accepted.{accepted_none, accepted_push, follows_written}
 use Rattle.msg_data.specs.declared.produce.ProduceRequest.{ProduceRequest}
 use Rattle.msg_data.specs.declared.produce.ProducedRecords.{ProducedRecords}
-use Rattle.msg_admin.specs.declared.request.Request.TheVariants.{Produce, Fetch, ListOffsets, Metadata, InitProducerId, DescribeAcls, CreateAcls, DeleteAcls}
+use Rattle.msg_admin.specs.declared.request.Request.TheVariants.{Produce, Fetch, ListOffsets, Metadata, InitProducerId, AddPartitionsToTxn, EndTxn, DescribeAcls, CreateAcls, DeleteAcls}
 use Rattle.audit_trail.specs.declared.event.Event.{Event}
-use Rattle.audit_trail.specs.declared.event.Event.TheVariants.{Ask}
+use Rattle.audit_trail.specs.declared.event.Event.TheVariants.{Ask, Mark, Tick}
 use Rattle.walk.specs.Steps.{world_by, part_world, parts_world, topics_world}
 use Rattle.walk.proofs.Weaving.{woven}
 use Rattle.request_handlers.specs.World.{World, TopicValue, LogValue, rules_of, find_topic}
 use Rattle.request_handlers.specs.First.{magnitude, empty_logs, first_topics, first_world}
 use Rattle.request_handlers.specs.Logs.{log_in, log_of, log_at, logs_with, with_log, log_by, log_after, appended_by}
-use Rattle.request_handlers.specs.Producers.{GivenIds}
-use Rattle.request_handlers.specs.Judged.{judged, topics_produced}
+use Rattle.txn_coordinator.specs.Coordinator.{CoordinatorValue}
+use Rattle.request_handlers.specs.Judged.{partition_at, judged, topics_produced}
 use Rattle.request_handlers.specs.Produce.{produce_questions, produce_rule, producing}
 use Rattle.request_handlers.specs.DescribeAcls.{describe_acls_questions}
 use Rattle.request_handlers.specs.CreateAcls.{alter_questions}
@@ -37,7 +37,14 @@ use Rattle.request_handlers.specs.InitProducerId.{init_question}
 use Rattle.request_handlers.specs.Step.{outcome, step, reached}
 use Rattle.request_handlers.specs.ProducerLaws.{HoldsOnce}
 use Rattle.request_handlers.proofs.BookBounds.{whole_topics}
-use Rattle.request_handlers.proofs.ProducerBounds.{initialized_topics}
+use Rattle.producer_state.specs.Sequences.{is_data}
+use Rattle.txn_coordinator.specs.declared.marker.OwedMarker.{OwedMarker}
+use Rattle.txn_coordinator.specs.declared.target.Target.{Target}
+use Rattle.txn_coordinator.specs.declared.target.Target.TheVariants.{Partition, Group}
+use Rattle.txn_coordinator.specs.Warrants.{next_warrant}
+use Rattle.request_handlers.specs.EndTxn.{id_question}
+use Rattle.request_handlers.specs.Marks.{marker_batch, log_marked, marked_by, marked_at, mark_by}
+use Rattle.request_handlers.proofs.Adds.{add_keeps}
 
 -- ---- logs that took in nothing else
 
@@ -101,40 +108,60 @@ appended_all topics name index b None all there = all
 appended_all topics name index b (Some log) all there =
     all_with topics name index (log_after log b) all (goes_on log b (judged_by_log log b) (log_accepted topics name index log all there) refl)
 
+marker_all : (log : LogValue) (m : OwedMarker) (moment : ℕ) → IsAccepted log → IsAccepted (log_marked log (marker_batch m moment))
+marker_all log m moment all =
+    accepted_push log (at_end log (marker_batch m moment)) all (follows_written log (marker_batch m moment) (end_of log) (λ told. absurd (let clash : false ≡ true = told in cc)))
+
+marked_all : (topics : List TopicValue) (name : List ℕ) (index : ℤ) (m : OwedMarker) (moment : ℕ) (o : Option LogValue) → AllLogs topics → log_at topics name index ≡ o → AllLogs (marked_by topics name index (marker_batch m moment) o)
+marked_all topics name index m moment None all there = all
+marked_all topics name index m moment (Some log) all there =
+    all_with topics name index (log_marked log (marker_batch m moment)) all (marker_all log m moment (log_accepted topics name index log all there))
+
 produced_all : (batch : Result BatchData ErrorCode) (topics : List TopicValue) (name : List ℕ) (index : ℤ) → AllLogs topics → AllLogs (topics_produced batch topics name index)
 produced_all (Err code) topics name index all = all
 produced_all (Ok b) topics name index all = appended_all topics name index b (log_at topics name index) all refl
 
 -- ---- a Produce
 
-module _ (rules : Rules) (caller : Caller) (most : ℕ) (given : GivenIds) (id : Option (List ℕ)) (acks : ℤ) where
-  part_all : (topics : List TopicValue) (n : List ℕ) (p : ProducedRecords) → AllLogs topics → AllLogs (part_world (produce_rule caller most given id acks) rules topics n p)
+module _ (rules : Rules) (caller : Caller) (most : ℕ) (c : CoordinatorValue) (id : Option (List ℕ)) (acks : ℤ) where
+  part_all : (topics : List TopicValue) (n : List ℕ) (p : ProducedRecords) → AllLogs topics → AllLogs (part_world (produce_rule caller most c id acks) rules topics n p)
   part_all topics n p all = by_refusal (part_refusal rules (produce_questions caller id n)) where
-    by_refusal : (r : Option Refusal) → AllLogs (world_by (produce_rule caller most given id acks) r topics n p)
+    by_refusal : (r : Option Refusal) → AllLogs (world_by (produce_rule caller most c id acks) r topics n p)
     by_refusal (Some r) = all
-    by_refusal None = produced_all (judged most given id acks p.records) topics n p.index all
+    by_refusal None = produced_all (judged most c id acks (partition_at n p.index) p.records) topics n p.index all
 
-  parts_all : (topics : List TopicValue) (n : List ℕ) (ps : List ProducedRecords) → AllLogs topics → AllLogs (parts_world (produce_rule caller most given id acks) rules topics n ps)
+  parts_all : (topics : List TopicValue) (n : List ℕ) (ps : List ProducedRecords) → AllLogs topics → AllLogs (parts_world (produce_rule caller most c id acks) rules topics n ps)
   parts_all topics n [] all = all
-  parts_all topics n (p ∷ ps) all = parts_all (part_world (produce_rule caller most given id acks) rules topics n p) n ps (part_all topics n p all)
+  parts_all topics n (p ∷ ps) all = parts_all (part_world (produce_rule caller most c id acks) rules topics n p) n ps (part_all topics n p all)
 
-  topics_all : (topics : List TopicValue) (ts : List (Topic ProducedRecords)) → AllLogs topics → AllLogs (topics_world (produce_rule caller most given id acks) rules topics ts)
+  topics_all : (topics : List TopicValue) (ts : List (Topic ProducedRecords)) → AllLogs topics → AllLogs (topics_world (produce_rule caller most c id acks) rules topics ts)
   topics_all topics [] all = all
   topics_all topics (t ∷ ts) all =
-      topics_all (parts_world (produce_rule caller most given id acks) rules topics t.name t.partitions) ts (parts_all topics t.name t.partitions all)
+      topics_all (parts_world (produce_rule caller most c id acks) rules topics t.name t.partitions) ts (parts_all topics t.name t.partitions all)
 
 -- ---- an event
 
 outcome_all : (w : World) (e : Event) → AllLogs w.topics → AllLogs (outcome w e).world.topics
 outcome_all w (Ask caller client (Produce r)) all =
-    subst AllLogs (woven (producing w caller r) (rules_of w) w.topics r.topics).world (topics_all (rules_of w) caller (magnitude w.node.max_batch) w.producers r.transactional_id r.acks w.topics r.topics all)
+    subst AllLogs (woven (producing w caller r) (rules_of w) w.topics r.topics).world (topics_all (rules_of w) caller (magnitude w.node.max_batch) w.coordinator r.transactional_id r.acks w.topics r.topics all)
 outcome_all w (Ask caller client (Fetch r)) all = all
 outcome_all w (Ask caller client (ListOffsets r)) all = all
 outcome_all w (Ask caller client (Metadata r)) all = all
-outcome_all w (Ask caller client (InitProducerId r)) all = subst AllLogs (sym (whole_topics (part_refusal (rules_of w) (init_question caller r.transactional_id ∷ [])) w _ _ (initialized_topics w r.transactional_id))) all
+outcome_all w (Ask caller client (InitProducerId r)) all = subst AllLogs (sym (whole_topics (part_refusal (rules_of w) (init_question caller r.transactional_id ∷ [])) w _ _ refl)) all
+outcome_all w (Ask caller client (AddPartitionsToTxn r)) all = subst AllLogs (sym (add_keeps (λ v. v.topics) (λ v c. refl) w caller r)) all
+outcome_all w (Ask caller client (EndTxn r)) all = subst AllLogs (sym (whole_topics (part_refusal (rules_of w) (id_question caller r.transactional_id ∷ [])) w _ _ refl)) all
 outcome_all w (Ask caller client (DescribeAcls r)) all = subst AllLogs (sym (whole_topics (part_refusal (rules_of w) (describe_acls_questions caller)) w _ _ refl)) all
 outcome_all w (Ask caller client (CreateAcls r)) all = subst AllLogs (sym (whole_topics (part_refusal (rules_of w) (alter_questions caller)) w _ _ refl)) all
 outcome_all w (Ask caller client (DeleteAcls r)) all = subst AllLogs (sym (whole_topics (part_refusal (rules_of w) (alter_questions caller)) w _ _ refl)) all
+outcome_all w Mark all = by_front (next_warrant w.coordinator) where
+  by_target : (m : OwedMarker) (t : Target) → AllLogs (marked_at w.topics t (marker_batch m w.moment))
+  by_target m (Partition p) = marked_all w.topics p.topic p.index m w.moment (log_at w.topics p.topic p.index) all refl
+  by_target m (Group g) = all
+
+  by_front : (o : Option OwedMarker) → AllLogs (mark_by w o).world.topics
+  by_front None = all
+  by_front (Some m) = by_target m m.target
+outcome_all w (Tick told) all = all
 
 reached_all : (w : World) (es : List Event) → AllLogs w.topics → AllLogs (reached w es).topics
 reached_all w [] all = all

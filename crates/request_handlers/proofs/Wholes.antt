@@ -8,9 +8,9 @@ use Rattle.wire_types.specs.declared.error_code.ErrorCode.{ErrorCode}
 use Rattle.msg_acl.specs.declared.describe_acls.DescribeAclsRequest.{DescribeAclsRequest}
 use Rattle.msg_admin.specs.declared.reply.Reply.{Reply}
 use Rattle.msg_admin.specs.declared.request.Request.{Request}
-use Rattle.msg_admin.specs.declared.request.Request.TheVariants.{Produce, Fetch, ListOffsets, Metadata, InitProducerId, DescribeAcls, CreateAcls, DeleteAcls}
+use Rattle.msg_admin.specs.declared.request.Request.TheVariants.{Produce, Fetch, ListOffsets, Metadata, InitProducerId, AddPartitionsToTxn, EndTxn, DescribeAcls, CreateAcls, DeleteAcls}
 use Rattle.audit_trail.specs.declared.event.Event.{Event}
-use Rattle.audit_trail.specs.declared.event.Event.TheVariants.{Ask}
+use Rattle.audit_trail.specs.declared.event.Event.TheVariants.{Ask, Mark, Tick}
 use Rattle.walk.specs.Codes.{refusal_code}
 use Rattle.request_handlers.specs.declared.outcome.Outcome.{Outcome as Told}
 use Rattle.request_handlers.specs.World.{World, rules_of}
@@ -53,6 +53,10 @@ reading_keeps w (Ask caller client (Fetch r)) reads = refl
 reading_keeps w (Ask caller client (ListOffsets r)) reads = refl
 reading_keeps w (Ask caller client (Metadata r)) reads = refl
 reading_keeps w (Ask caller client (InitProducerId r)) reads = absurd (let clash : false ≡ true = reads in cc)
+reading_keeps w (Ask caller client (AddPartitionsToTxn r)) reads = absurd (let clash : false ≡ true = reads in cc)
+reading_keeps w (Ask caller client (EndTxn r)) reads = absurd (let clash : false ≡ true = reads in cc)
 reading_keeps w (Ask caller client (DescribeAcls r)) reads = describe_keeps w caller r
 reading_keeps w (Ask caller client (CreateAcls r)) reads = absurd (let clash : false ≡ true = reads in cc)
 reading_keeps w (Ask caller client (DeleteAcls r)) reads = absurd (let clash : false ≡ true = reads in cc)
+reading_keeps w Mark reads = absurd (let clash : false ≡ true = reads in cc)
+reading_keeps w (Tick told) reads = absurd (let clash : false ≡ true = reads in cc)

@@ -12,11 +12,11 @@ use Rattle.msg_data.specs.declared.produce.ProducedOffset.{ProducedOffset}
 use Rattle.msg_data.specs.declared.fetch.FetchPartition.{FetchPartition}
 use Rattle.msg_data.specs.declared.fetch.FetchedRecords.{FetchedRecords}
 use Rattle.msg_data.specs.declared.list_offsets.WantedOffset.{WantedOffset}
+use Rattle.txn_coordinator.specs.Coordinator.{CoordinatorValue}
 use Rattle.request_handlers.specs.declared.room.Room.{Room}
 use Rattle.request_handlers.specs.World.{TopicValue, LogValue}
 use Rattle.request_handlers.specs.Logs.{log_at}
-use Rattle.request_handlers.specs.Producers.{GivenIds}
-use Rattle.request_handlers.specs.Judged.{judged, topics_produced}
+use Rattle.request_handlers.specs.Judged.{partition_at, judged, topics_produced}
 use Rattle.request_handlers.specs.Produce.{produced}
 use Rattle.request_handlers.specs.Fetch.{room_for, less, is_outside, served_at, fetched, room_after, batch_bytes}
 use Rattle.request_handlers.specs.ListOffsets.{listed, listed_at}
@@ -50,13 +50,13 @@ pub record IsUnchanged (topics after : List TopicValue) (answer : ProducedOffset
 
 -- a partition is answered no error exactly where its batch was appended, now or before
 pub record ProducesAsAnswered : Type 0 where
-  pub appends : (most : ℕ) (given : GivenIds) (id : Option (List ℕ)) (acks : ℤ) (topics : List TopicValue) (name : List ℕ) (p : ProducedRecords)
-      → (produced (judged most given id acks p.records) topics name p).error ≡ codes.None
-      → IsAppended topics (topics_produced (judged most given id acks p.records) topics name p.index) name p (produced (judged most given id acks p.records) topics name p)
-      ⊎ IsRepeated topics (topics_produced (judged most given id acks p.records) topics name p.index) name p (produced (judged most given id acks p.records) topics name p)
-  pub refuses : (most : ℕ) (given : GivenIds) (id : Option (List ℕ)) (acks : ℤ) (topics : List TopicValue) (name : List ℕ) (p : ProducedRecords)
-      → ((produced (judged most given id acks p.records) topics name p).error ≡ codes.None → ⊥)
-      → IsUnchanged topics (topics_produced (judged most given id acks p.records) topics name p.index) (produced (judged most given id acks p.records) topics name p)
+  pub appends : (most : ℕ) (c : CoordinatorValue) (id : Option (List ℕ)) (acks : ℤ) (topics : List TopicValue) (name : List ℕ) (p : ProducedRecords)
+      → (produced (judged most c id acks (partition_at name p.index) p.records) topics name p).error ≡ codes.None
+      → IsAppended topics (topics_produced (judged most c id acks (partition_at name p.index) p.records) topics name p.index) name p (produced (judged most c id acks (partition_at name p.index) p.records) topics name p)
+      ⊎ IsRepeated topics (topics_produced (judged most c id acks (partition_at name p.index) p.records) topics name p.index) name p (produced (judged most c id acks (partition_at name p.index) p.records) topics name p)
+  pub refuses : (most : ℕ) (c : CoordinatorValue) (id : Option (List ℕ)) (acks : ℤ) (topics : List TopicValue) (name : List ℕ) (p : ProducedRecords)
+      → ((produced (judged most c id acks (partition_at name p.index) p.records) topics name p).error ≡ codes.None → ⊥)
+      → IsUnchanged topics (topics_produced (judged most c id acks (partition_at name p.index) p.records) topics name p.index) (produced (judged most c id acks (partition_at name p.index) p.records) topics name p)
 
 -- ---- ListOffsets
 

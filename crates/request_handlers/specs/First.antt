@@ -4,6 +4,7 @@ use Rattle.acl_binding.specs.declared.binding.Binding.{Binding}
 use Rattle.acl_binding.specs.Book.{BookValue, empty_book, added}
 use Rattle.settings.specs.declared.settings.Settings.{Settings}
 use Rattle.settings.specs.declared.settings.TopicSetting.{TopicSetting}
+use Rattle.txn_coordinator.specs.Coordinator.{no_transactions}
 use Rattle.request_handlers.specs.declared.node.Node.{Node}
 use Rattle.request_handlers.specs.World.{World, TopicValue, LogValue}
 
@@ -30,4 +31,4 @@ abbrev pub first_node : Settings → Node
 first_node s = record { node_id = s.node_id; host = s.host; port = s.port; max_batch = s.max_batch; max_txn_timeout = s.max_txn_timeout }
 
 abbrev pub first_world : Settings → World
-first_world s = record { node = first_node s; supers = s.supers; book = with_bindings empty_book s.acls; topics = first_topics s.topics; producers = []; transactions = []; groups = []; warrants = []; moment = 0; events = 0 }
+first_world s = record { node = first_node s; supers = s.supers; book = with_bindings empty_book s.acls; topics = first_topics s.topics; coordinator = no_transactions; groups = []; moment = 0; events = 0 }

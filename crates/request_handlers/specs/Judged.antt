@@ -8,10 +8,14 @@ use Rattle.record_batch.specs.declared.fault.BatchFault.{BatchFault}
 use Rattle.record_batch.specs.BatchHeader.{is_transactional}
 use Rattle.record_batch.specs.Batch.{BatchData}
 use Rattle.record_batch.specs.Fault.{code_of}
+use Rattle.txn_coordinator.specs.declared.pair.Pair.{Pair}
+use Rattle.txn_coordinator.specs.declared.pair.Given.{Given}
+use Rattle.txn_coordinator.specs.declared.pair.Given.TheVariants.{Never, Free, Owned}
+use Rattle.txn_coordinator.specs.declared.target.Target.{Target}
+use Rattle.txn_coordinator.specs.declared.target.Target.TheVariants.{Partition}
+use Rattle.txn_coordinator.specs.Coordinator.{CoordinatorValue, owner, given_by}
+use Rattle.txn_coordinator.specs.Holding.{holds}
 use Rattle.request_handlers.specs.World.{TopicValue}
-use Rattle.request_handlers.specs.declared.given.Given.{Given}
-use Rattle.request_handlers.specs.declared.given.Given.TheVariants.{Never, Free, Owned}
-use Rattle.request_handlers.specs.Producers.{GivenIds, given_to}
 use Rattle.request_handlers.specs.Logs.{appended}
 use Rattle.request_handlers.specs.Sent.{sent}
 
@@ -19,10 +23,22 @@ use Rattle.request_handlers.specs.Sent.{sent}
 abbrev pub are_acks : ℤ → Bool
 are_acks acks = int_eq acks (negsuc 0) || int_eq acks (pos 0) || int_eq acks (pos 1)
 
--- a transaction has to have an id, and no id has a producer yet
-abbrev pub unknown_id : Option (List ℕ) → ErrorCode
-unknown_id None = codes.InvalidTxnState
-unknown_id (Some id) = codes.InvalidProducerIdMapping
+-- the producer that a batch names
+abbrev pub pair_of : BatchHeader → Pair
+pair_of h = record { producer = h.producer_id; epoch = h.producer_epoch }
+
+abbrev pub partition_at : List ℕ → ℤ → Target
+partition_at name index = Partition (record { topic = name; index = index })
+
+abbrev pub refused_by : ErrorCode → Option ErrorCode
+refused_by codes.None = None
+refused_by code = Some code
+
+-- A batch of a transaction has to name a transactional id, whose open transaction has to be of this producer and to
+-- take the partition in.
+abbrev pub held_code : CoordinatorValue → Option (List ℕ) → Pair → Target → Option ErrorCode
+held_code c None pair target = Some codes.InvalidTxnState
+held_code c (Some id) pair target = refused_by (holds c id pair target)
 
 -- a producer id has to be one that was given out, and one of a transactional id is for its transactions alone
 abbrev pub given_code : Given → Option ErrorCode
@@ -31,25 +47,28 @@ given_code Free = None
 given_code Owned = Some codes.InvalidTxnState
 
 -- the transaction check: a batch without a producer passes
-abbrev pub producer_code : GivenIds → Option (List ℕ) → BatchHeader → Option ErrorCode
-producer_code given id h = if is_transactional h then Some (unknown_id id) else if int_lt h.producer_id (pos 0) then None else given_code (given_to given h.producer_id)
+abbrev pub producer_code : CoordinatorValue → Option (List ℕ) → Target → BatchHeader → Option ErrorCode
+producer_code c id target h =
+    if is_transactional h then held_code c id (pair_of h) target
+    else if int_lt h.producer_id (pos 0) then None
+    else given_code (given_by (owner c h.producer_id))
 
 abbrev pub passed_by : Option ErrorCode → BatchData → Result BatchData ErrorCode
 passed_by (Some code) b = Err code
 passed_by None b = Ok b
 
-abbrev pub passed : GivenIds → Option (List ℕ) → Result BatchData BatchFault → Result BatchData ErrorCode
-passed given id (Err fault) = Err (code_of fault)
-passed given id (Ok b) = passed_by (producer_code given id b.header) b
+abbrev pub passed : CoordinatorValue → Option (List ℕ) → Target → Result BatchData BatchFault → Result BatchData ErrorCode
+passed c id target (Err fault) = Err (code_of fault)
+passed c id target (Ok b) = passed_by (producer_code c id target b.header) b
 
 -- there have to be records
-abbrev pub batch_in : ℕ → GivenIds → Option (List ℕ) → Option (List ℕ) → Result BatchData ErrorCode
-batch_in most given id None = Err codes.InvalidRecord
-batch_in most given id (Some records) = if length records == 0 then Err codes.InvalidRecord else passed given id (sent most records)
+abbrev pub batch_in : ℕ → CoordinatorValue → Option (List ℕ) → Target → Option (List ℕ) → Result BatchData ErrorCode
+batch_in most c id target None = Err codes.InvalidRecord
+batch_in most c id target (Some records) = if length records == 0 then Err codes.InvalidRecord else passed c id target (sent most records)
 
--- the batch to be appended, or why none is, whatever partition it is for
-abbrev pub judged : ℕ → GivenIds → Option (List ℕ) → ℤ → Option (List ℕ) → Result BatchData ErrorCode
-judged most given id acks records = if are_acks acks then batch_in most given id records else Err codes.InvalidRequiredAcks
+-- the batch to be appended to a partition, or why none is, whether or not the partition is there
+abbrev pub judged : ℕ → CoordinatorValue → Option (List ℕ) → ℤ → Target → Option (List ℕ) → Result BatchData ErrorCode
+judged most c id acks target records = if are_acks acks then batch_in most c id target records else Err codes.InvalidRequiredAcks
 
 -- ---- what it changes
 

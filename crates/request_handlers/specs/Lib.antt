@@ -1,6 +1,5 @@
 pub mod World
 pub mod First
-pub mod Producers
 pub mod Logs
 pub mod Outcome
 pub mod Metadata
@@ -16,6 +15,10 @@ pub mod DescribeAcls
 pub mod CreateAcls
 pub mod DeleteAcls
 pub mod InitProducerId
+pub mod EndTxn
+pub mod AddPartitions
+pub mod Marks
+pub mod Ticks
 pub mod Step
 pub mod Core
 pub mod Headline

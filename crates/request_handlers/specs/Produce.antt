@@ -12,7 +12,7 @@ use Rattle.wire_types.specs.declared.error_code.ErrorCode.{ErrorCode}
 use Rattle.wire_types.specs.declared.error_code.ErrorCode.TheVariants as codes
 use Rattle.wire_types.specs.declared.topic.Topic.{Topic}
 use Rattle.record_batch.specs.Batch.{BatchData}
-use Rattle.partition_log.specs.Log.{end_of}
+use Rattle.txn_coordinator.specs.Coordinator.{CoordinatorValue}
 use Rattle.msg_data.specs.declared.produce.ProduceRequest.{ProduceRequest}
 use Rattle.msg_data.specs.declared.produce.ProducedRecords.{ProducedRecords}
 use Rattle.msg_data.specs.declared.produce.ProducedOffset.{ProducedOffset}
@@ -23,9 +23,8 @@ use Rattle.walk.specs.Walk.{world_after, answers, refusals}
 use Rattle.request_handlers.specs.World.{World, TopicValue, LogValue, rules_of}
 use Rattle.request_handlers.specs.First.{magnitude}
 use Rattle.request_handlers.specs.Outcome.{Outcome}
-use Rattle.request_handlers.specs.Producers.{GivenIds}
 use Rattle.request_handlers.specs.Logs.{log_at, room_of, offset_in}
-use Rattle.request_handlers.specs.Judged.{judged, topics_produced, records_size}
+use Rattle.request_handlers.specs.Judged.{partition_at, judged, topics_produced, records_size}
 use Rattle.request_handlers.specs.RoomLaws.{produce_takes}
 
 -- ---- what is asked
@@ -60,21 +59,21 @@ abbrev pub produced : Result BatchData ErrorCode → List TopicValue → List �
 produced batch topics name p = produced_by batch p (log_at topics name p.index)
 
 -- A batch has no more records than bytes.
-abbrev pub produce_rule : Caller → ℕ → GivenIds → Option (List ℕ) → ℤ → PartRule ProducedRecords ProducedOffset (List TopicValue)
-produce_rule caller most given id acks = record {
+abbrev pub produce_rule : Caller → ℕ → CoordinatorValue → Option (List ℕ) → ℤ → PartRule ProducedRecords ProducedOffset (List TopicValue)
+produce_rule caller most c id acks = record {
   questions = λ name p. produce_questions caller id name;
-  plain = λ topics name p. produced (judged most given id acks p.records) topics name p;
-  after = λ topics name p. topics_produced (judged most given id acks p.records) topics name p.index;
+  plain = λ topics name p. produced (judged most c id acks (partition_at name p.index) p.records) topics name p;
+  after = λ topics name p. topics_produced (judged most c id acks (partition_at name p.index) p.records) topics name p.index;
   refused = λ code name p. produced_error code p;
   weight = λ p. records_size p.records;
   room = room_of;
-  takes = λ topics name p. produce_takes most given id acks topics name p;
+  takes = λ topics name p. produce_takes most c id acks topics name p;
 }
 
 -- ---- the request
 
 abbrev pub producing : World → Caller → ProduceRequest → PartRule ProducedRecords ProducedOffset (List TopicValue)
-producing w caller r = produce_rule caller (magnitude w.node.max_batch) w.producers r.transactional_id r.acks
+producing w caller r = produce_rule caller (magnitude w.node.max_batch) w.coordinator r.transactional_id r.acks
 
 -- with acks 0 nothing is sent
 abbrev pub produce_reply : ℤ → List (Topic ProducedOffset) → Reply

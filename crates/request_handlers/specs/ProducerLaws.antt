@@ -9,15 +9,15 @@ use Rattle.producer_state.specs.Laws.{IsInSequence}
 use Rattle.msg_txn.specs.declared.init_producer_id.InitProducerIdRequest.{InitProducerIdRequest}
 use Rattle.msg_admin.specs.declared.reply.Reply.TheVariants as replies
 use Rattle.audit_trail.specs.declared.event.Event.{Event}
-use Rattle.request_handlers.specs.declared.given.Given.TheVariants.{Never, Free}
+use Rattle.txn_coordinator.specs.declared.pair.Given.TheVariants.{Never, Free}
+use Rattle.txn_coordinator.specs.Coordinator.{owner, given_by}
 use Rattle.request_handlers.specs.World.{World, LogValue, rules_of}
 use Rattle.request_handlers.specs.First.{first_world}
 use Rattle.request_handlers.specs.Logs.{log_at}
-use Rattle.request_handlers.specs.Producers.{given_to}
 use Rattle.request_handlers.specs.Outcome.{Outcome}
 use Rattle.request_handlers.specs.InitProducerId.{init_question, init_given, init_producer_id_outcome}
 use Rattle.request_handlers.specs.Step.{reached}
-use Rattle.request_handlers.specs.Tenants.{SameBase}
+use Rattle.request_handlers.specs.Tenants.{SameBase, SameGranted}
 use Rattle.request_handlers.specs.DataTenants.{SameAnswer}
 use Rattle.request_handlers.specs.AclLaws.{IsRefusedWhole}
 
@@ -35,18 +35,17 @@ HoldsOnce = (s : Settings) (es : List Event) (name : List ℕ) (index : ℤ) (lo
 pub record GivesFresh (w : World) (o : Outcome) : Type 0 where
   pub producer : ℤ
   pub reply : o.reply ≡ replies.InitProducerId (init_given producer)
-  pub never : given_to w.producers producer ≡ Never
-  pub now : given_to o.world.producers producer ≡ Free
-  pub others : (id : ℤ) → (id ≡ producer → ⊥) → given_to o.world.producers id ≡ given_to w.producers id
+  pub never : given_by (owner w.coordinator producer) ≡ Never
+  pub now : given_by (owner o.world.coordinator producer) ≡ Free
+  pub others : (id : ℤ) → (id ≡ producer → ⊥) → owner o.world.coordinator id ≡ owner w.coordinator id
 
 pub record InitsOnce : Type 0 where
   -- without a transactional id, where it is allowed
   pub fresh : (w : World) (caller : Caller) (r : InitProducerIdRequest) → r.transactional_id ≡ None → part_refusal (rules_of w) (init_question caller None ∷ []) ≡ None → GivesFresh w (init_producer_id_outcome w caller r)
   pub refused : (w : World) (caller : Caller) (q : InitProducerIdRequest) (r : Refusal) → part_refusal (rules_of w) (init_question caller q.transactional_id ∷ []) ≡ Some r → IsRefusedWhole w r (init_producer_id_outcome w caller q)
 
--- worlds of one book that gave out the same producer ids give the same answer and go on so, whatever their topics hold;
--- and no topic is touched
+-- Worlds of one book that gave out the same producer ids, and that agree on the transactional id where writing with it
+-- is granted, give the same answer, whatever their topics hold; and no topic is touched.
 pub record InitDependsOnGrants : Type 0 where
-  pub same : (v w : World) (caller : Caller) (r : InitProducerIdRequest) → SameBase v w → SameAnswer (init_producer_id_outcome v caller r) (init_producer_id_outcome w caller r)
-  pub producers : (v w : World) (caller : Caller) (r : InitProducerIdRequest) → SameBase v w → (init_producer_id_outcome v caller r).world.producers ≡ (init_producer_id_outcome w caller r).world.producers
+  pub same : (v w : World) (caller : Caller) (r : InitProducerIdRequest) → SameBase v w → SameGranted v w (init_question caller r.transactional_id ∷ []) → SameAnswer (init_producer_id_outcome v caller r) (init_producer_id_outcome w caller r)
   pub topics : (w : World) (caller : Caller) (r : InitProducerIdRequest) → (init_producer_id_outcome w caller r).world.topics ≡ w.topics

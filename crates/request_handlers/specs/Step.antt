@@ -6,7 +6,7 @@ use Rattle.msg_admin.specs.declared.request.Request.{Request}
 use Rattle.msg_admin.specs.declared.request.Request.TheVariants as requests
 use Rattle.msg_admin.specs.declared.reply.Reply.{Reply}
 use Rattle.audit_trail.specs.declared.event.Event.{Event}
-use Rattle.audit_trail.specs.declared.event.Event.TheVariants.{Ask}
+use Rattle.audit_trail.specs.declared.event.Event.TheVariants.{Ask, Mark, Tick}
 use Rattle.request_handlers.specs.World.{World}
 use Rattle.request_handlers.specs.Outcome.{Outcome}
 use Rattle.request_handlers.specs.Metadata.{metadata_outcome}
@@ -14,6 +14,10 @@ use Rattle.request_handlers.specs.Produce.{produce_outcome}
 use Rattle.request_handlers.specs.Fetch.{fetch_outcome}
 use Rattle.request_handlers.specs.ListOffsets.{list_offsets_outcome}
 use Rattle.request_handlers.specs.InitProducerId.{init_producer_id_outcome}
+use Rattle.request_handlers.specs.AddPartitions.{add_partitions_outcome}
+use Rattle.request_handlers.specs.EndTxn.{end_txn_outcome}
+use Rattle.request_handlers.specs.Marks.{mark_outcome}
+use Rattle.request_handlers.specs.Ticks.{tick_outcome}
 use Rattle.request_handlers.specs.DescribeAcls.{describe_acls_outcome}
 use Rattle.request_handlers.specs.CreateAcls.{create_acls_outcome}
 use Rattle.request_handlers.specs.DeleteAcls.{delete_acls_outcome}
@@ -25,12 +29,16 @@ request_outcome w caller (requests.Fetch r) = fetch_outcome w caller r
 request_outcome w caller (requests.ListOffsets r) = list_offsets_outcome w caller r
 request_outcome w caller (requests.Metadata r) = metadata_outcome w caller r
 request_outcome w caller (requests.InitProducerId r) = init_producer_id_outcome w caller r
+request_outcome w caller (requests.AddPartitionsToTxn r) = add_partitions_outcome w caller r
+request_outcome w caller (requests.EndTxn r) = end_txn_outcome w caller r
 request_outcome w caller (requests.DescribeAcls r) = describe_acls_outcome w caller r
 request_outcome w caller (requests.CreateAcls r) = create_acls_outcome w caller r
 request_outcome w caller (requests.DeleteAcls r) = delete_acls_outcome w caller r
 
 abbrev pub outcome : World → Event → Outcome
 outcome w (Ask caller client request) = request_outcome w caller request
+outcome w Mark = mark_outcome w
+outcome w (Tick told) = tick_outcome w told
 
 -- one event more
 abbrev pub counted : World → World
@@ -58,6 +66,8 @@ is_reading_request (requests.Fetch r) = true
 is_reading_request (requests.ListOffsets r) = true
 is_reading_request (requests.Metadata r) = true
 is_reading_request (requests.InitProducerId r) = false
+is_reading_request (requests.AddPartitionsToTxn r) = false
+is_reading_request (requests.EndTxn r) = false
 is_reading_request (requests.DescribeAcls r) = true
 is_reading_request (requests.CreateAcls r) = false
 is_reading_request (requests.DeleteAcls r) = false
@@ -65,3 +75,5 @@ is_reading_request (requests.DeleteAcls r) = false
 -- the event changes nothing but the number of events
 abbrev pub is_reading : Event → Bool
 is_reading (Ask caller client request) = is_reading_request request
+is_reading Mark = false
+is_reading (Tick told) = false

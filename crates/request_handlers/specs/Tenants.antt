@@ -11,7 +11,8 @@ use Rattle.acl_binding.specs.declared.question.Verdict.TheVariants.{Yes}
 use Rattle.acl_binding.specs.Verdict.{asked}
 use Rattle.authorizer.specs.Policy.{verdict}
 use Rattle.msg_data.specs.declared.metadata.MetadataRequest.{MetadataRequest}
-use Rattle.request_handlers.specs.World.{World, GroupValue, TransactionValue, rules_of, find_topic, topic_names}
+use Rattle.txn_coordinator.specs.Coordinator.{recorded}
+use Rattle.request_handlers.specs.World.{World, GroupValue, rules_of, find_topic, topic_names}
 use Rattle.request_handlers.specs.Metadata.{describable, metadata_answer, metadata_refusals}
 
 -- the same settings but for topics, book, moment, number of events and producer ids given out
@@ -20,20 +21,17 @@ pub record SameBase (v w : World) : Type 0 where
   pub rules : rules_of v ≡ rules_of w
   pub moment : v.moment ≡ w.moment
   pub events : v.events ≡ w.events
-  pub producers : v.producers ≡ w.producers
+  pub given : v.coordinator.given ≡ w.coordinator.given
 
 abbrev pub find_group : List GroupValue → List ℕ → Option GroupValue
 find_group groups name = find (λ (g : GroupValue). bytes_eq g.name name) groups
-
-abbrev pub find_transaction : List TransactionValue → List ℕ → Option TransactionValue
-find_transaction ts id = find (λ (t : TransactionValue). bytes_eq t.id id) ts
 
 -- whether the resource is there, and all that it holds
 abbrev pub SameOn : World → World → Kind → List ℕ → Type 0
 SameOn v w Topic name = find_topic v.topics name ≡ find_topic w.topics name
 SameOn v w Group name = find_group v.groups name ≡ find_group w.groups name
 SameOn v w Cluster name = Unit {0}
-SameOn v w TransactionalId name = find_transaction v.transactions name ≡ find_transaction w.transactions name
+SameOn v w TransactionalId name = recorded v.coordinator.transactions name ≡ recorded w.coordinator.transactions name
 
 -- the worlds agree on what each question that is granted is about
 abbrev pub SameGranted : World → World → List Question → Type 0

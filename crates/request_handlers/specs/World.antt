@@ -1,11 +1,12 @@
 -- The broker's world: all that it keeps between two events. It is laid out for the whole broker; what no api
 -- changes yet is empty.
-use Rattle.std.specs.Prelude.{ℕ, Bool, List, map, Option}
+use Rattle.std.specs.Prelude.{ℕ, List, map, Option}
 use Rattle.std.specs.List.{find}
 use Rattle.std.specs.Str.{bytes_eq}
 use Rattle.acl_binding.specs.Book.{BookValue}
 use Rattle.authorizer.specs.Asking.{Rules}
 use Rattle.record_batch.specs.Batch.{BatchData}
+use Rattle.txn_coordinator.specs.Coordinator.{CoordinatorValue}
 use Rattle.request_handlers.specs.declared.node.Node.{Node}
 use Rattle.request_handlers.specs.declared.slot.Slot.{Slot}
 
@@ -17,27 +18,11 @@ LogValue = List BatchData
 abbrev pub TopicValue : Type 0
 TopicValue = Slot
 
--- a transactional id, the producer that it was last given, and its transaction
-pub record TransactionValue : Type 0 where
-  pub id : List ℕ
-  pub producer : ℕ
-  pub epoch : ℕ
-  pub timeout : ℕ
-  pub start : ℕ
-  pub partitions : List (List ℕ × ℕ)
-  pub groups : List (List ℕ)
-
 pub record GroupValue : Type 0 where
   pub name : List ℕ
   pub member : Option (List ℕ)
   pub generation : ℕ
   pub assignment : Option (List ℕ)
-
--- a marker that is owed
-pub record WarrantValue : Type 0 where
-  pub producer : ℕ
-  pub epoch : ℕ
-  pub commits : Bool
 
 pub record World : Type 0 where
   pub node : Node
@@ -46,13 +31,9 @@ pub record World : Type 0 where
   pub book : BookValue
   -- in the order of the settings
   pub topics : List TopicValue
-  -- producer ids given out from 0 up, each with the transactional id that it was given to, if it was
-  pub producers : List (Option (List ℕ))
-  -- in the order of their creation
-  pub transactions : List TransactionValue
+  -- transactional ids, the producer ids given out, and the markers that are owed
+  pub coordinator : CoordinatorValue
   pub groups : List GroupValue
-  -- the front one is written first
-  pub warrants : List WarrantValue
   -- in milliseconds
   pub moment : ℕ
   -- how many events there were

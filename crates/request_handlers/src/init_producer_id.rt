@@ -1,16 +1,17 @@
-//! InitProducerId: a producer id is given out.
+//! InitProducerId: a producer, or a transactional id, is given a producer id with an epoch.
 
-ghost use Rattle.std.specs.Prelude.{◌≡◌, ◌<◌, ◌^◌, length, IfOk, OnOk};
-ghost use Rattle.request_handlers.specs.InitProducerId.{init_question, init_given, init_error, initialized, init_producer_id_outcome};
+ghost use Rattle.std.specs.Prelude.{◌≡◌, IfOk, OnOk};
+ghost use Rattle.request_handlers.specs.InitProducerId.{IsInitPermit, init_question, init_given, init_error, init_answered, init_reply, coordinator_after, init_producer_id_outcome};
 
 use crate::outcome::Outcome;
 use crate::state::State;
 use crate::whole::{asks_cluster, refused_whole, served_whole};
 use acl_binding::{Caller, Kind, Operation, Question};
-use authorizer::ask_one;
+use authorizer::{Permit, Policy, ask_one};
 use msg_admin::Reply;
 use msg_txn::{InitProducerIdReply, InitProducerIdRequest};
 use std::alloc::{AllocError, Global};
+use txn_coordinator::{Coordinator, PairAnswer};
 use walk::refusal_code;
 use wire_types::{ErrorCode, Text};
 
@@ -46,6 +47,18 @@ fn init_error(error: ErrorCode) -> Reply
     })
 }
 
+/// The pair of a transactional id, or an error.
+fn init_answered(answer: PairAnswer) -> Reply
+    ensures { result ≡ Reply.InitProducerId (init_answered answer) }
+{
+    Reply::InitProducerId(InitProducerIdReply {
+        throttle: 0,
+        error: answer.code,
+        producer: answer.pair.producer,
+        epoch: answer.pair.epoch,
+    })
+}
+
 impl State {
     /// What an InitProducerId does and is answered.
     pub(crate) fn init_producer_id(
@@ -54,7 +67,6 @@ impl State {
         caller: &Caller,
         request: &InitProducerIdRequest,
     ) -> Result<Outcome, AllocError>
-        requires { length self.old.producers < 2 ^ 63 }
         ensures world { OnOk result (self.new ≡ (init_producer_id_outcome self.old caller.now request.now).world) }
         ensures reply { IfOk result (λ o. o.reply ≡ (init_producer_id_outcome self.old caller.now request.now).reply) }
         ensures refusals { IfOk result (λ o. o.refusals ≡ (init_producer_id_outcome self.old caller.now request.now).refusals) }
@@ -62,8 +74,16 @@ impl State {
         let question = init_question(alloc, caller, &request.transactional_id)?;
         match ask_one(&self.policy, question) {
             Ok(permit) => {
-                permit.spend(&self.policy);
-                let reply = self.initialize(&request.transactional_id);
+                let coordinator = &mut self.coordinator;
+                let greatest = self.node.max_txn_timeout;
+                let reply = initialize(
+                    alloc,
+                    coordinator,
+                    &self.policy,
+                    permit,
+                    greatest,
+                    request,
+                )?;
                 Ok(served_whole(alloc, reply))
             }
             Err(refusal) => {
@@ -72,16 +92,29 @@ impl State {
             }
         }
     }
+}
 
-    /// Gives out the next producer id, if it is for no transactional id. It takes no memory.
-    fn initialize(&mut self, id: &Option<Text>) -> Reply
-        requires { length self.old.producers < 2 ^ 63 }
-        ensures world { self.new ≡ (initialized self.old id.now).world }
-        ensures reply { result ≡ (initialized self.old id.now).reply }
-    {
-        match id {
-            Some(_) => init_error(ErrorCode::InvalidRequest),
-            None => init_given(self.producers.give()),
+/// Gives out the next producer id, or has the coordinator give the transactional id its next pair.
+fn initialize(
+    alloc: Global,
+    coordinator: &mut Coordinator,
+    policy: &Policy,
+    permit: Permit,
+    greatest: i32,
+    request: &InitProducerIdRequest,
+) -> Result<Reply, AllocError>
+    requires { IsInitPermit policy.now permit request.now.transactional_id }
+    ensures coordinator { OnOk result (coordinator.new ≡ coordinator_after coordinator.old greatest request.now) }
+    ensures reply { IfOk result (λ reply. reply ≡ init_reply coordinator.old greatest request.now) }
+{
+    match &request.transactional_id {
+        None => {
+            permit.spend(policy);
+            Ok(init_given(coordinator.fresh()?))
+        }
+        Some(id) => {
+            let answer = coordinator.init(alloc, policy, permit, id, request.timeout, greatest)?;
+            Ok(init_answered(answer))
         }
     }
 }

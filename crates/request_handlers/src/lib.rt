@@ -2,22 +2,24 @@
 //! keeps what it answered and refused in a trail.
 #![tactic(auto)]
 
+mod add_partitions;
 mod create_acls;
 mod delete_acls;
 mod describe_acls;
+mod end_txn;
 mod fetch;
-mod given;
 mod init_producer_id;
 mod laws;
 mod list_offsets;
 mod logs;
 mod machine;
+mod mark;
 mod metadata;
+mod moment;
 mod node;
 mod numbers;
 mod outcome;
 mod produce;
-mod producer_ids;
 mod reading;
 mod room;
 mod slot;
@@ -25,10 +27,10 @@ mod state;
 mod stop;
 #[cfg(test)]
 mod tests;
+mod tick;
 mod topics;
 mod whole;
 
-pub use given::Given;
 pub use laws::{
     acls_depend_on_the_book, acls_keep_topics, creates_each, deletes_each, describes_each,
     fetch_depends_on_grants, fetches_runs, holds_once, init_depends_on_grants, inits_once,
@@ -39,8 +41,8 @@ pub use laws::{
 };
 pub use logs::Logs;
 pub use machine::Core;
+pub use moment::Moment;
 pub use node::Node;
-pub use producer_ids::ProducerIds;
 pub use reading::is_reading;
 pub use slot::Slot;
 pub use state::State;

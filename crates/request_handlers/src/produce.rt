@@ -5,13 +5,11 @@ ghost use Rattle.std.specs.Option.{option_copied};
 ghost use Rattle.walk.specs.Walk.{topics_weight};
 ghost use Rattle.request_handlers.specs.Logs.{MayWrite, room_of, most_end};
 ghost use Rattle.request_handlers.specs.Sent.{sent};
-ghost use Rattle.request_handlers.specs.Judged.{are_acks, given_code, producer_code, passed, batch_in, judged, topics_produced, records_size};
+ghost use Rattle.request_handlers.specs.Judged.{partition_at, pair_of, refused_by, held_code, are_acks, given_code, producer_code, passed, batch_in, judged, topics_produced, records_size};
 ghost use Rattle.request_handlers.specs.Produce.{produced_error, produced_at, produced_to, unproduced, produced, producing, produce_reply, produce_outcome};
 
-use crate::given::Given;
 use crate::numbers::magnitude;
 use crate::outcome::Outcome;
-use crate::producer_ids::ProducerIds;
 use crate::state::State;
 use crate::topics::Topics;
 use acl_binding::{Caller, Kind, Operation};
@@ -22,23 +20,24 @@ use msg_data::{ProduceReply, ProduceRequest, ProducedOffset, ProducedRecords};
 use partition_log::Log;
 use record_batch::{Batch, BatchFault, BatchHeader};
 use std::alloc::{AllocError, Global};
+use txn_coordinator::{Coordinator, Given, Pair, Target, TopicPartition};
 use walk::{Part, PartApi, refusal_code, walk};
 use wire_types::{ErrorCode, Items, Text, Topic};
 
-/// What a Produce says of all its partitions, the greatest size of a batch, and the producer ids that were given out.
+/// What a Produce says of all its partitions, the greatest size of a batch, and the transactions that are open.
 #[derive(Drop)]
 pub(crate) struct Producing<'a> {
     pub(crate) caller: &'a Caller,
     pub(crate) id: &'a Option<Text>,
     pub(crate) acks: i16,
     pub(crate) most: u32,
-    pub(crate) given: &'a ProducerIds,
+    pub(crate) coordinator: &'a Coordinator,
 }
 
 impl<'a> PartApi<ProducedRecords, ProducedOffset, Topics> for Producing<'a> {
     ghost use Rattle.request_handlers.specs.Produce.{produce_rule};
 
-    ghost rule = { λ api. produce_rule api.caller.now api.most api.given.now api.id.now api.acks };
+    ghost rule = { λ api. produce_rule api.caller.now api.most api.coordinator.now api.id.now api.acks };
 
     fn serve(
         &self,
@@ -49,6 +48,7 @@ impl<'a> PartApi<ProducedRecords, ProducedOffset, Topics> for Producing<'a> {
         part: &ProducedRecords,
     ) -> Result<Part<ProducedOffset>, AllocError> {
         let records = part.records.clone()?;
+        let target = partition_at(name, part.index)?;
         let id = self
             .caller
             .asks_given(Operation::Write, Kind::TransactionalId, self.id)?;
@@ -56,7 +56,9 @@ impl<'a> PartApi<ProducedRecords, ProducedOffset, Topics> for Producing<'a> {
         match ask_given(policy, id, topic) {
             Ok(given) => {
                 let permit = given.last(policy);
-                let answer = self.grant(alloc, policy, permit, topics, name, part, records)?;
+                let answer = self.grant(
+                    alloc, policy, permit, topics, name, part, &target, records,
+                )?;
                 Ok(Part::served(answer))
             }
             Err(refusal) => {
@@ -68,7 +70,7 @@ impl<'a> PartApi<ProducedRecords, ProducedOffset, Topics> for Producing<'a> {
 }
 
 impl<'a> Producing<'a> {
-    /// Serves a part that was granted, whose records are also handed in.
+    /// Serves a part that was granted, whose target and records are also handed in.
     fn grant(
         &self,
         alloc: Global,
@@ -77,26 +79,28 @@ impl<'a> Producing<'a> {
         topics: &mut Topics,
         name: &Text,
         part: &ProducedRecords,
+        target: &Target,
         records: Option<Bytes>,
     ) -> Result<ProducedOffset, AllocError>
         requires permit { MayWrite policy.now name.now permit }
+        requires target { target.now ≡ partition_at name.now part.now.index }
         requires records { records ≡ part.now.records }
         requires room { records_size part.now.records ≤ room_of topics.old }
-        ensures topics { OnOk result (topics.new ≡ topics_produced (judged self.now.most self.now.given.now self.now.id.now self.now.acks part.now.records) topics.old name.now part.now.index) }
-        ensures answer { IfOk result (λ answer. answer ≡ produced (judged self.now.most self.now.given.now self.now.id.now self.now.acks part.now.records) topics.old name.now part.now) }
+        ensures topics { OnOk result (topics.new ≡ topics_produced (judged self.now.most self.now.coordinator.now self.now.id.now self.now.acks (partition_at name.now part.now.index) part.now.records) topics.old name.now part.now.index) }
+        ensures answer { IfOk result (λ answer. answer ≡ produced (judged self.now.most self.now.coordinator.now self.now.id.now self.now.acks (partition_at name.now part.now.index) part.now.records) topics.old name.now part.now) }
     {
-        let batch = self.judge(records);
+        let batch = self.judge(target, records);
         produce(alloc, policy, permit, topics, name, part, batch)
     }
 
-    /// The batch to be appended, or why none is, whatever partition it is for.
-    fn judge(&self, records: Option<Bytes>) -> Result<Batch, ErrorCode>
-        ensures { result ≡ judged self.now.most self.now.given.now self.now.id.now self.now.acks records }
+    /// The batch to be appended to a partition, or why none is, whether or not the partition is there.
+    fn judge(&self, target: &Target, records: Option<Bytes>) -> Result<Batch, ErrorCode>
+        ensures { result ≡ judged self.now.most self.now.coordinator.now self.now.id.now self.now.acks target.now records }
     {
         if !are_acks(self.acks) {
             return Err(ErrorCode::InvalidRequiredAcks);
         }
-        batch_in(records, self.most, self.given, self.id)
+        batch_in(records, self.most, self.coordinator, self.id, target)
     }
 }
 
@@ -125,6 +129,13 @@ fn produce(
             Ok(unproduced(code, part, topics.log(name, part.index)))
         }
     }
+}
+
+fn partition_at(name: &Text, index: i32) -> Result<Target, AllocError>
+    ensures { IfOk result (λ target. target ≡ partition_at name.now index) }
+{
+    let topic = name.clone()?;
+    Ok(Target::Partition(TopicPartition { topic, index }))
 }
 
 fn produced_error(error: ErrorCode, part: &ProducedRecords) -> ProducedOffset
@@ -173,27 +184,31 @@ fn unproduced(code: ErrorCode, part: &ProducedRecords, log: Option<&Log>) -> Pro
 fn batch_in(
     records: Option<Bytes>,
     most: u32,
-    given: &ProducerIds,
+    coordinator: &Coordinator,
     id: &Option<Text>,
+    target: &Target,
 ) -> Result<Batch, ErrorCode>
-    ensures { result ≡ batch_in most given.now id.now records }
+    ensures { result ≡ batch_in most coordinator.now id.now target.now records }
 {
     match records {
-        Some(records) if records.len() != 0 => passed(given, id, sent(records, most)),
+        Some(records) if records.len() != 0 => {
+            passed(coordinator, id, target, sent(records, most))
+        },
         _ => Err(ErrorCode::InvalidRecord),
     }
 }
 
 /// The batch, if its producer may send it.
 fn passed(
-    given: &ProducerIds,
+    coordinator: &Coordinator,
     id: &Option<Text>,
+    target: &Target,
     batch: Result<Batch, BatchFault>,
 ) -> Result<Batch, ErrorCode>
-    ensures { result ≡ passed given.now id.now batch }
+    ensures { result ≡ passed coordinator.now id.now target.now batch }
 {
     match batch {
-        Ok(batch) => match producer_code(given, id, batch.header()) {
+        Ok(batch) => match producer_code(coordinator, id, target, batch.header()) {
             Some(code) => Err(code),
             None => Ok(batch),
         },
@@ -214,20 +229,56 @@ fn sent(bytes: Bytes, most: u32) -> Result<Batch, BatchFault>
     Batch::check(bytes, most)
 }
 
-/// Why a batch of a producer or of a transaction is refused, whatever partition it is for.
-fn producer_code(given: &ProducerIds, id: &Option<Text>, header: &BatchHeader) -> Option<ErrorCode>
-    ensures { result ≡ producer_code given.now id.now header.now }
+/// Why a batch of a producer or of a transaction is refused, if it is.
+fn producer_code(
+    coordinator: &Coordinator,
+    id: &Option<Text>,
+    target: &Target,
+    header: &BatchHeader,
+) -> Option<ErrorCode>
+    ensures { result ≡ producer_code coordinator.now id.now target.now header.now }
 {
     if header.is_transactional() {
-        return Some(match id {
-            Some(_) => ErrorCode::InvalidProducerIdMapping,
-            None => ErrorCode::InvalidTxnState,
-        });
+        return held_code(coordinator, id, pair_of(header), target);
     }
     if header.producer_id < 0 {
         return None;
     }
-    given_code(given.given_to(header.producer_id))
+    given_code(coordinator.given(header.producer_id))
+}
+
+/// The producer that a batch names.
+fn pair_of(header: &BatchHeader) -> Pair
+    ensures { result ≡ pair_of header.now }
+{
+    Pair {
+        producer: header.producer_id,
+        epoch: header.producer_epoch,
+    }
+}
+
+/// Why a batch of a transaction is refused, if it is.
+fn held_code(
+    coordinator: &Coordinator,
+    id: &Option<Text>,
+    pair: Pair,
+    target: &Target,
+) -> Option<ErrorCode>
+    ensures { result ≡ held_code coordinator.now id.now pair target.now }
+{
+    match id {
+        Some(id) => refused_by(coordinator.holds(id, pair, target)),
+        None => Some(ErrorCode::InvalidTxnState),
+    }
+}
+
+fn refused_by(code: ErrorCode) -> Option<ErrorCode>
+    ensures { result ≡ refused_by code }
+{
+    match code {
+        ErrorCode::None => None,
+        _ => Some(code),
+    }
 }
 
 /// Why a batch that isn't of a transaction is refused by whom its producer id was given to.
@@ -274,7 +325,7 @@ impl State {
             id: &request.transactional_id,
             acks: request.acks,
             most: magnitude(self.node.max_batch),
-            given: &self.producers,
+            coordinator: &self.coordinator,
         };
         let topics = request.topics.as_slice();
         let walked = walk(alloc, &api, &self.policy, &mut self.topics, topics)?;

@@ -15,6 +15,8 @@ fn is_reading_request(request: &Request) -> bool
         Request::ListOffsets(_) => true,
         Request::Metadata(_) => true,
         Request::InitProducerId(_) => false,
+        Request::AddPartitionsToTxn(_) => false,
+        Request::EndTxn(_) => false,
         Request::DescribeAcls(_) => true,
         Request::CreateAcls(_) => false,
         Request::DeleteAcls(_) => false,
@@ -27,5 +29,6 @@ pub fn is_reading(event: &Event) -> bool
 {
     match event {
         Event::Ask { request, .. } => is_reading_request(request),
+        Event::Mark | Event::Tick(_) => false,
     }
 }

@@ -13,9 +13,9 @@ ghost use Rattle.request_handlers.specs.Logs.{room_of};
 ghost use Rattle.request_handlers.specs.Core.{EventFits, most_parts};
 ghost use Rattle.request_handlers.specs.Step.{request_outcome, outcome, reply_to, refusals_of, counted, is_reading, is_reading_request};
 
+use crate::moment::Moment;
 use crate::node::Node;
 use crate::outcome::Outcome;
-use crate::producer_ids::ProducerIds;
 use crate::topics::Topics;
 use acl_binding::{Binding, Caller};
 use audit_trail::Event;
@@ -24,6 +24,7 @@ use msg_admin::{Reply, Request};
 use settings::Settings;
 use std::alloc::{AllocError, Global};
 use std::marker::Model;
+use txn_coordinator::Coordinator;
 use wire_types::{Items, Text};
 
 /// The broker's world.
@@ -32,7 +33,8 @@ pub struct State {
     pub(crate) node: Node,
     pub(crate) policy: Policy,
     pub(crate) topics: Topics,
-    pub(crate) producers: ProducerIds,
+    pub(crate) coordinator: Coordinator,
+    pub(crate) moment: Moment,
     events: u64,
 }
 
@@ -42,7 +44,7 @@ impl Model for State {
 
     ghost Value = { World };
 
-    ghost view = { λ s. record { node = s.node; supers = s.policy.supers; book = s.policy.book; topics = s.topics; producers = s.producers; transactions = []; groups = []; warrants = []; moment = 0; events = s.events } };
+    ghost view = { λ s. record { node = s.node; supers = s.policy.supers; book = s.policy.book; topics = s.topics; coordinator = s.coordinator; groups = []; moment = s.moment; events = s.events } };
 }
 
 impl State {
@@ -56,7 +58,8 @@ impl State {
             node: Node::first(settings)?,
             policy: first_policy(alloc, &settings.supers, settings.acls.as_slice())?,
             topics: Topics::first(alloc, settings.topics.as_slice())?,
-            producers: ProducerIds::new(),
+            coordinator: Coordinator::new(alloc),
+            moment: Moment::first(),
             events: 0,
         })
     }
@@ -85,7 +88,6 @@ impl State {
         requires fits { EventFits event.now }
         requires room { most_parts ≤ room_of self.old.topics }
         requires numbers { self.old.book.next + most_parts < 2 ^ 63 }
-        requires producers { length self.old.producers < 2 ^ 63 }
         ensures world { OnOk result (self.new ≡ (outcome self.old event.now).world) }
         ensures reply { IfOk result (λ o. o.reply ≡ reply_to self.old event.now) }
         ensures refusals { IfOk result (λ o. o.refusals ≡ refusals_of self.old event.now) }
@@ -97,6 +99,8 @@ impl State {
                 request,
                 ..
             } => self.answer(alloc, caller, request),
+            Event::Mark => self.mark(alloc),
+            Event::Tick(told) => self.tick(alloc, *told),
         }
     }
 
@@ -110,7 +114,6 @@ impl State {
         requires fits { Fits request.now }
         requires room { most_parts ≤ room_of self.old.topics }
         requires numbers { self.old.book.next + most_parts < 2 ^ 63 }
-        requires producers { length self.old.producers < 2 ^ 63 }
         ensures world { OnOk result (self.new ≡ (request_outcome self.old caller.now request.now).world) }
         ensures reply { IfOk result (λ o. o.reply ≡ (request_outcome self.old caller.now request.now).reply) }
         ensures refusals { IfOk result (λ o. o.refusals ≡ (request_outcome self.old caller.now request.now).refusals) }
@@ -124,6 +127,8 @@ impl State {
             Request::CreateAcls(request) => self.create_acls(alloc, caller, request),
             Request::DeleteAcls(request) => self.delete_acls(alloc, caller, request),
             Request::InitProducerId(request) => self.init_producer_id(alloc, caller, request),
+            Request::AddPartitionsToTxn(request) => self.add_partitions(alloc, caller, request),
+            Request::EndTxn(request) => self.end_txn(alloc, caller, request),
             Request::Metadata(request) => {
                 let (reply, refusals) = self.metadata(alloc, caller, request)?;
                 Ok(Outcome {

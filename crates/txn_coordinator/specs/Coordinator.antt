@@ -76,9 +76,12 @@ turned c (Stays code) = c
 turned c (Puts code t given owed) = record { transactions = put c.transactions t; given = c.given ++ given; warrants = c.warrants ++ owed }
 
 -- where there is no error, the pair of the id as it then is; else none
+abbrev pub answered_pair : ErrorCode → Option Transaction → Pair
+answered_pair codes.None (Some t) = t.pair
+answered_pair code found = no_pair
+
 abbrev pub pair_answer : ErrorCode → Option Transaction → PairAnswer
-pair_answer codes.None (Some t) = record { code = codes.None; pair = t.pair }
-pair_answer code found = record { code = code; pair = no_pair }
+pair_answer code found = record { code = code; pair = answered_pair code found }
 
 -- what a call for this id is answered that answers a pair
 abbrev pub turn_answer : CoordinatorValue → List ℕ → Turn → PairAnswer

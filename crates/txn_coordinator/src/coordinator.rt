@@ -201,6 +201,13 @@ impl Coordinator {
         Ok(())
     }
 
+    /// How many markers are owed. It takes no memory.
+    pub fn owed(&self) -> usize
+        ensures { result ≡ length self.now.warrants }
+    {
+        self.warrants.len()
+    }
+
     /// A warrant for the front marker, if one is owed. The marker stays owed until it is written.
     pub fn next_warrant(&self) -> Result<Option<Warrant>, AllocError>
         ensures { IfOk result (λ warrant. warrant ≡ next_warrant self.now) }

@@ -1,0 +1,57 @@
+-- A marker step: the front marker that is owed is written (KIP-98, 'WriteTxnMarkersRequest'). No permission is asked:
+-- the transaction was ended by who might end it.
+use Rattle.std.specs.Prelude.{ℕ, ℤ, pos, List, [], ◌∷◌, ◌++◌, length, Option, Some, None}
+use Rattle.record_batch.specs.declared.outcome.Outcome.{Outcome as MarkedOutcome}
+use Rattle.record_batch.specs.declared.outcome.Outcome.TheVariants as marked
+use Rattle.record_batch.specs.Batch.{BatchData}
+use Rattle.record_batch.specs.Control.{control}
+use Rattle.partition_log.specs.Log.{at_end}
+use Rattle.msg_admin.specs.declared.reply.Reply.TheVariants as replies
+use Rattle.txn_coordinator.specs.declared.marker.Outcome.{Outcome as Ending}
+use Rattle.txn_coordinator.specs.declared.marker.Outcome.TheVariants.{Commit, Abort}
+use Rattle.txn_coordinator.specs.declared.marker.OwedMarker.{OwedMarker}
+use Rattle.txn_coordinator.specs.declared.target.Target.{Target}
+use Rattle.txn_coordinator.specs.declared.target.Target.TheVariants.{Partition, Group}
+use Rattle.txn_coordinator.specs.Warrants.{next_warrant, written}
+use Rattle.request_handlers.specs.World.{World, TopicValue, LogValue}
+use Rattle.request_handlers.specs.Outcome.{Outcome}
+use Rattle.request_handlers.specs.Logs.{log_at, logs_with, with_log}
+
+abbrev pub marked_outcome : Ending → MarkedOutcome
+marked_outcome Commit = marked.Commit
+marked_outcome Abort = marked.Abort
+
+-- the control batch that a marker is, at a moment
+abbrev pub marker_batch : OwedMarker → ℕ → BatchData
+marker_batch m moment = control (marked_outcome m.outcome) m.pair.producer m.pair.epoch (pos moment)
+
+abbrev pub log_marked : LogValue → BatchData → LogValue
+log_marked log b = log ++ at_end log b ∷ []
+
+abbrev pub logs_marked : List LogValue → ℤ → BatchData → Option LogValue → List LogValue
+logs_marked logs index b None = logs
+logs_marked logs index b (Some log) = logs_with logs index (log_marked log b)
+
+abbrev pub marked_by : List TopicValue → List ℕ → ℤ → BatchData → Option LogValue → List TopicValue
+marked_by topics name index b None = topics
+marked_by topics name index b (Some log) = with_log topics name index (log_marked log b)
+
+-- the partition's log goes on by the marker, if it is there
+abbrev pub topics_marked : List TopicValue → List ℕ → ℤ → BatchData → List TopicValue
+topics_marked topics name index b = marked_by topics name index b (log_at topics name index)
+
+-- groups have nothing staged yet
+abbrev pub marked_at : List TopicValue → Target → BatchData → List TopicValue
+marked_at topics (Partition p) b = topics_marked topics p.topic p.index b
+marked_at topics (Group g) b = topics
+
+abbrev pub mark_by : World → Option OwedMarker → Outcome
+mark_by w None = record { world = w; reply = replies.Idle; refusals = [] }
+mark_by w (Some m) = record {
+  world = record w { topics = marked_at w.topics m.target (marker_batch m w.moment); coordinator = written w.coordinator };
+  reply = replies.Marked (length (written w.coordinator).warrants);
+  refusals = [];
+}
+
+abbrev pub mark_outcome : World → Outcome
+mark_outcome w = mark_by w (next_warrant w.coordinator)

@@ -1,0 +1,25 @@
+-- A tick of the clock: the moment goes on, and transactions whose time is over are aborted (KIP-98,
+-- 'transaction.timeout.ms').
+use Rattle.std.specs.Prelude.{ℕ, max, min, [], length}
+use Rattle.msg_admin.specs.declared.reply.Reply.TheVariants as replies
+use Rattle.txn_coordinator.specs.Coordinator.{CoordinatorValue}
+use Rattle.txn_coordinator.specs.Expiry.{expire}
+use Rattle.request_handlers.specs.World.{World}
+use Rattle.request_handlers.specs.Outcome.{Outcome}
+
+-- in milliseconds: 2^62 - 1
+abbrev pub last_moment : ℕ
+last_moment = 4611686018427387903
+
+-- it never goes back, and stays at the last moment
+abbrev pub moment_after : ℕ → ℕ → ℕ
+moment_after moment told = max moment (min told last_moment)
+
+abbrev pub at_moment : World → ℕ → World
+at_moment w moment = record w { moment = moment; coordinator = expire w.coordinator moment }
+
+abbrev pub ticked : World → Outcome
+ticked w = record { world = w; reply = replies.Ticked (length w.coordinator.warrants); refusals = [] }
+
+abbrev pub tick_outcome : World → ℕ → Outcome
+tick_outcome w told = ticked (at_moment w (moment_after w.moment told))

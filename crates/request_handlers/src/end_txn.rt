@@ -1,0 +1,89 @@
+//! EndTxn: a transaction is committed or aborted.
+
+ghost use Rattle.std.specs.Prelude.{◌≡◌, IfOk, OnOk};
+ghost use Rattle.txn_coordinator.specs.Permission.{MayWrite as MayWriteId};
+ghost use Rattle.txn_coordinator.specs.Coordinator.{turned, turn_code};
+ghost use Rattle.request_handlers.specs.EndTxn.{id_question, ending, end_reply, end_turn, end_txn_outcome};
+
+use crate::outcome::Outcome;
+use crate::state::State;
+use crate::whole::{refused_whole, served_whole};
+use acl_binding::{Caller, Kind, Operation, Question};
+use authorizer::{Permit, Policy, ask_one};
+use msg_admin::Reply;
+use msg_txn::{EndTxnReply, EndTxnRequest};
+use std::alloc::{AllocError, Global};
+use txn_coordinator::{Coordinator, EndForm, Outcome as Ending, Pair};
+use walk::refusal_code;
+use wire_types::{ErrorCode, Text};
+
+/// May the caller write with the transactional id?
+pub(crate) fn id_question(caller: &Caller, id: &Text) -> Result<Question, AllocError>
+    ensures { IfOk result (λ question. question ≡ id_question caller.now id.now) }
+{
+    caller.asks(Operation::Write, Kind::TransactionalId, id)
+}
+
+fn ending(committed: bool) -> Ending
+    ensures { result ≡ ending committed }
+{
+    if committed {
+        Ending::Commit
+    } else {
+        Ending::Abort
+    }
+}
+
+fn end_reply(error: ErrorCode) -> Reply
+    ensures { result ≡ Reply.EndTxn (end_reply error) }
+{
+    Reply::EndTxn(EndTxnReply { throttle: 0, error })
+}
+
+/// Ends the transaction by a permit for its id.
+fn end_by(
+    alloc: Global,
+    coordinator: &mut Coordinator,
+    policy: &Policy,
+    permit: Permit,
+    request: &EndTxnRequest,
+) -> Result<ErrorCode, AllocError>
+    requires { MayWriteId policy.now permit request.now.transactional_id }
+    ensures coordinator { OnOk result (coordinator.new ≡ turned coordinator.old (end_turn coordinator.old request.now)) }
+    ensures code { IfOk result (λ code. code ≡ turn_code (end_turn coordinator.old request.now)) }
+{
+    let pair = Pair {
+        producer: request.producer,
+        epoch: request.epoch,
+    };
+    let outcome = ending(request.committed);
+    let id = &request.transactional_id;
+    let answer = coordinator.end(alloc, policy, permit, EndForm::Plain, id, pair, outcome)?;
+    Ok(answer.code)
+}
+
+impl State {
+    /// What an EndTxn does and is answered.
+    pub(crate) fn end_txn(
+        &mut self,
+        alloc: Global,
+        caller: &Caller,
+        request: &EndTxnRequest,
+    ) -> Result<Outcome, AllocError>
+        ensures world { OnOk result (self.new ≡ (end_txn_outcome self.old caller.now request.now).world) }
+        ensures reply { IfOk result (λ o. o.reply ≡ (end_txn_outcome self.old caller.now request.now).reply) }
+        ensures refusals { IfOk result (λ o. o.refusals ≡ (end_txn_outcome self.old caller.now request.now).refusals) }
+    {
+        let question = id_question(caller, &request.transactional_id)?;
+        match ask_one(&self.policy, question) {
+            Ok(permit) => {
+                let code = end_by(alloc, &mut self.coordinator, &self.policy, permit, request)?;
+                Ok(served_whole(alloc, end_reply(code)))
+            }
+            Err(refusal) => {
+                let reply = end_reply(refusal_code(&refusal));
+                refused_whole(alloc, reply, refusal)
+            }
+        }
+    }
+}

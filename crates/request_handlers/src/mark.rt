@@ -1,0 +1,76 @@
+//! A marker step: the front marker that is owed is written.
+
+ghost use Rattle.std.specs.Prelude.{◌≡◌, ◌<◌, IfOk, OnOk, OnErr};
+ghost use Rattle.request_handlers.specs.Logs.{most_end};
+ghost use Rattle.request_handlers.specs.Ticks.{last_moment};
+ghost use Rattle.request_handlers.specs.Marks.{marked_outcome, marker_batch, marked_at, mark_outcome};
+
+use crate::moment::Moment;
+use crate::outcome::Outcome;
+use crate::state::State;
+use crate::topics::Topics;
+use crate::whole::served_whole;
+use msg_admin::Reply;
+use record_batch::Outcome as MarkedOutcome;
+use std::alloc::{AllocError, Global};
+use txn_coordinator::{Outcome as Ending, OwedMarker, Target};
+
+/// The outcome, as a control batch tells it.
+fn marked_outcome(ending: Ending) -> MarkedOutcome
+    ensures { result ≡ marked_outcome ending }
+{
+    match ending {
+        Ending::Commit => MarkedOutcome::Commit,
+        Ending::Abort => MarkedOutcome::Abort,
+    }
+}
+
+/// Writes a marker where it is owed.
+fn write_marker(
+    alloc: Global,
+    topics: &mut Topics,
+    marker: &OwedMarker,
+    moment: &Moment,
+) -> Result<(), AllocError>
+    requires { most_end topics.old < 9223372036854775807 }
+    ensures ok { OnOk result (topics.new ≡ marked_at topics.old marker.now.target (marker_batch marker.now moment.now)) }
+    ensures err { OnErr result (topics.new ≡ topics.old) }
+{
+    match &marker.target {
+        Target::Partition(partition) => topics.append_marker(
+            alloc,
+            &partition.topic,
+            partition.index,
+            marked_outcome(marker.outcome),
+            marker.pair,
+            moment.milliseconds() as i64,
+        ),
+        Target::Group(_) => Ok(()),
+    }
+}
+
+impl State {
+    /// What a marker step does and is answered. Whose transaction it is, and what that principal may do by now, isn't
+    /// asked.
+    pub(crate) fn mark(&mut self, alloc: Global) -> Result<Outcome, AllocError>
+        requires { most_end self.old.topics < 9223372036854775807 }
+        ensures world { OnOk result (self.new ≡ (mark_outcome self.old).world) }
+        ensures reply { IfOk result (λ o. o.reply ≡ (mark_outcome self.old).reply) }
+        ensures refusals { IfOk result (λ o. o.refusals ≡ (mark_outcome self.old).refusals) }
+    {
+        let Some(warrant) = self.coordinator.next_warrant()? else {
+            return Ok(served_whole(alloc, Reply::Idle));
+        };
+        match write_marker(alloc, &mut self.topics, warrant.marker(), &self.moment) {
+            Ok(()) => {
+                self.coordinator.written(warrant);
+                let left = self.coordinator.owed() as u64;
+                Ok(served_whole(alloc, Reply::Marked { left }))
+            }
+            Err(AllocError) => {
+                warrant.give_back();
+                Err(AllocError)
+            }
+        }
+    }
+}
