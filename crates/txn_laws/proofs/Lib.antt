@@ -1,1 +1,3 @@
 pub mod Base
+pub mod Turns
+pub mod Targets
