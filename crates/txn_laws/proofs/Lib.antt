@@ -1,3 +1,4 @@
 pub mod Base
 pub mod Turns
 pub mod Targets
+pub mod Calls
