@@ -46,7 +46,7 @@ Prepares t r ws = (o : Outcome) → r.phase ≡ prepared o → (p : Pair) × (p.
 never : (phase : Phase) (t : Transaction) (ws : List OwedMarker) → IsClosed phase → (o : Outcome) → phase ≡ prepared o → (p : Pair) × (p.producer ≡ t.pair.producer) × (ws ≡ markers t p o)
 never phase t ws closed o h = absurd (closed o h)
 
-same_outcome : (a b : Outcome) → prepared a ≡ prepared b → a ≡ b
+pub same_outcome : (a b : Outcome) → prepared a ≡ prepared b → a ≡ b
 same_outcome Commit Commit h = refl
 same_outcome Abort Abort h = refl
 same_outcome Commit Abort h = cc

@@ -4,3 +4,8 @@ pub mod Targets
 pub mod Calls
 pub mod Moves
 pub mod Growth
+pub mod Complete
+pub mod Prepared
+pub mod Fences
+pub mod Ticks
+pub mod Reached
