@@ -1,6 +1,6 @@
 -- Each call puts a record that goes on from the one that was there.
-use Rattle.std.proofs.Common.{◌≡◌, ℕ, ◌+◌, ℤ, pos, List, [], ◌∷◌, ◌++◌, length, Option, Some, None, Result, Ok, Err, Bool, true, false, cond, refl, sym, subst, ap, ◌∙◌, inl, inr, arith}
-use Rattle.std.specs.Prelude.{slice_get, ◌&&◌, ◌≤ℤ◌, ◌<ℤ◌}
+use Rattle.std.proofs.Common.{◌≡◌, ℕ, ℤ, pos, List, [], ◌∷◌, ◌++◌, length, Option, Some, None, Result, Ok, Err, Bool, true, false, cond, refl, sym, subst, ap, ◌∙◌, inl, inr, arith}
+use Rattle.std.specs.Prelude.{◌&&◌, ◌≤ℤ◌, ◌<ℤ◌}
 use Rattle.std.proofs.lemmas.Int.{ints}
 use Rattle.wire_types.specs.declared.error_code.ErrorCode.{ErrorCode}
 use Rattle.wire_types.specs.declared.error_code.ErrorCode.TheVariants as codes
@@ -15,19 +15,19 @@ use Rattle.txn_coordinator.specs.declared.marker.OwedMarker.{OwedMarker}
 use Rattle.txn_coordinator.specs.declared.ending.EndForm.{EndForm}
 use Rattle.txn_coordinator.specs.declared.ending.EndForm.TheVariants as forms
 use Rattle.txn_coordinator.specs.declared.turn.Turn.{Turn}
-use Rattle.txn_coordinator.specs.declared.turn.Turn.TheVariants.{Stays, Puts}
+use Rattle.txn_coordinator.specs.declared.turn.Turn.TheVariants.{Stays}
 use Rattle.txn_coordinator.specs.Words.{is_empty, raised, is_exhausted, is_ongoing, prepared, targets}
-use Rattle.txn_coordinator.specs.Coordinator.{CoordinatorValue, recorded, fresh, owner}
+use Rattle.txn_coordinator.specs.Coordinator.{CoordinatorValue, recorded, fresh}
 use Rattle.txn_coordinator.specs.Preparing.{markers, fenced, fencing, pair_refusal}
-use Rattle.txn_coordinator.specs.InitProducerId.{timeout_within, created, begun, init_in, init_for, init}
-use Rattle.txn_coordinator.specs.Adding.{with_partitions, with_group, beginning, open_in, open_by, open_found, open_transaction, grown, add_partitions, add_group}
-use Rattle.txn_coordinator.specs.EndTxn.{other_epoch, renewed, prepared_plain, end_ongoing, end_closed, end_in, is_again, end_again, end_by, end_found, end}
+use Rattle.txn_coordinator.specs.InitProducerId.{timeout_within, begun, init_in, init_for, init}
+use Rattle.txn_coordinator.specs.Adding.{with_partitions, with_group, open_in, open_by, open_found, open_transaction, grown, add_partitions, add_group}
+use Rattle.txn_coordinator.specs.EndTxn.{other_epoch, end_ongoing, end_closed, end_in, is_again, end_again, end_by, end_found, end}
 use Rattle.txn_coordinator.specs.Expiry.{is_due}
 use Rattle.txn_coordinator.proofs.Table.{recorded_id}
 use Rattle.txn_laws.specs.Small.{World, expire_turn}
 use Rattle.txn_laws.specs.Sound.{Each, AreDistinct, AreApart, IsSound}
 use Rattle.txn_laws.proofs.Base.{given_to, owner_is, given_more, given_next, given_within}
-use Rattle.txn_laws.proofs.Turns.{GoesOn, IsChange, IsTurn, IsTurned, IsOwedBy}
+use Rattle.txn_laws.proofs.Turns.{IsTurn, IsTurned, IsOwedBy}
 use Rattle.txn_laws.proofs.Targets.{markers_owed, markers_apart, distinct_partitions, distinct_group}
 
 -- ---- the two ways in which a record is put
@@ -116,9 +116,9 @@ prepared_turn : (w : World) (t r : Transaction) (o : Outcome) → IsSound w → 
 prepared_turn w t r o s at ongoing id producer le same waits =
     let distinct = s.distinct t.id t at in
     same_turn w t r (markers t r.pair o) s at (closed_as Ongoing t.phase closed_ongoing ongoing) id producer le (subst AreDistinct (sym same) distinct)
-      (markers_owed (w.coordinator.given ++ []) r t r.pair o (sym id) (ap (given_to (w.coordinator.given ++ [])) producer ∙ given_more w.coordinator.given [] t.pair.producer (Some t.id) (own_given w t s at)) (λ _. omega (arith, ints)) waits)
-      (markers_apart t r.pair o distinct)
-      (λ own h. waiting t r.pair o own producer (sym waits ∙ h))
+    (markers_owed (w.coordinator.given ++ []) r t r.pair o (sym id) (ap (given_to (w.coordinator.given ++ [])) producer ∙ given_more w.coordinator.given [] t.pair.producer (Some t.id) (own_given w t s at)) (λ _. omega (arith, ints)) waits)
+    (markers_apart t r.pair o distinct)
+    (λ own h. waiting t r.pair o own producer (sym waits ∙ h))
 
 -- to abort, with the epoch raised
 fenced_turn : (w : World) (code : ErrorCode) (t : Transaction) → IsSound w → recorded w.coordinator.transactions t.id ≡ Some t → t.phase ≡ Ongoing → IsTurned w.coordinator (fencing code t)
@@ -232,9 +232,9 @@ ended_turn w forms.Raising t o s at ongoing = by_test (is_exhausted t.pair) wher
   by_test true =
       let within : t.pair.producer <ℤ pos (length w.coordinator.given) = given_within w.coordinator.given t.pair.producer (Some t.id) (own_given w t s at) in
       fresh_turn w t _ _ s at (closed_as Ongoing t.phase closed_ongoing ongoing) refl refl (s.distinct t.id t at)
-        (markers_owed (w.coordinator.given ++ Some t.id ∷ []) (record t { pair = record { producer = fresh w.coordinator; epoch = pos 0 }; phase = prepared o; kept = Some t.pair }) t (raised t.pair) o refl (given_more w.coordinator.given (Some t.id ∷ []) t.pair.producer (Some t.id) (own_given w t s at)) (λ same. absurd (omega (arith, ints))) refl)
-        (markers_apart t (raised t.pair) o (s.distinct t.id t at))
-        (λ own h. waiting t (raised t.pair) o own refl h)
+      (markers_owed (w.coordinator.given ++ Some t.id ∷ []) (record t { pair = record { producer = fresh w.coordinator; epoch = pos 0 }; phase = prepared o; kept = Some t.pair }) t (raised t.pair) o refl (given_more w.coordinator.given (Some t.id ∷ []) t.pair.producer (Some t.id) (own_given w t s at)) (λ same. absurd (omega (arith, ints))) refl)
+      (markers_apart t (raised t.pair) o (s.distinct t.id t at))
+      (λ own h. waiting t (raised t.pair) o own refl h)
   by_test false = prepared_turn w t (record t { pair = raised t.pair; phase = prepared o; kept = Some t.pair }) o s at ongoing refl refl (omega (arith, ints)) refl refl
 
 closed_turn : (w : World) (form : EndForm) (t : Transaction) (o : Outcome) (code : ErrorCode) → IsSound w → recorded w.coordinator.transactions t.id ≡ Some t → IsClosed t.phase → IsTurned w.coordinator (end_closed form t (fresh w.coordinator) o code)

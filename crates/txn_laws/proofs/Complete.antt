@@ -1,8 +1,7 @@
 -- What is owed is written by marks, before anything else of its producer comes there.
-use Rattle.std.proofs.Common.{◌≡◌, ℕ, zero, suc, ◌+◌, ◌<◌, ◌≤◌, ℤ, List, [], ◌∷◌, ◌++◌, length, Option, Some, None, Bool, true, false, cond, refl, sym, subst, ap, ◌∙◌, inl, inr, ◌⊎◌, append-nil, append_assoc, arith}
+use Rattle.std.proofs.Common.{◌≡◌, ℕ, zero, suc, ◌+◌, ◌<◌, ◌≤◌, List, [], ◌∷◌, ◌++◌, length, Some, None, Bool, true, false, cond, refl, sym, subst, ap, ◌∙◌, inl, inr, ◌⊎◌, append-nil, append_assoc, arith}
 use Rattle.std.specs.Prelude.{slice_get, ◌||◌}
 use Rattle.std.specs.Str.{bytes_eq}
-use Rattle.txn_coordinator.specs.declared.pair.Pair.{Pair}
 use Rattle.txn_coordinator.specs.declared.transaction.Transaction.{Transaction}
 use Rattle.txn_coordinator.specs.declared.transaction.Phase.TheVariants.{Ongoing}
 use Rattle.txn_coordinator.specs.declared.marker.Outcome.{Outcome}
@@ -25,8 +24,8 @@ use Rattle.txn_laws.specs.Laws.{InSound, IsNotOf, IsEnded, CompletionLaw, Waitin
 use Rattle.txn_laws.proofs.Base.{each_append, each_weaker, is_same}
 use Rattle.txn_laws.proofs.Targets.{self_target, target_is}
 use Rattle.txn_laws.proofs.Calls.{same_outcome}
-use Rattle.txn_laws.proofs.Moves.{IsHeld, one_owner, move_sound, written_same}
-use Rattle.txn_laws.proofs.Growth.{IsAdmitted, HasGrown, move_grown, moves_grow}
+use Rattle.txn_laws.proofs.Moves.{one_owner, move_sound, written_same}
+use Rattle.txn_laws.proofs.Growth.{IsAdmitted, move_grown, moves_grow}
 
 -- ---- the list of markers only grows at its end, but for marks
 
@@ -122,11 +121,11 @@ quiet w m ms s no_mark ih front x rest at enough old mid log nothing =
     let grown = move_grown w m x.target in
     let admitted : Each (IsAdmitted 0 w.coordinator) grown.more = subst (λ n. Each (IsAdmitted n w.coordinator) grown.more) no_mark grown.admitted in
     ih front x (rest ++ more.0)
-      (more.1 ∙ ap (λ l. l ++ more.0) at ∙ append_assoc front (x ∷ rest) more.0)
-      (omega arith)
-      old (mid ++ grown.more)
-      (grown.log ∙ ap (λ l. l ++ grown.more) log ∙ append_assoc old mid grown.more)
-      (each_append (IsNotOf x.pair.producer) mid grown.more nothing (each_weaker (IsAdmitted 0 w.coordinator) (IsNotOf x.pair.producer) (not_of w x s owed) grown.more admitted))
+    (more.1 ∙ ap (λ l. l ++ more.0) at ∙ append_assoc front (x ∷ rest) more.0)
+    (omega arith)
+    old (mid ++ grown.more)
+    (grown.log ∙ ap (λ l. l ++ grown.more) log ∙ append_assoc old mid grown.more)
+    (each_append (IsNotOf x.pair.producer) mid grown.more nothing (each_weaker (IsAdmitted 0 w.coordinator) (IsNotOf x.pair.producer) (not_of w x s owed) grown.more admitted))
 
 -- the mark that writes it
 its_own : (w : World) (ms : List Move) (x : OwedMarker) (rest : List OwedMarker) → (old mid : List Entry) → w.entries x.target ≡ old ++ mid → Each (IsNotOf x.pair.producer) mid → IsEnded x.pair x.outcome old ((moved_all (marked (x ∷ rest) w) ms).entries x.target)
@@ -171,7 +170,7 @@ ends (m ∷ ms) w s = by_kind (kind_of m) (ends ms (moved w m) (move_sound w m s
   at_mark : Ends ms (moved w Mark) → Ends (Mark ∷ ms) w
   at_mark ih front x rest at enough old mid log nothing =
       subst (λ ws. IsEnded x.pair x.outcome old ((moved_all (marked ws w) ms).entries x.target)) (sym at)
-        (by_front front x rest at (subst (λ ws. Ends ms (marked ws w)) at ih) enough old mid log nothing)
+      (by_front front x rest at (subst (λ ws. Ends ms (marked ws w)) at ih) enough old mid log nothing)
 
   by_kind : (m ≡ Mark) ⊎ (mark_count m ≡ 0) → Ends ms (moved w m) → Ends (m ∷ ms) w
   by_kind (inr no_mark) ih = quiet w m ms s no_mark ih

@@ -1,19 +1,18 @@
 -- A pair that was left writes nothing more.
-use Rattle.std.proofs.Common.{◌≡◌, ℕ, ℤ, pos, List, [], ◌∷◌, ◌++◌, Option, Some, None, refl, sym, subst, ap, ◌∙◌, inl, inr, ◌⊎◌, append-nil, append_assoc, arith}
-use Rattle.std.specs.Prelude.{◌≤ℤ◌}
+use Rattle.std.proofs.Common.{◌≡◌, ℕ, List, [], ◌∷◌, ◌++◌, Some, None, sym, ap, ◌∙◌, inl, inr, append-nil, append_assoc, arith}
 use Rattle.std.proofs.lemmas.Int.{ints}
 use Rattle.txn_coordinator.specs.declared.pair.Pair.{Pair}
 use Rattle.txn_coordinator.specs.declared.target.Target.{Target}
 use Rattle.txn_coordinator.specs.declared.transaction.Transaction.{Transaction}
 use Rattle.txn_coordinator.specs.Words.{raised}
-use Rattle.txn_coordinator.specs.Coordinator.{CoordinatorValue, recorded, owner}
+use Rattle.txn_coordinator.specs.Coordinator.{recorded, owner}
 use Rattle.txn_laws.specs.Small.{World, Entry, Move, moved, moved_all, mark_count}
 use Rattle.txn_laws.specs.Small.Entry.{Data, Marker, Other}
-use Rattle.txn_laws.specs.Sound.{Each, IsSound, IsFenced}
+use Rattle.txn_laws.specs.Sound.{IsSound, IsFenced}
 use Rattle.txn_laws.specs.Laws.{InSound, IsNotPair, IsSilent, HasPair, FencingLaw, OrderLaw}
 use Rattle.txn_laws.proofs.Base.{each_append, each_weaker}
-use Rattle.txn_laws.proofs.Moves.{IsHeld, one_owner, move_sound, moves_sound, move_fence, moves_fence}
-use Rattle.txn_laws.proofs.Growth.{IsAdmitted, HasGrown, move_grown}
+use Rattle.txn_laws.proofs.Moves.{one_owner, move_sound, moves_sound, move_fence, moves_fence}
+use Rattle.txn_laws.proofs.Growth.{IsAdmitted, move_grown}
 
 -- no data of the pair is let in where the id has gone past it
 not_admitted : (w : World) (id : List ℕ) (pair : Pair) (marks : ℕ) → IsSound w → IsFenced w.coordinator id (raised pair) → (x : Entry) → IsAdmitted marks w.coordinator x → IsNotPair pair x

@@ -1,5 +1,5 @@
 -- What a move appends to a log or a group.
-use Rattle.std.proofs.Common.{◌≡◌, ℕ, ℤ, List, [], ◌∷◌, ◌++◌, Option, Some, None, Bool, true, false, cond, refl, sym, ap, ◌∙◌, inl, inr, ◌⊎◌, append-nil, append_assoc}
+use Rattle.std.proofs.Common.{◌≡◌, ℕ, List, [], ◌∷◌, ◌++◌, Some, None, Bool, true, false, cond, refl, sym, ap, ◌∙◌, inl, inr, ◌⊎◌, append-nil, append_assoc}
 use Rattle.txn_coordinator.specs.declared.pair.Pair.{Pair}
 use Rattle.txn_coordinator.specs.declared.target.Target.{Target}
 use Rattle.txn_coordinator.specs.declared.marker.OwedMarker.{OwedMarker}

@@ -1,5 +1,5 @@
 -- Every move keeps the world sound.
-use Rattle.std.proofs.Common.{◌≡◌, ℕ, ◌+◌, ℤ, List, [], ◌∷◌, ◌++◌, Option, Some, None, Bool, true, false, cond, refl, sym, subst, ap, ◌∙◌, inl, inr, append-nil, arith}
+use Rattle.std.proofs.Common.{◌≡◌, ℕ, ℤ, List, [], ◌∷◌, ◌++◌, Option, Some, None, Bool, true, false, cond, refl, sym, subst, ap, ◌∙◌, inl, append-nil, arith}
 use Rattle.std.specs.Prelude.{◌&&◌, ◌||◌, ◌≤ℤ◌}
 use Rattle.std.specs.Ordering.{int_eq}
 use Rattle.std.specs.Str.{bytes_eq}
@@ -9,13 +9,12 @@ use Rattle.wire_types.specs.declared.error_code.ErrorCode.TheVariants as codes
 use Rattle.txn_coordinator.specs.declared.pair.Pair.{Pair}
 use Rattle.txn_coordinator.specs.declared.target.Target.{Target}
 use Rattle.txn_coordinator.specs.declared.transaction.Transaction.{Transaction}
-use Rattle.txn_coordinator.specs.declared.transaction.Phase.{Phase}
 use Rattle.txn_coordinator.specs.declared.transaction.Phase.TheVariants.{Ongoing}
 use Rattle.txn_coordinator.specs.declared.marker.Outcome.{Outcome}
 use Rattle.txn_coordinator.specs.declared.marker.OwedMarker.{OwedMarker}
 use Rattle.txn_coordinator.specs.declared.turn.Turn.{Turn}
 use Rattle.txn_coordinator.specs.declared.turn.Turn.TheVariants.{Stays, Puts}
-use Rattle.txn_coordinator.specs.Words.{is_ongoing, has_target, prepared}
+use Rattle.txn_coordinator.specs.Words.{is_ongoing, has_target}
 use Rattle.txn_coordinator.specs.Coordinator.{CoordinatorValue, recorded, put, owner, given_free, turned}
 use Rattle.txn_coordinator.specs.InitProducerId.{init}
 use Rattle.txn_coordinator.specs.Adding.{add_partitions, add_group}
@@ -26,8 +25,8 @@ use Rattle.txn_coordinator.proofs.Table.{recorded_id}
 use Rattle.txn_laws.specs.Small.{World, Entry, Move, first_world, is_same_target, appended, expire_turn, is_no_error, is_free, marked, moved, moved_all}
 use Rattle.txn_laws.specs.Small.Entry.{Data, Marker, Other}
 use Rattle.txn_laws.specs.Small.Move.{Init, Give, AddPartitions, AddGroup, End, Expire, Moment, Store, Send, Plain, Mark}
-use Rattle.txn_laws.specs.Sound.{Each, AreDistinct, AreApart, IsFenced, IsOwed, IsBacked, IsNotOlder, IsOrdered, IsSound}
-use Rattle.txn_laws.proofs.Base.{each_weaker, each_append, each_of, each_with, same_is, is_same, owner_is, given_more}
+use Rattle.txn_laws.specs.Sound.{Each, AreApart, IsFenced, IsOwed, IsBacked, IsNotOlder, IsOrdered, IsSound}
+use Rattle.txn_laws.proofs.Base.{each_weaker, each_append, each_of, each_with, is_same, owner_is, given_more}
 use Rattle.txn_laws.proofs.Turns.{IsChange, changed, fence_kept, owed_kept, change_sound, turn_sound, IsTurned}
 use Rattle.txn_laws.proofs.Targets.{and_true, same_number, target_is}
 use Rattle.txn_laws.proofs.Calls.{init_turn, partitions_turn, group_turn, end_turn, ongoing_is, expire_one_turn}
@@ -200,16 +199,18 @@ backed_left c ws (Marker p o) h = (h.0, fence_left c ws h.0 p h.1)
 backed_left c ws Other h = tt
 
 more_left : (w : World) (x : OwedMarker) (xs : List OwedMarker) → IsSound w → Each (IsOwed w.coordinator) (x ∷ xs) → AreApart (x ∷ xs) → IsLeft w (left_with w.coordinator w.coordinator.transactions w.coordinator.given xs)
-more_left w x xs s owed apart = let c = w.coordinator in
-    (record {
-      own_ids = s.own_ids;
-      owned = λ id t found. owned_left c xs t.pair.producer id (s.owned id t found);
-      distinct = s.distinct;
-      owed = each_weaker (IsOwed c) (IsOwed (left_with c c.transactions c.given xs)) (λ y o. record { fence = fence_left c xs y.id y.pair o.fence; waits = o.waits }) xs owed.1;
-      apart = apart.1;
-      backed = λ target. each_weaker (IsBacked c) (IsBacked (left_with c c.transactions c.given xs)) (backed_left c xs) (w.entries target) (s.backed target);
-      ordered = s.ordered;
-    }, fence_left c xs)
+more_left w x xs s owed apart = let c = w.coordinator in (
+  record {
+    own_ids = s.own_ids;
+    owned = λ id t found. owned_left c xs t.pair.producer id (s.owned id t found);
+    distinct = s.distinct;
+    owed = each_weaker (IsOwed c) (IsOwed (left_with c c.transactions c.given xs)) (λ y o. record { fence = fence_left c xs y.id y.pair o.fence; waits = o.waits }) xs owed.1;
+    apart = apart.1;
+    backed = λ target. each_weaker (IsBacked c) (IsBacked (left_with c c.transactions c.given xs)) (backed_left c xs) (w.entries target) (s.backed target);
+    ordered = s.ordered;
+  },
+  fence_left c xs,
+)
 
 last_left : (w : World) (x : OwedMarker) (xs : List OwedMarker) (t : Transaction) → IsSound w → Each (IsOwed w.coordinator) (x ∷ xs) → AreApart (x ∷ xs) → owes xs x.id ≡ false → recorded w.coordinator.transactions x.id ≡ Some t → IsLeft w (left_with w.coordinator (put w.coordinator.transactions (completed x.outcome t)) w.coordinator.given xs)
 last_left w x xs t s owed apart none found =
@@ -228,8 +229,8 @@ last_left w x xs t s owed apart none found =
 
       left_sound : IsSound (record w { coordinator = changed w.coordinator r [] xs })
       left_sound = change_sound w r [] xs s change tt
-        (each_weaker (λ (y : OwedMarker). IsOwed w.coordinator y × (y.id ≡ x.id → ⊥)) (IsOwed (changed w.coordinator r [] xs)) (λ y h. owed_kept w.coordinator r [] xs change y h.0 (λ e. h.1 (e ∙ own))) xs (each_with (IsOwed w.coordinator) (λ (y : OwedMarker). y.id ≡ x.id → ⊥) xs owed.1 (owes_none xs x.id none)))
-        apart.1
+          (each_weaker (λ (y : OwedMarker). IsOwed w.coordinator y × (y.id ≡ x.id → ⊥)) (IsOwed (changed w.coordinator r [] xs)) (λ y h. owed_kept w.coordinator r [] xs change y h.0 (λ e. h.1 (e ∙ own))) xs (each_with (IsOwed w.coordinator) (λ (y : OwedMarker). y.id ≡ x.id → ⊥) xs owed.1 (owes_none xs x.id none)))
+          apart.1
 
 front_left : (w : World) (x : OwedMarker) (xs : List OwedMarker) → IsSound w → w.coordinator.warrants ≡ x ∷ xs → IsLeft w (written_by w.coordinator (x ∷ xs))
 front_left w x xs s e = by_owes (owes xs x.id) refl (subst (Each (IsOwed w.coordinator)) e s.owed) where

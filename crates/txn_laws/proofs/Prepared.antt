@@ -1,5 +1,5 @@
 -- A transaction that is prepared is owed its outcome at each of its targets, and gets it.
-use Rattle.std.proofs.Common.{◌≡◌, ℕ, ◌+◌, ◌<◌, ◌≤◌, List, [], ◌∷◌, ◌++◌, length, map, Option, Some, None, Bool, true, false, cond, refl, sym, subst, ap, ◌∙◌, append_assoc, arith}
+use Rattle.std.proofs.Common.{◌≡◌, ℕ, ◌<◌, ◌≤◌, List, [], ◌∷◌, ◌++◌, length, map, Option, Some, None, Bool, true, false, cond, refl, sym, subst, ap, ◌∙◌, append_assoc, arith}
 use Rattle.txn_coordinator.specs.declared.pair.Pair.{Pair}
 use Rattle.txn_coordinator.specs.declared.target.Target.{Target}
 use Rattle.txn_coordinator.specs.declared.transaction.Transaction.{Transaction}
@@ -11,7 +11,7 @@ use Rattle.txn_coordinator.specs.declared.turn.Turn.{Turn}
 use Rattle.txn_coordinator.specs.declared.turn.Turn.TheVariants.{Stays, Puts}
 use Rattle.txn_coordinator.specs.Words.{prepared, complete, targets}
 use Rattle.txn_coordinator.specs.Coordinator.{CoordinatorValue, has_id, recorded, put, owner, turned}
-use Rattle.txn_coordinator.specs.Preparing.{marker_for, markers}
+use Rattle.txn_coordinator.specs.Preparing.{marker_for}
 use Rattle.txn_coordinator.specs.InitProducerId.{init}
 use Rattle.txn_coordinator.specs.Adding.{add_partitions, add_group}
 use Rattle.txn_coordinator.specs.EndTxn.{end}
@@ -22,7 +22,7 @@ use Rattle.txn_laws.specs.Small.{World, Entry, Move, expire_turn, is_no_error, i
 use Rattle.txn_laws.specs.Small.Entry.{Data}
 use Rattle.txn_laws.specs.Small.Move.{Init, Give, AddPartitions, AddGroup, End, Expire, Moment, Store, Send, Plain, Mark}
 use Rattle.txn_laws.specs.Sound.{Each, IsSound}
-use Rattle.txn_laws.specs.Laws.{InSound, IsDone, IsEnded, up_to_last, IsPreparedBy, OwesEach, PreparingLaw, PreparedLaw}
+use Rattle.txn_laws.specs.Laws.{InSound, IsDone, up_to_last, OwesEach, PreparingLaw, PreparedLaw}
 use Rattle.txn_laws.proofs.Base.{same_is, put_at_test}
 use Rattle.txn_laws.proofs.Turns.{IsTurned}
 use Rattle.txn_laws.proofs.Calls.{init_turn, partitions_turn, group_turn, end_turn, expire_one_turn}
@@ -102,14 +102,15 @@ each_done ms w s t p o same front [] at enough = tt
 each_done ms w s t p o same front (x ∷ xs) at enough =
     let rest = map (marker_for t.id p o) xs in
     let one = marker_for t.id p o x in
-    let low : length front < up_to_last w.coordinator.warrants t.id = subst (λ ws. length front < up_to_last ws t.id) (sym at) (before_last front one rest t.id refl) in
-    ((p, same, ended_behind ms w s front one rest at (omega arith)),
-     each_done ms w s t p o same (front ++ one ∷ []) xs (at ∙ sym (append_assoc front (one ∷ []) rest)) enough)
+    let low : length front < up_to_last w.coordinator.warrants t.id = subst (λ ws. length front < up_to_last ws t.id) (sym at) (before_last front one rest t.id refl) in (
+      (p, same, ended_behind ms w s front one rest at (omega arith)),
+      each_done ms w s t p o same (front ++ one ∷ []) xs (at ∙ sym (append_assoc front (one ∷ []) rest)) enough,
+    )
 
 pub prepared_law : InSound PreparedLaw
 prepared_law w s m id t o after by enough =
     let owes = preparing_law w s m id t o by in
     let own : t.id ≡ id = recorded_id w.coordinator.transactions id t by.before in
     subst (λ (entries : Target → List Entry). Each (λ target. IsDone t.pair.producer o (entries target) ((moved_all (moved w m) after).entries target)) (targets t)) owes.entries
-      (each_done after (moved w m) (move_sound w m s) t owes.pair o owes.producer w.coordinator.warrants (targets t) owes.owed
-        (subst (λ i. up_to_last (moved w m).coordinator.warrants i ≤ marks after) (sym own) enough))
+    (each_done after (moved w m) (move_sound w m s) t owes.pair o owes.producer w.coordinator.warrants (targets t) owes.owed
+    (subst (λ i. up_to_last (moved w m).coordinator.warrants i ≤ marks after) (sym own) enough))

@@ -1,5 +1,4 @@
 -- What holds in each sound world holds in each that moves reach.
-use Rattle.std.proofs.Common.{List}
 use Rattle.txn_laws.specs.Small.{World, first_world}
 use Rattle.txn_laws.specs.Laws.{InSound, InReached, SoundLaw}
 use Rattle.txn_laws.proofs.Moves.{first_sound, move_sound, moves_sound}

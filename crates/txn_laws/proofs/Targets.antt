@@ -1,5 +1,5 @@
 -- Targets that were added once each, and what is owed to them.
-use Rattle.std.proofs.Common.{◌≡◌, ℕ, ℤ, List, [], ◌∷◌, ◌++◌, map, Option, Some, None, Bool, true, false, cond, refl, sym, subst, ap, ◌∙◌}
+use Rattle.std.proofs.Common.{◌≡◌, ℕ, ℤ, List, [], ◌∷◌, ◌++◌, map, Option, Some, Bool, true, false, cond, refl, sym, ap, ◌∙◌}
 use Rattle.std.specs.Prelude.{◌||◌, ◌&&◌, ◌≤ℤ◌}
 use Rattle.std.specs.Ordering.{int_eq}
 use Rattle.std.specs.Str.{bytes_eq}
@@ -10,7 +10,6 @@ use Rattle.txn_coordinator.specs.declared.target.Target.{Target}
 use Rattle.txn_coordinator.specs.declared.target.Target.TheVariants.{Partition, Group}
 use Rattle.txn_coordinator.specs.declared.transaction.Transaction.{Transaction}
 use Rattle.txn_coordinator.specs.declared.marker.Outcome.{Outcome}
-use Rattle.txn_coordinator.specs.declared.marker.OwedMarker.{OwedMarker}
 use Rattle.txn_coordinator.specs.Words.{is_same_partition, has_partition, has_group, prepared, targets}
 use Rattle.txn_coordinator.specs.Adding.{partition_added, partitions_added, group_added}
 use Rattle.txn_coordinator.specs.Preparing.{marker_for, markers}
@@ -70,9 +69,10 @@ other_kind p gs = each_map (λ g. Group g) (λ y. Partition p ≡ y → ⊥) (λ
 distinct_insert : (xs : List TopicPartition) (p : TopicPartition) (gs : List (List ℕ)) → has_partition xs p ≡ false → AreDistinct (all_targets xs gs) → AreDistinct (all_targets (xs ++ p ∷ []) gs)
 distinct_insert [] p gs none h = (other_kind p gs, h)
 distinct_insert (x ∷ xs) p gs none h =
-    let parts = or_false (is_same_partition x p) (has_partition xs p) none in
-    (each_insert (λ y. Partition x ≡ y → ⊥) xs p (map (λ g. Group g) gs) h.0 (λ same. let e : x ≡ p = cc in let yes : is_same_partition x p ≡ true = ap (is_same_partition x) (sym e) ∙ self_partition x in let no : is_same_partition x p ≡ false = parts.0 in cc),
-     distinct_insert xs p gs parts.1 h.1)
+    let parts = or_false (is_same_partition x p) (has_partition xs p) none in (
+      each_insert (λ y. Partition x ≡ y → ⊥) xs p (map (λ g. Group g) gs) h.0 (λ same. let e : x ≡ p = cc in let yes : is_same_partition x p ≡ true = ap (is_same_partition x) (sym e) ∙ self_partition x in let no : is_same_partition x p ≡ false = parts.0 in cc),
+      distinct_insert xs p gs parts.1 h.1,
+    )
 
 pub distinct_partitions : (new xs : List TopicPartition) (gs : List (List ℕ)) → AreDistinct (all_targets xs gs) → AreDistinct (all_targets (partitions_added xs new) gs)
 distinct_partitions [] xs gs h = h

@@ -1,17 +1,17 @@
 -- To expire all at once is to expire one after the other.
-use Rattle.std.proofs.Common.{◌≡◌, ◌+◌, ℕ, List, [], ◌∷◌, ◌++◌, map, Option, Some, None, Bool, true, false, cond, refl, sym, subst, ap, ◌∙◌, append-nil, append_assoc}
+use Rattle.std.proofs.Common.{◌≡◌, ℕ, List, [], ◌∷◌, ◌++◌, map, Some, Bool, true, false, cond, refl, sym, ap, ◌∙◌, append-nil, append_assoc}
 use Rattle.std.specs.Str.{bytes_eq}
 use Rattle.std.specs.List.{flat_map}
 use Rattle.wire_types.specs.declared.error_code.ErrorCode.TheVariants as codes
 use Rattle.txn_coordinator.specs.declared.transaction.Transaction.{Transaction}
 use Rattle.txn_coordinator.specs.declared.marker.OwedMarker.{OwedMarker}
 use Rattle.txn_coordinator.specs.declared.turn.Turn.TheVariants.{Stays}
-use Rattle.txn_coordinator.specs.Coordinator.{CoordinatorValue, recorded, put, turned}
+use Rattle.txn_coordinator.specs.Coordinator.{recorded, put, turned}
 use Rattle.txn_coordinator.specs.Preparing.{fenced, fence_markers, fencing}
 use Rattle.txn_coordinator.specs.Expiry.{is_due, expired, expiry_markers}
-use Rattle.txn_laws.specs.Small.{World, Move, expire_turn, moved, moved_all}
+use Rattle.txn_laws.specs.Small.{World, expire_turn, moved, moved_all}
 use Rattle.txn_laws.specs.Small.Move.{Expire}
-use Rattle.txn_laws.specs.Sound.{Each, HaveOwnIds, IsSound}
+use Rattle.txn_laws.specs.Sound.{Each, HaveOwnIds}
 use Rattle.txn_laws.specs.Laws.{InSound, IdsLaw, expiries, ExpiryLaw}
 use Rattle.txn_laws.proofs.Base.{same_is, is_same}
 
@@ -71,8 +71,8 @@ rest w done (t ∷ ts) ws h k =
     let right : (done ++ r ∷ []) ++ map (expired w.moment) ts ≡ done ++ r ∷ map (expired w.moment) ts = append_assoc done (r ∷ []) (map (expired w.moment) ts) in
     let all : (ws ++ owed) ++ flat_map (expiry_markers w.moment) ts ≡ ws ++ (owed ++ flat_map (expiry_markers w.moment) ts) = append_assoc ws owed (flat_map (expiry_markers w.moment) ts) in
     ap (λ v. moved_all v (expiries ts)) (one w done t ts ws h.0 ∙ ap (λ l. at w l (ws ++ owed)) left)
-      ∙ rest w (done ++ r ∷ []) ts (ws ++ owed) (parted_push done r t ts (same_id w.moment t) h.1 k.0) k.1
-      ∙ (λ i. at w (right i) (all i))
+    ∙ rest w (done ++ r ∷ []) ts (ws ++ owed) (parted_push done r t ts (same_id w.moment t) h.1 k.0) k.1
+    ∙ (λ i. at w (right i) (all i))
 
 none_parted : (ts : List Transaction) → AreParted [] ts
 none_parted [] = tt

@@ -1,11 +1,9 @@
 -- A record is put: what was fenced, owed and apart stays so.
-use Rattle.std.proofs.Common.{◌≡◌, ℕ, ℤ, pos, ◌+◌, List, [], ◌∷◌, ◌++◌, length, map, Option, Some, None, Bool, true, false, cond, refl, sym, subst, ap, ◌∙◌, inl, inr, ◌⊎◌, arith}
+use Rattle.std.proofs.Common.{◌≡◌, ℕ, ℤ, pos, List, [], ◌∷◌, ◌++◌, length, Option, Some, Bool, true, false, refl, sym, subst, ap, ◌∙◌, inl, inr, ◌⊎◌, arith}
 use Rattle.std.specs.Prelude.{◌≤ℤ◌, ◌<ℤ◌}
-use Rattle.std.specs.Str.{bytes_eq}
 use Rattle.std.proofs.lemmas.Int.{ints}
 use Rattle.wire_types.specs.declared.error_code.ErrorCode.{ErrorCode}
 use Rattle.txn_coordinator.specs.declared.pair.Pair.{Pair}
-use Rattle.txn_coordinator.specs.declared.target.Target.{Target}
 use Rattle.txn_coordinator.specs.declared.transaction.Transaction.{Transaction}
 use Rattle.txn_coordinator.specs.declared.marker.Outcome.{Outcome}
 use Rattle.txn_coordinator.specs.declared.marker.OwedMarker.{OwedMarker}
@@ -118,7 +116,7 @@ change_sound w r gs ws s change distinct owed apart =
           let same : Some r ≡ Some t = sym (put_at_test w.coordinator.transactions r id true h) ∙ found in
           let e : r ≡ t = cc in
           owner_is (changed w.coordinator r gs ws) (w.coordinator.given ++ gs) t.pair.producer refl
-            ∙ ap (λ (y : Transaction). given_to (w.coordinator.given ++ gs) y.pair.producer) (sym e) ∙ change.owned ∙ ap (λ i. Some (Some i)) (same_is r.id id h)
+          ∙ ap (λ (y : Transaction). given_to (w.coordinator.given ++ gs) y.pair.producer) (sym e) ∙ change.owned ∙ ap (λ i. Some (Some i)) (same_is r.id id h)
       by_owner id t false h found = owned_kept w.coordinator r gs ws t.pair.producer id (s.owned id t (sym (put_at_test w.coordinator.transactions r id false h) ∙ found))
 
       by_targets : (id : List ℕ) (t : Transaction) (b : Bool) → has_id id r ≡ b → recorded (put w.coordinator.transactions r) id ≡ Some t → AreDistinct (targets t)
@@ -142,10 +140,10 @@ puts_sound w code r gs ws s turn =
     let all = c.warrants ++ ws in
     let free_of : (x : OwedMarker) → IsOwed c x → x.id ≡ r.id → ⊥ = not_owed c r.id turn.free in
     change_sound w r gs all s turn.change turn.distinct
-      (each_append (IsOwed (changed c r gs all)) c.warrants ws
-        (each_weaker (IsOwed c) (IsOwed (changed c r gs all)) (λ x owed. owed_kept c r gs all turn.change x owed (free_of x owed)) c.warrants s.owed)
-        (each_weaker (IsOwedBy (c.given ++ gs) r) (IsOwed (changed c r gs all)) (new_owed c r gs all) ws turn.owed))
-      (apart_append r.id c.warrants ws s.apart turn.apart (each_weaker (IsOwed c) (λ (x : OwedMarker). x.id ≡ r.id → ⊥) free_of c.warrants s.owed) (each_weaker (IsOwedBy (c.given ++ gs) r) (λ (x : OwedMarker). x.id ≡ r.id) (λ x owed. owed.own) ws turn.owed))
+    (each_append (IsOwed (changed c r gs all)) c.warrants ws
+    (each_weaker (IsOwed c) (IsOwed (changed c r gs all)) (λ x owed. owed_kept c r gs all turn.change x owed (free_of x owed)) c.warrants s.owed)
+    (each_weaker (IsOwedBy (c.given ++ gs) r) (IsOwed (changed c r gs all)) (new_owed c r gs all) ws turn.owed))
+    (apart_append r.id c.warrants ws s.apart turn.apart (each_weaker (IsOwed c) (λ (x : OwedMarker). x.id ≡ r.id → ⊥) free_of c.warrants s.owed) (each_weaker (IsOwedBy (c.given ++ gs) r) (λ (x : OwedMarker). x.id ≡ r.id) (λ x owed. owed.own) ws turn.owed))
 
 pub turn_sound : (w : World) (turn : Turn) → IsSound w → IsTurned w.coordinator turn → IsSound (with_turn w turn)
 turn_sound w (Stays code) s h = s

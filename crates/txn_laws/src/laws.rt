@@ -3,7 +3,17 @@
 ghost use Rattle.txn_laws.specs.Small.{World};
 ghost use Rattle.txn_laws.specs.Sound.{HaveOwnIds};
 ghost use Rattle.txn_laws.specs.Laws.{
-    InSound, InReached, SoundLaw, CompletionLaw, WaitingLaw, PreparingLaw, PreparedLaw, FencingLaw, OrderLaw, IdsLaw, ExpiryLaw,
+  InSound,
+  InReached,
+  SoundLaw,
+  CompletionLaw,
+  WaitingLaw,
+  PreparingLaw,
+  PreparedLaw,
+  FencingLaw,
+  OrderLaw,
+  IdsLaw,
+  ExpiryLaw,
 };
 
 /// What every move keeps holds from the beginning on.
