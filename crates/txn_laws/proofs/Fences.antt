@@ -1,0 +1,67 @@
+-- A pair that was left writes nothing more.
+use Rattle.std.proofs.Common.{◌≡◌, ℕ, List, [], ◌∷◌, ◌++◌, Some, None, sym, ap, ◌∙◌, inl, inr, append-nil, append_assoc, arith}
+use Rattle.std.proofs.lemmas.Int.{ints}
+use Rattle.txn_coordinator.specs.declared.pair.Pair.{Pair}
+use Rattle.txn_coordinator.specs.declared.target.Target.{Target}
+use Rattle.txn_coordinator.specs.declared.transaction.Transaction.{Transaction}
+use Rattle.txn_coordinator.specs.Words.{raised}
+use Rattle.txn_coordinator.specs.Coordinator.{recorded, owner}
+use Rattle.txn_laws.specs.Small.{World, Entry, Move, moved, moved_all, mark_count}
+use Rattle.txn_laws.specs.Small.Entry.{Data, Marker, Other}
+use Rattle.txn_laws.specs.Sound.{IsSound, IsFenced}
+use Rattle.txn_laws.specs.Laws.{InSound, IsNotPair, IsSilent, HasPair, FencingLaw, OrderLaw}
+use Rattle.txn_laws.proofs.Base.{each_append, each_weaker}
+use Rattle.txn_laws.proofs.Moves.{one_owner, move_sound, moves_sound, move_fence, moves_fence}
+use Rattle.txn_laws.proofs.Growth.{IsAdmitted, move_grown}
+
+-- no data of the pair is let in where the id has gone past it
+not_admitted : (w : World) (id : List ℕ) (pair : Pair) (marks : ℕ) → IsSound w → IsFenced w.coordinator id (raised pair) → (x : Entry) → IsAdmitted marks w.coordinator x → IsNotPair pair x
+not_admitted w id pair marks s f (Marker p o) h = tt
+not_admitted w id pair marks s f Other h = tt
+not_admitted w id pair marks s f (Data p) (inr free) = λ same.
+    let clash : Some None ≡ Some (Some id) = sym free ∙ ap (λ (q : Pair). owner w.coordinator q.producer) same ∙ f.owned in
+    let inner : None ≡ Some id = cc in absurd (cc)
+not_admitted w id pair marks s f (Data p) (inl (other, h)) = λ same.
+    let c = w.coordinator in
+    let producer : h.transaction.pair.producer ≡ pair.producer = h.producer_is ∙ ap (λ (q : Pair). q.producer) same in
+    let mine : owner c pair.producer ≡ Some (Some other) = ap (owner c) (sym producer) ∙ s.owned other h.transaction h.found in
+    let one : other ≡ id = one_owner c pair.producer other id mine f.owned in
+    let twice : Some h.transaction ≡ Some f.transaction = sym h.found ∙ ap (recorded c.transactions) one ∙ f.found in
+    let record_is : f.transaction ≡ h.transaction = cc in
+    let reached = f.reached (ap (λ (y : Transaction). y.pair.producer) record_is ∙ producer) in
+    let epochs : f.transaction.pair.epoch ≡ pair.epoch = ap (λ (y : Transaction). y.pair.epoch) record_is ∙ h.epoch_is ∙ ap (λ (q : Pair). q.epoch) same in
+    omega (arith, ints)
+
+silent : (ms : List Move) (w : World) (id : List ℕ) (pair : Pair) → IsSound w → IsFenced w.coordinator id (raised pair) → (target : Target) → IsSilent pair (w.entries target) ((moved_all w ms).entries target)
+silent [] w id pair s f target = record { more = []; log = sym (append-nil (w.entries target)); nothing = tt }
+silent (m ∷ ms) w id pair s f target =
+    let one = move_grown w m target in
+    let rest = silent ms (moved w m) id pair (move_sound w m s) (move_fence w m s id (raised pair) f) target in
+    record {
+      more = one.more ++ rest.more;
+      log = rest.log ∙ ap (λ l. l ++ rest.more) one.log ∙ append_assoc (w.entries target) one.more rest.more;
+      nothing = each_append (IsNotPair pair) one.more rest.more (each_weaker (IsAdmitted (mark_count m) w.coordinator) (IsNotPair pair) (not_admitted w id pair (mark_count m) s f) one.more one.admitted) rest.nothing;
+    }
+
+same_pair : (p q : Pair) → p.producer ≡ q.producer → p.epoch ≡ q.epoch → p ≡ q
+same_pair p q producer epoch = λ i. record { producer = producer i; epoch = epoch i }
+
+-- a record that left the pair has gone past it
+gone_past : (w : World) (ms : List Move) (id : List ℕ) (pair : Pair) → IsSound w → HasPair w id pair → (HasPair (moved_all w ms) id pair → ⊥) → IsFenced (moved_all w ms).coordinator id (raised pair)
+gone_past w ms id pair s (t, found, pair_is) left =
+    let epoch_is : t.pair.epoch ≡ pair.epoch = ap (λ (q : Pair). q.epoch) pair_is in
+    let before : IsFenced w.coordinator id pair = record { owned = ap (λ (q : Pair). owner w.coordinator q.producer) (sym pair_is) ∙ s.owned id t found; transaction = t; found = found; reached = λ same. omega (arith, ints) } in
+    let after = moves_fence w ms s id pair before in
+    record {
+      owned = after.owned;
+      transaction = after.transaction;
+      found = after.found;
+      reached = λ same. let low = after.reached same in let not_same : after.transaction.pair.epoch ≡ pair.epoch → ⊥ = λ e. left (after.transaction, after.found, same_pair after.transaction.pair pair same e) in omega (arith, ints);
+    }
+
+pub fencing_law : InSound FencingLaw
+fencing_law w s ms after id pair has left target =
+    silent after (moved_all w ms) id pair (moves_sound w ms s) (gone_past w ms id pair s has left) target
+
+pub order_law : InSound OrderLaw
+order_law w s target = s.ordered target

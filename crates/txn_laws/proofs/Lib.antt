@@ -1,0 +1,11 @@
+pub mod Base
+pub mod Turns
+pub mod Targets
+pub mod Calls
+pub mod Moves
+pub mod Growth
+pub mod Complete
+pub mod Prepared
+pub mod Fences
+pub mod Ticks
+pub mod Reached

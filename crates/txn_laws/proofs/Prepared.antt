@@ -1,0 +1,116 @@
+-- A transaction that is prepared is owed its outcome at each of its targets, and gets it.
+use Rattle.std.proofs.Common.{◌≡◌, ℕ, ◌<◌, ◌≤◌, List, [], ◌∷◌, ◌++◌, length, map, Option, Some, None, Bool, true, false, cond, refl, sym, subst, ap, ◌∙◌, append_assoc, arith}
+use Rattle.txn_coordinator.specs.declared.pair.Pair.{Pair}
+use Rattle.txn_coordinator.specs.declared.target.Target.{Target}
+use Rattle.txn_coordinator.specs.declared.transaction.Transaction.{Transaction}
+use Rattle.txn_coordinator.specs.declared.transaction.Phase.TheVariants.{Ongoing}
+use Rattle.txn_coordinator.specs.declared.marker.Outcome.{Outcome}
+use Rattle.txn_coordinator.specs.declared.marker.Outcome.TheVariants.{Commit, Abort}
+use Rattle.txn_coordinator.specs.declared.marker.OwedMarker.{OwedMarker}
+use Rattle.txn_coordinator.specs.declared.turn.Turn.{Turn}
+use Rattle.txn_coordinator.specs.declared.turn.Turn.TheVariants.{Stays, Puts}
+use Rattle.txn_coordinator.specs.Words.{prepared, complete, targets}
+use Rattle.txn_coordinator.specs.Coordinator.{CoordinatorValue, has_id, recorded, put, owner, turned}
+use Rattle.txn_coordinator.specs.Preparing.{marker_for}
+use Rattle.txn_coordinator.specs.InitProducerId.{init}
+use Rattle.txn_coordinator.specs.Adding.{add_partitions, add_group}
+use Rattle.txn_coordinator.specs.EndTxn.{end}
+use Rattle.txn_coordinator.specs.Holding.{holds}
+use Rattle.txn_coordinator.specs.Warrants.{owes, completed, with_completed}
+use Rattle.txn_coordinator.proofs.Table.{recorded_id}
+use Rattle.txn_laws.specs.Small.{World, Entry, Move, expire_turn, is_no_error, is_free, with_turn, marked, moved, moved_all, marks}
+use Rattle.txn_laws.specs.Small.Entry.{Data}
+use Rattle.txn_laws.specs.Small.Move.{Init, Give, AddPartitions, AddGroup, End, Expire, Moment, Store, Send, Plain, Mark}
+use Rattle.txn_laws.specs.Sound.{Each, IsSound}
+use Rattle.txn_laws.specs.Laws.{InSound, IsDone, up_to_last, OwesEach, PreparingLaw, PreparedLaw}
+use Rattle.txn_laws.proofs.Base.{same_is, put_at_test}
+use Rattle.txn_laws.proofs.Turns.{IsTurned}
+use Rattle.txn_laws.proofs.Calls.{init_turn, partitions_turn, group_turn, end_turn, expire_one_turn}
+use Rattle.txn_laws.proofs.Moves.{move_sound, written_same}
+use Rattle.txn_laws.proofs.Complete.{ended_behind, before_last, ongoing_waits}
+
+-- an Ongoing record that is found again doesn't wait
+still : (ts : List Transaction) (id : List ℕ) (t u : Transaction) (o : Outcome) → recorded ts id ≡ Some t → t.phase ≡ Ongoing → recorded ts id ≡ Some u → u.phase ≡ prepared o → ⊥
+still ts id t u o before ongoing after waits =
+    let same : Some t ≡ Some u = sym before ∙ after in
+    let e : t ≡ u = cc in
+    ongoing_waits o (sym ongoing ∙ ap (λ (y : Transaction). y.phase) e ∙ waits)
+
+-- the turn that prepares puts the markers at the back
+turned_prepared : (w : World) (turn : Turn) → IsTurned w.coordinator turn → (id : List ℕ) (t u : Transaction) (o : Outcome) → recorded w.coordinator.transactions id ≡ Some t → t.phase ≡ Ongoing → recorded (turned w.coordinator turn).transactions id ≡ Some u → u.phase ≡ prepared o → OwesEach w (with_turn w turn) t o
+turned_prepared w (Stays code) h id t u o before ongoing after waits = absurd (still w.coordinator.transactions id t u o before ongoing after waits)
+turned_prepared w (Puts code r gs ws) h id t u o before ongoing after waits = by_same (has_id id r) refl where
+  c : CoordinatorValue
+  c = w.coordinator
+
+  by_same : (b : Bool) → has_id id r ≡ b → OwesEach w (with_turn w (Puts code r gs ws)) t o
+  by_same true e =
+      let same : Some r ≡ Some u = sym (put_at_test c.transactions r id true e) ∙ after in
+      let is : r ≡ u = cc in
+      let owed = h.prepares t (ap (recorded c.transactions) (same_is r.id id e) ∙ before) o (ap (λ (y : Transaction). y.phase) is ∙ waits) in
+      record { pair = owed.0; producer = owed.1; owed = ap (λ l. c.warrants ++ l) owed.2; entries = refl }
+  by_same false e = absurd (still c.transactions id t u o before ongoing (sym (put_at_test c.transactions r id false e) ∙ after) waits)
+
+-- a mark completes, it prepares nothing
+complete_waits : (a b : Outcome) → complete a ≡ prepared b → ⊥
+complete_waits Commit Commit h = cc
+complete_waits Commit Abort h = cc
+complete_waits Abort Commit h = cc
+complete_waits Abort Abort h = cc
+
+marked_still : (w : World) (ws : List OwedMarker) (id : List ℕ) (t u : Transaction) (o : Outcome) → recorded w.coordinator.transactions id ≡ Some t → t.phase ≡ Ongoing → recorded (marked ws w).coordinator.transactions id ≡ Some u → u.phase ≡ prepared o → ⊥
+marked_still w [] id t u o before ongoing after waits = still w.coordinator.transactions id t u o before ongoing after waits
+marked_still w (x ∷ xs) id t u o before ongoing after waits = by_owes (owes xs x.id) after where
+  ts : List Transaction
+  ts = w.coordinator.transactions
+
+  by_same : (y : Transaction) (b : Bool) → has_id id y ≡ b → recorded (put ts (completed x.outcome y)) id ≡ Some u → ⊥
+  by_same y true e h =
+      let same : Some (completed x.outcome y) ≡ Some u = sym (put_at_test ts (completed x.outcome y) id true e) ∙ h in
+      let is : completed x.outcome y ≡ u = cc in
+      complete_waits x.outcome o (ap (λ (z : Transaction). z.phase) is ∙ waits)
+  by_same y false e h = still ts id t u o before ongoing (sym (put_at_test ts (completed x.outcome y) id false e) ∙ h) waits
+
+  by_found : (found : Option Transaction) → recorded (with_completed x.outcome found ts) id ≡ Some u → ⊥
+  by_found None h = still ts id t u o before ongoing h waits
+  by_found (Some y) h = by_same y (has_id id y) refl h
+
+  by_owes : (b : Bool) → recorded (cond b ts (with_completed x.outcome (recorded ts x.id) ts)) id ≡ Some u → ⊥
+  by_owes true h = still ts id t u o before ongoing h waits
+  by_owes false h = by_found (recorded ts x.id) h
+
+move_prepared : (w : World) (m : Move) → IsSound w → (id : List ℕ) (t u : Transaction) (o : Outcome) → recorded w.coordinator.transactions id ≡ Some t → t.phase ≡ Ongoing → recorded (moved w m).coordinator.transactions id ≡ Some u → u.phase ≡ prepared o → OwesEach w (moved w m) t o
+move_prepared w (Init own timeout greatest) s id t u o before ongoing after waits = turned_prepared w (init w.coordinator own timeout greatest) (init_turn w own timeout greatest s) id t u o before ongoing after waits
+move_prepared w Give s id t u o before ongoing after waits = absurd (still w.coordinator.transactions id t u o before ongoing after waits)
+move_prepared w (AddPartitions own pair partitions) s id t u o before ongoing after waits = turned_prepared w (add_partitions w.coordinator own pair w.moment partitions) (partitions_turn w own pair partitions s) id t u o before ongoing after waits
+move_prepared w (AddGroup own pair group) s id t u o before ongoing after waits = turned_prepared w (add_group w.coordinator own pair w.moment group) (group_turn w own pair group s) id t u o before ongoing after waits
+move_prepared w (End form own pair outcome) s id t u o before ongoing after waits = turned_prepared w (end w.coordinator form own pair outcome) (end_turn w form own pair outcome s) id t u o before ongoing after waits
+move_prepared w (Expire own) s id t u o before ongoing after waits = turned_prepared w (expire_turn (recorded w.coordinator.transactions own) w.moment) (expire_one_turn w own s (recorded w.coordinator.transactions own) refl) id t u o before ongoing after waits
+move_prepared w (Moment moment) s id t u o before ongoing after waits = absurd (still w.coordinator.transactions id t u o before ongoing after waits)
+move_prepared w (Store own pair target) s id t u o before ongoing after waits = absurd (still w.coordinator.transactions id t u o before ongoing (ap (λ (c : CoordinatorValue). recorded c.transactions id) (sym (written_same (is_no_error (holds w.coordinator own pair target)) w target (Data pair))) ∙ after) waits)
+move_prepared w (Send pair target) s id t u o before ongoing after waits = absurd (still w.coordinator.transactions id t u o before ongoing (ap (λ (c : CoordinatorValue). recorded c.transactions id) (sym (written_same (is_free (owner w.coordinator pair.producer)) w target (Data pair))) ∙ after) waits)
+move_prepared w (Plain target) s id t u o before ongoing after waits = absurd (still w.coordinator.transactions id t u o before ongoing after waits)
+move_prepared w Mark s id t u o before ongoing after waits = absurd (marked_still w w.coordinator.warrants id t u o before ongoing after waits)
+
+pub preparing_law : InSound PreparingLaw
+preparing_law w s m id t o by = move_prepared w m s id t by.transaction o by.before by.ongoing by.after by.waits
+
+-- each of the markers at the back is written
+each_done : (ms : List Move) (w : World) → IsSound w → (t : Transaction) (p : Pair) (o : Outcome) → p.producer ≡ t.pair.producer → (front : List OwedMarker) (xs : List Target) → w.coordinator.warrants ≡ front ++ map (marker_for t.id p o) xs → up_to_last w.coordinator.warrants t.id ≤ marks ms
+    → Each (λ target. IsDone t.pair.producer o (w.entries target) ((moved_all w ms).entries target)) xs
+each_done ms w s t p o same front [] at enough = tt
+each_done ms w s t p o same front (x ∷ xs) at enough =
+    let rest = map (marker_for t.id p o) xs in
+    let one = marker_for t.id p o x in
+    let low : length front < up_to_last w.coordinator.warrants t.id = subst (λ ws. length front < up_to_last ws t.id) (sym at) (before_last front one rest t.id refl) in (
+      (p, same, ended_behind ms w s front one rest at (omega arith)),
+      each_done ms w s t p o same (front ++ one ∷ []) xs (at ∙ sym (append_assoc front (one ∷ []) rest)) enough,
+    )
+
+pub prepared_law : InSound PreparedLaw
+prepared_law w s m id t o after by enough =
+    let owes = preparing_law w s m id t o by in
+    let own : t.id ≡ id = recorded_id w.coordinator.transactions id t by.before in
+    subst (λ (entries : Target → List Entry). Each (λ target. IsDone t.pair.producer o (entries target) ((moved_all (moved w m) after).entries target)) (targets t)) owes.entries
+    (each_done after (moved w m) (move_sound w m s) t owes.pair o owes.producer w.coordinator.warrants (targets t) owes.owed
+    (subst (λ i. up_to_last (moved w m).coordinator.warrants i ≤ marks after) (sym own) enough))

@@ -1,0 +1,52 @@
+//! The laws, each the contract of a function with nothing to do.
+
+ghost use Rattle.txn_laws.specs.Small.{World};
+ghost use Rattle.txn_laws.specs.Sound.{HaveOwnIds};
+ghost use Rattle.txn_laws.specs.Laws.{
+  InSound,
+  InReached,
+  SoundLaw,
+  CompletionLaw,
+  WaitingLaw,
+  PreparingLaw,
+  PreparedLaw,
+  FencingLaw,
+  OrderLaw,
+  IdsLaw,
+  ExpiryLaw,
+};
+
+/// What every move keeps holds from the beginning on.
+pub fn soundness()
+    ensures { SoundLaw }
+{}
+
+/// A marker that is owed with fewer than k in front of it is written by k marks, before anything else of its producer
+/// comes there; so a transaction that is prepared is completed at each partition and group that was added, and one that
+/// waits is completed at each for which a marker is still owed.
+pub fn completion()
+    ensures owed { InSound CompletionLaw }
+    ensures owed_reached { InReached CompletionLaw }
+    ensures waiting { InSound WaitingLaw }
+    ensures waiting_reached { InReached WaitingLaw }
+    ensures preparing { InSound PreparingLaw }
+    ensures preparing_reached { InReached PreparingLaw }
+    ensures prepared { InSound PreparedLaw }
+    ensures prepared_reached { InReached PreparedLaw }
+{}
+
+/// A pair that a record has left writes nothing more, and no data stands behind a marker that fenced its producer.
+pub fn fencing()
+    ensures left { InSound FencingLaw }
+    ensures left_reached { InReached FencingLaw }
+    ensures order { InSound OrderLaw }
+    ensures order_reached { InReached OrderLaw }
+{}
+
+/// To expire all transactions at once is to expire one after the other, since their ids are different.
+pub fn expiry()
+    ensures own_ids { (w : World) → HaveOwnIds w.coordinator.transactions → ExpiryLaw w }
+    ensures reached { InReached ExpiryLaw }
+    ensures sound { InSound ExpiryLaw }
+    ensures ids_reached { InReached IdsLaw }
+{}
