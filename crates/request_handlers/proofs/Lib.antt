@@ -19,4 +19,5 @@ pub mod Groups
 pub mod Wholes
 pub mod Recorded
 pub mod Initials
+pub mod Together
 pub mod Sequenced
