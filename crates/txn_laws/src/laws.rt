@@ -2,19 +2,10 @@
 
 ghost use Rattle.txn_laws.specs.Small.{World};
 ghost use Rattle.txn_laws.specs.Sound.{HaveOwnIds};
-ghost use Rattle.txn_laws.specs.Laws.{
-  InSound,
-  InReached,
-  SoundLaw,
-  CompletionLaw,
-  WaitingLaw,
-  PreparingLaw,
-  PreparedLaw,
-  FencingLaw,
-  OrderLaw,
-  IdsLaw,
-  ExpiryLaw,
-};
+ghost use Rattle.txn_laws.specs.Laws.{InSound, InReached, SoundLaw};
+ghost use Rattle.txn_laws.specs.Laws.{CompletionLaw, WaitingLaw, PreparingLaw, PreparedLaw};
+ghost use Rattle.txn_laws.specs.Laws.{FencingLaw, RefusalLaw, OrderLaw};
+ghost use Rattle.txn_laws.specs.Laws.{IdsLaw, ExpiryLaw, TickLaw};
 
 /// What every move keeps holds from the beginning on.
 pub fn soundness()
@@ -35,10 +26,13 @@ pub fn completion()
     ensures prepared_reached { InReached PreparedLaw }
 {}
 
-/// A pair that a record has left writes nothing more, and no data stands behind a marker that fenced its producer.
+/// A pair that a record has left writes nothing more, each check refuses it, and no data stands behind a marker that
+/// fenced its producer.
 pub fn fencing()
     ensures left { InSound FencingLaw }
     ensures left_reached { InReached FencingLaw }
+    ensures refused { InSound RefusalLaw }
+    ensures refused_reached { InReached RefusalLaw }
     ensures order { InSound OrderLaw }
     ensures order_reached { InReached OrderLaw }
 {}
@@ -48,5 +42,7 @@ pub fn expiry()
     ensures own_ids { (w : World) → HaveOwnIds w.coordinator.transactions → ExpiryLaw w }
     ensures reached { InReached ExpiryLaw }
     ensures sound { InSound ExpiryLaw }
+    ensures ticks { InSound TickLaw }
+    ensures ticks_reached { InReached TickLaw }
     ensures ids_reached { InReached IdsLaw }
 {}
