@@ -100,7 +100,7 @@ not_its_marker c y x owed_y owed_x other same_target same =
 abbrev Ends : List Move → World → Type 0
 Ends ms w = (front : List OwedMarker) (x : OwedMarker) (rest : List OwedMarker) → w.coordinator.warrants ≡ front ++ x ∷ rest → length front < marks ms → (old mid : List Entry) → w.entries x.target ≡ old ++ mid → Each (IsNotOf x.pair.producer) mid → IsEnded x.pair x.outcome old ((moved_all w ms).entries x.target)
 
-kind_of : (m : Move) → (m ≡ Mark) ⊎ (mark_count m ≡ 0)
+pub kind_of : (m : Move) → (m ≡ Mark) ⊎ (mark_count m ≡ 0)
 kind_of (Init id timeout greatest) = inr refl
 kind_of Give = inr refl
 kind_of (AddPartitions id pair partitions) = inr refl

@@ -9,3 +9,4 @@ pub mod Prepared
 pub mod Fences
 pub mod Ticks
 pub mod Reached
+pub mod Completed

@@ -27,7 +27,7 @@ use Rattle.txn_laws.specs.Laws.{InSound, IsDone, up_to_last, OwesEach, Preparing
 use Rattle.txn_laws.proofs.Base.{same_is, put_at_test}
 use Rattle.txn_laws.proofs.Turns.{IsTurned}
 use Rattle.txn_laws.proofs.Calls.{init_turn, partitions_turn, group_turn, end_turn, expire_one_turn}
-use Rattle.txn_laws.proofs.Moves.{move_sound, written_same}
+use Rattle.txn_laws.proofs.Moves.{complete_waits, move_sound, written_same}
 use Rattle.txn_laws.proofs.Complete.{ended_behind, before_last, ongoing_waits}
 
 -- an Ongoing record that is found again doesn't wait
@@ -58,12 +58,6 @@ turned_prepared w (Puts code r gs ws) h id t u o before ongoing after waits = by
   by_same false e = absurd (still c.transactions id t u o before ongoing (sym (put_at_test c.transactions r id false e) ∙ after) waits)
 
 -- a mark completes, it prepares nothing
-complete_waits : (a b : Outcome) → complete a ≡ prepared b → ⊥
-complete_waits Commit Commit h = cc
-complete_waits Commit Abort h = cc
-complete_waits Abort Commit h = cc
-complete_waits Abort Abort h = cc
-
 marked_still : (w : World) (ws : List OwedMarker) (id : List ℕ) (t u : Transaction) (o : Outcome) → recorded w.coordinator.transactions id ≡ Some t → t.phase ≡ Ongoing → recorded (marked ws w).coordinator.transactions id ≡ Some u → u.phase ≡ prepared o → ⊥
 marked_still w [] id t u o before ongoing after waits = still w.coordinator.transactions id t u o before ongoing after waits
 marked_still w (x ∷ xs) id t u o before ongoing after waits = by_owes (owes xs x.id) after where

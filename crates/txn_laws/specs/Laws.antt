@@ -8,7 +8,7 @@ use Rattle.txn_coordinator.specs.declared.transaction.Phase.TheVariants.{Ongoing
 use Rattle.txn_coordinator.specs.declared.marker.Outcome.{Outcome}
 use Rattle.txn_coordinator.specs.declared.marker.Outcome.TheVariants.{Abort}
 use Rattle.txn_coordinator.specs.declared.marker.OwedMarker.{OwedMarker}
-use Rattle.txn_coordinator.specs.Words.{prepared, targets}
+use Rattle.txn_coordinator.specs.Words.{prepared, complete, targets}
 use Rattle.txn_coordinator.specs.Coordinator.{recorded, owner}
 use Rattle.txn_coordinator.specs.Preparing.{markers}
 use Rattle.txn_coordinator.specs.Expiry.{is_due, expire}
@@ -94,6 +94,21 @@ abbrev pub PreparedLaw : World → Type 0
 PreparedLaw w = (m : Move) (id : List ℕ) (t : Transaction) (outcome : Outcome) (after : List Move)
     → IsPreparedBy w m id t outcome → up_to_last (moved w m).coordinator.warrants id ≤ marks after
     → Each (λ target. IsDone t.pair.producer outcome (w.entries target) ((moved_all (moved w m) after).entries target)) (targets t)
+
+-- moves of which some complete the transaction of the id
+pub record IsCompletedBy (w : World) (moves : List Move) (id : List ℕ) (outcome : Outcome) : Type 0 where
+  pub first : List Move
+  pub rest : List Move
+  pub parts : moves ≡ first ++ rest
+  pub transaction : Transaction
+  pub found : recorded (moved_all w first).coordinator.transactions id ≡ Some transaction
+  pub is_complete : transaction.phase ≡ complete outcome
+
+-- where the transaction of the id waits, so many marks complete it
+abbrev pub CompletedLaw : World → Type 0
+CompletedLaw w = (id : List ℕ) (t : Transaction) (outcome : Outcome) (after : List Move)
+    → recorded w.coordinator.transactions id ≡ Some t → t.phase ≡ prepared outcome → up_to_last w.coordinator.warrants id ≤ marks after
+    → IsCompletedBy w after id outcome
 
 -- ---- fencing
 

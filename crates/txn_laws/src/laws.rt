@@ -3,7 +3,7 @@
 ghost use Rattle.txn_laws.specs.Small.{World};
 ghost use Rattle.txn_laws.specs.Sound.{HaveOwnIds};
 ghost use Rattle.txn_laws.specs.Laws.{InSound, InReached, SoundLaw};
-ghost use Rattle.txn_laws.specs.Laws.{CompletionLaw, WaitingLaw, PreparingLaw, PreparedLaw};
+ghost use Rattle.txn_laws.specs.Laws.{CompletionLaw, WaitingLaw, PreparingLaw, PreparedLaw, CompletedLaw};
 ghost use Rattle.txn_laws.specs.Laws.{FencingLaw, RefusalLaw, OrderLaw};
 ghost use Rattle.txn_laws.specs.Laws.{IdsLaw, ExpiryLaw, TickLaw};
 
@@ -24,6 +24,8 @@ pub fn completion()
     ensures preparing_reached { InReached PreparingLaw }
     ensures prepared { InSound PreparedLaw }
     ensures prepared_reached { InReached PreparedLaw }
+    ensures completed { InSound CompletedLaw }
+    ensures completed_reached { InReached CompletedLaw }
 {}
 
 /// A pair that a record has left writes nothing more, each check refuses it, and no data stands behind a marker that
