@@ -10,3 +10,4 @@ pub mod Fences
 pub mod Ticks
 pub mod Reached
 pub mod Completed
+pub mod GroupsKeep

@@ -6,6 +6,7 @@ ghost use Rattle.txn_laws.specs.Laws.{InSound, InReached, SoundLaw};
 ghost use Rattle.txn_laws.specs.Laws.{CompletionLaw, WaitingLaw, PreparingLaw, PreparedLaw, CompletedLaw};
 ghost use Rattle.txn_laws.specs.Laws.{FencingLaw, RefusalLaw, OrderLaw};
 ghost use Rattle.txn_laws.specs.Laws.{IdsLaw, ExpiryLaw, TickLaw};
+ghost use Rattle.txn_laws.specs.Kept.{KeptLaw, KeptEndLaw};
 
 /// What every move keeps holds from the beginning on.
 pub fn soundness()
@@ -47,4 +48,10 @@ pub fn expiry()
     ensures ticks { InSound TickLaw }
     ensures ticks_reached { InReached TickLaw }
     ensures ids_reached { InReached IdsLaw }
+{}
+
+/// A broker whose groups keep no epochs goes on as the small world does, and shows where a transaction ends.
+pub fn keeping()
+    ensures moves { KeptLaw }
+    ensures ends { KeptEndLaw }
 {}
