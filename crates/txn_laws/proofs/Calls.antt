@@ -143,7 +143,7 @@ prepared_turn : (w : World) (t r : Transaction) (o : Outcome) → IsSound w → 
 prepared_turn w t r o s at ongoing id producer le same waits =
     let distinct = s.distinct t.id t at in
     same_turn w t r (markers t r.pair o) s at (closed_as Ongoing t.phase closed_ongoing ongoing) id producer le (subst AreDistinct (sym same) distinct)
-      (prepared_open r o waits) (λ own h. ap (owes (markers t r.pair o)) id ∙ markers_owing t r.pair o (s.filled t.id t at ongoing))
+    (prepared_open r o waits) (λ own h. ap (owes (markers t r.pair o)) id ∙ markers_owing t r.pair o (s.filled t.id t at ongoing))
     (markers_owed (w.coordinator.given ++ []) r t r.pair o (sym id) (ap (given_to (w.coordinator.given ++ [])) producer ∙ given_more w.coordinator.given [] t.pair.producer (Some t.id) (own_given w t s at)) (λ _. omega (arith, ints)) waits)
     (markers_apart t r.pair o distinct)
     (λ own h. waiting t r.pair o own producer (sym waits ∙ h))
@@ -263,7 +263,7 @@ ended_turn w forms.Raising t o s at ongoing = by_test (is_exhausted t.pair) wher
   by_test true =
       let within : t.pair.producer <ℤ pos (length w.coordinator.given) = given_within w.coordinator.given t.pair.producer (Some t.id) (own_given w t s at) in
       fresh_turn w t _ _ s at (closed_as Ongoing t.phase closed_ongoing ongoing) refl refl (s.distinct t.id t at)
-        (λ h _. closed_ongoing o (sym h)) (λ own h. markers_owing t (raised t.pair) o (s.filled t.id t at ongoing))
+      (λ h _. closed_ongoing o (sym h)) (λ own h. markers_owing t (raised t.pair) o (s.filled t.id t at ongoing))
       (markers_owed (w.coordinator.given ++ Some t.id ∷ []) (record t { pair = record { producer = fresh w.coordinator; epoch = pos 0 }; phase = prepared o; kept = Some t.pair }) t (raised t.pair) o refl (given_more w.coordinator.given (Some t.id ∷ []) t.pair.producer (Some t.id) (own_given w t s at)) (λ same. absurd (omega (arith, ints))) refl)
       (markers_apart t (raised t.pair) o (s.distinct t.id t at))
       (λ own h. waiting t (raised t.pair) o own refl h)

@@ -208,6 +208,14 @@ before_last (y ∷ ys) x rest id own =
     let low = before_last ys x rest id own in
     subst (λ b. length (y ∷ ys) < cond b (1 + up_to_last (ys ++ x ∷ rest) id) 0) (sym (owes_among (y ∷ ys) x rest id own)) (omega arith)
 
+-- no more than are owed at all
+pub last_within : (ws : List OwedMarker) (id : List ℕ) → up_to_last ws id ≤ length ws
+last_within [] id = omega arith
+last_within (x ∷ xs) id = by_owes (owes (x ∷ xs) id) (last_within xs id) where
+  by_owes : (b : Bool) → up_to_last xs id ≤ length xs → cond b (1 + up_to_last xs id) 0 ≤ length (x ∷ xs)
+  by_owes true rest = omega arith
+  by_owes false rest = omega arith
+
 each_waiting : (ms : List Move) (w : World) → IsSound w → (id : List ℕ) (t : Transaction) (o : Outcome) → recorded w.coordinator.transactions id ≡ Some t → t.phase ≡ prepared o → up_to_last w.coordinator.warrants id ≤ marks ms
     → (front xs : List OwedMarker) → w.coordinator.warrants ≡ front ++ xs → Each (λ (x : OwedMarker). x.id ≡ id → IsEnded x.pair o (w.entries x.target) ((moved_all w ms).entries x.target)) xs
 each_waiting ms w s id t o found waits enough front [] at = tt

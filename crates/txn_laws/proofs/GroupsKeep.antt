@@ -1,18 +1,18 @@
 -- To move what is kept is to keep what was moved.
-use Rattle.std.proofs.Common.{◌≡◌, ℕ, ℤ, List, [], ◌∷◌, ◌++◌, map, Option, Some, None, Bool, true, false, cond, refl, sym, ap, ◌∙◌}
+use Rattle.std.proofs.Common.{◌≡◌, ℕ, ℤ, List, [], ◌∷◌, ◌++◌, map, Bool, true, false, cond, refl, sym, ap, ◌∙◌}
 use Rattle.std.specs.Str.{bytes_eq}
 use Rattle.txn_coordinator.specs.declared.pair.Pair.{Pair}
 use Rattle.txn_coordinator.specs.declared.target.Target.{Target}
 use Rattle.txn_coordinator.specs.declared.target.Target.TheVariants.{Partition, Group}
 use Rattle.txn_coordinator.specs.declared.marker.OwedMarker.{OwedMarker}
-use Rattle.txn_coordinator.specs.Coordinator.{CoordinatorValue, owner}
+use Rattle.txn_coordinator.specs.Coordinator.{CoordinatorValue, owner, no_transactions}
 use Rattle.txn_coordinator.specs.Holding.{holds}
 use Rattle.txn_coordinator.specs.Warrants.{written_by}
-use Rattle.txn_laws.specs.Small.{World, Entry, Move, is_same_target, with_entry, appended, is_no_error, is_free, moved, moved_all, marked}
+use Rattle.txn_laws.specs.Small.{World, Entry, Move, is_same_target, with_entry, appended, is_no_error, is_free, moved, moved_all, marked, first_world}
 use Rattle.txn_laws.specs.Small.Entry.{Data, Marker, Other}
 use Rattle.txn_laws.specs.Small.Move.{Init, Give, AddPartitions, AddGroup, End, Expire, Moment, Store, Send, Plain, Mark}
 use Rattle.txn_laws.specs.Sound.{Each}
-use Rattle.txn_laws.specs.Laws.{IsNotOf, IsEnded}
+use Rattle.txn_laws.specs.Laws.{IsNotOf}
 use Rattle.txn_laws.specs.Kept.{kept_pair, kept_entry, kept_entries, kept_world, kept_appended, kept_marked, kept_moved, kept_moved_all, KeptLaw, KeptEndLaw}
 
 -- ---- one entry more
@@ -25,7 +25,6 @@ entry_same : (g h : List ℕ) (entry : Entry) → kept_entry (Group h) entry ≡
 entry_same g h (Data p) = refl
 entry_same g h (Marker p o) = refl
 entry_same g h Other = refl
-
 
 partition_entry : (entry kept : Entry) (xs : List Entry) (b : Bool) → entry ≡ kept → cond b (xs ++ entry ∷ []) xs ≡ cond b (xs ++ kept ∷ []) xs
 partition_entry entry kept xs b e = ap (λ x. cond b (xs ++ x ∷ []) xs) e
@@ -48,7 +47,7 @@ with_kept entries (Group g) entry (Group h) = group_entry g h entry (entries (Gr
 
 put_kept : (c : CoordinatorValue) (entries : Target → List Entry) (moment : ℕ) (target : Target) (entry : Entry)
     → kept_world (record { coordinator = c; entries = with_entry entries target entry; moment = moment })
-      ≡ record { coordinator = c; entries = with_entry (λ u. kept_entries u (entries u)) target (kept_entry target entry); moment = moment }
+    ≡ record { coordinator = c; entries = with_entry (λ u. kept_entries u (entries u)) target (kept_entry target entry); moment = moment }
 put_kept c entries moment target entry = λ i. record { coordinator = c; entries = λ t. with_kept entries target entry t i; moment = moment }
 
 -- ---- moves
@@ -74,9 +73,24 @@ move_kept w (Send pair target) = let_in (is_free (owner w.coordinator pair.produ
 move_kept w (Plain target) = put_kept w.coordinator w.entries w.moment target Other
 move_kept w Mark = mark_kept w.coordinator.warrants w
 
+moves_kept : (w : World) (ms : List Move) → kept_world (moved_all w ms) ≡ kept_moved_all (kept_world w) ms
+moves_kept w [] = refl
+moves_kept w (m ∷ ms) = moves_kept (moved w m) ms ∙ ap (λ v. kept_moved_all v ms) (move_kept w m)
+
+nothing_kept : (target : Target) → kept_entries target [] ≡ []
+nothing_kept (Partition p) = refl
+nothing_kept (Group g) = refl
+
+first_kept : kept_world first_world ≡ first_world
+first_kept = λ i. record { coordinator = no_transactions; entries = λ target. nothing_kept target i; moment = 0 }
+
 pub kept_law : KeptLaw
-kept_law w [] = refl
-kept_law w (m ∷ ms) = kept_law (moved w m) ms ∙ ap (λ v. kept_moved_all v ms) (move_kept w m)
+kept_law = record { first = first_kept; next = moves_kept }
+
+-- moves after moves
+pub kept_append : (w : World) (xs ys : List Move) → kept_moved_all w (xs ++ ys) ≡ kept_moved_all (kept_moved_all w xs) ys
+kept_append w [] ys = refl
+kept_append w (m ∷ ms) ys = kept_append (kept_moved w m) ms ys
 
 -- ---- ends
 

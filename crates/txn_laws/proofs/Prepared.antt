@@ -6,11 +6,10 @@ use Rattle.txn_coordinator.specs.declared.target.Target.{Target}
 use Rattle.txn_coordinator.specs.declared.transaction.Transaction.{Transaction}
 use Rattle.txn_coordinator.specs.declared.transaction.Phase.TheVariants.{Ongoing}
 use Rattle.txn_coordinator.specs.declared.marker.Outcome.{Outcome}
-use Rattle.txn_coordinator.specs.declared.marker.Outcome.TheVariants.{Commit, Abort}
 use Rattle.txn_coordinator.specs.declared.marker.OwedMarker.{OwedMarker}
 use Rattle.txn_coordinator.specs.declared.turn.Turn.{Turn}
 use Rattle.txn_coordinator.specs.declared.turn.Turn.TheVariants.{Stays, Puts}
-use Rattle.txn_coordinator.specs.Words.{prepared, complete, targets}
+use Rattle.txn_coordinator.specs.Words.{prepared, targets}
 use Rattle.txn_coordinator.specs.Coordinator.{CoordinatorValue, has_id, recorded, put, owner, turned}
 use Rattle.txn_coordinator.specs.Preparing.{marker_for, markers}
 use Rattle.txn_coordinator.specs.InitProducerId.{init}
@@ -102,15 +101,16 @@ each_done ms w s id producer p o same front [] back at enough = tt
 each_done ms w s id producer p o same front (x ∷ xs) back at enough =
     let rest = map (marker_for id p o) xs ++ back in
     let one = marker_for id p o x in
-    let low : length front < up_to_last w.coordinator.warrants id = subst (λ ws. length front < up_to_last ws id) (sym at) (before_last front one rest id refl) in
-    ((p, same, ended_behind ms w s front one rest at (omega arith)),
-     each_done ms w s id producer p o same (front ++ one ∷ []) xs back (at ∙ sym (append_assoc front (one ∷ []) rest)) enough)
+    let low : length front < up_to_last w.coordinator.warrants id = subst (λ ws. length front < up_to_last ws id) (sym at) (before_last front one rest id refl) in (
+      (p, same, ended_behind ms w s front one rest at (omega arith)),
+      each_done ms w s id producer p o same (front ++ one ∷ []) xs back (at ∙ sym (append_assoc front (one ∷ []) rest)) enough,
+    )
 
 pub prepared_law : InSound PreparedLaw
 prepared_law w s m id t o after by enough =
     let owes = preparing_law w s m id t o by in
     let own : t.id ≡ id = recorded_id w.coordinator.transactions id t by.before in
     subst (λ (entries : Target → List Entry). Each (λ target. IsDone t.pair.producer o (entries target) ((moved_all (moved w m) after).entries target)) (targets t)) owes.entries
-      (each_done after (moved w m) (move_sound w m s) t.id t.pair.producer owes.pair o owes.producer w.coordinator.warrants (targets t) []
-        (owes.owed ∙ ap (λ l. w.coordinator.warrants ++ l) (sym (append-nil (markers t owes.pair o))))
-        (subst (λ i. up_to_last (moved w m).coordinator.warrants i ≤ marks after) (sym own) enough))
+    (each_done after (moved w m) (move_sound w m s) t.id t.pair.producer owes.pair o owes.producer w.coordinator.warrants (targets t) []
+    (owes.owed ∙ ap (λ l. w.coordinator.warrants ++ l) (sym (append-nil (markers t owes.pair o))))
+    (subst (λ i. up_to_last (moved w m).coordinator.warrants i ≤ marks after) (sym own) enough))

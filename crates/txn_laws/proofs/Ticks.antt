@@ -101,12 +101,16 @@ due_markers : (ts : List Transaction) (moment : ℕ) (id : List ℕ) (t : Transa
 due_markers [] moment id t found due = absurd (let clash : None ≡ Some t = found in cc)
 due_markers (x ∷ xs) moment id t found due = by_same (due_markers xs moment id t) (has_id id x) found where
   by_same : (recorded xs id ≡ Some t → is_due moment t ≡ true → Holds (flat_map (expiry_markers moment) xs) (fence_markers t)) → (b : Bool) → cond b (Some x) (recorded xs id) ≡ Some t → Holds (expiry_markers moment x ++ flat_map (expiry_markers moment) xs) (fence_markers t)
-  by_same ih true h = let e : x ≡ t = cc in
-      ([], flat_map (expiry_markers moment) xs,
-       ap (λ y. expiry_markers moment y ++ flat_map (expiry_markers moment) xs) e ∙ ap (λ b. cond b (fence_markers t) [] ++ flat_map (expiry_markers moment) xs) due)
-  by_same ih false h = let inner = ih h due in
-      (expiry_markers moment x ++ inner.0, inner.1,
-       ap (λ l. expiry_markers moment x ++ l) inner.2 ∙ sym (append_assoc (expiry_markers moment x) inner.0 (fence_markers t ++ inner.1)))
+  by_same ih true h = let e : x ≡ t = cc in (
+    [],
+    flat_map (expiry_markers moment) xs,
+    ap (λ y. expiry_markers moment y ++ flat_map (expiry_markers moment) xs) e ∙ ap (λ b. cond b (fence_markers t) [] ++ flat_map (expiry_markers moment) xs) due,
+  )
+  by_same ih false h = let inner = ih h due in (
+    expiry_markers moment x ++ inner.0,
+    inner.1,
+    ap (λ l. expiry_markers moment x ++ l) inner.2 ∙ sym (append_assoc (expiry_markers moment x) inner.0 (fence_markers t ++ inner.1)),
+  )
 
 pub tick_law : InSound TickLaw
 tick_law w s moment id t after found due enough =
@@ -114,5 +118,5 @@ tick_law w s moment id t after found due enough =
     let own : t.id ≡ id = recorded_id w.coordinator.transactions id t found in
     let sound : IsSound (ticked w moment) = subst IsSound (expiry_law w s moment) (moves_sound w (Moment moment ∷ expiries w.coordinator.transactions) s) in
     each_done after (ticked w moment) sound t.id t.pair.producer (raised t.pair) Abort refl (w.coordinator.warrants ++ parts.0) (targets t) parts.1
-      (ap (λ l. w.coordinator.warrants ++ l) parts.2 ∙ sym (append_assoc w.coordinator.warrants parts.0 (fence_markers t ++ parts.1)))
-      (subst (λ i. up_to_last (ticked w moment).coordinator.warrants i ≤ marks after) (sym own) enough)
+    (ap (λ l. w.coordinator.warrants ++ l) parts.2 ∙ sym (append_assoc w.coordinator.warrants parts.0 (fence_markers t ++ parts.1)))
+    (subst (λ i. up_to_last (ticked w moment).coordinator.warrants i ≤ marks after) (sym own) enough)

@@ -163,8 +163,8 @@ puts_sound w code r gs ws s turn =
     let all = c.warrants ++ ws in
     let free_of : (x : OwedMarker) → IsOwed c x → x.id ≡ r.id → ⊥ = not_owed c r.id turn.free in
     change_sound w r gs all s turn.change turn.distinct turn.filled
-      (λ o waits. owes_behind c.warrants ws r.id (turn.owing o waits))
-      (λ id t o found waits _. owes_more c.warrants ws id (s.owing id t o found waits))
+    (λ o waits. owes_behind c.warrants ws r.id (turn.owing o waits))
+    (λ id t o found waits _. owes_more c.warrants ws id (s.owing id t o found waits))
     (each_append (IsOwed (changed c r gs all)) c.warrants ws
     (each_weaker (IsOwed c) (IsOwed (changed c r gs all)) (λ x owed. owed_kept c r gs all turn.change x owed (free_of x owed)) c.warrants s.owed)
     (each_weaker (IsOwedBy (c.given ++ gs) r) (IsOwed (changed c r gs all)) (new_owed c r gs all) ws turn.owed))

@@ -1,5 +1,5 @@
 -- What a broker keeps of the small world: all of a log, and of what a group holds no epochs.
-use Rattle.std.specs.Prelude.{◌≡◌, ℤ, pos, if◌then◌else◌, List, [], ◌∷◌, map}
+use Rattle.std.specs.Prelude.{◌≡◌, pos, if◌then◌else◌, List, [], ◌∷◌, map}
 use Rattle.txn_coordinator.specs.declared.pair.Pair.{Pair}
 use Rattle.txn_coordinator.specs.declared.target.Target.{Target}
 use Rattle.txn_coordinator.specs.declared.target.Target.TheVariants.{Partition, Group}
@@ -10,7 +10,7 @@ use Rattle.txn_coordinator.specs.Holding.{holds}
 use Rattle.txn_coordinator.specs.Warrants.{written_by}
 use Rattle.txn_laws.specs.Small.{World, Entry, Move, first_world, with_entry, appended, is_no_error, is_free, moved, moved_all}
 use Rattle.txn_laws.specs.Small.Entry.{Data, Marker, Other}
-use Rattle.txn_laws.specs.Small.Move.{Init, Give, AddPartitions, AddGroup, End, Expire, Moment, Store, Send, Plain, Mark}
+use Rattle.txn_laws.specs.Small.Move.{Store, Send, Mark}
 use Rattle.txn_laws.specs.Laws.{IsEnded}
 
 -- in a group the epoch 0 stands for each
@@ -49,9 +49,10 @@ abbrev pub kept_moved_all : World → List Move → World
 kept_moved_all w [] = w
 kept_moved_all w (m ∷ ms) = kept_moved_all (kept_moved w m) ms
 
--- to move what is kept is to keep what was moved
-abbrev pub KeptLaw : Type 0
-KeptLaw = (w : World) (moves : List Move) → kept_world (moved_all w moves) ≡ kept_moved_all (kept_world w) moves
+-- to move what is kept is to keep what was moved, from the beginning on
+pub record KeptLaw : Type 0 where
+  pub first : kept_world first_world ≡ first_world
+  pub next : (w : World) (moves : List Move) → kept_world (moved_all w moves) ≡ kept_moved_all (kept_world w) moves
 
 -- a transaction's end is seen in what is kept
 abbrev pub KeptEndLaw : Type 0
