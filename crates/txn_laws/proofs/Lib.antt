@@ -11,3 +11,4 @@ pub mod Ticks
 pub mod Reached
 pub mod Completed
 pub mod GroupsKeep
+pub mod Rows
