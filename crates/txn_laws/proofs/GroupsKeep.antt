@@ -4,6 +4,7 @@ use Rattle.std.specs.Str.{bytes_eq}
 use Rattle.txn_coordinator.specs.declared.pair.Pair.{Pair}
 use Rattle.txn_coordinator.specs.declared.target.Target.{Target}
 use Rattle.txn_coordinator.specs.declared.target.Target.TheVariants.{Partition, Group}
+use Rattle.txn_coordinator.specs.declared.transaction.Transaction.{Transaction}
 use Rattle.txn_coordinator.specs.declared.marker.OwedMarker.{OwedMarker}
 use Rattle.txn_coordinator.specs.Coordinator.{CoordinatorValue, owner, no_transactions}
 use Rattle.txn_coordinator.specs.Holding.{holds}
@@ -11,9 +12,10 @@ use Rattle.txn_coordinator.specs.Warrants.{written_by}
 use Rattle.txn_laws.specs.Small.{World, Entry, Move, is_same_target, with_entry, appended, is_no_error, is_free, moved, moved_all, marked, first_world}
 use Rattle.txn_laws.specs.Small.Entry.{Data, Marker, Other}
 use Rattle.txn_laws.specs.Small.Move.{Init, Give, AddPartitions, AddGroup, End, Expire, Moment, Store, Send, Plain, Mark}
-use Rattle.txn_laws.specs.Sound.{Each}
-use Rattle.txn_laws.specs.Laws.{IsNotOf}
+use Rattle.txn_laws.specs.Sound.{Each, HaveOwnIds}
+use Rattle.txn_laws.specs.Laws.{IsNotOf, expiries, ticked}
 use Rattle.txn_laws.specs.Kept.{kept_pair, kept_entry, kept_entries, kept_world, kept_appended, kept_marked, kept_moved, kept_moved_all, KeptLaw, KeptEndLaw}
+use Rattle.txn_laws.proofs.Ticks.{one_by_one}
 
 -- ---- one entry more
 
@@ -91,6 +93,15 @@ kept_law = record { first = first_kept; next = moves_kept }
 pub kept_append : (w : World) (xs ys : List Move) → kept_moved_all w (xs ++ ys) ≡ kept_moved_all (kept_moved_all w xs) ys
 kept_append w [] ys = refl
 kept_append w (m ∷ ms) ys = kept_append (kept_moved w m) ms ys
+
+-- ---- ticks
+
+kept_expiries : (w : World) (ts : List Transaction) → kept_moved_all w (expiries ts) ≡ moved_all w (expiries ts)
+kept_expiries w [] = refl
+kept_expiries w (t ∷ ts) = kept_expiries (moved w (Expire t.id)) ts
+
+pub kept_tick : (w : World) (moment : ℕ) → HaveOwnIds w.coordinator.transactions → kept_moved_all w (Moment moment ∷ expiries w.coordinator.transactions) ≡ ticked w moment
+kept_tick w moment own = kept_expiries (moved w (Moment moment)) w.coordinator.transactions ∙ one_by_one w own moment
 
 -- ---- ends
 

@@ -84,7 +84,7 @@ pub record OwesEach (w v : World) (t : Transaction) (outcome : Outcome) : Type 0
 abbrev pub PreparingLaw : World → Type 0
 PreparingLaw w = (m : Move) (id : List ℕ) (t : Transaction) (outcome : Outcome) → IsPreparedBy w m id t outcome → OwesEach w (moved w m) t outcome
 
--- the same for a marker of some epoch
+-- so it ended by a marker of some epoch
 abbrev pub IsDone : ℤ → Outcome → List Entry → List Entry → Type 0
 IsDone producer outcome old new = (pair : Pair) × (pair.producer ≡ producer) × IsEnded pair outcome old new
 
