@@ -4,6 +4,7 @@ pub mod AclParts
 pub mod Places
 pub mod Offsets
 pub mod Adds
+pub mod NamedParts
 pub mod Histories
 pub mod BookBounds
 pub mod Bounds
