@@ -17,6 +17,13 @@ use Rattle.msg_acl.specs.DescribeAcls.{describe_acls_request}
 use Rattle.msg_acl.specs.CreateAcls.{create_acls_request}
 use Rattle.msg_acl.specs.DeleteAcls.{delete_acls_request}
 use Rattle.msg_txn.specs.InitProducerId.{init_producer_id_request}
+use Rattle.msg_group.specs.OffsetCommit.{offset_commit_request}
+use Rattle.msg_group.specs.OffsetFetch.{offset_fetch_request}
+use Rattle.msg_txn.specs.FindCoordinator.{find_coordinator_request}
+use Rattle.msg_group.specs.JoinGroup.{join_group_request}
+use Rattle.msg_group.specs.Heartbeat.{heartbeat_request}
+use Rattle.msg_group.specs.LeaveGroup.{leave_group_request}
+use Rattle.msg_group.specs.SyncGroup.{sync_group_request}
 use Rattle.msg_txn.specs.AddPartitions.{add_partitions_to_txn_request}
 use Rattle.msg_txn.specs.EndTxn.{end_txn_request}
 use Rattle.msg_admin.specs.declared.api.Api.{Api}
@@ -27,7 +34,7 @@ use Rattle.msg_admin.specs.declared.request.Request.TheVariants as requests
 use Rattle.msg_admin.specs.declared.reply.Reply.{Reply}
 use Rattle.msg_admin.specs.Api.{api_at, is_flexible}
 use Rattle.msg_admin.specs.Header.{header, request_header, response_header, least_header}
-use Rattle.msg_admin.specs.Bodies.{api_of, sent_as, request_body, reply_body, asked_produce, produce-asked, asked_fetch, fetch-asked, asked_list_offsets, list_offsets-asked, asked_metadata, metadata-asked, asked_init_producer_id, init_producer_id-asked, asked_add_partitions_to_txn, add_partitions_to_txn-asked, asked_end_txn, end_txn-asked, asked_describe_acls, describe_acls-asked, asked_create_acls, create_acls-asked, asked_delete_acls, delete_acls-asked}
+use Rattle.msg_admin.specs.Bodies.{api_of, sent_as, request_body, reply_body, asked_produce, produce-asked, asked_fetch, fetch-asked, asked_list_offsets, list_offsets-asked, asked_metadata, metadata-asked, asked_offset_commit, offset_commit-asked, asked_offset_fetch, offset_fetch-asked, asked_find_coordinator, find_coordinator-asked, asked_join_group, join_group-asked, asked_heartbeat, heartbeat-asked, asked_leave_group, leave_group-asked, asked_sync_group, sync_group-asked, asked_init_producer_id, init_producer_id-asked, asked_add_partitions_to_txn, add_partitions_to_txn-asked, asked_end_txn, end_txn-asked, asked_describe_acls, describe_acls-asked, asked_create_acls, create_acls-asked, asked_delete_acls, delete_acls-asked}
 use Rattle.msg_admin.specs.Frame.{framed}
 use Rattle.msg_admin.specs.Request.{IsRequest, Fits, is_writable}
 use Rattle.msg_admin.specs.Response.{response_as, response_text, sendable_as}
@@ -61,6 +68,13 @@ spelled_api apis.Produce text r h = ap api_of (sym (of_variant requests.Produce 
 spelled_api apis.Fetch text r h = ap api_of (sym (of_variant requests.Fetch asked_fetch (fetch_request.Spells text) r (fetch-asked r) (asked_fetch r) refl h).1)
 spelled_api apis.ListOffsets text r h = ap api_of (sym (of_variant requests.ListOffsets asked_list_offsets (list_offsets_request.Spells text) r (list_offsets-asked r) (asked_list_offsets r) refl h).1)
 spelled_api apis.Metadata text r h = ap api_of (sym (of_variant requests.Metadata asked_metadata (metadata_request.Spells text) r (metadata-asked r) (asked_metadata r) refl h).1)
+spelled_api apis.OffsetCommit text r h = ap api_of (sym (of_variant requests.OffsetCommit asked_offset_commit (offset_commit_request.Spells text) r (offset_commit-asked r) (asked_offset_commit r) refl h).1)
+spelled_api apis.OffsetFetch text r h = ap api_of (sym (of_variant requests.OffsetFetch asked_offset_fetch (offset_fetch_request.Spells text) r (offset_fetch-asked r) (asked_offset_fetch r) refl h).1)
+spelled_api apis.FindCoordinator text r h = ap api_of (sym (of_variant requests.FindCoordinator asked_find_coordinator (find_coordinator_request.Spells text) r (find_coordinator-asked r) (asked_find_coordinator r) refl h).1)
+spelled_api apis.JoinGroup text r h = ap api_of (sym (of_variant requests.JoinGroup asked_join_group (join_group_request.Spells text) r (join_group-asked r) (asked_join_group r) refl h).1)
+spelled_api apis.Heartbeat text r h = ap api_of (sym (of_variant requests.Heartbeat asked_heartbeat (heartbeat_request.Spells text) r (heartbeat-asked r) (asked_heartbeat r) refl h).1)
+spelled_api apis.LeaveGroup text r h = ap api_of (sym (of_variant requests.LeaveGroup asked_leave_group (leave_group_request.Spells text) r (leave_group-asked r) (asked_leave_group r) refl h).1)
+spelled_api apis.SyncGroup text r h = ap api_of (sym (of_variant requests.SyncGroup asked_sync_group (sync_group_request.Spells text) r (sync_group-asked r) (asked_sync_group r) refl h).1)
 spelled_api apis.InitProducerId text r h = ap api_of (sym (of_variant requests.InitProducerId asked_init_producer_id (init_producer_id_request.Spells text) r (init_producer_id-asked r) (asked_init_producer_id r) refl h).1)
 spelled_api apis.AddPartitionsToTxn text r h = ap api_of (sym (of_variant requests.AddPartitionsToTxn asked_add_partitions_to_txn (add_partitions_to_txn_request.Spells text) r (add_partitions_to_txn-asked r) (asked_add_partitions_to_txn r) refl h).1)
 spelled_api apis.EndTxn text r h = ap api_of (sym (of_variant requests.EndTxn asked_end_txn (end_txn_request.Spells text) r (end_txn-asked r) (asked_end_txn r) refl h).1)

@@ -12,7 +12,8 @@ use Rattle.wire_types.specs.Spelling.{int_written}
 use Rattle.wire_types.specs.Schema.{int32}
 use Rattle.msg_data.specs.Strings.{is_short}
 use Rattle.msg_acl.proofs.ReplyStrings.{describe_acls_tells, create_acls_tells, delete_acls_tells}
-use Rattle.msg_txn.proofs.ReplyStrings.{init_producer_id_tells, add_partitions_to_txn_tells, end_txn_tells}
+use Rattle.msg_group.proofs.ReplyStrings.{offset_commit_tells, offset_fetch_tells, join_group_tells, heartbeat_tells, leave_group_tells, sync_group_tells}
+use Rattle.msg_txn.proofs.ReplyStrings.{find_coordinator_tells, init_producer_id_tells, add_partitions_to_txn_tells, end_txn_tells}
 use Rattle.msg_data.proofs.ReplyStrings.{produce_tells, fetch_tells, list_offsets_tells, metadata_tells}
 use Rattle.msg_admin.specs.declared.api.Api.{Api}
 use Rattle.msg_admin.specs.declared.reply.Reply.{Reply}
@@ -61,6 +62,13 @@ decided (replies.SilentProduce m) = tt
 decided (replies.Fetch m) = (fetch_tells.short m, fetch_tells.fits m)
 decided (replies.ListOffsets m) = (list_offsets_tells.short m, list_offsets_tells.fits m)
 decided (replies.Metadata m) = (metadata_tells.short m, metadata_tells.fits m)
+decided (replies.OffsetCommit m) = (offset_commit_tells.short m, offset_commit_tells.fits m)
+decided (replies.OffsetFetch m) = (offset_fetch_tells.short m, offset_fetch_tells.fits m)
+decided (replies.FindCoordinator m) = (find_coordinator_tells.short m, find_coordinator_tells.fits m)
+decided (replies.JoinGroup m) = (join_group_tells.short m, join_group_tells.fits m)
+decided (replies.Heartbeat m) = (heartbeat_tells.short m, heartbeat_tells.fits m)
+decided (replies.LeaveGroup m) = (leave_group_tells.short m, leave_group_tells.fits m)
+decided (replies.SyncGroup m) = (sync_group_tells.short m, sync_group_tells.fits m)
 decided (replies.InitProducerId m) = (init_producer_id_tells.short m, init_producer_id_tells.fits m)
 decided (replies.AddPartitionsToTxn m) = (add_partitions_to_txn_tells.short m, add_partitions_to_txn_tells.fits m)
 decided (replies.EndTxn m) = (end_txn_tells.short m, end_txn_tells.fits m)

@@ -1,5 +1,5 @@
 -- The apis that are served, each under its key in one version (Kafka protocol guide, "Api Keys").
-use Rattle.std.specs.Prelude.{◌≡◌, ℤ, pos, Bool, false, ◌&&◌, List, [], ◌∷◌, Option, Some, refl}
+use Rattle.std.specs.Prelude.{◌≡◌, ℤ, pos, Bool, true, false, ◌&&◌, List, [], ◌∷◌, Option, Some, refl}
 use Rattle.std.specs.List.{find}
 use Rattle.std.specs.Ordering.{int_eq}
 use Rattle.msg_admin.specs.declared.api.Api.{Api}
@@ -10,6 +10,13 @@ key_of apis.Produce = pos 0
 key_of apis.Fetch = pos 1
 key_of apis.ListOffsets = pos 2
 key_of apis.Metadata = pos 3
+key_of apis.OffsetCommit = pos 8
+key_of apis.OffsetFetch = pos 9
+key_of apis.FindCoordinator = pos 10
+key_of apis.JoinGroup = pos 11
+key_of apis.Heartbeat = pos 12
+key_of apis.LeaveGroup = pos 13
+key_of apis.SyncGroup = pos 14
 key_of apis.InitProducerId = pos 22
 key_of apis.AddPartitionsToTxn = pos 24
 key_of apis.EndTxn = pos 26
@@ -22,6 +29,13 @@ version_of apis.Produce = pos 3
 version_of apis.Fetch = pos 4
 version_of apis.ListOffsets = pos 2
 version_of apis.Metadata = pos 1
+version_of apis.OffsetCommit = pos 2
+version_of apis.OffsetFetch = pos 7
+version_of apis.FindCoordinator = pos 1
+version_of apis.JoinGroup = pos 2
+version_of apis.Heartbeat = pos 1
+version_of apis.LeaveGroup = pos 1
+version_of apis.SyncGroup = pos 1
 version_of apis.InitProducerId = pos 0
 version_of apis.AddPartitionsToTxn = pos 0
 version_of apis.EndTxn = pos 0
@@ -35,6 +49,13 @@ is_flexible apis.Produce = false
 is_flexible apis.Fetch = false
 is_flexible apis.ListOffsets = false
 is_flexible apis.Metadata = false
+is_flexible apis.OffsetCommit = false
+is_flexible apis.OffsetFetch = true
+is_flexible apis.FindCoordinator = false
+is_flexible apis.JoinGroup = false
+is_flexible apis.Heartbeat = false
+is_flexible apis.LeaveGroup = false
+is_flexible apis.SyncGroup = false
 is_flexible apis.InitProducerId = false
 is_flexible apis.AddPartitionsToTxn = false
 is_flexible apis.EndTxn = false
@@ -43,7 +64,7 @@ is_flexible apis.CreateAcls = false
 is_flexible apis.DeleteAcls = false
 
 unfoldable pub all_apis : List Api
-all_apis = apis.Produce ∷ apis.Fetch ∷ apis.ListOffsets ∷ apis.Metadata ∷ apis.InitProducerId ∷ apis.AddPartitionsToTxn ∷ apis.EndTxn ∷ apis.DescribeAcls ∷ apis.CreateAcls ∷ apis.DeleteAcls ∷ []
+all_apis = apis.Produce ∷ apis.Fetch ∷ apis.ListOffsets ∷ apis.Metadata ∷ apis.OffsetCommit ∷ apis.OffsetFetch ∷ apis.FindCoordinator ∷ apis.JoinGroup ∷ apis.Heartbeat ∷ apis.LeaveGroup ∷ apis.SyncGroup ∷ apis.InitProducerId ∷ apis.AddPartitionsToTxn ∷ apis.EndTxn ∷ apis.DescribeAcls ∷ apis.CreateAcls ∷ apis.DeleteAcls ∷ []
 
 -- the api that is served under a key in a version
 unfoldable pub api_at : ℤ → ℤ → Option Api
@@ -56,6 +77,13 @@ api_at-own apis.Produce = refl
 api_at-own apis.Fetch = refl
 api_at-own apis.ListOffsets = refl
 api_at-own apis.Metadata = refl
+api_at-own apis.OffsetCommit = refl
+api_at-own apis.OffsetFetch = refl
+api_at-own apis.FindCoordinator = refl
+api_at-own apis.JoinGroup = refl
+api_at-own apis.Heartbeat = refl
+api_at-own apis.LeaveGroup = refl
+api_at-own apis.SyncGroup = refl
 api_at-own apis.InitProducerId = refl
 api_at-own apis.AddPartitionsToTxn = refl
 api_at-own apis.EndTxn = refl

@@ -21,6 +21,27 @@ use Rattle.wire_types.specs.Strings.{no_strings}
 use Rattle.msg_txn.specs.declared.init_producer_id.InitProducerIdRequest.{InitProducerIdRequest}
 use Rattle.msg_txn.specs.declared.init_producer_id.InitProducerIdReply.{InitProducerIdReply}
 use Rattle.msg_txn.specs.InitProducerId.{init_producer_id_request, init_producer_id_reply}
+use Rattle.msg_group.specs.declared.offset_commit.OffsetCommitRequest.{OffsetCommitRequest}
+use Rattle.msg_group.specs.declared.offset_commit.OffsetCommitReply.{OffsetCommitReply}
+use Rattle.msg_group.specs.OffsetCommit.{offset_commit_request, offset_commit_reply, offset_commit_strings}
+use Rattle.msg_group.specs.declared.offset_fetch.OffsetFetchRequest.{OffsetFetchRequest}
+use Rattle.msg_group.specs.declared.offset_fetch.OffsetFetchReply.{OffsetFetchReply}
+use Rattle.msg_group.specs.OffsetFetch.{offset_fetch_request, offset_fetch_reply}
+use Rattle.msg_txn.specs.declared.find_coordinator.FindCoordinatorRequest.{FindCoordinatorRequest}
+use Rattle.msg_txn.specs.declared.find_coordinator.FindCoordinatorReply.{FindCoordinatorReply}
+use Rattle.msg_txn.specs.FindCoordinator.{find_coordinator_request, find_coordinator_reply, find_coordinator_strings}
+use Rattle.msg_group.specs.declared.join_group.JoinGroupRequest.{JoinGroupRequest}
+use Rattle.msg_group.specs.declared.join_group.JoinGroupReply.{JoinGroupReply}
+use Rattle.msg_group.specs.JoinGroup.{join_group_request, join_group_reply, join_group_strings}
+use Rattle.msg_group.specs.declared.heartbeat.HeartbeatRequest.{HeartbeatRequest}
+use Rattle.msg_group.specs.declared.heartbeat.HeartbeatReply.{HeartbeatReply}
+use Rattle.msg_group.specs.Heartbeat.{heartbeat_request, heartbeat_reply}
+use Rattle.msg_group.specs.declared.leave_group.LeaveGroupRequest.{LeaveGroupRequest}
+use Rattle.msg_group.specs.declared.leave_group.LeaveGroupReply.{LeaveGroupReply}
+use Rattle.msg_group.specs.LeaveGroup.{leave_group_request, leave_group_reply}
+use Rattle.msg_group.specs.declared.sync_group.SyncGroupRequest.{SyncGroupRequest}
+use Rattle.msg_group.specs.declared.sync_group.SyncGroupReply.{SyncGroupReply}
+use Rattle.msg_group.specs.SyncGroup.{sync_group_request, sync_group_reply}
 use Rattle.msg_txn.specs.declared.add_partitions.AddPartitionsToTxnRequest.{AddPartitionsToTxnRequest}
 use Rattle.msg_txn.specs.declared.add_partitions.AddPartitionsToTxnReply.{AddPartitionsToTxnReply}
 use Rattle.msg_txn.specs.AddPartitions.{add_partitions_to_txn_request, add_partitions_to_txn_reply, add_partitions_to_txn_strings}
@@ -46,6 +67,13 @@ api_of (requests.Produce r) = apis.Produce
 api_of (requests.Fetch r) = apis.Fetch
 api_of (requests.ListOffsets r) = apis.ListOffsets
 api_of (requests.Metadata r) = apis.Metadata
+api_of (requests.OffsetCommit r) = apis.OffsetCommit
+api_of (requests.OffsetFetch r) = apis.OffsetFetch
+api_of (requests.FindCoordinator r) = apis.FindCoordinator
+api_of (requests.JoinGroup r) = apis.JoinGroup
+api_of (requests.Heartbeat r) = apis.Heartbeat
+api_of (requests.LeaveGroup r) = apis.LeaveGroup
+api_of (requests.SyncGroup r) = apis.SyncGroup
 api_of (requests.InitProducerId r) = apis.InitProducerId
 api_of (requests.AddPartitionsToTxn r) = apis.AddPartitionsToTxn
 api_of (requests.EndTxn r) = apis.EndTxn
@@ -60,6 +88,13 @@ sent_as (replies.SilentProduce r) = None
 sent_as (replies.Fetch r) = Some apis.Fetch
 sent_as (replies.ListOffsets r) = Some apis.ListOffsets
 sent_as (replies.Metadata r) = Some apis.Metadata
+sent_as (replies.OffsetCommit r) = Some apis.OffsetCommit
+sent_as (replies.OffsetFetch r) = Some apis.OffsetFetch
+sent_as (replies.FindCoordinator r) = Some apis.FindCoordinator
+sent_as (replies.JoinGroup r) = Some apis.JoinGroup
+sent_as (replies.Heartbeat r) = Some apis.Heartbeat
+sent_as (replies.LeaveGroup r) = Some apis.LeaveGroup
+sent_as (replies.SyncGroup r) = Some apis.SyncGroup
 sent_as (replies.InitProducerId r) = Some apis.InitProducerId
 sent_as (replies.AddPartitionsToTxn r) = Some apis.AddPartitionsToTxn
 sent_as (replies.EndTxn r) = Some apis.EndTxn
@@ -77,6 +112,13 @@ strings_of (replies.SilentProduce r) = produce_strings r
 strings_of (replies.Fetch r) = fetch_strings r
 strings_of (replies.ListOffsets r) = list_offsets_strings r
 strings_of (replies.Metadata r) = metadata_strings r
+strings_of (replies.OffsetCommit r) = offset_commit_strings r
+strings_of (replies.OffsetFetch r) = no_strings r
+strings_of (replies.FindCoordinator r) = find_coordinator_strings r
+strings_of (replies.JoinGroup r) = join_group_strings r
+strings_of (replies.Heartbeat r) = no_strings r
+strings_of (replies.LeaveGroup r) = no_strings r
+strings_of (replies.SyncGroup r) = no_strings r
 strings_of (replies.InitProducerId r) = no_strings r
 strings_of (replies.AddPartitionsToTxn r) = add_partitions_to_txn_strings r
 strings_of (replies.EndTxn r) = no_strings r
@@ -158,6 +200,132 @@ answered_metadata _ = None
 pub metadata-answered : (r : Reply) (x : MetadataReply) → answered_metadata r ≡ Some x → replies.Metadata x ≡ r
 metadata-answered (replies.Metadata y) x e = cc
 metadata-answered _ x e = absurd cc
+
+-- ---- OffsetCommit
+
+abbrev pub asked_offset_commit : Request → Option OffsetCommitRequest
+asked_offset_commit (requests.OffsetCommit r) = Some r
+asked_offset_commit _ = None
+
+pub offset_commit-asked : (r : Request) (x : OffsetCommitRequest) → asked_offset_commit r ≡ Some x → requests.OffsetCommit x ≡ r
+offset_commit-asked (requests.OffsetCommit y) x e = cc
+offset_commit-asked _ x e = absurd cc
+
+abbrev pub answered_offset_commit : Reply → Option OffsetCommitReply
+answered_offset_commit (replies.OffsetCommit r) = Some r
+answered_offset_commit _ = None
+
+pub offset_commit-answered : (r : Reply) (x : OffsetCommitReply) → answered_offset_commit r ≡ Some x → replies.OffsetCommit x ≡ r
+offset_commit-answered (replies.OffsetCommit y) x e = cc
+offset_commit-answered _ x e = absurd cc
+
+-- ---- OffsetFetch
+
+abbrev pub asked_offset_fetch : Request → Option OffsetFetchRequest
+asked_offset_fetch (requests.OffsetFetch r) = Some r
+asked_offset_fetch _ = None
+
+pub offset_fetch-asked : (r : Request) (x : OffsetFetchRequest) → asked_offset_fetch r ≡ Some x → requests.OffsetFetch x ≡ r
+offset_fetch-asked (requests.OffsetFetch y) x e = cc
+offset_fetch-asked _ x e = absurd cc
+
+abbrev pub answered_offset_fetch : Reply → Option OffsetFetchReply
+answered_offset_fetch (replies.OffsetFetch r) = Some r
+answered_offset_fetch _ = None
+
+pub offset_fetch-answered : (r : Reply) (x : OffsetFetchReply) → answered_offset_fetch r ≡ Some x → replies.OffsetFetch x ≡ r
+offset_fetch-answered (replies.OffsetFetch y) x e = cc
+offset_fetch-answered _ x e = absurd cc
+
+-- ---- FindCoordinator
+
+abbrev pub asked_find_coordinator : Request → Option FindCoordinatorRequest
+asked_find_coordinator (requests.FindCoordinator r) = Some r
+asked_find_coordinator _ = None
+
+pub find_coordinator-asked : (r : Request) (x : FindCoordinatorRequest) → asked_find_coordinator r ≡ Some x → requests.FindCoordinator x ≡ r
+find_coordinator-asked (requests.FindCoordinator y) x e = cc
+find_coordinator-asked _ x e = absurd cc
+
+abbrev pub answered_find_coordinator : Reply → Option FindCoordinatorReply
+answered_find_coordinator (replies.FindCoordinator r) = Some r
+answered_find_coordinator _ = None
+
+pub find_coordinator-answered : (r : Reply) (x : FindCoordinatorReply) → answered_find_coordinator r ≡ Some x → replies.FindCoordinator x ≡ r
+find_coordinator-answered (replies.FindCoordinator y) x e = cc
+find_coordinator-answered _ x e = absurd cc
+
+-- ---- JoinGroup
+
+abbrev pub asked_join_group : Request → Option JoinGroupRequest
+asked_join_group (requests.JoinGroup r) = Some r
+asked_join_group _ = None
+
+pub join_group-asked : (r : Request) (x : JoinGroupRequest) → asked_join_group r ≡ Some x → requests.JoinGroup x ≡ r
+join_group-asked (requests.JoinGroup y) x e = cc
+join_group-asked _ x e = absurd cc
+
+abbrev pub answered_join_group : Reply → Option JoinGroupReply
+answered_join_group (replies.JoinGroup r) = Some r
+answered_join_group _ = None
+
+pub join_group-answered : (r : Reply) (x : JoinGroupReply) → answered_join_group r ≡ Some x → replies.JoinGroup x ≡ r
+join_group-answered (replies.JoinGroup y) x e = cc
+join_group-answered _ x e = absurd cc
+
+-- ---- Heartbeat
+
+abbrev pub asked_heartbeat : Request → Option HeartbeatRequest
+asked_heartbeat (requests.Heartbeat r) = Some r
+asked_heartbeat _ = None
+
+pub heartbeat-asked : (r : Request) (x : HeartbeatRequest) → asked_heartbeat r ≡ Some x → requests.Heartbeat x ≡ r
+heartbeat-asked (requests.Heartbeat y) x e = cc
+heartbeat-asked _ x e = absurd cc
+
+abbrev pub answered_heartbeat : Reply → Option HeartbeatReply
+answered_heartbeat (replies.Heartbeat r) = Some r
+answered_heartbeat _ = None
+
+pub heartbeat-answered : (r : Reply) (x : HeartbeatReply) → answered_heartbeat r ≡ Some x → replies.Heartbeat x ≡ r
+heartbeat-answered (replies.Heartbeat y) x e = cc
+heartbeat-answered _ x e = absurd cc
+
+-- ---- LeaveGroup
+
+abbrev pub asked_leave_group : Request → Option LeaveGroupRequest
+asked_leave_group (requests.LeaveGroup r) = Some r
+asked_leave_group _ = None
+
+pub leave_group-asked : (r : Request) (x : LeaveGroupRequest) → asked_leave_group r ≡ Some x → requests.LeaveGroup x ≡ r
+leave_group-asked (requests.LeaveGroup y) x e = cc
+leave_group-asked _ x e = absurd cc
+
+abbrev pub answered_leave_group : Reply → Option LeaveGroupReply
+answered_leave_group (replies.LeaveGroup r) = Some r
+answered_leave_group _ = None
+
+pub leave_group-answered : (r : Reply) (x : LeaveGroupReply) → answered_leave_group r ≡ Some x → replies.LeaveGroup x ≡ r
+leave_group-answered (replies.LeaveGroup y) x e = cc
+leave_group-answered _ x e = absurd cc
+
+-- ---- SyncGroup
+
+abbrev pub asked_sync_group : Request → Option SyncGroupRequest
+asked_sync_group (requests.SyncGroup r) = Some r
+asked_sync_group _ = None
+
+pub sync_group-asked : (r : Request) (x : SyncGroupRequest) → asked_sync_group r ≡ Some x → requests.SyncGroup x ≡ r
+sync_group-asked (requests.SyncGroup y) x e = cc
+sync_group-asked _ x e = absurd cc
+
+abbrev pub answered_sync_group : Reply → Option SyncGroupReply
+answered_sync_group (replies.SyncGroup r) = Some r
+answered_sync_group _ = None
+
+pub sync_group-answered : (r : Reply) (x : SyncGroupReply) → answered_sync_group r ≡ Some x → replies.SyncGroup x ≡ r
+sync_group-answered (replies.SyncGroup y) x e = cc
+sync_group-answered _ x e = absurd cc
 
 -- ---- InitProducerId
 
@@ -274,6 +442,13 @@ request_body apis.Produce = body_of (variant requests.Produce asked_produce (λ 
 request_body apis.Fetch = body_of (variant requests.Fetch asked_fetch (λ x. refl) fetch-asked fetch_request)
 request_body apis.ListOffsets = body_of (variant requests.ListOffsets asked_list_offsets (λ x. refl) list_offsets-asked list_offsets_request)
 request_body apis.Metadata = body_of (variant requests.Metadata asked_metadata (λ x. refl) metadata-asked metadata_request)
+request_body apis.OffsetCommit = body_of (variant requests.OffsetCommit asked_offset_commit (λ x. refl) offset_commit-asked offset_commit_request)
+request_body apis.OffsetFetch = body_of (variant requests.OffsetFetch asked_offset_fetch (λ x. refl) offset_fetch-asked offset_fetch_request)
+request_body apis.FindCoordinator = body_of (variant requests.FindCoordinator asked_find_coordinator (λ x. refl) find_coordinator-asked find_coordinator_request)
+request_body apis.JoinGroup = body_of (variant requests.JoinGroup asked_join_group (λ x. refl) join_group-asked join_group_request)
+request_body apis.Heartbeat = body_of (variant requests.Heartbeat asked_heartbeat (λ x. refl) heartbeat-asked heartbeat_request)
+request_body apis.LeaveGroup = body_of (variant requests.LeaveGroup asked_leave_group (λ x. refl) leave_group-asked leave_group_request)
+request_body apis.SyncGroup = body_of (variant requests.SyncGroup asked_sync_group (λ x. refl) sync_group-asked sync_group_request)
 request_body apis.InitProducerId = body_of (variant requests.InitProducerId asked_init_producer_id (λ x. refl) init_producer_id-asked init_producer_id_request)
 request_body apis.AddPartitionsToTxn = body_of (variant requests.AddPartitionsToTxn asked_add_partitions_to_txn (λ x. refl) add_partitions_to_txn-asked add_partitions_to_txn_request)
 request_body apis.EndTxn = body_of (variant requests.EndTxn asked_end_txn (λ x. refl) end_txn-asked end_txn_request)
@@ -286,6 +461,13 @@ reply_body apis.Produce = variant replies.Produce answered_produce (λ x. refl) 
 reply_body apis.Fetch = variant replies.Fetch answered_fetch (λ x. refl) fetch-answered fetch_reply
 reply_body apis.ListOffsets = variant replies.ListOffsets answered_list_offsets (λ x. refl) list_offsets-answered list_offsets_reply
 reply_body apis.Metadata = variant replies.Metadata answered_metadata (λ x. refl) metadata-answered metadata_reply
+reply_body apis.OffsetCommit = variant replies.OffsetCommit answered_offset_commit (λ x. refl) offset_commit-answered offset_commit_reply
+reply_body apis.OffsetFetch = variant replies.OffsetFetch answered_offset_fetch (λ x. refl) offset_fetch-answered offset_fetch_reply
+reply_body apis.FindCoordinator = variant replies.FindCoordinator answered_find_coordinator (λ x. refl) find_coordinator-answered find_coordinator_reply
+reply_body apis.JoinGroup = variant replies.JoinGroup answered_join_group (λ x. refl) join_group-answered join_group_reply
+reply_body apis.Heartbeat = variant replies.Heartbeat answered_heartbeat (λ x. refl) heartbeat-answered heartbeat_reply
+reply_body apis.LeaveGroup = variant replies.LeaveGroup answered_leave_group (λ x. refl) leave_group-answered leave_group_reply
+reply_body apis.SyncGroup = variant replies.SyncGroup answered_sync_group (λ x. refl) sync_group-answered sync_group_reply
 reply_body apis.InitProducerId = variant replies.InitProducerId answered_init_producer_id (λ x. refl) init_producer_id-answered init_producer_id_reply
 reply_body apis.AddPartitionsToTxn = variant replies.AddPartitionsToTxn answered_add_partitions_to_txn (λ x. refl) add_partitions_to_txn-answered add_partitions_to_txn_reply
 reply_body apis.EndTxn = variant replies.EndTxn answered_end_txn (λ x. refl) end_txn-answered end_txn_reply

@@ -12,6 +12,13 @@ pub enum Api {
     Fetch = 1,
     ListOffsets = 2,
     Metadata = 3,
+    OffsetCommit = 8,
+    OffsetFetch = 9,
+    FindCoordinator = 10,
+    JoinGroup = 11,
+    Heartbeat = 12,
+    LeaveGroup = 13,
+    SyncGroup = 14,
     InitProducerId = 22,
     AddPartitionsToTxn = 24,
     EndTxn = 26,
@@ -22,11 +29,18 @@ pub enum Api {
 
 impl Api {
     /// Every api, in rising order of keys.
-    pub const ALL: [Api; 10] = [
+    pub const ALL: [Api; 17] = [
         Api::Produce,
         Api::Fetch,
         Api::ListOffsets,
         Api::Metadata,
+        Api::OffsetCommit,
+        Api::OffsetFetch,
+        Api::FindCoordinator,
+        Api::JoinGroup,
+        Api::Heartbeat,
+        Api::LeaveGroup,
+        Api::SyncGroup,
         Api::InitProducerId,
         Api::AddPartitionsToTxn,
         Api::EndTxn,
@@ -53,6 +67,13 @@ impl Api {
             Api::Fetch => 4,
             Api::ListOffsets => 2,
             Api::Metadata => 1,
+            Api::OffsetCommit => 2,
+            Api::OffsetFetch => 7,
+            Api::FindCoordinator => 1,
+            Api::JoinGroup => 2,
+            Api::Heartbeat => 1,
+            Api::LeaveGroup => 1,
+            Api::SyncGroup => 1,
             Api::InitProducerId => 0,
             Api::AddPartitionsToTxn => 0,
             Api::EndTxn => 0,
@@ -69,6 +90,9 @@ impl Api {
     {
         match self {
             Api::Produce | Api::Fetch | Api::ListOffsets | Api::Metadata => false,
+            Api::OffsetFetch => true,
+            Api::OffsetCommit | Api::FindCoordinator | Api::JoinGroup => false,
+            Api::Heartbeat | Api::LeaveGroup | Api::SyncGroup => false,
             Api::InitProducerId | Api::AddPartitionsToTxn | Api::EndTxn => false,
             Api::DescribeAcls | Api::CreateAcls | Api::DeleteAcls => false,
         }

@@ -9,7 +9,11 @@ use crate::frame::write_frame;
 use bytes::Bytes;
 use msg_acl::{CreateAclsReply, DeleteAclsReply, DescribeAclsReply};
 use msg_data::{FetchReply, ListOffsetsReply, MetadataReply, ProduceReply};
-use msg_txn::{AddPartitionsToTxnReply, EndTxnReply, InitProducerIdReply};
+use msg_group::{
+    HeartbeatReply, JoinGroupReply, LeaveGroupReply, OffsetCommitReply, OffsetFetchReply,
+    SyncGroupReply,
+};
+use msg_txn::{AddPartitionsToTxnReply, EndTxnReply, FindCoordinatorReply, InitProducerIdReply};
 use std::alloc::Global;
 use wire_types::WriteFault;
 
@@ -22,6 +26,13 @@ pub enum Reply {
     Fetch(FetchReply),
     ListOffsets(ListOffsetsReply),
     Metadata(MetadataReply),
+    OffsetCommit(OffsetCommitReply),
+    OffsetFetch(OffsetFetchReply),
+    FindCoordinator(FindCoordinatorReply),
+    JoinGroup(JoinGroupReply),
+    Heartbeat(HeartbeatReply),
+    LeaveGroup(LeaveGroupReply),
+    SyncGroup(SyncGroupReply),
     InitProducerId(InitProducerIdReply),
     AddPartitionsToTxn(AddPartitionsToTxnReply),
     EndTxn(EndTxnReply),
@@ -65,6 +76,32 @@ fn write_response(alloc: Global, correlation: i32, reply: &Reply) -> Result<Byte
         }
         Reply::Metadata(answer) => {
             write_frame(alloc, Api::Metadata.is_flexible(), &correlation, answer)
+        }
+        Reply::OffsetCommit(answer) => {
+            write_frame(alloc, Api::OffsetCommit.is_flexible(), &correlation, answer)
+        }
+        Reply::OffsetFetch(answer) => {
+            write_frame(alloc, Api::OffsetFetch.is_flexible(), &correlation, answer)
+        }
+        Reply::FindCoordinator(answer) => {
+            write_frame(
+                alloc,
+                Api::FindCoordinator.is_flexible(),
+                &correlation,
+                answer,
+            )
+        }
+        Reply::JoinGroup(answer) => {
+            write_frame(alloc, Api::JoinGroup.is_flexible(), &correlation, answer)
+        }
+        Reply::Heartbeat(answer) => {
+            write_frame(alloc, Api::Heartbeat.is_flexible(), &correlation, answer)
+        }
+        Reply::LeaveGroup(answer) => {
+            write_frame(alloc, Api::LeaveGroup.is_flexible(), &correlation, answer)
+        }
+        Reply::SyncGroup(answer) => {
+            write_frame(alloc, Api::SyncGroup.is_flexible(), &correlation, answer)
         }
         Reply::InitProducerId(answer) => {
             write_frame(

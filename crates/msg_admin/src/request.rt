@@ -16,7 +16,13 @@ use crate::laws::read_fits;
 use bytes::Bytes;
 use msg_acl::{CreateAclsRequest, DeleteAclsRequest, DescribeAclsRequest};
 use msg_data::{FetchRequest, ListOffsetsRequest, MetadataRequest, ProduceRequest};
-use msg_txn::{AddPartitionsToTxnRequest, EndTxnRequest, InitProducerIdRequest};
+use msg_group::{
+    HeartbeatRequest, JoinGroupRequest, LeaveGroupRequest, OffsetCommitRequest, OffsetFetchRequest,
+    SyncGroupRequest,
+};
+use msg_txn::{
+    AddPartitionsToTxnRequest, EndTxnRequest, FindCoordinatorRequest, InitProducerIdRequest,
+};
 use std::alloc::Global;
 use wire_types::{Cursor, Malformed, ReadFault, Wire, WriteFault};
 
@@ -30,6 +36,13 @@ pub enum Request {
     Fetch(FetchRequest),
     ListOffsets(ListOffsetsRequest),
     Metadata(MetadataRequest),
+    OffsetCommit(OffsetCommitRequest),
+    OffsetFetch(OffsetFetchRequest),
+    FindCoordinator(FindCoordinatorRequest),
+    JoinGroup(JoinGroupRequest),
+    Heartbeat(HeartbeatRequest),
+    LeaveGroup(LeaveGroupRequest),
+    SyncGroup(SyncGroupRequest),
     InitProducerId(InitProducerIdRequest),
     AddPartitionsToTxn(AddPartitionsToTxnRequest),
     EndTxn(EndTxnRequest),
@@ -48,6 +61,13 @@ impl Request {
             Request::Fetch(_) => Api::Fetch,
             Request::ListOffsets(_) => Api::ListOffsets,
             Request::Metadata(_) => Api::Metadata,
+            Request::OffsetCommit(_) => Api::OffsetCommit,
+            Request::OffsetFetch(_) => Api::OffsetFetch,
+            Request::FindCoordinator(_) => Api::FindCoordinator,
+            Request::JoinGroup(_) => Api::JoinGroup,
+            Request::Heartbeat(_) => Api::Heartbeat,
+            Request::LeaveGroup(_) => Api::LeaveGroup,
+            Request::SyncGroup(_) => Api::SyncGroup,
             Request::InitProducerId(_) => Api::InitProducerId,
             Request::AddPartitionsToTxn(_) => Api::AddPartitionsToTxn,
             Request::EndTxn(_) => Api::EndTxn,
@@ -76,6 +96,13 @@ impl Request {
             Request::Fetch(body) => body.room_left(room),
             Request::ListOffsets(body) => body.room_left(room),
             Request::Metadata(body) => body.room_left(room),
+            Request::OffsetCommit(body) => body.room_left(room),
+            Request::OffsetFetch(body) => body.room_left(room),
+            Request::FindCoordinator(body) => body.room_left(room),
+            Request::JoinGroup(body) => body.room_left(room),
+            Request::Heartbeat(body) => body.room_left(room),
+            Request::LeaveGroup(body) => body.room_left(room),
+            Request::SyncGroup(body) => body.room_left(room),
             Request::InitProducerId(body) => body.room_left(room),
             Request::AddPartitionsToTxn(body) => body.room_left(room),
             Request::EndTxn(body) => body.room_left(room),
@@ -96,6 +123,34 @@ fn read_body(alloc: Global, api: Api, cursor: &mut Cursor<'_>) -> Result<Request
         Api::Fetch => Ok(Request::Fetch(FetchRequest::read(alloc, cursor)?)),
         Api::ListOffsets => Ok(Request::ListOffsets(ListOffsetsRequest::read(alloc, cursor)?)),
         Api::Metadata => Ok(Request::Metadata(MetadataRequest::read(alloc, cursor)?)),
+        Api::OffsetCommit => {
+            let body = OffsetCommitRequest::read(alloc, cursor)?;
+            Ok(Request::OffsetCommit(body))
+        }
+        Api::OffsetFetch => {
+            let body = OffsetFetchRequest::read(alloc, cursor)?;
+            Ok(Request::OffsetFetch(body))
+        }
+        Api::FindCoordinator => {
+            let body = FindCoordinatorRequest::read(alloc, cursor)?;
+            Ok(Request::FindCoordinator(body))
+        }
+        Api::JoinGroup => {
+            let body = JoinGroupRequest::read(alloc, cursor)?;
+            Ok(Request::JoinGroup(body))
+        }
+        Api::Heartbeat => {
+            let body = HeartbeatRequest::read(alloc, cursor)?;
+            Ok(Request::Heartbeat(body))
+        }
+        Api::LeaveGroup => {
+            let body = LeaveGroupRequest::read(alloc, cursor)?;
+            Ok(Request::LeaveGroup(body))
+        }
+        Api::SyncGroup => {
+            let body = SyncGroupRequest::read(alloc, cursor)?;
+            Ok(Request::SyncGroup(body))
+        }
         Api::InitProducerId => {
             let body = InitProducerIdRequest::read(alloc, cursor)?;
             Ok(Request::InitProducerId(body))
@@ -169,6 +224,13 @@ pub fn write_request(alloc: Global, header: &Header, request: &Request) -> Resul
         Request::Fetch(body) => write_frame(alloc, flexible, header, body),
         Request::ListOffsets(body) => write_frame(alloc, flexible, header, body),
         Request::Metadata(body) => write_frame(alloc, flexible, header, body),
+        Request::OffsetCommit(body) => write_frame(alloc, flexible, header, body),
+        Request::OffsetFetch(body) => write_frame(alloc, flexible, header, body),
+        Request::FindCoordinator(body) => write_frame(alloc, flexible, header, body),
+        Request::JoinGroup(body) => write_frame(alloc, flexible, header, body),
+        Request::Heartbeat(body) => write_frame(alloc, flexible, header, body),
+        Request::LeaveGroup(body) => write_frame(alloc, flexible, header, body),
+        Request::SyncGroup(body) => write_frame(alloc, flexible, header, body),
         Request::InitProducerId(body) => write_frame(alloc, flexible, header, body),
         Request::AddPartitionsToTxn(body) => write_frame(alloc, flexible, header, body),
         Request::EndTxn(body) => write_frame(alloc, flexible, header, body),

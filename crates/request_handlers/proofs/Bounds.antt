@@ -10,8 +10,8 @@ use Rattle.wire_types.specs.declared.topic.Topic.{Topic}
 use Rattle.wire_types.specs.Grammar.{Grammar}
 use Rattle.wire_types.specs.Spelling.{many_written, null_behind_written, behind_written, int_written}
 use Rattle.wire_types.specs.Combinators.{◌⨟◌}
-use Rattle.wire_types.specs.Schema.{int16, int32, int64, string, nullable_string, nullable_bytes, array, nullable_array, count32, null_count32}
-use Rattle.wire_types.specs.Topic.{topic_of}
+use Rattle.wire_types.specs.Schema.{int16, int32, int64, boolean, string, compact_string, nullable_string, nullable_bytes, array, nullable_array, compact_array, compact_nullable_array, count32, null_count32, compact_count, compact_null_count, tags}
+use Rattle.wire_types.specs.Topic.{topic_of, flexible_topic_of}
 use Rattle.settings.specs.declared.settings.Settings.{Settings}
 use Rattle.settings.specs.declared.settings.TopicSetting.{TopicSetting}
 use Rattle.msg_data.specs.declared.produce.ProduceRequest.{ProduceRequest}
@@ -30,7 +30,7 @@ use Rattle.acl_binding.specs.Book.{BookValue, empty_book}
 use Rattle.walk.specs.Rule.{PartRule, refusal_of}
 use Rattle.walk.specs.Walk.{world_after, parts_refused, refusals, parts_weight, topics_weight}
 use Rattle.walk.proofs.Weights.{walk_takes}
-use Rattle.msg_admin.specs.declared.request.Request.TheVariants.{Produce, Fetch, ListOffsets, Metadata, InitProducerId, AddPartitionsToTxn, EndTxn, DescribeAcls, CreateAcls, DeleteAcls}
+use Rattle.msg_admin.specs.declared.request.Request.TheVariants.{Produce, Fetch, ListOffsets, Metadata, OffsetCommit, OffsetFetch, FindCoordinator, JoinGroup, Heartbeat, LeaveGroup, SyncGroup, InitProducerId, AddPartitionsToTxn, EndTxn, DescribeAcls, CreateAcls, DeleteAcls}
 use Rattle.msg_admin.specs.Request.{Fits}
 use Rattle.msg_admin.specs.Bodies.{request_body}
 use Rattle.audit_trail.specs.declared.event.Event.{Event}
@@ -59,6 +59,17 @@ use Rattle.request_handlers.specs.EndTxn.{id_question}
 use Rattle.request_handlers.specs.AddPartitions.{cut_rule, is_cut, cut_outcome, added_outcome}
 use Rattle.request_handlers.specs.Marks.{marker_batch, marked_at, mark_by}
 use Rattle.request_handlers.specs.RoomLaws.{marked_within}
+use Rattle.request_handlers.specs.OffsetCommit.{committing_rule}
+use Rattle.request_handlers.specs.OffsetFetch.{group_question, offset_rule, offsets_of, fetched_outcome, offset_fetch_by}
+use Rattle.msg_group.specs.declared.offset_commit.OffsetCommitRequest.{OffsetCommitRequest}
+use Rattle.msg_group.specs.declared.offset_commit.OffsetToCommit.{OffsetToCommit}
+use Rattle.msg_group.specs.OffsetCommit.{offset_to_commit, offset_commit_request}
+use Rattle.msg_group.specs.declared.offset_fetch.OffsetFetchRequest.{OffsetFetchRequest}
+use Rattle.msg_group.specs.OffsetFetch.{offset_fetch_request}
+use Rattle.request_handlers.proofs.Generations.{generations_outcome, generations_weaker, no_groups}
+use Rattle.request_handlers.proofs.Wholes.{offsets_keep}
+use Rattle.request_handlers.specs.Members.{read_question}
+use Rattle.request_handlers.specs.FindCoordinator.{kind_of, find_questions}
 use Rattle.request_handlers.proofs.Adds.{add_keeps, mark_keeps}
 use Rattle.request_handlers.specs.Step.{outcome, refusals_of}
 use Rattle.request_handlers.specs.Core.{CoreValue, IsCore, IsBounded, EventFits, most_parts, most_bindings, trail_limit, advanced, entry_of}
@@ -169,6 +180,9 @@ fetch_some p = omega (arith, int32_bytes p.index, length-append (int32.written p
 index_some : (z : ℤ) → 1 ≤ length (int32.written z)
 index_some z = omega (arith, int32_bytes z)
 
+commit_some : (p : OffsetToCommit) → 1 ≤ length (offset_to_commit.written p)
+commit_some p = omega (arith, int32_bytes p.index, length-append (int32.written p.index) ((int64 ⨟ nullable_string).written (p.offset, p.metadata)))
+
 wanted_some : (p : WantedOffset) → 1 ≤ length (wanted_offset.written p)
 wanted_some p = omega (arith, int32_bytes p.index, length-append (int32.written p.index) (int64.written p.timestamp))
 
@@ -196,6 +210,36 @@ add_topics r =
     let rest = int16.written r.epoch ++ (array (topic_of int32)).written r.topics in
     omega (arith, behind_two (string.written r.transactional_id) (int64.written r.producer) rest, length-append (int16.written r.epoch) ((array (topic_of int32)).written r.topics))
 
+commit_topics : (r : OffsetCommitRequest) → length ((array (topic_of offset_to_commit)).written r.topics) ≤ length (offset_commit_request.written r)
+commit_topics r =
+    let last = int64.written r.retention ++ (array (topic_of offset_to_commit)).written r.topics in
+    let more = string.written r.member ++ last in
+    omega (arith, behind_two (string.written r.group) (int32.written r.generation) more, behind_two (string.written r.member) (int64.written r.retention) ((array (topic_of offset_to_commit)).written r.topics))
+
+-- ---- topics of a flexible version
+
+flexible_bytes : {P : Type 0} (g : Grammar P) (t : Topic P) → length (many_written g.written t.partitions) ≤ length ((flexible_topic_of g).written t)
+unfolding flexible_topic_of behind_written
+flexible_bytes g t =
+    let parts = many_written g.written t.partitions in
+    omega (arith, length-append (compact_count.written (length t.partitions)) parts, length-append (compact_string.written t.name) ((compact_array g).written t.partitions), length-append (compact_string.written t.name ++ (compact_array g).written t.partitions) (tags.written tt))
+
+within_flexible : {P : Type 0} (g : Grammar P) (f : P → ℕ) → ((p : P) → f p ≤ length (g.written p)) → (ts : List (Topic P)) → sum_topics f ts ≤ length (many_written (flexible_topic_of g).written ts)
+unfolding many_written sum_topics
+within_flexible g f few [] = omega arith
+within_flexible g f few (t ∷ ts) =
+    omega (arith, parts_bytes g f few t.partitions, flexible_bytes g t, within_flexible g f few ts, length-append ((flexible_topic_of g).written t) (many_written (flexible_topic_of g).written ts))
+
+null_array_bytes : (ts : List (Topic ℤ)) → length (many_written (flexible_topic_of int32).written ts) ≤ length ((compact_nullable_array (flexible_topic_of int32)).written (Some ts))
+unfolding null_behind_written
+null_array_bytes ts = omega (arith, length-append (compact_null_count.written (Some (length ts))) (many_written (flexible_topic_of int32).written ts))
+
+fetch_offsets_topics : (r : OffsetFetchRequest) → length ((compact_nullable_array (flexible_topic_of int32)).written r.topics) ≤ length (offset_fetch_request.written r)
+fetch_offsets_topics r =
+    let topics = (compact_nullable_array (flexible_topic_of int32)).written r.topics in
+    let last = topics ++ boolean.written r.require_stable in
+    omega (arith, length-append topics (boolean.written r.require_stable), length-append (compact_string.written r.group) last, length-append (compact_string.written r.group ++ last) (tags.written tt))
+
 -- ---- an event
 
 pub few_refusals : (w : World) (e : Event) → EventFits e → length (refusals_of w e) ≤ most_parts
@@ -207,6 +251,31 @@ few_refusals w (Ask caller client (Fetch r)) fits =
 few_refusals w (Ask caller client (ListOffsets r)) fits =
     omega (arith, fits.1, few_walked (list_rule caller w.topics) (rules_of w) r.topics, within_array wanted_offset (λ p. 1) wanted_some r.topics, list_topics r)
 few_refusals w (Ask caller client (Metadata r)) fits = few_topics (rules_of w) caller r.topics (omega (arith, fits.1))
+few_refusals w (Ask caller client (OffsetCommit r)) fits =
+    omega (arith, fits.1, few_walked (committing_rule w caller r) (rules_of w) r.topics, within_array offset_to_commit (λ p. 1) commit_some r.topics, commit_topics r)
+few_refusals w (Ask caller client (OffsetFetch r)) fits = by_refusal (part_refusal (rules_of w) (group_question caller r.group ∷ [])) where
+  by_topics : (o : Option (List (Topic ℤ))) → length ((compact_nullable_array (flexible_topic_of int32)).written o) ≤ most_parts → length (fetched_outcome w caller (offsets_of w r.group) r.require_stable o).refusals ≤ most_parts
+  by_topics None few = omega arith
+  by_topics (Some ts) few = omega (arith, few, few_walked (offset_rule caller (offsets_of w r.group) r.require_stable) (rules_of w) ts, within_flexible int32 (λ p. 1) index_some ts, null_array_bytes ts)
+
+  by_refusal : (o : Option Refusal) → length (offset_fetch_by o w caller r).refusals ≤ most_parts
+  by_refusal None = by_topics r.topics (omega (arith, fits.1, fetch_offsets_topics r))
+  by_refusal (Some refusal) = omega arith
+few_refusals w (Ask caller client (JoinGroup r)) fits =
+    let few : length (refusals_of w (Ask caller client (JoinGroup r))) ≤ 1 = whole_refusals (part_refusal (rules_of w) (read_question caller r.group ∷ [])) w _ _ in
+    omega (arith, few)
+few_refusals w (Ask caller client (Heartbeat r)) fits =
+    let few : length (refusals_of w (Ask caller client (Heartbeat r))) ≤ 1 = whole_refusals (part_refusal (rules_of w) (read_question caller r.group ∷ [])) w _ _ in
+    omega (arith, few)
+few_refusals w (Ask caller client (LeaveGroup r)) fits =
+    let few : length (refusals_of w (Ask caller client (LeaveGroup r))) ≤ 1 = whole_refusals (part_refusal (rules_of w) (read_question caller r.group ∷ [])) w _ _ in
+    omega (arith, few)
+few_refusals w (Ask caller client (SyncGroup r)) fits =
+    let few : length (refusals_of w (Ask caller client (SyncGroup r))) ≤ 1 = whole_refusals (part_refusal (rules_of w) (read_question caller r.group ∷ [])) w _ _ in
+    omega (arith, few)
+few_refusals w (Ask caller client (FindCoordinator r)) fits =
+    let few : length (refusals_of w (Ask caller client (FindCoordinator r))) ≤ 1 = whole_refusals (part_refusal (rules_of w) (find_questions caller (kind_of r.key_type) r.key)) w _ _ in
+    omega (arith, few)
 few_refusals w (Ask caller client (InitProducerId r)) fits =
     let few : length (refusals_of w (Ask caller client (InitProducerId r))) ≤ 1 = whole_refusals (part_refusal (rules_of w) (init_question caller r.transactional_id ∷ [])) w _ _ in
     omega (arith, few)
@@ -257,6 +326,13 @@ ends_outcome w (Ask caller client (Produce r)) fits room =
 ends_outcome w (Ask caller client (Fetch r)) fits room = omega arith
 ends_outcome w (Ask caller client (ListOffsets r)) fits room = omega arith
 ends_outcome w (Ask caller client (Metadata r)) fits room = omega arith
+ends_outcome w (Ask caller client (OffsetCommit r)) fits room = omega arith
+ends_outcome w (Ask caller client (OffsetFetch r)) fits room = same_ends (ap (λ (v : World). v.topics) (offsets_keep w caller r))
+ends_outcome w (Ask caller client (JoinGroup r)) fits room = same_ends (whole_topics (part_refusal (rules_of w) (read_question caller r.group ∷ [])) w _ _ refl)
+ends_outcome w (Ask caller client (Heartbeat r)) fits room = same_ends (whole_topics (part_refusal (rules_of w) (read_question caller r.group ∷ [])) w _ _ refl)
+ends_outcome w (Ask caller client (LeaveGroup r)) fits room = same_ends (whole_topics (part_refusal (rules_of w) (read_question caller r.group ∷ [])) w _ _ refl)
+ends_outcome w (Ask caller client (SyncGroup r)) fits room = same_ends (whole_topics (part_refusal (rules_of w) (read_question caller r.group ∷ [])) w _ _ refl)
+ends_outcome w (Ask caller client (FindCoordinator r)) fits room = same_ends (whole_topics (part_refusal (rules_of w) (find_questions caller (kind_of r.key_type) r.key)) w _ _ refl)
 ends_outcome w (Ask caller client (InitProducerId r)) fits room = same_ends (whole_topics (part_refusal (rules_of w) (init_question caller r.transactional_id ∷ [])) w _ _ refl)
 ends_outcome w (Ask caller client (AddPartitionsToTxn r)) fits room = same_ends (add_keeps (λ v. v.topics) (λ v c. refl) w caller r)
 ends_outcome w (Ask caller client (EndTxn r)) fits room = same_ends (whole_topics (part_refusal (rules_of w) (id_question caller r.transactional_id ∷ [])) w _ _ refl)
@@ -288,6 +364,13 @@ numbers_outcome w (Ask caller client (Produce r)) fits = omega arith
 numbers_outcome w (Ask caller client (Fetch r)) fits = omega arith
 numbers_outcome w (Ask caller client (ListOffsets r)) fits = omega arith
 numbers_outcome w (Ask caller client (Metadata r)) fits = omega arith
+numbers_outcome w (Ask caller client (OffsetCommit r)) fits = omega arith
+numbers_outcome w (Ask caller client (OffsetFetch r)) fits = omega (arith, ap (λ (v : World). v.book.next) (offsets_keep w caller r))
+numbers_outcome w (Ask caller client (JoinGroup r)) fits = whole_next (part_refusal (rules_of w) (read_question caller r.group ∷ [])) w _ _ most_parts (omega arith)
+numbers_outcome w (Ask caller client (Heartbeat r)) fits = whole_next (part_refusal (rules_of w) (read_question caller r.group ∷ [])) w _ _ most_parts (omega arith)
+numbers_outcome w (Ask caller client (LeaveGroup r)) fits = whole_next (part_refusal (rules_of w) (read_question caller r.group ∷ [])) w _ _ most_parts (omega arith)
+numbers_outcome w (Ask caller client (SyncGroup r)) fits = whole_next (part_refusal (rules_of w) (read_question caller r.group ∷ [])) w _ _ most_parts (omega arith)
+numbers_outcome w (Ask caller client (FindCoordinator r)) fits = whole_next (part_refusal (rules_of w) (find_questions caller (kind_of r.key_type) r.key)) w _ _ most_parts (omega arith)
 numbers_outcome w (Ask caller client (InitProducerId r)) fits = whole_next (part_refusal (rules_of w) (init_question caller r.transactional_id ∷ [])) w _ _ most_parts (omega arith)
 numbers_outcome w (Ask caller client (AddPartitionsToTxn r)) fits = omega (arith, add_keeps (λ v. v.book.next) (λ v c. refl) w caller r)
 numbers_outcome w (Ask caller client (EndTxn r)) fits = whole_next (part_refusal (rules_of w) (id_question caller r.transactional_id ∷ [])) w _ _ most_parts (omega arith)
@@ -325,6 +408,7 @@ opened_is_core s w is limit few = record {
     events = λ up. ap (λ (v : World). v.events) is;
     refusals = omega arith;
     ends = λ up. omega (arith, no_ends w s is);
+    generations = λ up. no_groups w s is;
     numbers = λ up. omega (arith, first_next w s is few);
   };
 }
@@ -340,6 +424,7 @@ bounded_goes_on core e up room fits h =
       events = λ _. ap (λ n. n + 1) (events_outcome core.world e ∙ h.events up) ∙ sym longer;
       refusals = omega (arith, count_push core.trail entry, h.refusals);
       ends = λ _. omega (arith, ends_outcome core.world e fits (omega (arith, h.ends up, h.limit, h.trail)), h.ends up);
+      generations = λ _. generations_weaker (length core.trail + 1) _ (outcome core.world e).world.groups (omega (arith, longer)) (generations_outcome core.world e (length core.trail) (h.generations up));
       numbers = λ _. omega (arith, numbers_outcome core.world e fits, h.numbers up, longer);
     }
 

@@ -4,8 +4,10 @@ pub mod AclParts
 pub mod Places
 pub mod Offsets
 pub mod Adds
+pub mod Wholes
 pub mod Histories
 pub mod BookBounds
+pub mod Generations
 pub mod Bounds
 pub mod Runs
 pub mod Headlines
@@ -16,7 +18,6 @@ pub mod DataAnswers
 pub mod DataFetches
 pub mod AclEdits
 pub mod Groups
-pub mod Wholes
 pub mod Recorded
 pub mod Initials
 pub mod Together

@@ -1,5 +1,5 @@
 -- One part more: what is answered for it comes first, and then what the rest gives.
-use Rattle.std.proofs.Common.{◌≡◌, ℕ, ℤ, suc, ◌+◌, ◌-◌, ◌<◌, List, [], ◌∷◌, ◌++◌, length, get_or, drop, drop-cons, add-one, Bool, true, false, ◌&&◌, Option, Some, None, cond, refl, sym, ap, ◌∙◌, arith, append_assoc}
+use Rattle.std.proofs.Common.{◌≡◌, ℕ, ℤ, pos, suc, ◌+◌, ◌-◌, ◌<◌, List, [], ◌∷◌, ◌++◌, length, get_or, drop, drop-cons, add-one, Bool, true, false, ◌&&◌, Option, Some, None, cond, refl, sym, ap, ◌∙◌, arith, append_assoc}
 use Rattle.std.specs.Prelude.{slice_get, is_none}
 use Rattle.std.specs.List.{list_all}
 use Rattle.std.specs.Option.{option_to_list, option_map}
@@ -8,6 +8,8 @@ use Rattle.acl_binding.specs.declared.question.Caller.{Caller}
 use Rattle.acl_binding.specs.declared.binding.Binding.{Binding}
 use Rattle.acl_binding.specs.Book.{BookValue, added}
 use Rattle.authorizer.specs.Policy.{PolicyValue, policy_added}
+use Rattle.group_offsets.specs.declared.event.OffsetEvent.{OffsetEvent}
+use Rattle.request_handlers.specs.OffsetFetch.{told_at, told_from}
 use Rattle.request_handlers.specs.First.{with_bindings}
 use Rattle.authorizer.specs.declared.answer.Refusal.{Refusal}
 use Rattle.request_handlers.specs.World.{World, TopicValue, rules_of, topic_names}
@@ -20,6 +22,10 @@ one_more done a left rest whole split all = append_assoc done (a ∷ []) rest �
 -- some more at the end of what is done
 pub some_more : {A : Type 0} (done more left rest whole : List A) → left ≡ more ++ rest → done ++ left ≡ whole → (done ++ more) ++ rest ≡ whole
 some_more done more left rest whole split all = append_assoc done more rest ∙ ap (λ l. done ++ l) (sym split) ∙ all
+
+-- what is told of a partition, and then of those behind it
+pub told_more : (es : List OffsetEvent) (stable : Bool) (name : List ℕ) (n i : ℕ) → i < n → told_from es stable name i (n - i) ≡ told_at es stable name (pos i) ++ told_from es stable name (i + 1) (n - (i + 1))
+told_more es stable name n i lt = let more : n - i ≡ suc (n - (i + 1)) = omega arith in ap (told_from es stable name i) more
 
 -- the partition at a place
 pub partitions_at : (node : ℤ) (n i : ℕ) → i < n → partitions_from node i (n - i) ≡ partition_info node i ∷ partitions_from node (i + 1) (n - (i + 1))

@@ -1,5 +1,5 @@
 -- A request that is one part: what is told where it was refused, and what a request that only reads leaves.
-use Rattle.std.proofs.Common.{◌≡◌, true, false, List, [], ◌∷◌, Option, Some, None, Result, Ok, Err, IfOk, OnOk, OnErr, refl, sym, ap, ◌∙◌}
+use Rattle.std.proofs.Common.{◌≡◌, ℤ, true, false, List, [], ◌∷◌, Option, Some, None, Result, Ok, Err, IfOk, OnOk, OnErr, refl, sym, ap, ◌∙◌}
 use Rattle.acl_binding.specs.declared.question.Caller.{Caller}
 use Rattle.acl_binding.specs.declared.question.Question.{Question}
 use Rattle.authorizer.specs.declared.answer.Refusal.{Refusal}
@@ -8,7 +8,7 @@ use Rattle.wire_types.specs.declared.error_code.ErrorCode.{ErrorCode}
 use Rattle.msg_acl.specs.declared.describe_acls.DescribeAclsRequest.{DescribeAclsRequest}
 use Rattle.msg_admin.specs.declared.reply.Reply.{Reply}
 use Rattle.msg_admin.specs.declared.request.Request.{Request}
-use Rattle.msg_admin.specs.declared.request.Request.TheVariants.{Produce, Fetch, ListOffsets, Metadata, InitProducerId, AddPartitionsToTxn, EndTxn, DescribeAcls, CreateAcls, DeleteAcls}
+use Rattle.msg_admin.specs.declared.request.Request.TheVariants.{Produce, Fetch, ListOffsets, Metadata, OffsetCommit, OffsetFetch, FindCoordinator, JoinGroup, Heartbeat, LeaveGroup, SyncGroup, InitProducerId, AddPartitionsToTxn, EndTxn, DescribeAcls, CreateAcls, DeleteAcls}
 use Rattle.audit_trail.specs.declared.event.Event.{Event}
 use Rattle.audit_trail.specs.declared.event.Event.TheVariants.{Ask, Mark, Tick}
 use Rattle.walk.specs.Codes.{refusal_code}
@@ -16,6 +16,11 @@ use Rattle.request_handlers.specs.declared.outcome.Outcome.{Outcome as Told}
 use Rattle.request_handlers.specs.World.{World, rules_of}
 use Rattle.request_handlers.specs.Whole.{Served, whole_by, whole}
 use Rattle.request_handlers.specs.DescribeAcls.{describe_acls_questions, describe_acls_outcome}
+use Rattle.wire_types.specs.declared.topic.Topic.{Topic}
+use Rattle.msg_group.specs.declared.offset_fetch.OffsetFetchRequest.{OffsetFetchRequest}
+use Rattle.msg_txn.specs.declared.find_coordinator.FindCoordinatorRequest.{FindCoordinatorRequest}
+use Rattle.request_handlers.specs.FindCoordinator.{kind_of, find_questions, find_coordinator_outcome}
+use Rattle.request_handlers.specs.OffsetFetch.{group_question, offsets_of, fetched_outcome, offset_fetch_by, offset_fetch_outcome}
 use Rattle.request_handlers.specs.Step.{request_outcome, outcome, is_reading}
 
 pub on_ok : {T E P : Type 0} (r : Result T E) → P → OnOk r P
@@ -47,11 +52,37 @@ describe_keeps w caller r = whole_keeps (part_refusal (rules_of w) (describe_acl
 pub described_world : (w : World) (caller : Caller) (q : Request) (r : DescribeAclsRequest) → q ≡ DescribeAcls r → w ≡ (request_outcome w caller q).world
 described_world w caller q r is = sym (ap (λ (x : Request). (request_outcome w caller x).world) is ∙ describe_keeps w caller r)
 
+pub find_keeps : (w : World) (caller : Caller) (r : FindCoordinatorRequest) → (find_coordinator_outcome w caller r).world ≡ w
+find_keeps w caller r = whole_keeps (part_refusal (rules_of w) (find_questions caller (kind_of r.key_type) r.key)) w _ _
+
+pub offsets_keep : (w : World) (caller : Caller) (r : OffsetFetchRequest) → (offset_fetch_outcome w caller r).world ≡ w
+offsets_keep w caller r = by_refusal (part_refusal (rules_of w) (group_question caller r.group ∷ [])) where
+  by_topics : (o : Option (List (Topic ℤ))) → (fetched_outcome w caller (offsets_of w r.group) r.require_stable o).world ≡ w
+  by_topics None = refl
+  by_topics (Some ts) = refl
+
+  by_refusal : (o : Option Refusal) → (offset_fetch_by o w caller r).world ≡ w
+  by_refusal None = by_topics r.topics
+  by_refusal (Some refusal) = refl
+
+pub found_world : (w : World) (caller : Caller) (q : Request) (r : FindCoordinatorRequest) → q ≡ FindCoordinator r → w ≡ (request_outcome w caller q).world
+found_world w caller q r is = sym (ap (λ (x : Request). (request_outcome w caller x).world) is ∙ find_keeps w caller r)
+
+pub fetched_world : (w : World) (caller : Caller) (q : Request) (r : OffsetFetchRequest) → q ≡ OffsetFetch r → w ≡ (request_outcome w caller q).world
+fetched_world w caller q r is = sym (ap (λ (x : Request). (request_outcome w caller x).world) is ∙ offsets_keep w caller r)
+
 pub reading_keeps : (w : World) (e : Event) → is_reading e ≡ true → (outcome w e).world ≡ w
 reading_keeps w (Ask caller client (Produce r)) reads = absurd (let clash : false ≡ true = reads in cc)
 reading_keeps w (Ask caller client (Fetch r)) reads = refl
 reading_keeps w (Ask caller client (ListOffsets r)) reads = refl
 reading_keeps w (Ask caller client (Metadata r)) reads = refl
+reading_keeps w (Ask caller client (OffsetCommit r)) reads = absurd (let clash : false ≡ true = reads in cc)
+reading_keeps w (Ask caller client (JoinGroup r)) reads = absurd (let clash : false ≡ true = reads in cc)
+reading_keeps w (Ask caller client (Heartbeat r)) reads = absurd (let clash : false ≡ true = reads in cc)
+reading_keeps w (Ask caller client (LeaveGroup r)) reads = absurd (let clash : false ≡ true = reads in cc)
+reading_keeps w (Ask caller client (SyncGroup r)) reads = absurd (let clash : false ≡ true = reads in cc)
+reading_keeps w (Ask caller client (OffsetFetch r)) reads = offsets_keep w caller r
+reading_keeps w (Ask caller client (FindCoordinator r)) reads = find_keeps w caller r
 reading_keeps w (Ask caller client (InitProducerId r)) reads = absurd (let clash : false ≡ true = reads in cc)
 reading_keeps w (Ask caller client (AddPartitionsToTxn r)) reads = absurd (let clash : false ≡ true = reads in cc)
 reading_keeps w (Ask caller client (EndTxn r)) reads = absurd (let clash : false ≡ true = reads in cc)

@@ -17,6 +17,10 @@ pub mod DeleteAcls
 pub mod InitProducerId
 pub mod EndTxn
 pub mod AddPartitions
+pub mod Members
+pub mod FindCoordinator
+pub mod OffsetCommit
+pub mod OffsetFetch
 pub mod Marks
 pub mod Ticks
 pub mod Step

@@ -18,6 +18,10 @@ use Rattle.request_handlers.specs.AddPartitions.{add_partitions_outcome}
 use Rattle.request_handlers.specs.EndTxn.{end_txn_outcome}
 use Rattle.request_handlers.specs.Marks.{mark_outcome}
 use Rattle.request_handlers.specs.Ticks.{tick_outcome}
+use Rattle.request_handlers.specs.Members.{join_group_outcome, sync_group_outcome, heartbeat_outcome, leave_group_outcome}
+use Rattle.request_handlers.specs.FindCoordinator.{find_coordinator_outcome}
+use Rattle.request_handlers.specs.OffsetCommit.{offset_commit_outcome}
+use Rattle.request_handlers.specs.OffsetFetch.{offset_fetch_outcome}
 use Rattle.request_handlers.specs.DescribeAcls.{describe_acls_outcome}
 use Rattle.request_handlers.specs.CreateAcls.{create_acls_outcome}
 use Rattle.request_handlers.specs.DeleteAcls.{delete_acls_outcome}
@@ -28,6 +32,13 @@ request_outcome w caller (requests.Produce r) = produce_outcome w caller r
 request_outcome w caller (requests.Fetch r) = fetch_outcome w caller r
 request_outcome w caller (requests.ListOffsets r) = list_offsets_outcome w caller r
 request_outcome w caller (requests.Metadata r) = metadata_outcome w caller r
+request_outcome w caller (requests.OffsetCommit r) = offset_commit_outcome w caller r
+request_outcome w caller (requests.OffsetFetch r) = offset_fetch_outcome w caller r
+request_outcome w caller (requests.FindCoordinator r) = find_coordinator_outcome w caller r
+request_outcome w caller (requests.JoinGroup r) = join_group_outcome w caller r
+request_outcome w caller (requests.Heartbeat r) = heartbeat_outcome w caller r
+request_outcome w caller (requests.LeaveGroup r) = leave_group_outcome w caller r
+request_outcome w caller (requests.SyncGroup r) = sync_group_outcome w caller r
 request_outcome w caller (requests.InitProducerId r) = init_producer_id_outcome w caller r
 request_outcome w caller (requests.AddPartitionsToTxn r) = add_partitions_outcome w caller r
 request_outcome w caller (requests.EndTxn r) = end_txn_outcome w caller r
@@ -65,6 +76,13 @@ is_reading_request (requests.Produce r) = false
 is_reading_request (requests.Fetch r) = true
 is_reading_request (requests.ListOffsets r) = true
 is_reading_request (requests.Metadata r) = true
+is_reading_request (requests.OffsetCommit r) = false
+is_reading_request (requests.OffsetFetch r) = true
+is_reading_request (requests.FindCoordinator r) = true
+is_reading_request (requests.JoinGroup r) = false
+is_reading_request (requests.Heartbeat r) = false
+is_reading_request (requests.LeaveGroup r) = false
+is_reading_request (requests.SyncGroup r) = false
 is_reading_request (requests.InitProducerId r) = false
 is_reading_request (requests.AddPartitionsToTxn r) = false
 is_reading_request (requests.EndTxn r) = false

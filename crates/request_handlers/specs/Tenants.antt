@@ -12,7 +12,8 @@ use Rattle.acl_binding.specs.Verdict.{asked}
 use Rattle.authorizer.specs.Policy.{verdict}
 use Rattle.msg_data.specs.declared.metadata.MetadataRequest.{MetadataRequest}
 use Rattle.txn_coordinator.specs.Coordinator.{recorded}
-use Rattle.request_handlers.specs.World.{World, GroupValue, rules_of, find_topic, topic_names}
+use Rattle.group_offsets.specs.Groups.{find_group}
+use Rattle.request_handlers.specs.World.{World, rules_of, find_topic, topic_names}
 use Rattle.request_handlers.specs.Metadata.{describable, metadata_answer, metadata_refusals}
 
 -- the same settings but for topics, book, moment, number of events and producer ids given out
@@ -22,9 +23,6 @@ pub record SameBase (v w : World) : Type 0 where
   pub moment : v.moment ≡ w.moment
   pub events : v.events ≡ w.events
   pub given : v.coordinator.given ≡ w.coordinator.given
-
-abbrev pub find_group : List GroupValue → List ℕ → Option GroupValue
-find_group groups name = find (λ (g : GroupValue). bytes_eq g.name name) groups
 
 -- whether the resource is there, and all that it holds
 abbrev pub SameOn : World → World → Kind → List ℕ → Type 0

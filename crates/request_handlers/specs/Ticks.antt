@@ -1,9 +1,10 @@
--- A tick of the clock: the moment goes on, and transactions whose time is over are aborted (KIP-98,
--- 'transaction.timeout.ms').
-use Rattle.std.specs.Prelude.{ℕ, max, min, [], length}
+-- A tick of the clock: the moment goes on, members that were not heard of for too long are let go (Kafka protocol
+-- guide, session_timeout), and then transactions whose time is over are aborted (KIP-98, 'transaction.timeout.ms').
+use Rattle.std.specs.Prelude.{ℕ, max, min, [], length, map}
 use Rattle.msg_admin.specs.declared.reply.Reply.TheVariants as replies
 use Rattle.txn_coordinator.specs.Coordinator.{CoordinatorValue}
 use Rattle.txn_coordinator.specs.Expiry.{expire}
+use Rattle.group_offsets.specs.Group.{expired}
 use Rattle.request_handlers.specs.World.{World}
 use Rattle.request_handlers.specs.Outcome.{Outcome}
 
@@ -16,7 +17,7 @@ abbrev pub moment_after : ℕ → ℕ → ℕ
 moment_after moment told = max moment (min told last_moment)
 
 abbrev pub at_moment : World → ℕ → World
-at_moment w moment = record w { moment = moment; coordinator = expire w.coordinator moment }
+at_moment w moment = record w { moment = moment; groups = map (expired moment) w.groups; coordinator = expire w.coordinator moment }
 
 abbrev pub ticked : World → Outcome
 ticked w = record { world = w; reply = replies.Ticked (length w.coordinator.warrants); refusals = [] }

@@ -7,6 +7,7 @@ use Rattle.acl_binding.specs.Book.{BookValue}
 use Rattle.authorizer.specs.Asking.{Rules}
 use Rattle.record_batch.specs.Batch.{BatchData}
 use Rattle.txn_coordinator.specs.Coordinator.{CoordinatorValue}
+use Rattle.group_offsets.specs.declared.group.Group.{Group}
 use Rattle.request_handlers.specs.declared.node.Node.{Node}
 use Rattle.request_handlers.specs.declared.slot.Slot.{Slot}
 
@@ -18,12 +19,6 @@ LogValue = List BatchData
 abbrev pub TopicValue : Type 0
 TopicValue = Slot
 
-pub record GroupValue : Type 0 where
-  pub name : List ℕ
-  pub member : Option (List ℕ)
-  pub generation : ℕ
-  pub assignment : Option (List ℕ)
-
 pub record World : Type 0 where
   pub node : Node
   -- the principals to whom everything is allowed
@@ -33,7 +28,8 @@ pub record World : Type 0 where
   pub topics : List TopicValue
   -- transactional ids, the producer ids given out, and the markers that are owed
   pub coordinator : CoordinatorValue
-  pub groups : List GroupValue
+  -- in the order of their beginning
+  pub groups : List Group
   -- in milliseconds
   pub moment : ℕ
   -- how many events there were

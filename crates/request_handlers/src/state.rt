@@ -10,7 +10,7 @@ ghost use Rattle.request_handlers.specs.World.{rules_of};
 ghost use Rattle.request_handlers.specs.First.{first_world, with_bindings};
 ghost use Rattle.msg_admin.specs.Request.{Fits};
 ghost use Rattle.request_handlers.specs.Logs.{room_of};
-ghost use Rattle.request_handlers.specs.Core.{EventFits, most_parts};
+ghost use Rattle.request_handlers.specs.Core.{EventFits, most_parts, most_events, GenerationsWithin};
 ghost use Rattle.request_handlers.specs.Step.{request_outcome, outcome, reply_to, refusals_of, counted, is_reading, is_reading_request};
 
 use crate::moment::Moment;
@@ -20,6 +20,7 @@ use crate::topics::Topics;
 use acl_binding::{Binding, Caller};
 use audit_trail::Event;
 use authorizer::Policy;
+use group_offsets::Groups;
 use msg_admin::{Reply, Request};
 use settings::Settings;
 use std::alloc::{AllocError, Global};
@@ -34,8 +35,9 @@ pub struct State {
     pub(crate) policy: Policy,
     pub(crate) topics: Topics,
     pub(crate) coordinator: Coordinator,
+    pub(crate) groups: Groups,
     pub(crate) moment: Moment,
-    events: u64,
+    pub(crate) events: u64,
 }
 
 impl Model for State {
@@ -44,7 +46,7 @@ impl Model for State {
 
     ghost Value = { World };
 
-    ghost view = { λ s. record { node = s.node; supers = s.policy.supers; book = s.policy.book; topics = s.topics; coordinator = s.coordinator; groups = []; moment = s.moment; events = s.events } };
+    ghost view = { λ s. record { node = s.node; supers = s.policy.supers; book = s.policy.book; topics = s.topics; coordinator = s.coordinator; groups = s.groups; moment = s.moment; events = s.events } };
 }
 
 impl State {
@@ -59,6 +61,7 @@ impl State {
             policy: first_policy(alloc, &settings.supers, settings.acls.as_slice())?,
             topics: Topics::first(alloc, settings.topics.as_slice())?,
             coordinator: Coordinator::new(alloc),
+            groups: Groups::new(alloc),
             moment: Moment::first(),
             events: 0,
         })
@@ -88,6 +91,7 @@ impl State {
         requires fits { EventFits event.now }
         requires room { most_parts ≤ room_of self.old.topics }
         requires numbers { self.old.book.next + most_parts < 2 ^ 63 }
+        requires generations { GenerationsWithin most_events self.old.groups }
         ensures world { OnOk result (self.new ≡ (outcome self.old event.now).world) }
         ensures reply { IfOk result (λ o. o.reply ≡ reply_to self.old event.now) }
         ensures refusals { IfOk result (λ o. o.refusals ≡ refusals_of self.old event.now) }
@@ -114,6 +118,7 @@ impl State {
         requires fits { Fits request.now }
         requires room { most_parts ≤ room_of self.old.topics }
         requires numbers { self.old.book.next + most_parts < 2 ^ 63 }
+        requires generations { GenerationsWithin most_events self.old.groups }
         ensures world { OnOk result (self.new ≡ (request_outcome self.old caller.now request.now).world) }
         ensures reply { IfOk result (λ o. o.reply ≡ (request_outcome self.old caller.now request.now).reply) }
         ensures refusals { IfOk result (λ o. o.refusals ≡ (request_outcome self.old caller.now request.now).refusals) }
@@ -126,6 +131,13 @@ impl State {
             Request::DescribeAcls(request) => self.describe_acls(alloc, caller, request),
             Request::CreateAcls(request) => self.create_acls(alloc, caller, request),
             Request::DeleteAcls(request) => self.delete_acls(alloc, caller, request),
+            Request::OffsetCommit(request) => self.offset_commit(alloc, caller, request),
+            Request::OffsetFetch(request) => self.offset_fetch(alloc, caller, request),
+            Request::FindCoordinator(request) => self.find_coordinator(alloc, caller, request),
+            Request::JoinGroup(request) => self.join_group(alloc, caller, request),
+            Request::Heartbeat(request) => self.heartbeat(alloc, caller, request),
+            Request::LeaveGroup(request) => self.leave_group(alloc, caller, request),
+            Request::SyncGroup(request) => self.sync_group(alloc, caller, request),
             Request::InitProducerId(request) => self.init_producer_id(alloc, caller, request),
             Request::AddPartitionsToTxn(request) => self.add_partitions(alloc, caller, request),
             Request::EndTxn(request) => self.end_txn(alloc, caller, request),

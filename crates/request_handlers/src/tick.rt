@@ -1,4 +1,5 @@
-//! A tick of the clock: the moment goes on, and transactions whose time is over are aborted.
+//! A tick of the clock: the moment goes on, members that were not heard of are let go, and transactions whose time is
+//! over are aborted.
 
 ghost use Rattle.std.specs.Prelude.{◌≡◌, IfOk, OnOk};
 ghost use Rattle.request_handlers.specs.Ticks.{tick_outcome};
@@ -17,7 +18,9 @@ impl State {
         ensures refusals { IfOk result (λ o. o.refusals ≡ (tick_outcome self.old told).refusals) }
     {
         self.moment.go_on(told);
-        self.coordinator.expire(alloc, self.moment.milliseconds())?;
+        let moment = self.moment.milliseconds();
+        self.groups.expire(moment);
+        self.coordinator.expire(alloc, moment)?;
         let left = self.coordinator.owed() as u64;
         Ok(served_whole(alloc, Reply::Ticked { left }))
     }
