@@ -28,6 +28,7 @@ use Rattle.walk.specs.Walk.{plain_topics, answers, parts_refused, refusals}
 use Rattle.walk.specs.Woven.{has_any, has_part}
 use Rattle.walk.specs.Alike.{AllParts, AllTopics, AreAlike, AnswerAlike}
 use Rattle.walk.proofs.Alikeness.{answer_alike}
+use Rattle.walk.proofs.Granted.{first_granted as first_is_granted}
 use Rattle.txn_coordinator.specs.declared.pair.Pair.{Pair}
 use Rattle.txn_coordinator.specs.declared.target.TopicPartition.{TopicPartition}
 use Rattle.txn_coordinator.specs.declared.transaction.Phase.{Phase}
@@ -94,17 +95,19 @@ module _ (w : World) (caller : Caller) (id : List ℕ) where
   parts_addable name [] none there = tt
   parts_addable name (index ∷ indices) none there =
       let o = part_refusal (rules_of w) (add_questions caller id name) in
-      let rest = parts_refused (cut_rule caller id w.topics) (rules_of w) name indices in
-      (part_addable name index o rest refl none (or_left (is_none (log_at w.topics name index)) (is_missing_in w.topics name indices) there),
-       parts_addable name indices (none_behind o rest none) (or_right (is_none (log_at w.topics name index)) (is_missing_in w.topics name indices) there))
+      let rest = parts_refused (cut_rule caller id w.topics) (rules_of w) name indices in (
+        part_addable name index o rest refl none (or_left (is_none (log_at w.topics name index)) (is_missing_in w.topics name indices) there),
+        parts_addable name indices (none_behind o rest none) (or_right (is_none (log_at w.topics name index)) (is_missing_in w.topics name indices) there),
+      )
 
   topics_addable : (ts : List (Topic ℤ)) → has_any (refusals (cut_rule caller id w.topics) (rules_of w) ts) ≡ false → is_missing w.topics ts ≡ false → AllTopics (IsAddable w caller id) ts
   topics_addable [] none there = tt
   topics_addable (t ∷ ts) none there =
       let first = parts_refused (cut_rule caller id w.topics) (rules_of w) t.name t.partitions in
-      let rest = refusals (cut_rule caller id w.topics) (rules_of w) ts in
-      (parts_addable t.name t.partitions (none_first first rest none) (or_left (is_missing_in w.topics t.name t.partitions) (is_missing w.topics ts) there),
-       topics_addable ts (none_rest first rest none) (or_right (is_missing_in w.topics t.name t.partitions) (is_missing w.topics ts) there))
+      let rest = refusals (cut_rule caller id w.topics) (rules_of w) ts in (
+        parts_addable t.name t.partitions (none_first first rest none) (or_left (is_missing_in w.topics t.name t.partitions) (is_missing w.topics ts) there),
+        topics_addable ts (none_rest first rest none) (or_right (is_missing_in w.topics t.name t.partitions) (is_missing w.topics ts) there),
+      )
 
 pub adds_all_or_none : AddsAllOrNone
 adds_all_or_none w caller r = by_cut (is_cut caller r.transactional_id w.topics (rules_of w) r.topics) refl where
@@ -215,6 +218,19 @@ whole_kept : (o : Option Refusal) (w : World) (refused : ErrorCode → Reply) (s
 whole_kept None w refused served other same = same
 whole_kept (Some r) w refused served other same = refl
 
+-- ---- a request that names no partition, and one of which no part is refused
+
+pub no_part : (ts : List (Topic ℤ)) → has_part ts ≡ false → partitions_of ts ≡ []
+no_part [] none = refl
+no_part (t ∷ ts) none = by_parts t.name t.partitions none (no_part ts) where
+  by_parts : (name : List ℕ) (indices : List ℤ) → (has_any indices || has_part ts) ≡ false → (has_part ts ≡ false → partitions_of ts ≡ []) → partitions_in name indices ++ partitions_of ts ≡ []
+  by_parts name [] h behind = behind h
+  by_parts name (index ∷ indices) h behind = absurd (let clash : true ≡ false = h in cc)
+
+pub id_granted : (w : World) (caller : Caller) (id : List ℕ) (ts : List (Topic ℤ)) → has_part ts ≡ true → refusals (cut_rule caller id w.topics) (rules_of w) ts ≡ [] → question_refusal (rules_of w) (id_question caller id) ≡ None
+id_granted w caller id ts some none =
+    first_is_granted (cut_rule caller id w.topics) (rules_of w) (id_question caller id) ts (λ name index. (asked caller operations.Write kinds.Topic name ∷ [], refl)) some none
+
 -- ---- where writing with the id is refused
 
 refused_alone : (x : Option Refusal) (r : Refusal) → first_of x None ≡ Some r → x ≡ Some r
@@ -233,7 +249,7 @@ module _ (w : World) (caller : Caller) (id : List ℕ) (r : Refusal) (refused : 
     by_parts name (index ∷ indices) behind =
         inl (ap (λ (o : Option Refusal). has_any (cons_option o (parts_refused (cut_rule caller id w.topics) (rules_of w) name indices) ++ refusals (cut_rule caller id w.topics) (rules_of w) ts)) (part_is_refused name))
 
-nothing_added : (w : World) (r : AddPartitionsToTxnRequest) → partitions_of r.topics ≡ [] → (added_outcome w r).world ≡ w
+pub nothing_added : (w : World) (r : AddPartitionsToTxnRequest) → partitions_of r.topics ≡ [] → (added_outcome w r).world ≡ w
 nothing_added w r none =
     ap (λ (ps : List TopicPartition). record w { coordinator = turned w.coordinator (add_partitions w.coordinator r.transactional_id (record { producer = r.producer; epoch = r.epoch }) w.moment ps) }) none
 
@@ -402,7 +418,7 @@ add_depends v w caller r base same = subst (λ (rules : Rules). SameAnswer (add_
   by_any false is =
       let told : is_cut caller r.transactional_id w.topics (rules_of w) r.topics ≡ is_missing w.topics r.topics = ap (λ (b : Bool). b || is_missing w.topics r.topics) is in
       let there : is_cut caller r.transactional_id v.topics (rules_of w) r.topics ≡ is_missing w.topics r.topics =
-          ap (λ (rs : List Refusal). has_any rs || is_missing v.topics r.topics) alike.refusals ∙ ap (λ (b : Bool). b || is_missing v.topics r.topics) is ∙ missing_topics v w caller r.transactional_id r.topics same is in
+      ap (λ (rs : List Refusal). has_any rs || is_missing v.topics r.topics) alike.refusals ∙ ap (λ (b : Bool). b || is_missing v.topics r.topics) is ∙ missing_topics v w caller r.transactional_id r.topics same is in
       let added = added_same (same_or_empty v w caller r.transactional_id r.topics same is) in
       subst (λ (b : Bool). SameAnswer (cond b (record { world = v; reply = add_reply (answers (cut_rule caller r.transactional_id v.topics) (rules_of w) tt r.topics); refusals = refusals (cut_rule caller r.transactional_id v.topics) (rules_of w) r.topics }) (added_outcome v r)) (add_partitions_outcome w caller r)) (sym there)
       (subst (λ (b : Bool). SameAnswer (cond (is_missing w.topics r.topics) (record { world = v; reply = add_reply (answers (cut_rule caller r.transactional_id v.topics) (rules_of w) tt r.topics); refusals = refusals (cut_rule caller r.transactional_id v.topics) (rules_of w) r.topics }) (added_outcome v r)) (cond b (cut_outcome w caller r) (added_outcome w r))) (sym told)

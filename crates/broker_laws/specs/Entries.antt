@@ -1,0 +1,54 @@
+-- What the laws of transactions see of the broker's world: the coordinator, the moment, and of each batch and marker of
+-- a log whose it is.
+use Rattle.std.specs.Prelude.{pos, int_lt, List, [], map, Option, Some, None, if◌then◌else◌}
+use Rattle.record_batch.specs.declared.outcome.Outcome.{Outcome as MarkedOutcome}
+use Rattle.record_batch.specs.declared.outcome.Outcome.TheVariants as marked
+use Rattle.record_batch.specs.Batch.{BatchData}
+use Rattle.txn_coordinator.specs.declared.pair.Pair.{Pair}
+use Rattle.txn_coordinator.specs.declared.target.Target.{Target}
+use Rattle.txn_coordinator.specs.declared.target.Target.TheVariants.{Partition, Group}
+use Rattle.txn_coordinator.specs.declared.marker.Outcome.{Outcome as Ending}
+use Rattle.txn_coordinator.specs.declared.marker.Outcome.TheVariants.{Commit, Abort}
+use Rattle.txn_laws.specs.Small.{Entry, World as SmallWorld}
+use Rattle.txn_laws.specs.Small.Entry.{Data, Marker, Other}
+use Rattle.request_handlers.specs.World.{World, TopicValue, LogValue}
+use Rattle.request_handlers.specs.Logs.{log_at}
+use Rattle.request_handlers.specs.Judged.{pair_of}
+
+-- ---- a batch
+
+-- the ending that a marker tells
+abbrev pub ending_of : MarkedOutcome → Ending
+ending_of marked.Commit = Commit
+ending_of marked.Abort = Abort
+
+-- records are of a producer where they bear a producer id, which is one from 0 on
+abbrev pub data_of : Pair → Entry
+data_of pair = if int_lt pair.producer (pos 0) then Other else Data pair
+
+abbrev pub entry_by : Option MarkedOutcome → Pair → Entry
+entry_by None pair = data_of pair
+entry_by (Some outcome) pair = Marker pair (ending_of outcome)
+
+abbrev pub entry_of : BatchData → Entry
+entry_of b = entry_by b.marker (pair_of b.header)
+
+-- ---- a log
+
+-- a partition that isn't there has none
+abbrev pub log_entries : Option LogValue → List Entry
+log_entries None = []
+log_entries (Some log) = map entry_of log
+
+-- groups hold nothing yet
+abbrev pub entries_at : List TopicValue → Target → List Entry
+entries_at topics (Partition p) = log_entries (log_at topics p.topic p.index)
+entries_at topics (Group g) = []
+
+abbrev pub entries_in : World → Target → List Entry
+entries_in w target = entries_at w.topics target
+
+-- ---- the world
+
+abbrev pub small : World → SmallWorld
+small w = record { coordinator = w.coordinator; entries = λ target. entries_in w target; moment = w.moment }

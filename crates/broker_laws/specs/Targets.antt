@@ -1,0 +1,29 @@
+-- What transactions take in exists: so each marker that is owed has a log to be written to.
+use Rattle.std.specs.Prelude.{◌≡◌, Bool, true, false, List, is_some}
+use Rattle.txn_coordinator.specs.declared.target.Target.{Target}
+use Rattle.txn_coordinator.specs.declared.target.Target.TheVariants.{Partition, Group}
+use Rattle.txn_coordinator.specs.declared.transaction.Transaction.{Transaction}
+use Rattle.txn_coordinator.specs.declared.marker.OwedMarker.{OwedMarker}
+use Rattle.txn_coordinator.specs.Words.{targets}
+use Rattle.txn_laws.specs.Sound.{Each}
+use Rattle.request_handlers.specs.World.{World, TopicValue}
+use Rattle.request_handlers.specs.Logs.{log_at}
+
+-- the target is a partition that is there; groups are taken in by no transaction yet
+abbrev pub is_there : List TopicValue → Target → Bool
+is_there topics (Partition p) = is_some (log_at topics p.topic p.index)
+is_there topics (Group g) = false
+
+abbrev pub IsThere : List TopicValue → Target → Type 0
+IsThere topics target = is_there topics target ≡ true
+
+-- all that the transaction takes in
+abbrev pub TakesInExisting : List TopicValue → Transaction → Type 0
+TakesInExisting topics t = Each (IsThere topics) (targets t)
+
+abbrev pub IsOwedToExisting : List TopicValue → OwedMarker → Type 0
+IsOwedToExisting topics m = IsThere topics m.target
+
+pub record HasTargets (w : World) : Type 0 where
+  pub added : Each (TakesInExisting w.topics) w.coordinator.transactions
+  pub owed : Each (IsOwedToExisting w.topics) w.coordinator.warrants
