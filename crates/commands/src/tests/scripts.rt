@@ -67,7 +67,10 @@ fn a_tick(rt: HostRuntime) -> Result<(), Fail> {
         ("1 ", "line 1: unreadable\n", 1),
     ] {
         let script = format!(in rt.alloc(); "---\ntick {moment}\n")?;
-        assert!(rt; runs(rt.alloc(), script.as_str(), text, status)?, "{moment}");
+        assert!(rt;
+            runs(rt.alloc(), script.as_str(), text, status)?,
+            "{moment}"
+        );
     }
     Ok(())
 }
