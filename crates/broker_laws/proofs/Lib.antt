@@ -1,1 +1,5 @@
-mod Reading
+pub mod Reading
+pub mod Logs
+pub mod Passing
+pub mod Produced
+pub mod Turns
