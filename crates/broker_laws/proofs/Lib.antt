@@ -3,3 +3,4 @@ pub mod Logs
 pub mod Passing
 pub mod Produced
 pub mod Turns
+pub mod Steps
