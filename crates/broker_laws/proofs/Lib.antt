@@ -4,3 +4,6 @@ pub mod Passing
 pub mod Produced
 pub mod Turns
 pub mod Steps
+pub mod Reached
+pub mod Completing
+pub mod Fencing

@@ -8,7 +8,7 @@ use Rattle.std.proofs.lemmas.Bool.Decides.{Decides-int_eq}
 use Rattle.std.proofs.lemmas.Slice.Eq.{bytes_eq-Decides}
 use Rattle.txn_coordinator.specs.declared.target.Target.{Target}
 use Rattle.txn_coordinator.specs.declared.target.Target.TheVariants.{Partition, Group}
-use Rattle.txn_laws.specs.Small.{Entry, is_same_target, with_entry}
+use Rattle.txn_laws.specs.Small.{Entry, with_entry}
 use Rattle.request_handlers.specs.World.{TopicValue, LogValue, find_topic}
 use Rattle.request_handlers.specs.Logs.{log_in, log_of, log_at, logs_with, with_log}
 use Rattle.request_handlers.specs.Judged.{partition_at}

@@ -1,5 +1,5 @@
 -- What a batch is that the broker's check lets in.
-use Rattle.std.proofs.Common.{◌≡◌, ℕ, ℤ, pos, negsuc, List, length, eqb, Option, Some, None, Result, Ok, Err, Bool, true, false, cond, refl, sym, ap, subst, ◌∙◌}
+use Rattle.std.proofs.Common.{◌≡◌, ℕ, ℤ, pos, negsuc, List, length, eqb, Option, Some, None, Result, Ok, Err, Bool, true, false, cond, refl, sym, subst, ◌∙◌}
 use Rattle.std.specs.Prelude.{◌&&◌, not, int_lt}
 use Rattle.std.specs.Ordering.{int_eq}
 use Rattle.wire_types.specs.declared.error_code.ErrorCode.{ErrorCode}

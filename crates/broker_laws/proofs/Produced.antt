@@ -1,10 +1,9 @@
 -- The moves of a Produce lead where its partitions do.
-use Rattle.std.proofs.Common.{◌≡◌, ℕ, ℤ, pos, List, [], ◌∷◌, ◌++◌, map, Option, Some, None, Result, Ok, Err, Bool, true, false, cond, refl, sym, ap, subst, ◌∙◌}
+use Rattle.std.proofs.Common.{◌≡◌, ℕ, ℤ, pos, List, [], ◌∷◌, ◌++◌, map, Option, Some, None, Result, Ok, Err, Bool, true, false, cond, refl, sym, ap, ◌∙◌}
 use Rattle.std.specs.Prelude.{int_lt}
 use Rattle.std.proofs.lemmas.List.{map-append}
 use Rattle.acl_binding.specs.declared.question.Caller.{Caller}
 use Rattle.authorizer.specs.declared.answer.Refusal.{Refusal}
-use Rattle.authorizer.specs.Asking.{Rules}
 use Rattle.wire_types.specs.declared.error_code.ErrorCode.{ErrorCode}
 use Rattle.wire_types.specs.declared.error_code.ErrorCode.TheVariants as codes
 use Rattle.wire_types.specs.declared.topic.Topic.{Topic}
@@ -19,20 +18,18 @@ use Rattle.msg_data.specs.declared.produce.ProduceRequest.{ProduceRequest}
 use Rattle.msg_data.specs.declared.produce.ProducedRecords.{ProducedRecords}
 use Rattle.walk.specs.Rule.{refusal_of}
 use Rattle.walk.specs.Steps.{world_by, part_world, parts_world, topics_world}
-use Rattle.walk.proofs.Weaving.{woven}
 use Rattle.txn_coordinator.specs.declared.pair.Pair.{Pair}
 use Rattle.txn_coordinator.specs.declared.target.Target.{Target}
-use Rattle.txn_coordinator.specs.Coordinator.{CoordinatorValue, owner, given_by}
-use Rattle.txn_coordinator.specs.Holding.{holds}
-use Rattle.txn_laws.specs.Small.{Entry, World as SmallWorld, Move, appended, is_no_error, is_free, moved, moved_all}
+use Rattle.txn_coordinator.specs.Coordinator.{owner, given_by}
+use Rattle.txn_laws.specs.Small.{World as SmallWorld, Move, appended, moved, moved_all}
 use Rattle.txn_laws.specs.Small.Entry.{Data, Other}
-use Rattle.txn_laws.specs.Small.Move.{Store, Send, Plain}
+use Rattle.txn_laws.specs.Small.Move.{Send, Plain}
 use Rattle.request_handlers.specs.World.{World, TopicValue, LogValue, rules_of}
 use Rattle.request_handlers.specs.First.{magnitude}
-use Rattle.request_handlers.specs.Logs.{log_at, with_log, log_by, log_after, appended_by}
+use Rattle.request_handlers.specs.Logs.{log_at, with_log, log_by, appended_by}
 use Rattle.request_handlers.specs.Judged.{pair_of, partition_at, held_code, given_code, judged, topics_produced}
 use Rattle.request_handlers.specs.Produce.{producing}
-use Rattle.broker_laws.specs.Entries.{entry_by, entry_of, entries_at, small}
+use Rattle.broker_laws.specs.Entries.{entry_by, entry_of, small}
 use Rattle.broker_laws.specs.Moves.{unless_refused, storing, appending, moves_by, log_moves, batch_moves, part_moves, parts_moves, topics_moves}
 use Rattle.broker_laws.proofs.Logs.{entries_with, entries_kept}
 use Rattle.broker_laws.proofs.Passing.{IsPassed, judged_passed, transactional_id, held_holds, owner_free}

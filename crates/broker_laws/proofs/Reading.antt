@@ -1,5 +1,5 @@
 -- Entries are the log's.
-use Rattle.std.proofs.Common.{refl, ap}
+use Rattle.std.proofs.Common.{ap}
 use Rattle.broker_laws.specs.Entries.{log_entries}
 use Rattle.broker_laws.specs.Laws.{EntriesAreTheLog}
 

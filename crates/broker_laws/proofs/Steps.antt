@@ -1,7 +1,6 @@
 -- Each event is its moves, and what transactions take in exists after it.
-use Rattle.std.proofs.Common.{◌≡◌, ℕ, ℤ, pos, List, [], ◌∷◌, ◌++◌, map, Option, Some, None, Result, Ok, Err, Bool, true, false, cond, refl, sym, ap, subst, ◌∙◌}
+use Rattle.std.proofs.Common.{◌≡◌, ℕ, ℤ, List, [], ◌∷◌, ◌++◌, map, Option, Some, None, Result, Ok, Err, Bool, true, false, cond, refl, sym, ap, subst, ◌∙◌}
 use Rattle.std.specs.Prelude.{◌||◌, slice_get, is_some, is_none}
-use Rattle.std.specs.List.{list_any}
 use Rattle.std.proofs.lemmas.List.{map-append}
 use Rattle.acl_binding.specs.declared.question.Caller.{Caller}
 use Rattle.authorizer.specs.declared.answer.Refusal.{Refusal}
@@ -12,9 +11,6 @@ use Rattle.record_batch.specs.Batch.{BatchData}
 use Rattle.partition_log.specs.Log.{at_end}
 use Rattle.msg_data.specs.declared.produce.ProduceRequest.{ProduceRequest}
 use Rattle.msg_data.specs.declared.produce.ProducedRecords.{ProducedRecords}
-use Rattle.msg_txn.specs.declared.init_producer_id.InitProducerIdRequest.{InitProducerIdRequest}
-use Rattle.msg_txn.specs.declared.add_partitions.AddPartitionsToTxnRequest.{AddPartitionsToTxnRequest}
-use Rattle.msg_txn.specs.declared.end_txn.EndTxnRequest.{EndTxnRequest}
 use Rattle.msg_admin.specs.declared.reply.Reply.{Reply}
 use Rattle.msg_admin.specs.declared.request.Request.TheVariants.{Produce, Fetch, ListOffsets, Metadata, InitProducerId, AddPartitionsToTxn, EndTxn, DescribeAcls, CreateAcls, DeleteAcls}
 use Rattle.audit_trail.specs.declared.event.Event.{Event}
@@ -24,16 +20,14 @@ use Rattle.walk.specs.Walk.{refusals}
 use Rattle.walk.specs.Woven.{has_any}
 use Rattle.walk.specs.Steps.{world_by, part_world, parts_world, topics_world}
 use Rattle.walk.proofs.Weaving.{woven}
-use Rattle.txn_coordinator.specs.declared.target.TopicPartition.{TopicPartition}
 use Rattle.txn_coordinator.specs.declared.target.Target.{Target}
 use Rattle.txn_coordinator.specs.declared.target.Target.TheVariants.{Partition, Group}
 use Rattle.txn_coordinator.specs.declared.marker.Outcome.{Outcome as Ending}
 use Rattle.txn_coordinator.specs.declared.marker.Outcome.TheVariants.{Commit, Abort}
 use Rattle.txn_coordinator.specs.declared.marker.OwedMarker.{OwedMarker}
-use Rattle.txn_coordinator.specs.declared.transaction.Transaction.{Transaction}
-use Rattle.txn_coordinator.specs.Coordinator.{CoordinatorValue, given_free}
+use Rattle.txn_coordinator.specs.Coordinator.{CoordinatorValue}
 use Rattle.txn_coordinator.specs.Warrants.{written_by}
-use Rattle.txn_laws.specs.Small.{Entry, World as SmallWorld, Move, marked as marked_small, with_entry, moved_all}
+use Rattle.txn_laws.specs.Small.{Move, marked as marked_small, with_entry, moved_all}
 use Rattle.txn_laws.specs.Small.Entry.{Marker}
 use Rattle.txn_laws.specs.Small.Move.{AddPartitions}
 use Rattle.txn_laws.specs.Sound.{Each, HaveOwnIds}
@@ -41,7 +35,7 @@ use Rattle.txn_laws.proofs.Base.{each_weaker, each_append}
 use Rattle.txn_laws.proofs.Ticks.{one_by_one}
 use Rattle.request_handlers.specs.World.{World, TopicValue, LogValue, rules_of}
 use Rattle.request_handlers.specs.First.{magnitude}
-use Rattle.request_handlers.specs.Logs.{log_at, with_log, log_after, appended_by}
+use Rattle.request_handlers.specs.Logs.{log_at, log_after, appended_by}
 use Rattle.request_handlers.specs.Judged.{partition_at, judged, topics_produced}
 use Rattle.request_handlers.specs.Produce.{producing}
 use Rattle.request_handlers.specs.Whole.{Served, whole_by}

@@ -1,5 +1,5 @@
 -- What the coordinator's calls take in exists, where it did before and what is named does.
-use Rattle.std.proofs.Common.{◌≡◌, ℕ, ℤ, List, [], ◌∷◌, ◌++◌, map, Option, Some, None, Result, Ok, Err, Bool, true, false, cond, refl, sym, ap, subst, ◌∙◌}
+use Rattle.std.proofs.Common.{◌≡◌, ℕ, ℤ, List, [], ◌∷◌, ◌++◌, map, Option, Some, None, Result, Ok, Err, Bool, true, false, cond, refl, subst}
 use Rattle.std.specs.List.{flat_map}
 use Rattle.wire_types.specs.declared.error_code.ErrorCode.{ErrorCode}
 use Rattle.wire_types.specs.declared.error_code.ErrorCode.TheVariants as codes
@@ -23,11 +23,11 @@ use Rattle.txn_coordinator.specs.InitProducerId.{timeout_within, init_in, init_f
 use Rattle.txn_coordinator.specs.Adding.{partition_added, partitions_added, with_partitions, open_in, open_by, open_found, open_transaction, grown, add_partitions}
 use Rattle.txn_coordinator.specs.EndTxn.{other_epoch, end_in, end_by, end_found, end}
 use Rattle.txn_coordinator.specs.Expiry.{is_due, expired, expiry_markers, expire}
-use Rattle.txn_coordinator.specs.Warrants.{owes, completed, with_completed, after_marker, written_by}
+use Rattle.txn_coordinator.specs.Warrants.{owes, completed, with_completed, written_by}
 use Rattle.txn_laws.specs.Sound.{Each}
-use Rattle.txn_laws.proofs.Base.{each_weaker, each_append, each_map}
+use Rattle.txn_laws.proofs.Base.{each_append}
 use Rattle.request_handlers.specs.World.{TopicValue}
-use Rattle.broker_laws.specs.Targets.{is_there, IsThere, TakesInExisting, IsOwedToExisting, AllExist}
+use Rattle.broker_laws.specs.Targets.{IsThere, TakesInExisting, IsOwedToExisting, AllExist}
 
 -- ---- lists
 
