@@ -51,21 +51,21 @@ use Rattle.request_handlers.specs.DataTenants.{FetchDependsOnGrants, ListOffsets
 
 -- ---- a question that refuses nothing is granted
 
-yes_of : (x : Verdict) (q : Question) (rest : Option Refusal) → first_of (refusal_by x q) rest ≡ None → x ≡ Yes
+pub yes_of : (x : Verdict) (q : Question) (rest : Option Refusal) → first_of (refusal_by x q) rest ≡ None → x ≡ Yes
 yes_of Yes q rest h = refl
 yes_of (Denied n) q rest h = absurd (let clash : Some (record { question = q; why = why.Denied n }) ≡ None = h in cc)
 yes_of Nothing q rest h = absurd (let clash : Some (record { question = q; why = why.Nothing }) ≡ None = h in cc)
 
-rest_of : (x : Verdict) (q : Question) (rest : Option Refusal) → first_of (refusal_by x q) rest ≡ None → rest ≡ None
+pub rest_of : (x : Verdict) (q : Question) (rest : Option Refusal) → first_of (refusal_by x q) rest ≡ None → rest ≡ None
 rest_of Yes q rest h = h
 rest_of (Denied n) q rest h = absurd (let clash : Some (record { question = q; why = why.Denied n }) ≡ None = h in cc)
 rest_of Nothing q rest h = absurd (let clash : Some (record { question = q; why = why.Nothing }) ≡ None = h in cc)
 
 -- the worlds agree on the topic of a granted question
-same_topic : (v w : World) (q : Question) → SameGranted v w (q ∷ []) → part_refusal (rules_of w) (q ∷ []) ≡ None → SameOn v w q.kind q.name
+pub same_topic : (v w : World) (q : Question) → SameGranted v w (q ∷ []) → part_refusal (rules_of w) (q ∷ []) ≡ None → SameOn v w q.kind q.name
 same_topic v w q same none = same.0 (yes_of (verdict w.book w.supers q) q None none)
 
-same_log : (us vs : List TopicValue) (name : List ℕ) (index : ℤ) → find_topic us name ≡ find_topic vs name → log_at us name index ≡ log_at vs name index
+pub same_log : (us vs : List TopicValue) (name : List ℕ) (index : ℤ) → find_topic us name ≡ find_topic vs name → log_at us name index ≡ log_at vs name index
 same_log us vs name index same = ap (option_and_then (log_of index)) same
 
 -- ---- Fetch

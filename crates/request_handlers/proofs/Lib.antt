@@ -4,7 +4,6 @@ pub mod AclParts
 pub mod Places
 pub mod Offsets
 pub mod Adds
-pub mod NamedParts
 pub mod Histories
 pub mod BookBounds
 pub mod Bounds
@@ -20,4 +19,5 @@ pub mod Groups
 pub mod Wholes
 pub mod Recorded
 pub mod Initials
+pub mod Together
 pub mod Sequenced

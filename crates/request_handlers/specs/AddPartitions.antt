@@ -1,7 +1,7 @@
 -- AddPartitionsToTxn: partitions become part of a transaction, all of them or none (Kafka protocol guide,
 -- "AddPartitionsToTxn API (Key: 24)"; KIP-98).
-use Rattle.std.specs.Prelude.{ℕ, ℤ, pos, Bool, true, false, ◌||◌, ◌++◌, List, [], ◌∷◌, map, Option, Some, None, is_none, if◌then◌else◌}
-use Rattle.std.specs.List.{list_any}
+use Rattle.std.specs.Prelude.{ℕ, ℤ, pos, Bool, true, false, ◌||◌, List, [], ◌∷◌, map, Option, Some, None, is_none, if◌then◌else◌}
+use Rattle.std.specs.List.{list_any, flat_map}
 use Rattle.std.proofs.Common.{zero-le}
 use Rattle.acl_binding.specs.declared.question.Caller.{Caller}
 use Rattle.acl_binding.specs.declared.question.Question.{Question}
@@ -84,8 +84,7 @@ partitions_in name indices = map (λ index. record { topic = name; index = index
 
 -- the partitions that are named, in order
 abbrev pub partitions_of : List (Topic ℤ) → List TopicPartition
-partitions_of [] = []
-partitions_of (t ∷ ts) = partitions_in t.name t.partitions ++ partitions_of ts
+partitions_of ts = flat_map (λ (t : Topic ℤ). partitions_in t.name t.partitions) ts
 
 -- what the coordinator makes of it
 abbrev pub add_turn : CoordinatorValue → ℕ → AddPartitionsToTxnRequest → Turn

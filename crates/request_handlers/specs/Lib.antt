@@ -27,4 +27,5 @@ pub mod DataLaws
 pub mod DataTenants
 pub mod AclLaws
 pub mod ProducerLaws
+pub mod TxnLaws
 pub mod DescribeLaws

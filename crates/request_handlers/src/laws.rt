@@ -5,6 +5,7 @@ ghost use Rattle.request_handlers.specs.Headline.{AnswersEachTopic, RefusesEachT
 ghost use Rattle.request_handlers.specs.Tenants.{DependsOnGrants};
 ghost use Rattle.request_handlers.specs.DataLaws.{ProducesAsAnswered, FetchesRuns, ListsEnds};
 ghost use Rattle.request_handlers.specs.ProducerLaws.{HoldsOnce, InitsOnce, InitDependsOnGrants};
+ghost use Rattle.request_handlers.specs.TxnLaws.{AddsAllOrNone, TransactionsDependOnGrants, TransactionsKeepTheRest};
 ghost use Rattle.request_handlers.specs.AclLaws.{CreatesEach, DeletesEach, RefusedEditNothing, AclsDependOnTheBook, AclsKeepTopics};
 ghost use Rattle.request_handlers.specs.DescribeLaws.{DescribesEach};
 ghost use Rattle.request_handlers.specs.DataTenants.{ProduceKeepsTheRest, ProduceKeepsOtherPartitions, ProduceDependsOnGrants, FetchDependsOnGrants, ListOffsetsDependsOnGrants};
@@ -113,4 +114,20 @@ pub fn inits_once()
 /// An InitProducerId is answered by what its question was granted and by the producer ids given out, and touches no log.
 pub fn init_depends_on_grants()
     ensures { InitDependsOnGrants }
+{}
+
+/// An AddPartitionsToTxn adds all its partitions or none.
+pub fn adds_all_or_none()
+    ensures { AddsAllOrNone }
+{}
+
+/// AddPartitionsToTxn and EndTxn are answered by what their questions were granted and by the producer ids given out.
+pub fn transactions_depend_on_grants()
+    ensures { TransactionsDependOnGrants }
+{}
+
+/// A request for a transactional id leaves the records of the others, and every log, as they were; and where writing
+/// with the id isn't granted, its own record too.
+pub fn transactions_keep_the_rest()
+    ensures { TransactionsKeepTheRest }
 {}

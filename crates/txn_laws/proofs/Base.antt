@@ -1,11 +1,13 @@
 -- Lists, records under their ids, and producer ids given out.
 use Rattle.std.proofs.Common.{◌≡◌, ℕ, ℤ, pos, negsuc, zero, suc, List, [], ◌∷◌, ◌++◌, length, map, Option, Some, None, Bool, true, false, cond, refl, sym, ap, ◌∙◌, arith}
-use Rattle.std.specs.Prelude.{slice_get, ◌<ℤ◌}
+use Rattle.std.specs.Prelude.{slice_get, ◌||◌, ◌<ℤ◌}
 use Rattle.std.specs.Str.{bytes_eq}
 use Rattle.std.proofs.lemmas.Int.{ints}
 use Rattle.std.proofs.lemmas.Option.{slice_get_within}
 use Rattle.std.proofs.lemmas.Slice.Eq.{bytes_eq-Decides}
 use Rattle.txn_coordinator.specs.declared.transaction.Transaction.{Transaction}
+use Rattle.txn_coordinator.specs.declared.marker.OwedMarker.{OwedMarker}
+use Rattle.txn_coordinator.specs.Warrants.{owes}
 use Rattle.txn_coordinator.specs.Coordinator.{CoordinatorValue, has_id, recorded, put, owner}
 use Rattle.txn_laws.specs.Sound.{Each, HaveOwnIds}
 
@@ -76,6 +78,29 @@ own_put (t ∷ ts) r h = by_same (own_put ts r h.1) (has_id r.id t) refl where
   by_same : HaveOwnIds (put ts r) → (b : Bool) → has_id r.id t ≡ b → HaveOwnIds (cond b (r ∷ ts) (t ∷ put ts r))
   by_same rest true e = (each_weaker (λ (u : Transaction). u.id ≡ t.id → ⊥) (λ (u : Transaction). u.id ≡ r.id → ⊥) (λ u other same. other (same ∙ sym (same_is t.id r.id e))) ts h.0, h.1)
   by_same rest false e = (lacks_put ts r t.id (λ same. let yes : has_id r.id t ≡ true = is_same t.id r.id (sym same) in let clash : true ≡ false = sym yes ∙ e in absurd (cc)) h.0, rest)
+
+-- ---- what an id owes
+
+or_true : (a b : Bool) → b ≡ true → (a || b) ≡ true
+or_true true b h = refl
+or_true false b h = h
+
+pub owes_more : (xs ys : List OwedMarker) (id : List ℕ) → owes xs id ≡ true → owes (xs ++ ys) id ≡ true
+owes_more [] ys id h = cc
+owes_more (x ∷ xs) ys id h = by_same (bytes_eq x.id id) (owes_more xs ys id) h where
+  by_same : (b : Bool) → (owes xs id ≡ true → owes (xs ++ ys) id ≡ true) → (b || owes xs id) ≡ true → (b || owes (xs ++ ys) id) ≡ true
+  by_same true rest h = refl
+  by_same false rest h = rest h
+
+pub owes_behind : (xs ys : List OwedMarker) (id : List ℕ) → owes ys id ≡ true → owes (xs ++ ys) id ≡ true
+owes_behind [] ys id h = h
+owes_behind (x ∷ xs) ys id h = or_true (bytes_eq x.id id) (owes (xs ++ ys) id) (owes_behind xs ys id h)
+
+pub owes_rest : (x : OwedMarker) (xs : List OwedMarker) (id : List ℕ) → (x.id ≡ id → ⊥) → owes (x ∷ xs) id ≡ true → owes xs id ≡ true
+owes_rest x xs id other h = by_same (bytes_eq x.id id) refl h where
+  by_same : (b : Bool) → bytes_eq x.id id ≡ b → (b || owes xs id) ≡ true → owes xs id ≡ true
+  by_same true e h = absurd (other (same_is x.id id e))
+  by_same false e h = h
 
 -- ---- producer ids
 

@@ -6,6 +6,7 @@ use Rattle.wire_types.specs.declared.error_code.ErrorCode.{ErrorCode}
 use Rattle.wire_types.specs.declared.error_code.ErrorCode.TheVariants as codes
 use Rattle.txn_coordinator.specs.declared.pair.Pair.{Pair}
 use Rattle.txn_coordinator.specs.declared.target.TopicPartition.{TopicPartition}
+use Rattle.txn_coordinator.specs.declared.target.Target.{Target}
 use Rattle.txn_coordinator.specs.declared.transaction.Transaction.{Transaction}
 use Rattle.txn_coordinator.specs.declared.transaction.Phase.{Phase}
 use Rattle.txn_coordinator.specs.declared.transaction.Phase.TheVariants.{Empty, Ongoing, PrepareCommit, PrepareAbort, CompleteCommit, CompleteAbort}
@@ -23,12 +24,13 @@ use Rattle.txn_coordinator.specs.InitProducerId.{timeout_within, begun, init_in,
 use Rattle.txn_coordinator.specs.Adding.{with_partitions, with_group, open_in, open_by, open_found, open_transaction, grown, add_partitions, add_group}
 use Rattle.txn_coordinator.specs.EndTxn.{other_epoch, end_ongoing, end_closed, end_in, is_again, end_again, end_by, end_found, end}
 use Rattle.txn_coordinator.specs.Expiry.{is_due}
+use Rattle.txn_coordinator.specs.Warrants.{owes}
 use Rattle.txn_coordinator.proofs.Table.{recorded_id}
 use Rattle.txn_laws.specs.Small.{World, expire_turn}
 use Rattle.txn_laws.specs.Sound.{Each, AreDistinct, AreApart, IsSound}
 use Rattle.txn_laws.proofs.Base.{given_to, owner_is, given_more, given_next, given_within}
 use Rattle.txn_laws.proofs.Turns.{IsTurn, IsTurned, IsOwedBy}
-use Rattle.txn_laws.proofs.Targets.{markers_owed, markers_apart, distinct_partitions, distinct_group}
+use Rattle.txn_laws.proofs.Targets.{markers_owing, filled_partitions, filled_group, markers_owed, markers_apart, distinct_partitions, distinct_group}
 
 -- ---- the two ways in which a record is put
 
@@ -37,6 +39,12 @@ found_same ts r t x e at h = let same : Some t ≡ Some x = sym at ∙ (ap (reco
 
 abbrev IsClosed : Phase → Type 0
 IsClosed phase = (o : Outcome) → phase ≡ prepared o → ⊥
+
+abbrev IsFilled : Transaction → Type 0
+IsFilled r = r.phase ≡ Ongoing → targets r ≡ [] → ⊥
+
+abbrev Owes : Transaction → List OwedMarker → Type 0
+Owes r ws = (o : Outcome) → r.phase ≡ prepared o → owes ws r.id ≡ true
 
 -- where the new record waits, the targets are owed that
 abbrev Prepares : Transaction → Transaction → List OwedMarker → Type 0
@@ -61,28 +69,32 @@ own_given : (w : World) (t : Transaction) → IsSound w → recorded w.coordinat
 own_given w t s at = sym (owner_is w.coordinator w.coordinator.given t.pair.producer refl) ∙ s.owned t.id t at
 
 -- under its own producer id, with an epoch that doesn't fall
-same_turn : (w : World) (t r : Transaction) (ws : List OwedMarker) → IsSound w → recorded w.coordinator.transactions t.id ≡ Some t → IsClosed t.phase → r.id ≡ t.id → r.pair.producer ≡ t.pair.producer → t.pair.epoch ≤ℤ r.pair.epoch → AreDistinct (targets r) → Each (IsOwedBy (w.coordinator.given ++ []) r) ws → AreApart ws → Prepares t r ws → IsTurn w.coordinator r [] ws
-same_turn w t r ws s at closed id producer le distinct owed apart prepares = record {
+same_turn : (w : World) (t r : Transaction) (ws : List OwedMarker) → IsSound w → recorded w.coordinator.transactions t.id ≡ Some t → IsClosed t.phase → r.id ≡ t.id → r.pair.producer ≡ t.pair.producer → t.pair.epoch ≤ℤ r.pair.epoch → AreDistinct (targets r) → IsFilled r → Owes r ws → Each (IsOwedBy (w.coordinator.given ++ []) r) ws → AreApart ws → Prepares t r ws → IsTurn w.coordinator r [] ws
+same_turn w t r ws s at closed id producer le distinct filled owing owed apart prepares = record {
   change = record {
     on = λ x h. let e = found_same w.coordinator.transactions r t x id at h in inl (producer ∙ ap (λ (y : Transaction). y.pair.producer) e, subst (λ (y : Transaction). y.pair.epoch ≤ℤ r.pair.epoch) e le);
     owned = ap (given_to (w.coordinator.given ++ [])) producer ∙ given_more w.coordinator.given [] t.pair.producer (Some t.id) (own_given w t s at) ∙ ap (λ i. Some (Some i)) (sym id);
   };
   free = λ x h. let e = found_same w.coordinator.transactions r t x id at h in subst (λ (y : Transaction). IsClosed y.phase) e closed;
   distinct = distinct;
+  filled = filled;
+  owing = owing;
   owed = owed;
   apart = apart;
   prepares = λ x h. let e = found_same w.coordinator.transactions r t x id at h in subst (λ (y : Transaction). Prepares y r ws) e prepares;
 }
 
 -- under a fresh producer id
-fresh_turn : (w : World) (t r : Transaction) (ws : List OwedMarker) → IsSound w → recorded w.coordinator.transactions t.id ≡ Some t → IsClosed t.phase → r.id ≡ t.id → r.pair.producer ≡ fresh w.coordinator → AreDistinct (targets r) → Each (IsOwedBy (w.coordinator.given ++ Some t.id ∷ []) r) ws → AreApart ws → Prepares t r ws → IsTurn w.coordinator r (Some t.id ∷ []) ws
-fresh_turn w t r ws s at closed id producer distinct owed apart prepares = record {
+fresh_turn : (w : World) (t r : Transaction) (ws : List OwedMarker) → IsSound w → recorded w.coordinator.transactions t.id ≡ Some t → IsClosed t.phase → r.id ≡ t.id → r.pair.producer ≡ fresh w.coordinator → AreDistinct (targets r) → IsFilled r → Owes r ws → Each (IsOwedBy (w.coordinator.given ++ Some t.id ∷ []) r) ws → AreApart ws → Prepares t r ws → IsTurn w.coordinator r (Some t.id ∷ []) ws
+fresh_turn w t r ws s at closed id producer distinct filled owing owed apart prepares = record {
   change = record {
     on = λ x h. inr (omega (arith, ints));
     owned = ap (given_to (w.coordinator.given ++ Some t.id ∷ [])) producer ∙ given_next w.coordinator.given (Some t.id) ∙ ap (λ i. Some (Some i)) (sym id);
   };
   free = λ x h. let e = found_same w.coordinator.transactions r t x id at h in subst (λ (y : Transaction). IsClosed y.phase) e closed;
   distinct = distinct;
+  filled = filled;
+  owing = owing;
   owed = owed;
   apart = apart;
   prepares = λ x h. let e = found_same w.coordinator.transactions r t x id at h in subst (λ (y : Transaction). Prepares y r ws) e prepares;
@@ -111,11 +123,27 @@ or_stays : (c : CoordinatorValue) (b : Bool) (code : ErrorCode) (turn : Turn) �
 or_stays c true code turn h = tt
 or_stays c false code turn h = h
 
+empty_waits : (id : List ℕ) (o : Outcome) → Empty ≡ prepared o → owes [] id ≡ true
+empty_waits id o h = absurd (closed_empty o h)
+
+aborted_waits : (id : List ℕ) (o : Outcome) → CompleteAbort ≡ prepared o → owes [] id ≡ true
+aborted_waits id o h = absurd (closed_aborted o h)
+
+empty_open : (xs : List Target) → Empty ≡ Ongoing → xs ≡ [] → ⊥
+empty_open xs h _ = cc
+
+aborted_open : (xs : List Target) → CompleteAbort ≡ Ongoing → xs ≡ [] → ⊥
+aborted_open xs h _ = cc
+
+prepared_open : (r : Transaction) (o : Outcome) → r.phase ≡ prepared o → IsFilled r
+prepared_open r o waits h _ = closed_ongoing o (sym h ∙ waits)
+
 -- an open transaction is prepared under its own producer id, its markers with the record's epoch
 prepared_turn : (w : World) (t r : Transaction) (o : Outcome) → IsSound w → recorded w.coordinator.transactions t.id ≡ Some t → t.phase ≡ Ongoing → r.id ≡ t.id → r.pair.producer ≡ t.pair.producer → t.pair.epoch ≤ℤ r.pair.epoch → targets r ≡ targets t → r.phase ≡ prepared o → IsTurn w.coordinator r [] (markers t r.pair o)
 prepared_turn w t r o s at ongoing id producer le same waits =
     let distinct = s.distinct t.id t at in
     same_turn w t r (markers t r.pair o) s at (closed_as Ongoing t.phase closed_ongoing ongoing) id producer le (subst AreDistinct (sym same) distinct)
+    (prepared_open r o waits) (λ own h. ap (owes (markers t r.pair o)) id ∙ markers_owing t r.pair o (s.filled t.id t at ongoing))
     (markers_owed (w.coordinator.given ++ []) r t r.pair o (sym id) (ap (given_to (w.coordinator.given ++ [])) producer ∙ given_more w.coordinator.given [] t.pair.producer (Some t.id) (own_given w t s at)) (λ _. omega (arith, ints)) waits)
     (markers_apart t r.pair o distinct)
     (λ own h. waiting t r.pair o own producer (sym waits ∙ h))
@@ -129,8 +157,8 @@ fenced_turn w code t s at ongoing = prepared_turn w t (fenced t) Abort s at ongo
 begun_turn : (w : World) (t : Transaction) (timeout : ℕ) → IsSound w → recorded w.coordinator.transactions t.id ≡ Some t → IsClosed t.phase → IsTurned w.coordinator (begun t (fresh w.coordinator) timeout)
 begun_turn w t timeout s at closed = by_test (is_exhausted t.pair) where
   by_test : (b : Bool) → IsTurn w.coordinator (record t { pair = cond b (record { producer = fresh w.coordinator; epoch = pos 0 }) (raised t.pair); timeout = timeout; phase = Empty; kept = None }) (cond b (Some t.id ∷ []) []) []
-  by_test true = fresh_turn w t _ [] s at closed refl refl (s.distinct t.id t at) tt tt (never Empty t [] closed_empty)
-  by_test false = same_turn w t _ [] s at closed refl refl (omega (arith, ints)) (s.distinct t.id t at) tt tt (never Empty t [] closed_empty)
+  by_test true = fresh_turn w t _ [] s at closed refl refl (s.distinct t.id t at) (empty_open (targets t)) (empty_waits t.id) tt tt (never Empty t [] closed_empty)
+  by_test false = same_turn w t _ [] s at closed refl refl (omega (arith, ints)) (s.distinct t.id t at) (empty_open (targets t)) (empty_waits t.id) tt tt (never Empty t [] closed_empty)
 
 init_in_turn : (w : World) (phase : Phase) (t : Transaction) (timeout : ℕ) → IsSound w → recorded w.coordinator.transactions t.id ≡ Some t → t.phase ≡ phase → IsTurned w.coordinator (init_in phase t (fresh w.coordinator) timeout)
 init_in_turn w Empty t timeout s at e = begun_turn w t timeout s at (closed_as Empty t.phase closed_empty e)
@@ -151,6 +179,8 @@ init_for_turn w id (Some timeout) s None e = record {
   change = record { on = λ x h. absurd (let clash : None ≡ Some x = sym e ∙ h in cc); owned = given_next w.coordinator.given (Some id) };
   free = λ x h. absurd (let clash : None ≡ Some x = sym e ∙ h in cc);
   distinct = tt;
+  filled = empty_open [];
+  owing = empty_waits id;
   owed = tt;
   apart = tt;
   prepares = λ x h. absurd (let clash : None ≡ Some x = sym e ∙ h in cc);
@@ -196,27 +226,28 @@ open_turn w id p s = by_empty (is_empty id) where
   by_empty true = tt
   by_empty false = open_found_turn w id p s (recorded w.coordinator.transactions id) refl
 
-opened_turn : (w : World) (t u r : Transaction) → IsSound w → IsOpened w t u → r.id ≡ u.id → r.pair ≡ u.pair → r.phase ≡ u.phase → AreDistinct (targets r) → IsTurn w.coordinator r [] []
-opened_turn w t u r s h id pair phase distinct =
+opened_turn : (w : World) (t u r : Transaction) → IsSound w → IsOpened w t u → r.id ≡ u.id → r.pair ≡ u.pair → r.phase ≡ u.phase → AreDistinct (targets r) → (targets r ≡ [] → ⊥) → IsTurn w.coordinator r [] []
+opened_turn w t u r s h id pair phase distinct filled =
     let producer : r.pair.producer ≡ t.pair.producer = ap (λ (p : Pair). p.producer) (pair ∙ h.pair) in
     let epoch : r.pair.epoch ≡ t.pair.epoch = ap (λ (p : Pair). p.epoch) (pair ∙ h.pair) in
-    same_turn w t r [] s h.at h.closed (id ∙ h.id) producer (omega (arith, ints)) distinct tt tt (never r.phase t [] (closed_as Ongoing r.phase closed_ongoing (phase ∙ h.ongoing)))
+    let closed = closed_as Ongoing r.phase closed_ongoing (phase ∙ h.ongoing) in
+    same_turn w t r [] s h.at h.closed (id ∙ h.id) producer (omega (arith, ints)) distinct (λ _. filled) (λ o waits. absurd (closed o waits)) tt tt (never r.phase t [] closed)
 
-partitions_grown : (w : World) (ps : List TopicPartition) → IsSound w → (o : Result Transaction ErrorCode) → IsOpen w o → IsTurned w.coordinator (grown (with_partitions ps) o)
-partitions_grown w ps s (Err code) h = tt
-partitions_grown w ps s (Ok u) h = opened_turn w h.0 u (with_partitions ps u) s h.1 refl refl refl (distinct_partitions ps u.partitions u.groups (distinct_of h.1)) where
+partitions_grown : (w : World) (p : TopicPartition) (ps : List TopicPartition) → IsSound w → (o : Result Transaction ErrorCode) → IsOpen w o → IsTurned w.coordinator (grown (with_partitions (p ∷ ps)) o)
+partitions_grown w p ps s (Err code) h = tt
+partitions_grown w p ps s (Ok u) h = opened_turn w h.0 u (with_partitions (p ∷ ps) u) s h.1 refl refl refl (distinct_partitions (p ∷ ps) u.partitions u.groups (distinct_of h.1)) (filled_partitions p ps u.partitions u.groups) where
   distinct_of : IsOpened w h.0 u → AreDistinct (targets u)
   distinct_of opened = opened.distinct
 
 group_grown : (w : World) (g : List ℕ) → IsSound w → (o : Result Transaction ErrorCode) → IsOpen w o → IsTurned w.coordinator (grown (with_group g) o)
 group_grown w g s (Err code) h = tt
-group_grown w g s (Ok u) h = opened_turn w h.0 u (with_group g u) s h.1 refl refl refl (distinct_group u.partitions u.groups g (distinct_of h.1)) where
+group_grown w g s (Ok u) h = opened_turn w h.0 u (with_group g u) s h.1 refl refl refl (distinct_group u.partitions u.groups g (distinct_of h.1)) (filled_group u.partitions u.groups g) where
   distinct_of : IsOpened w h.0 u → AreDistinct (targets u)
   distinct_of opened = opened.distinct
 
 pub partitions_turn : (w : World) (id : List ℕ) (p : Pair) (ps : List TopicPartition) → IsSound w → IsTurned w.coordinator (add_partitions w.coordinator id p w.moment ps)
 partitions_turn w id p [] s = tt
-partitions_turn w id p (q ∷ ps) s = partitions_grown w (q ∷ ps) s (open_transaction w.coordinator id p w.moment) (open_turn w id p s)
+partitions_turn w id p (q ∷ ps) s = partitions_grown w q ps s (open_transaction w.coordinator id p w.moment) (open_turn w id p s)
 
 pub group_turn : (w : World) (id : List ℕ) (p : Pair) (g : List ℕ) → IsSound w → IsTurned w.coordinator (add_group w.coordinator id p w.moment g)
 group_turn w id p g s = group_grown w g s (open_transaction w.coordinator id p w.moment) (open_turn w id p s)
@@ -232,6 +263,7 @@ ended_turn w forms.Raising t o s at ongoing = by_test (is_exhausted t.pair) wher
   by_test true =
       let within : t.pair.producer <ℤ pos (length w.coordinator.given) = given_within w.coordinator.given t.pair.producer (Some t.id) (own_given w t s at) in
       fresh_turn w t _ _ s at (closed_as Ongoing t.phase closed_ongoing ongoing) refl refl (s.distinct t.id t at)
+      (λ h _. closed_ongoing o (sym h)) (λ own h. markers_owing t (raised t.pair) o (s.filled t.id t at ongoing))
       (markers_owed (w.coordinator.given ++ Some t.id ∷ []) (record t { pair = record { producer = fresh w.coordinator; epoch = pos 0 }; phase = prepared o; kept = Some t.pair }) t (raised t.pair) o refl (given_more w.coordinator.given (Some t.id ∷ []) t.pair.producer (Some t.id) (own_given w t s at)) (λ same. absurd (omega (arith, ints))) refl)
       (markers_apart t (raised t.pair) o (s.distinct t.id t at))
       (λ own h. waiting t (raised t.pair) o own refl h)
@@ -243,8 +275,8 @@ closed_turn w forms.Fencing t o code s at closed = tt
 closed_turn w forms.Raising t Commit code s at closed = tt
 closed_turn w forms.Raising t Abort code s at closed = by_test (is_exhausted t.pair) where
   by_test : (b : Bool) → IsTurn w.coordinator (record t { pair = cond b (record { producer = fresh w.coordinator; epoch = pos 0 }) (raised t.pair); phase = CompleteAbort; kept = Some t.pair }) (cond b (Some t.id ∷ []) []) []
-  by_test true = fresh_turn w t _ [] s at closed refl refl (s.distinct t.id t at) tt tt (never CompleteAbort t [] closed_aborted)
-  by_test false = same_turn w t _ [] s at closed refl refl (omega (arith, ints)) (s.distinct t.id t at) tt tt (never CompleteAbort t [] closed_aborted)
+  by_test true = fresh_turn w t _ [] s at closed refl refl (s.distinct t.id t at) (aborted_open (targets t)) (aborted_waits t.id) tt tt (never CompleteAbort t [] closed_aborted)
+  by_test false = same_turn w t _ [] s at closed refl refl (omega (arith, ints)) (s.distinct t.id t at) (aborted_open (targets t)) (aborted_waits t.id) tt tt (never CompleteAbort t [] closed_aborted)
 
 end_in_turn : (w : World) (phase : Phase) (form : EndForm) (t : Transaction) (o : Outcome) → IsSound w → recorded w.coordinator.transactions t.id ≡ Some t → t.phase ≡ phase → IsTurned w.coordinator (end_in phase form t (fresh w.coordinator) o)
 end_in_turn w Ongoing form t o s at e = ended_turn w form t o s at e

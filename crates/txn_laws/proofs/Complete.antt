@@ -100,7 +100,7 @@ not_its_marker c y x owed_y owed_x other same_target same =
 abbrev Ends : List Move → World → Type 0
 Ends ms w = (front : List OwedMarker) (x : OwedMarker) (rest : List OwedMarker) → w.coordinator.warrants ≡ front ++ x ∷ rest → length front < marks ms → (old mid : List Entry) → w.entries x.target ≡ old ++ mid → Each (IsNotOf x.pair.producer) mid → IsEnded x.pair x.outcome old ((moved_all w ms).entries x.target)
 
-kind_of : (m : Move) → (m ≡ Mark) ⊎ (mark_count m ≡ 0)
+pub kind_of : (m : Move) → (m ≡ Mark) ⊎ (mark_count m ≡ 0)
 kind_of (Init id timeout greatest) = inr refl
 kind_of Give = inr refl
 kind_of (AddPartitions id pair partitions) = inr refl
@@ -207,6 +207,14 @@ before_last [] x rest id own = subst (λ b. 0 < cond b (1 + up_to_last rest id) 
 before_last (y ∷ ys) x rest id own =
     let low = before_last ys x rest id own in
     subst (λ b. length (y ∷ ys) < cond b (1 + up_to_last (ys ++ x ∷ rest) id) 0) (sym (owes_among (y ∷ ys) x rest id own)) (omega arith)
+
+-- no more than are owed at all
+pub last_within : (ws : List OwedMarker) (id : List ℕ) → up_to_last ws id ≤ length ws
+last_within [] id = omega arith
+last_within (x ∷ xs) id = by_owes (owes (x ∷ xs) id) (last_within xs id) where
+  by_owes : (b : Bool) → up_to_last xs id ≤ length xs → cond b (1 + up_to_last xs id) 0 ≤ length (x ∷ xs)
+  by_owes true rest = omega arith
+  by_owes false rest = omega arith
 
 each_waiting : (ms : List Move) (w : World) → IsSound w → (id : List ℕ) (t : Transaction) (o : Outcome) → recorded w.coordinator.transactions id ≡ Some t → t.phase ≡ prepared o → up_to_last w.coordinator.warrants id ≤ marks ms
     → (front xs : List OwedMarker) → w.coordinator.warrants ≡ front ++ xs → Each (λ (x : OwedMarker). x.id ≡ id → IsEnded x.pair o (w.entries x.target) ((moved_all w ms).entries x.target)) xs

@@ -1,17 +1,18 @@
 -- A pair that was left writes nothing more.
-use Rattle.std.proofs.Common.{◌≡◌, ℕ, List, [], ◌∷◌, ◌++◌, Some, None, sym, ap, ◌∙◌, inl, inr, append-nil, append_assoc, arith}
+use Rattle.std.proofs.Common.{◌≡◌, ℕ, List, [], ◌∷◌, ◌++◌, Some, None, sym, ap, ◌∙◌, inl, inr, append-nil, append_assoc, arith, Bool, true, false, refl}
 use Rattle.std.proofs.lemmas.Int.{ints}
 use Rattle.txn_coordinator.specs.declared.pair.Pair.{Pair}
 use Rattle.txn_coordinator.specs.declared.target.Target.{Target}
 use Rattle.txn_coordinator.specs.declared.transaction.Transaction.{Transaction}
 use Rattle.txn_coordinator.specs.Words.{raised}
 use Rattle.txn_coordinator.specs.Coordinator.{recorded, owner}
-use Rattle.txn_laws.specs.Small.{World, Entry, Move, moved, moved_all, mark_count}
+use Rattle.txn_coordinator.specs.Holding.{holds}
+use Rattle.txn_laws.specs.Small.{World, Entry, Move, is_no_error, is_free, moved, moved_all, mark_count}
 use Rattle.txn_laws.specs.Small.Entry.{Data, Marker, Other}
 use Rattle.txn_laws.specs.Sound.{IsSound, IsFenced}
-use Rattle.txn_laws.specs.Laws.{InSound, IsNotPair, IsSilent, HasPair, FencingLaw, OrderLaw}
+use Rattle.txn_laws.specs.Laws.{InSound, IsNotPair, IsSilent, HasPair, FencingLaw, Refuses, RefusalLaw, OrderLaw}
 use Rattle.txn_laws.proofs.Base.{each_append, each_weaker}
-use Rattle.txn_laws.proofs.Moves.{one_owner, move_sound, moves_sound, move_fence, moves_fence}
+use Rattle.txn_laws.proofs.Moves.{one_owner, move_sound, moves_sound, move_fence, moves_fence, held, free_is}
 use Rattle.txn_laws.proofs.Growth.{IsAdmitted, move_grown}
 
 -- no data of the pair is let in where the id has gone past it
@@ -62,6 +63,26 @@ gone_past w ms id pair s (t, found, pair_is) left =
 pub fencing_law : InSound FencingLaw
 fencing_law w s ms after id pair has left target =
     silent after (moved_all w ms) id pair (moves_sound w ms s) (gone_past w ms id pair s has left) target
+
+-- from a world in which the id has gone past the pair
+refuses : (w : World) (id : List ℕ) (pair : Pair) → IsSound w → IsFenced w.coordinator id (raised pair) → Refuses w pair
+refuses w id pair s f = record {
+  in_transaction = λ other target. by_held other target (is_no_error (holds w.coordinator other pair target)) refl;
+  without_id = by_free (is_free (owner w.coordinator pair.producer)) refl;
+} where
+  by_held : (other : List ℕ) (target : Target) (b : Bool) → is_no_error (holds w.coordinator other pair target) ≡ b → b ≡ false
+  by_held other target false e = refl
+  by_held other target true e = absurd (not_admitted w id pair 0 s f (Data pair) (inl (other, held w.coordinator other pair target (recorded w.coordinator.transactions other) refl e)) refl)
+
+  by_free : (b : Bool) → is_free (owner w.coordinator pair.producer) ≡ b → b ≡ false
+  by_free false e = refl
+  by_free true e = absurd (not_admitted w id pair 0 s f (Data pair) (inr (free_is (owner w.coordinator pair.producer) e)) refl)
+
+pub refusal_law : InSound RefusalLaw
+refusal_law w s ms after id pair has left =
+    let then = moved_all w ms in
+    let sound = moves_sound w ms s in
+    refuses (moved_all then after) id pair (moves_sound then after sound) (moves_fence then after sound id (raised pair) (gone_past w ms id pair s has left))
 
 pub order_law : InSound OrderLaw
 order_law w s target = s.ordered target

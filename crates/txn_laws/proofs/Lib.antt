@@ -9,3 +9,6 @@ pub mod Prepared
 pub mod Fences
 pub mod Ticks
 pub mod Reached
+pub mod Completed
+pub mod GroupsKeep
+pub mod Rows

@@ -1,4 +1,5 @@
 -- Every move keeps the world sound.
+use Rattle.txn_coordinator.specs.declared.marker.Outcome.TheVariants.{Commit, Abort}
 use Rattle.std.proofs.Common.{◌≡◌, ℕ, ℤ, List, [], ◌∷◌, ◌++◌, Option, Some, None, Bool, true, false, cond, refl, sym, subst, ap, ◌∙◌, inl, append-nil, arith}
 use Rattle.std.specs.Prelude.{◌&&◌, ◌||◌, ◌≤ℤ◌}
 use Rattle.std.specs.Ordering.{int_eq}
@@ -14,7 +15,7 @@ use Rattle.txn_coordinator.specs.declared.marker.Outcome.{Outcome}
 use Rattle.txn_coordinator.specs.declared.marker.OwedMarker.{OwedMarker}
 use Rattle.txn_coordinator.specs.declared.turn.Turn.{Turn}
 use Rattle.txn_coordinator.specs.declared.turn.Turn.TheVariants.{Stays, Puts}
-use Rattle.txn_coordinator.specs.Words.{is_ongoing, has_target}
+use Rattle.txn_coordinator.specs.Words.{is_ongoing, has_target, complete, prepared}
 use Rattle.txn_coordinator.specs.Coordinator.{CoordinatorValue, recorded, put, owner, given_free, turned}
 use Rattle.txn_coordinator.specs.InitProducerId.{init}
 use Rattle.txn_coordinator.specs.Adding.{add_partitions, add_group}
@@ -26,7 +27,7 @@ use Rattle.txn_laws.specs.Small.{World, Entry, Move, first_world, is_same_target
 use Rattle.txn_laws.specs.Small.Entry.{Data, Marker, Other}
 use Rattle.txn_laws.specs.Small.Move.{Init, Give, AddPartitions, AddGroup, End, Expire, Moment, Store, Send, Plain, Mark}
 use Rattle.txn_laws.specs.Sound.{Each, AreApart, IsFenced, IsOwed, IsBacked, IsNotOlder, IsOrdered, IsSound}
-use Rattle.txn_laws.proofs.Base.{each_weaker, each_append, each_of, each_with, is_same, owner_is, given_more}
+use Rattle.txn_laws.proofs.Base.{owes_rest, each_weaker, each_append, each_of, each_with, is_same, owner_is, given_more, same_is}
 use Rattle.txn_laws.proofs.Turns.{IsChange, changed, fence_kept, owed_kept, change_sound, turn_sound, IsTurned}
 use Rattle.txn_laws.proofs.Targets.{and_true, same_number, target_is}
 use Rattle.txn_laws.proofs.Calls.{init_turn, partitions_turn, group_turn, end_turn, ongoing_is, expire_one_turn}
@@ -55,7 +56,9 @@ appended_sound w target entry s backed accepts = record {
   own_ids = s.own_ids;
   owned = s.owned;
   distinct = s.distinct;
+  filled = s.filled;
   owed = s.owed;
+  owing = s.owing;
   apart = s.apart;
   backed = λ t. by_backed t (is_same_target target t);
   ordered = λ t. by_ordered t (is_same_target target t) refl;
@@ -164,6 +167,8 @@ given_sound w s = let c = w.coordinator in record {
   own_ids = s.own_ids;
   owned = λ id t found. owned_given c t.pair.producer id (s.owned id t found);
   distinct = s.distinct;
+  filled = s.filled;
+  owing = s.owing;
   owed = each_weaker (IsOwed c) (IsOwed (given_free c)) (λ x owed. record { fence = fence_given c x.id x.pair owed.fence; waits = owed.waits }) c.warrants s.owed;
   apart = s.apart;
   backed = λ target. each_weaker (IsBacked c) (IsBacked (given_free c)) (backed_given c) (w.entries target) (s.backed target);
@@ -178,6 +183,12 @@ owes_none (y ∷ ys) id h = by_same (owes_none ys id) (bytes_eq y.id id) refl h 
   by_same : (owes ys id ≡ false → Each (λ (y : OwedMarker). y.id ≡ id → ⊥) ys) → (b : Bool) → bytes_eq y.id id ≡ b → (b || owes ys id) ≡ false → (y.id ≡ id → ⊥) × Each (λ (y : OwedMarker). y.id ≡ id → ⊥) ys
   by_same rest true e h = cc
   by_same rest false e h = ((λ same. let yes : bytes_eq y.id id ≡ true = is_same y.id id same in let clash : true ≡ false = sym yes ∙ e in cc), rest h)
+
+owing_left : (x : OwedMarker) (xs : List OwedMarker) (id : List ℕ) → owes xs x.id ≡ true → owes (x ∷ xs) id ≡ true → owes xs id ≡ true
+owing_left x xs id some h = by_same (bytes_eq x.id id) refl h where
+  by_same : (b : Bool) → bytes_eq x.id id ≡ b → (b || owes xs id) ≡ true → owes xs id ≡ true
+  by_same true e h = ap (owes xs) (sym (same_is x.id id e)) ∙ some
+  by_same false e h = h
 
 -- the coordinator without its front marker, with other records
 abbrev left_with : CoordinatorValue → List Transaction → List (Option (List ℕ)) → List OwedMarker → CoordinatorValue
@@ -198,12 +209,14 @@ backed_left c ws (Data p) h = tt
 backed_left c ws (Marker p o) h = (h.0, fence_left c ws h.0 p h.1)
 backed_left c ws Other h = tt
 
-more_left : (w : World) (x : OwedMarker) (xs : List OwedMarker) → IsSound w → Each (IsOwed w.coordinator) (x ∷ xs) → AreApart (x ∷ xs) → IsLeft w (left_with w.coordinator w.coordinator.transactions w.coordinator.given xs)
-more_left w x xs s owed apart = let c = w.coordinator in (
+more_left : (w : World) (x : OwedMarker) (xs : List OwedMarker) → IsSound w → w.coordinator.warrants ≡ x ∷ xs → owes xs x.id ≡ true → Each (IsOwed w.coordinator) (x ∷ xs) → AreApart (x ∷ xs) → IsLeft w (left_with w.coordinator w.coordinator.transactions w.coordinator.given xs)
+more_left w x xs s at some owed apart = let c = w.coordinator in (
   record {
     own_ids = s.own_ids;
     owned = λ id t found. owned_left c xs t.pair.producer id (s.owned id t found);
     distinct = s.distinct;
+    filled = s.filled;
+    owing = λ id t o found waits. owing_left x xs id some (ap (λ ws. owes ws id) (sym at) ∙ s.owing id t o found waits);
     owed = each_weaker (IsOwed c) (IsOwed (left_with c c.transactions c.given xs)) (λ y o. record { fence = fence_left c xs y.id y.pair o.fence; waits = o.waits }) xs owed.1;
     apart = apart.1;
     backed = λ target. each_weaker (IsBacked c) (IsBacked (left_with c c.transactions c.given xs)) (backed_left c xs) (w.entries target) (s.backed target);
@@ -212,8 +225,18 @@ more_left w x xs s owed apart = let c = w.coordinator in (
   fence_left c xs,
 )
 
-last_left : (w : World) (x : OwedMarker) (xs : List OwedMarker) (t : Transaction) → IsSound w → Each (IsOwed w.coordinator) (x ∷ xs) → AreApart (x ∷ xs) → owes xs x.id ≡ false → recorded w.coordinator.transactions x.id ≡ Some t → IsLeft w (left_with w.coordinator (put w.coordinator.transactions (completed x.outcome t)) w.coordinator.given xs)
-last_left w x xs t s owed apart none found =
+complete_open : (o : Outcome) → complete o ≡ Ongoing → ⊥
+complete_open Commit h = cc
+complete_open Abort h = cc
+
+pub complete_waits : (a b : Outcome) → complete a ≡ prepared b → ⊥
+complete_waits Commit Commit h = cc
+complete_waits Commit Abort h = cc
+complete_waits Abort Commit h = cc
+complete_waits Abort Abort h = cc
+
+last_left : (w : World) (x : OwedMarker) (xs : List OwedMarker) (t : Transaction) → IsSound w → w.coordinator.warrants ≡ x ∷ xs → Each (IsOwed w.coordinator) (x ∷ xs) → AreApart (x ∷ xs) → owes xs x.id ≡ false → recorded w.coordinator.transactions x.id ≡ Some t → IsLeft w (left_with w.coordinator (put w.coordinator.transactions (completed x.outcome t)) w.coordinator.given xs)
+last_left w x xs t s at owed apart none found =
     subst (λ g. IsLeft w (left_with w.coordinator (put w.coordinator.transactions r) g xs)) (append-nil w.coordinator.given) (left_sound, fence_kept w.coordinator r [] xs change) where
       r : Transaction
       r = completed x.outcome t
@@ -229,6 +252,8 @@ last_left w x xs t s owed apart none found =
 
       left_sound : IsSound (record w { coordinator = changed w.coordinator r [] xs })
       left_sound = change_sound w r [] xs s change tt
+          (λ h _. complete_open x.outcome h) (λ o h. absurd (complete_waits x.outcome o h))
+          (λ id y o at_id waits other. owes_rest x xs id (λ same. other (own ∙ same)) (ap (λ ws. owes ws id) (sym at) ∙ s.owing id y o at_id waits))
           (each_weaker (λ (y : OwedMarker). IsOwed w.coordinator y × (y.id ≡ x.id → ⊥)) (IsOwed (changed w.coordinator r [] xs)) (λ y h. owed_kept w.coordinator r [] xs change y h.0 (λ e. h.1 (e ∙ own))) xs (each_with (IsOwed w.coordinator) (λ (y : OwedMarker). y.id ≡ x.id → ⊥) xs owed.1 (owes_none xs x.id none)))
           apart.1
 
@@ -238,11 +263,11 @@ front_left w x xs s e = by_owes (owes xs x.id) refl (subst (Each (IsOwed w.coord
   apart = subst AreApart e s.apart
 
   by_found : owes xs x.id ≡ false → Each (IsOwed w.coordinator) (x ∷ xs) → (found : Option Transaction) → recorded w.coordinator.transactions x.id ≡ found → IsLeft w (left_with w.coordinator (with_completed x.outcome found w.coordinator.transactions) w.coordinator.given xs)
-  by_found none owed None found = more_left w x xs s owed apart
-  by_found none owed (Some t) found = last_left w x xs t s owed apart none found
+  by_found none owed None found = let front = owed.0 in let fence = front.fence in absurd (let clash : None ≡ Some fence.transaction = sym found ∙ fence.found in cc)
+  by_found none owed (Some t) found = last_left w x xs t s e owed apart none found
 
   by_owes : (b : Bool) → owes xs x.id ≡ b → Each (IsOwed w.coordinator) (x ∷ xs) → IsLeft w (left_with w.coordinator (cond b w.coordinator.transactions (with_completed x.outcome (recorded w.coordinator.transactions x.id) w.coordinator.transactions)) w.coordinator.given xs)
-  by_owes true h owed = more_left w x xs s owed apart
+  by_owes true h owed = more_left w x xs s e h owed apart
   by_owes false h owed = by_found h owed (recorded w.coordinator.transactions x.id) refl
 
 marked_sound : (w : World) (ws : List OwedMarker) → IsSound w → w.coordinator.warrants ≡ ws → IsSound (marked ws w)
@@ -267,7 +292,7 @@ move_sound w (AddPartitions id pair partitions) s = turn_sound w (add_partitions
 move_sound w (AddGroup id pair group) s = turn_sound w (add_group w.coordinator id pair w.moment group) s (group_turn w id pair group s)
 move_sound w (End form id pair outcome) s = turn_sound w (end w.coordinator form id pair outcome) s (end_turn w form id pair outcome s)
 move_sound w (Expire id) s = turn_sound w (expire_turn (recorded w.coordinator.transactions id) w.moment) s (expire_one_turn w id s (recorded w.coordinator.transactions id) refl)
-move_sound w (Moment moment) s = record { own_ids = s.own_ids; owned = s.owned; distinct = s.distinct; owed = s.owed; apart = s.apart; backed = s.backed; ordered = s.ordered }
+move_sound w (Moment moment) s = record { own_ids = s.own_ids; owned = s.owned; distinct = s.distinct; filled = s.filled; owed = s.owed; owing = s.owing; apart = s.apart; backed = s.backed; ordered = s.ordered }
 move_sound w (Store id pair target) s = stored_sound w id pair target s (is_no_error (holds w.coordinator id pair target)) refl
 move_sound w (Send pair target) s = sent_sound w pair target s (is_free (owner w.coordinator pair.producer)) refl
 move_sound w (Plain target) s = appended_sound w target Other s tt (each_of (λ x. Accepts x Other) accepts_other (w.entries target))
@@ -282,6 +307,8 @@ first_sound = record {
   own_ids = tt;
   owned = λ id t found. absurd (let clash : None ≡ Some t = found in cc);
   distinct = λ id t found. absurd (let clash : None ≡ Some t = found in cc);
+  filled = λ id t found. absurd (let clash : None ≡ Some t = found in cc);
+  owing = λ id t o found. absurd (let clash : None ≡ Some t = found in cc);
   owed = tt;
   apart = tt;
   backed = λ target. tt;

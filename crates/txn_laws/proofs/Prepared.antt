@@ -1,17 +1,17 @@
 -- A transaction that is prepared is owed its outcome at each of its targets, and gets it.
-use Rattle.std.proofs.Common.{◌≡◌, ℕ, ◌<◌, ◌≤◌, List, [], ◌∷◌, ◌++◌, length, map, Option, Some, None, Bool, true, false, cond, refl, sym, subst, ap, ◌∙◌, append_assoc, arith}
+use Rattle.std.proofs.Common.{◌≡◌, ℕ, ℤ, ◌<◌, ◌≤◌, List, [], ◌∷◌, ◌++◌, length, map, Option, Some, None, Bool, true, false, cond, refl, sym, subst, ap, ◌∙◌, append-nil, append_assoc, arith}
+use Rattle.wire_types.specs.declared.error_code.ErrorCode.{ErrorCode}
 use Rattle.txn_coordinator.specs.declared.pair.Pair.{Pair}
 use Rattle.txn_coordinator.specs.declared.target.Target.{Target}
 use Rattle.txn_coordinator.specs.declared.transaction.Transaction.{Transaction}
 use Rattle.txn_coordinator.specs.declared.transaction.Phase.TheVariants.{Ongoing}
 use Rattle.txn_coordinator.specs.declared.marker.Outcome.{Outcome}
-use Rattle.txn_coordinator.specs.declared.marker.Outcome.TheVariants.{Commit, Abort}
 use Rattle.txn_coordinator.specs.declared.marker.OwedMarker.{OwedMarker}
 use Rattle.txn_coordinator.specs.declared.turn.Turn.{Turn}
 use Rattle.txn_coordinator.specs.declared.turn.Turn.TheVariants.{Stays, Puts}
-use Rattle.txn_coordinator.specs.Words.{prepared, complete, targets}
+use Rattle.txn_coordinator.specs.Words.{prepared, targets}
 use Rattle.txn_coordinator.specs.Coordinator.{CoordinatorValue, has_id, recorded, put, owner, turned}
-use Rattle.txn_coordinator.specs.Preparing.{marker_for}
+use Rattle.txn_coordinator.specs.Preparing.{marker_for, markers}
 use Rattle.txn_coordinator.specs.InitProducerId.{init}
 use Rattle.txn_coordinator.specs.Adding.{add_partitions, add_group}
 use Rattle.txn_coordinator.specs.EndTxn.{end}
@@ -26,7 +26,7 @@ use Rattle.txn_laws.specs.Laws.{InSound, IsDone, up_to_last, OwesEach, Preparing
 use Rattle.txn_laws.proofs.Base.{same_is, put_at_test}
 use Rattle.txn_laws.proofs.Turns.{IsTurned}
 use Rattle.txn_laws.proofs.Calls.{init_turn, partitions_turn, group_turn, end_turn, expire_one_turn}
-use Rattle.txn_laws.proofs.Moves.{move_sound, written_same}
+use Rattle.txn_laws.proofs.Moves.{complete_waits, move_sound, written_same}
 use Rattle.txn_laws.proofs.Complete.{ended_behind, before_last, ongoing_waits}
 
 -- an Ongoing record that is found again doesn't wait
@@ -35,6 +35,12 @@ still ts id t u o before ongoing after waits =
     let same : Some t ≡ Some u = sym before ∙ after in
     let e : t ≡ u = cc in
     ongoing_waits o (sym ongoing ∙ ap (λ (y : Transaction). y.phase) e ∙ waits)
+
+same_phase : (r u : Transaction) → r ≡ u → r.phase ≡ u.phase
+same_phase r u is = ap (λ (y : Transaction). y.phase) is
+
+owed_behind : (w : World) (code : ErrorCode) (r : Transaction) (gs : List (Option (List ℕ))) (ws : List OwedMarker) (t : Transaction) (o : Outcome) → (p : Pair) × (p.producer ≡ t.pair.producer) × (ws ≡ markers t p o) → OwesEach w (with_turn w (Puts code r gs ws)) t o
+owed_behind w code r gs ws t o (p, same, is) = record { pair = p; producer = same; owed = ap (λ l. w.coordinator.warrants ++ l) is; entries = refl }
 
 -- the turn that prepares puts the markers at the back
 turned_prepared : (w : World) (turn : Turn) → IsTurned w.coordinator turn → (id : List ℕ) (t u : Transaction) (o : Outcome) → recorded w.coordinator.transactions id ≡ Some t → t.phase ≡ Ongoing → recorded (turned w.coordinator turn).transactions id ≡ Some u → u.phase ≡ prepared o → OwesEach w (with_turn w turn) t o
@@ -47,17 +53,10 @@ turned_prepared w (Puts code r gs ws) h id t u o before ongoing after waits = by
   by_same true e =
       let same : Some r ≡ Some u = sym (put_at_test c.transactions r id true e) ∙ after in
       let is : r ≡ u = cc in
-      let owed = h.prepares t (ap (recorded c.transactions) (same_is r.id id e) ∙ before) o (ap (λ (y : Transaction). y.phase) is ∙ waits) in
-      record { pair = owed.0; producer = owed.1; owed = ap (λ l. c.warrants ++ l) owed.2; entries = refl }
+      owed_behind w code r gs ws t o (h.prepares t (ap (recorded c.transactions) (same_is r.id id e) ∙ before) o (same_phase r u is ∙ waits))
   by_same false e = absurd (still c.transactions id t u o before ongoing (sym (put_at_test c.transactions r id false e) ∙ after) waits)
 
 -- a mark completes, it prepares nothing
-complete_waits : (a b : Outcome) → complete a ≡ prepared b → ⊥
-complete_waits Commit Commit h = cc
-complete_waits Commit Abort h = cc
-complete_waits Abort Commit h = cc
-complete_waits Abort Abort h = cc
-
 marked_still : (w : World) (ws : List OwedMarker) (id : List ℕ) (t u : Transaction) (o : Outcome) → recorded w.coordinator.transactions id ≡ Some t → t.phase ≡ Ongoing → recorded (marked ws w).coordinator.transactions id ≡ Some u → u.phase ≡ prepared o → ⊥
 marked_still w [] id t u o before ongoing after waits = still w.coordinator.transactions id t u o before ongoing after waits
 marked_still w (x ∷ xs) id t u o before ongoing after waits = by_owes (owes xs x.id) after where
@@ -95,16 +94,16 @@ move_prepared w Mark s id t u o before ongoing after waits = absurd (marked_stil
 pub preparing_law : InSound PreparingLaw
 preparing_law w s m id t o by = move_prepared w m s id t by.transaction o by.before by.ongoing by.after by.waits
 
--- each of the markers at the back is written
-each_done : (ms : List Move) (w : World) → IsSound w → (t : Transaction) (p : Pair) (o : Outcome) → p.producer ≡ t.pair.producer → (front : List OwedMarker) (xs : List Target) → w.coordinator.warrants ≡ front ++ map (marker_for t.id p o) xs → up_to_last w.coordinator.warrants t.id ≤ marks ms
-    → Each (λ target. IsDone t.pair.producer o (w.entries target) ((moved_all w ms).entries target)) xs
-each_done ms w s t p o same front [] at enough = tt
-each_done ms w s t p o same front (x ∷ xs) at enough =
-    let rest = map (marker_for t.id p o) xs in
-    let one = marker_for t.id p o x in
-    let low : length front < up_to_last w.coordinator.warrants t.id = subst (λ ws. length front < up_to_last ws t.id) (sym at) (before_last front one rest t.id refl) in (
+-- each of these markers is written
+pub each_done : (ms : List Move) (w : World) → IsSound w → (id : List ℕ) (producer : ℤ) (p : Pair) (o : Outcome) → p.producer ≡ producer → (front : List OwedMarker) (xs : List Target) (back : List OwedMarker) → w.coordinator.warrants ≡ front ++ (map (marker_for id p o) xs ++ back) → up_to_last w.coordinator.warrants id ≤ marks ms
+    → Each (λ target. IsDone producer o (w.entries target) ((moved_all w ms).entries target)) xs
+each_done ms w s id producer p o same front [] back at enough = tt
+each_done ms w s id producer p o same front (x ∷ xs) back at enough =
+    let rest = map (marker_for id p o) xs ++ back in
+    let one = marker_for id p o x in
+    let low : length front < up_to_last w.coordinator.warrants id = subst (λ ws. length front < up_to_last ws id) (sym at) (before_last front one rest id refl) in (
       (p, same, ended_behind ms w s front one rest at (omega arith)),
-      each_done ms w s t p o same (front ++ one ∷ []) xs (at ∙ sym (append_assoc front (one ∷ []) rest)) enough,
+      each_done ms w s id producer p o same (front ++ one ∷ []) xs back (at ∙ sym (append_assoc front (one ∷ []) rest)) enough,
     )
 
 pub prepared_law : InSound PreparedLaw
@@ -112,5 +111,6 @@ prepared_law w s m id t o after by enough =
     let owes = preparing_law w s m id t o by in
     let own : t.id ≡ id = recorded_id w.coordinator.transactions id t by.before in
     subst (λ (entries : Target → List Entry). Each (λ target. IsDone t.pair.producer o (entries target) ((moved_all (moved w m) after).entries target)) (targets t)) owes.entries
-    (each_done after (moved w m) (move_sound w m s) t owes.pair o owes.producer w.coordinator.warrants (targets t) owes.owed
+    (each_done after (moved w m) (move_sound w m s) t.id t.pair.producer owes.pair o owes.producer w.coordinator.warrants (targets t) []
+    (owes.owed ∙ ap (λ l. w.coordinator.warrants ++ l) (sym (append-nil (markers t owes.pair o))))
     (subst (λ i. up_to_last (moved w m).coordinator.warrants i ≤ marks after) (sym own) enough))

@@ -13,6 +13,7 @@ use Rattle.txn_coordinator.specs.declared.marker.Outcome.{Outcome}
 use Rattle.txn_coordinator.specs.Words.{is_same_partition, has_partition, has_group, prepared, targets}
 use Rattle.txn_coordinator.specs.Adding.{partition_added, partitions_added, group_added}
 use Rattle.txn_coordinator.specs.Preparing.{marker_for, markers}
+use Rattle.txn_coordinator.specs.Warrants.{owes}
 use Rattle.txn_laws.specs.Small.{is_same_target}
 use Rattle.txn_laws.specs.Sound.{Each, AreDistinct, AreApart, IsApart}
 use Rattle.txn_laws.proofs.Base.{each_map, same_is, is_same, given_to}
@@ -105,7 +106,53 @@ distinct_group ps gs g h = by_has (has_group gs g) refl where
   by_has true e = h
   by_has false e = distinct_both ps gs g e h
 
+-- ---- some are added
+
+no_partition : (ps : List TopicPartition) (gs : List (List ℕ)) → all_targets ps gs ≡ [] → ps ≡ []
+no_partition [] gs h = refl
+no_partition (p ∷ ps) gs h = absurd (let clash : Partition p ∷ all_targets ps gs ≡ [] = h in cc)
+
+no_group : (ps : List TopicPartition) (gs : List (List ℕ)) → all_targets ps gs ≡ [] → gs ≡ []
+no_group [] [] h = refl
+no_group [] (g ∷ gs) h = absurd (let clash : Group g ∷ map (λ x. Group x) gs ≡ [] = h in cc)
+no_group (p ∷ ps) gs h = absurd (let clash : Partition p ∷ all_targets ps gs ≡ [] = h in cc)
+
+not_pushed : {X : Type 0} (xs : List X) (x : X) → xs ++ x ∷ [] ≡ [] → ⊥
+not_pushed [] x h = let clash : x ∷ [] ≡ [] = h in cc
+not_pushed (y ∷ ys) x h = let clash : y ∷ (ys ++ x ∷ []) ≡ [] = h in cc
+
+partition_in : (added : List TopicPartition) (p : TopicPartition) → partition_added added p ≡ [] → ⊥
+partition_in [] p h = let clash : p ∷ [] ≡ [] = h in cc
+partition_in (x ∷ xs) p h = by_has (has_partition (x ∷ xs) p) h where
+  by_has : (b : Bool) → cond b (x ∷ xs) (x ∷ (xs ++ p ∷ [])) ≡ [] → ⊥
+  by_has true k = let clash : x ∷ xs ≡ [] = k in cc
+  by_has false k = let clash : x ∷ (xs ++ p ∷ []) ≡ [] = k in cc
+
+partitions_in : (new added : List TopicPartition) → (added ≡ [] → ⊥) → partitions_added added new ≡ [] → ⊥
+partitions_in [] added some h = some h
+partitions_in (p ∷ ps) added some h = partitions_in ps (partition_added added p) (partition_in added p) h
+
+group_in : (added : List (List ℕ)) (g : List ℕ) → group_added added g ≡ [] → ⊥
+group_in [] g h = let clash : g ∷ [] ≡ [] = h in cc
+group_in (x ∷ xs) g h = by_has (has_group (x ∷ xs) g) h where
+  by_has : (b : Bool) → cond b (x ∷ xs) (x ∷ (xs ++ g ∷ [])) ≡ [] → ⊥
+  by_has true k = let clash : x ∷ xs ≡ [] = k in cc
+  by_has false k = let clash : x ∷ (xs ++ g ∷ []) ≡ [] = k in cc
+
+pub filled_partitions : (p : TopicPartition) (ps added : List TopicPartition) (gs : List (List ℕ)) → all_targets (partitions_added added (p ∷ ps)) gs ≡ [] → ⊥
+filled_partitions p ps added gs h = partitions_in ps (partition_added added p) (partition_in added p) (no_partition (partitions_added added (p ∷ ps)) gs h)
+
+pub filled_group : (ps : List TopicPartition) (added : List (List ℕ)) (g : List ℕ) → all_targets ps (group_added added g) ≡ [] → ⊥
+filled_group ps added g h = group_in added g (no_group ps (group_added added g) h)
+
 -- ---- what is owed to them
+
+owing_map : (id : List ℕ) (p : Pair) (o : Outcome) (xs : List Target) → (xs ≡ [] → ⊥) → owes (map (marker_for id p o) xs) id ≡ true
+owing_map id p o [] some = absurd (some refl)
+owing_map id p o (x ∷ xs) some = ap (λ b. b || owes (map (marker_for id p o) xs) id) (is_same id id refl)
+
+pub markers_owing : (t : Transaction) (p : Pair) (o : Outcome) → (targets t ≡ [] → ⊥) → owes (markers t p o) t.id ≡ true
+markers_owing t p o some = owing_map t.id p o (targets t) some
 
 pub markers_owed : (given : List (Option (List ℕ))) (r t : Transaction) (p : Pair) (o : Outcome) → t.id ≡ r.id → given_to given p.producer ≡ Some (Some t.id) → (r.pair.producer ≡ p.producer → p.epoch ≤ℤ r.pair.epoch) → r.phase ≡ prepared o → Each (IsOwedBy given r) (markers t p o)
 markers_owed given r t p o own owned reached waits = each_map (marker_for t.id p o) (IsOwedBy given r) (λ target. record { own = own; owned = owned; reached = reached; waits = waits }) (targets t)

@@ -1,18 +1,23 @@
 -- To expire all at once is to expire one after the other.
-use Rattle.std.proofs.Common.{◌≡◌, ℕ, List, [], ◌∷◌, ◌++◌, map, Some, Bool, true, false, cond, refl, sym, ap, ◌∙◌, append-nil, append_assoc}
+use Rattle.std.proofs.Common.{◌≡◌, ℕ, List, [], ◌∷◌, ◌++◌, map, Some, Bool, true, false, cond, refl, sym, ap, ◌∙◌, append-nil, append_assoc, None, subst, ◌≤◌}
 use Rattle.std.specs.Str.{bytes_eq}
 use Rattle.std.specs.List.{flat_map}
 use Rattle.wire_types.specs.declared.error_code.ErrorCode.TheVariants as codes
 use Rattle.txn_coordinator.specs.declared.transaction.Transaction.{Transaction}
 use Rattle.txn_coordinator.specs.declared.marker.OwedMarker.{OwedMarker}
 use Rattle.txn_coordinator.specs.declared.turn.Turn.TheVariants.{Stays}
-use Rattle.txn_coordinator.specs.Coordinator.{recorded, put, turned}
+use Rattle.txn_coordinator.specs.Coordinator.{has_id, recorded, put, turned}
+use Rattle.txn_coordinator.specs.declared.marker.Outcome.TheVariants.{Abort}
+use Rattle.txn_coordinator.specs.Words.{raised, targets}
 use Rattle.txn_coordinator.specs.Preparing.{fenced, fence_markers, fencing}
 use Rattle.txn_coordinator.specs.Expiry.{is_due, expired, expiry_markers}
-use Rattle.txn_laws.specs.Small.{World, expire_turn, moved, moved_all}
-use Rattle.txn_laws.specs.Small.Move.{Expire}
-use Rattle.txn_laws.specs.Sound.{Each, HaveOwnIds}
-use Rattle.txn_laws.specs.Laws.{InSound, IdsLaw, expiries, ExpiryLaw}
+use Rattle.txn_laws.specs.Small.{World, expire_turn, moved, moved_all, marks}
+use Rattle.txn_laws.specs.Small.Move.{Expire, Moment}
+use Rattle.txn_laws.specs.Sound.{Each, HaveOwnIds, IsSound}
+use Rattle.txn_laws.specs.Laws.{InSound, up_to_last, IdsLaw, expiries, ticked, ExpiryLaw, TickLaw}
+use Rattle.txn_coordinator.proofs.Table.{recorded_id}
+use Rattle.txn_laws.proofs.Moves.{moves_sound}
+use Rattle.txn_laws.proofs.Prepared.{each_done}
 use Rattle.txn_laws.proofs.Base.{same_is, is_same}
 
 -- none of them has the id
@@ -79,10 +84,39 @@ none_parted [] = tt
 none_parted (t ∷ ts) = (tt, none_parted ts)
 
 pub one_by_one : (w : World) → HaveOwnIds w.coordinator.transactions → ExpiryLaw w
-one_by_one w own = rest w [] w.coordinator.transactions w.coordinator.warrants (none_parted w.coordinator.transactions) own
+one_by_one w own moment = rest (record w { moment = moment }) [] w.coordinator.transactions w.coordinator.warrants (none_parted w.coordinator.transactions) own
 
 pub expiry_law : InSound ExpiryLaw
 expiry_law w s = one_by_one w s.own_ids
 
 pub ids_law : InSound IdsLaw
 ids_law w s = s.own_ids
+
+-- ---- what is owed to one that was due
+
+abbrev Holds : List OwedMarker → List OwedMarker → Type 0
+Holds all part = (front : List OwedMarker) × (back : List OwedMarker) × (all ≡ front ++ (part ++ back))
+
+due_markers : (ts : List Transaction) (moment : ℕ) (id : List ℕ) (t : Transaction) → recorded ts id ≡ Some t → is_due moment t ≡ true → Holds (flat_map (expiry_markers moment) ts) (fence_markers t)
+due_markers [] moment id t found due = absurd (let clash : None ≡ Some t = found in cc)
+due_markers (x ∷ xs) moment id t found due = by_same (due_markers xs moment id t) (has_id id x) found where
+  by_same : (recorded xs id ≡ Some t → is_due moment t ≡ true → Holds (flat_map (expiry_markers moment) xs) (fence_markers t)) → (b : Bool) → cond b (Some x) (recorded xs id) ≡ Some t → Holds (expiry_markers moment x ++ flat_map (expiry_markers moment) xs) (fence_markers t)
+  by_same ih true h = let e : x ≡ t = cc in (
+    [],
+    flat_map (expiry_markers moment) xs,
+    ap (λ y. expiry_markers moment y ++ flat_map (expiry_markers moment) xs) e ∙ ap (λ b. cond b (fence_markers t) [] ++ flat_map (expiry_markers moment) xs) due,
+  )
+  by_same ih false h = let inner = ih h due in (
+    expiry_markers moment x ++ inner.0,
+    inner.1,
+    ap (λ l. expiry_markers moment x ++ l) inner.2 ∙ sym (append_assoc (expiry_markers moment x) inner.0 (fence_markers t ++ inner.1)),
+  )
+
+pub tick_law : InSound TickLaw
+tick_law w s moment id t after found due enough =
+    let parts = due_markers w.coordinator.transactions moment id t found due in
+    let own : t.id ≡ id = recorded_id w.coordinator.transactions id t found in
+    let sound : IsSound (ticked w moment) = subst IsSound (expiry_law w s moment) (moves_sound w (Moment moment ∷ expiries w.coordinator.transactions) s) in
+    each_done after (ticked w moment) sound t.id t.pair.producer (raised t.pair) Abort refl (w.coordinator.warrants ++ parts.0) (targets t) parts.1
+    (ap (λ l. w.coordinator.warrants ++ l) parts.2 ∙ sym (append_assoc w.coordinator.warrants parts.0 (fence_markers t ++ parts.1)))
+    (subst (λ i. up_to_last (ticked w moment).coordinator.warrants i ≤ marks after) (sym own) enough)

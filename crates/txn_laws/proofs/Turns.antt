@@ -12,10 +12,12 @@ use Rattle.txn_coordinator.specs.declared.turn.Turn.TheVariants.{Stays, Puts}
 use Rattle.txn_coordinator.specs.Words.{prepared, targets}
 use Rattle.txn_coordinator.specs.Coordinator.{CoordinatorValue, has_id, recorded, put, owner}
 use Rattle.txn_coordinator.specs.Preparing.{markers}
+use Rattle.txn_coordinator.specs.declared.transaction.Phase.TheVariants.{Ongoing}
+use Rattle.txn_coordinator.specs.Warrants.{owes}
 use Rattle.txn_laws.specs.Small.{World, Entry, with_turn}
 use Rattle.txn_laws.specs.Small.Entry.{Data, Marker, Other}
 use Rattle.txn_laws.specs.Sound.{Each, AreDistinct, AreApart, IsApart, IsFenced, IsOwed, IsBacked, IsSound}
-use Rattle.txn_laws.proofs.Base.{each_weaker, each_append, same_is, is_same, put_at_test, own_put, given_to, owner_is, given_more, given_within}
+use Rattle.txn_laws.proofs.Base.{owes_more, owes_behind, each_weaker, each_append, same_is, is_same, put_at_test, own_put, given_to, owner_is, given_more, given_within}
 
 -- the record goes on: its epoch doesn't fall, or its producer id is a new one
 abbrev pub GoesOn : CoordinatorValue → Transaction → Transaction → Type 0
@@ -36,6 +38,8 @@ pub record IsTurn (c : CoordinatorValue) (r : Transaction) (gs : List (Option (L
   pub change : IsChange c r gs
   pub free : (t : Transaction) → recorded c.transactions r.id ≡ Some t → (o : Outcome) → t.phase ≡ prepared o → ⊥
   pub distinct : AreDistinct (targets r)
+  pub filled : r.phase ≡ Ongoing → targets r ≡ [] → ⊥
+  pub owing : (o : Outcome) → r.phase ≡ prepared o → owes ws r.id ≡ true
   pub owed : Each (IsOwedBy (c.given ++ gs) r) ws
   pub apart : AreApart ws
   -- where the record comes to wait, each of its targets is owed that outcome
@@ -99,13 +103,18 @@ IsTurned c (Stays code) = Unit {0}
 IsTurned c (Puts code r gs ws) = IsTurn c r gs ws
 
 -- a record is put, with these warrants
-pub change_sound : (w : World) (r : Transaction) (gs : List (Option (List ℕ))) (ws : List OwedMarker) → IsSound w → IsChange w.coordinator r gs → AreDistinct (targets r) → Each (IsOwed (changed w.coordinator r gs ws)) ws → AreApart ws → IsSound (record w { coordinator = changed w.coordinator r gs ws })
-change_sound w r gs ws s change distinct owed apart =
+pub change_sound : (w : World) (r : Transaction) (gs : List (Option (List ℕ))) (ws : List OwedMarker) → IsSound w → IsChange w.coordinator r gs → AreDistinct (targets r)
+    → (r.phase ≡ Ongoing → targets r ≡ [] → ⊥) → ((o : Outcome) → r.phase ≡ prepared o → owes ws r.id ≡ true)
+    → ((id : List ℕ) (t : Transaction) (o : Outcome) → recorded w.coordinator.transactions id ≡ Some t → t.phase ≡ prepared o → (r.id ≡ id → ⊥) → owes ws id ≡ true)
+    → Each (IsOwed (changed w.coordinator r gs ws)) ws → AreApart ws → IsSound (record w { coordinator = changed w.coordinator r gs ws })
+change_sound w r gs ws s change distinct filled owing others owed apart =
     let c = w.coordinator in
     record {
       own_ids = own_put c.transactions r s.own_ids;
       owned = λ id t found. by_owner id t (has_id id r) refl found;
       distinct = λ id t found. by_targets id t (has_id id r) refl found;
+      filled = λ id t found. by_filled id t (has_id id r) refl found;
+      owing = λ id t o found waits. by_owing id t o (has_id id r) refl found waits;
       owed = owed;
       apart = apart;
       backed = λ target. each_weaker (IsBacked c) (IsBacked (changed c r gs ws)) (backed_kept c r gs ws change) (w.entries target) (s.backed target);
@@ -126,6 +135,20 @@ change_sound w r gs ws s change distinct owed apart =
           subst (λ (y : Transaction). AreDistinct (targets y)) e distinct
       by_targets id t false h found = s.distinct id t (sym (put_at_test w.coordinator.transactions r id false h) ∙ found)
 
+      by_filled : (id : List ℕ) (t : Transaction) (b : Bool) → has_id id r ≡ b → recorded (put w.coordinator.transactions r) id ≡ Some t → t.phase ≡ Ongoing → targets t ≡ [] → ⊥
+      by_filled id t true h found =
+          let same : Some r ≡ Some t = sym (put_at_test w.coordinator.transactions r id true h) ∙ found in
+          let e : r ≡ t = cc in
+          subst (λ (y : Transaction). y.phase ≡ Ongoing → targets y ≡ [] → ⊥) e filled
+      by_filled id t false h found = s.filled id t (sym (put_at_test w.coordinator.transactions r id false h) ∙ found)
+
+      by_owing : (id : List ℕ) (t : Transaction) (o : Outcome) (b : Bool) → has_id id r ≡ b → recorded (put w.coordinator.transactions r) id ≡ Some t → t.phase ≡ prepared o → owes ws id ≡ true
+      by_owing id t o true h found waits =
+          let same : Some r ≡ Some t = sym (put_at_test w.coordinator.transactions r id true h) ∙ found in
+          let e : r ≡ t = cc in
+          ap (owes ws) (sym (same_is r.id id h)) ∙ owing o (ap (λ (y : Transaction). y.phase) e ∙ waits)
+      by_owing id t o false h found waits = others id t o (sym (put_at_test w.coordinator.transactions r id false h) ∙ found) waits (λ same. let yes : has_id id r ≡ true = is_same r.id id same in let clash : true ≡ false = sym yes ∙ h in cc)
+
 new_owed : (c : CoordinatorValue) (r : Transaction) (gs : List (Option (List ℕ))) (ws : List OwedMarker) (x : OwedMarker) → IsOwedBy (c.given ++ gs) r x → IsOwed (changed c r gs ws) x
 new_owed c r gs ws x owed =
     let found : recorded (put c.transactions r) x.id ≡ Some r = put_at_test c.transactions r x.id true (is_same r.id x.id (sym owed.own)) in
@@ -139,7 +162,9 @@ puts_sound w code r gs ws s turn =
     let c = w.coordinator in
     let all = c.warrants ++ ws in
     let free_of : (x : OwedMarker) → IsOwed c x → x.id ≡ r.id → ⊥ = not_owed c r.id turn.free in
-    change_sound w r gs all s turn.change turn.distinct
+    change_sound w r gs all s turn.change turn.distinct turn.filled
+    (λ o waits. owes_behind c.warrants ws r.id (turn.owing o waits))
+    (λ id t o found waits _. owes_more c.warrants ws id (s.owing id t o found waits))
     (each_append (IsOwed (changed c r gs all)) c.warrants ws
     (each_weaker (IsOwed c) (IsOwed (changed c r gs all)) (λ x owed. owed_kept c r gs all turn.change x owed (free_of x owed)) c.warrants s.owed)
     (each_weaker (IsOwedBy (c.given ++ gs) r) (IsOwed (changed c r gs all)) (new_owed c r gs all) ws turn.owed))

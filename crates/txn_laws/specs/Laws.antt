@@ -1,20 +1,22 @@
 -- What holds over whole lists of moves: each transaction that is prepared is completed, and what is fenced stays out
 -- (KIP-98, 'Transaction Coordinator', 'Fencing').
-use Rattle.std.specs.Prelude.{◌≡◌, ℕ, ◌+◌, ℤ, ◌<◌, ◌≤◌, if◌then◌else◌, List, [], ◌∷◌, ◌++◌, slice_get, Some}
+use Rattle.std.specs.Prelude.{◌≡◌, ℕ, ◌+◌, ℤ, ◌<◌, ◌≤◌, if◌then◌else◌, true, false, List, [], ◌∷◌, ◌++◌, slice_get, Some}
 use Rattle.txn_coordinator.specs.declared.pair.Pair.{Pair}
 use Rattle.txn_coordinator.specs.declared.target.Target.{Target}
 use Rattle.txn_coordinator.specs.declared.transaction.Transaction.{Transaction}
 use Rattle.txn_coordinator.specs.declared.transaction.Phase.TheVariants.{Ongoing}
 use Rattle.txn_coordinator.specs.declared.marker.Outcome.{Outcome}
+use Rattle.txn_coordinator.specs.declared.marker.Outcome.TheVariants.{Abort}
 use Rattle.txn_coordinator.specs.declared.marker.OwedMarker.{OwedMarker}
-use Rattle.txn_coordinator.specs.Words.{prepared, targets}
-use Rattle.txn_coordinator.specs.Coordinator.{recorded}
+use Rattle.txn_coordinator.specs.Words.{prepared, complete, targets}
+use Rattle.txn_coordinator.specs.Coordinator.{recorded, owner}
 use Rattle.txn_coordinator.specs.Preparing.{markers}
-use Rattle.txn_coordinator.specs.Expiry.{expire}
+use Rattle.txn_coordinator.specs.Expiry.{is_due, expire}
+use Rattle.txn_coordinator.specs.Holding.{holds}
 use Rattle.txn_coordinator.specs.Warrants.{owes}
-use Rattle.txn_laws.specs.Small.{World, Entry, Move, first_world, moved, moved_all, marks}
+use Rattle.txn_laws.specs.Small.{World, Entry, Move, first_world, is_no_error, is_free, moved, moved_all, marks}
 use Rattle.txn_laws.specs.Small.Entry.{Data, Marker, Other}
-use Rattle.txn_laws.specs.Small.Move.{Expire}
+use Rattle.txn_laws.specs.Small.Move.{Expire, Moment}
 use Rattle.txn_laws.specs.Sound.{Each, HaveOwnIds, IsSound, IsOrdered}
 
 -- ---- where a law holds
@@ -82,7 +84,7 @@ pub record OwesEach (w v : World) (t : Transaction) (outcome : Outcome) : Type 0
 abbrev pub PreparingLaw : World → Type 0
 PreparingLaw w = (m : Move) (id : List ℕ) (t : Transaction) (outcome : Outcome) → IsPreparedBy w m id t outcome → OwesEach w (moved w m) t outcome
 
--- the same for a marker of some epoch
+-- so it ended by a marker of some epoch
 abbrev pub IsDone : ℤ → Outcome → List Entry → List Entry → Type 0
 IsDone producer outcome old new = (pair : Pair) × (pair.producer ≡ producer) × IsEnded pair outcome old new
 
@@ -92,6 +94,21 @@ abbrev pub PreparedLaw : World → Type 0
 PreparedLaw w = (m : Move) (id : List ℕ) (t : Transaction) (outcome : Outcome) (after : List Move)
     → IsPreparedBy w m id t outcome → up_to_last (moved w m).coordinator.warrants id ≤ marks after
     → Each (λ target. IsDone t.pair.producer outcome (w.entries target) ((moved_all (moved w m) after).entries target)) (targets t)
+
+-- moves of which some complete the transaction of the id
+pub record IsCompletedBy (w : World) (moves : List Move) (id : List ℕ) (outcome : Outcome) : Type 0 where
+  pub first : List Move
+  pub rest : List Move
+  pub parts : moves ≡ first ++ rest
+  pub transaction : Transaction
+  pub found : recorded (moved_all w first).coordinator.transactions id ≡ Some transaction
+  pub is_complete : transaction.phase ≡ complete outcome
+
+-- where the transaction of the id waits, so many marks complete it
+abbrev pub CompletedLaw : World → Type 0
+CompletedLaw w = (id : List ℕ) (t : Transaction) (outcome : Outcome) (after : List Move)
+    → recorded w.coordinator.transactions id ≡ Some t → t.phase ≡ prepared outcome → up_to_last w.coordinator.warrants id ≤ marks after
+    → IsCompletedBy w after id outcome
 
 -- ---- fencing
 
@@ -117,6 +134,16 @@ FencingLaw w = (moves after : List Move) (id : List ℕ) (pair : Pair)
     → HasPair w id pair → (HasPair (moved_all w moves) id pair → ⊥)
     → (target : Target) → IsSilent pair ((moved_all w moves).entries target) ((moved_all (moved_all w moves) after).entries target)
 
+-- data of the pair comes in nowhere, neither in a transaction nor without one
+pub record Refuses (w : World) (pair : Pair) : Type 0 where
+  pub in_transaction : (id : List ℕ) (target : Target) → is_no_error (holds w.coordinator id pair target) ≡ false
+  pub without_id : is_free (owner w.coordinator pair.producer) ≡ false
+
+-- from then on the checks refuse the pair, for each partition and each group
+abbrev pub RefusalLaw : World → Type 0
+RefusalLaw w = (moves after : List Move) (id : List ℕ) (pair : Pair)
+    → HasPair w id pair → (HasPair (moved_all w moves) id pair → ⊥) → Refuses (moved_all (moved_all w moves) after) pair
+
 -- no data stands behind a marker of its producer id with a greater epoch
 abbrev pub OrderLaw : World → Type 0
 OrderLaw w = (target : Target) → IsOrdered (w.entries target)
@@ -127,6 +154,10 @@ OrderLaw w = (target : Target) → IsOrdered (w.entries target)
 abbrev pub IdsLaw : World → Type 0
 IdsLaw w = HaveOwnIds w.coordinator.transactions
 
+-- it is a later moment, and each transaction that is due is fenced
+abbrev pub ticked : World → ℕ → World
+ticked w moment = record w { coordinator = expire w.coordinator moment; moment = moment }
+
 -- the time of each id's transaction is looked at, in the order of the ids' creation
 abbrev pub expiries : List Transaction → List Move
 expiries [] = []
@@ -134,4 +165,11 @@ expiries (t ∷ ts) = Expire t.id ∷ expiries ts
 
 -- to expire all at once is to expire one after the other
 abbrev pub ExpiryLaw : World → Type 0
-ExpiryLaw w = moved_all w (expiries w.coordinator.transactions) ≡ record w { coordinator = expire w.coordinator w.moment }
+ExpiryLaw w = (moment : ℕ) → moved_all w (Moment moment ∷ expiries w.coordinator.transactions) ≡ ticked w moment
+
+-- as many marks as markers then stand up to and including its last one abort a transaction that was due, at each
+-- partition and group that was added, behind all that its producer wrote there
+abbrev pub TickLaw : World → Type 0
+TickLaw w = (moment : ℕ) (id : List ℕ) (t : Transaction) (after : List Move)
+    → recorded w.coordinator.transactions id ≡ Some t → is_due moment t ≡ true → up_to_last (ticked w moment).coordinator.warrants id ≤ marks after
+    → Each (λ target. IsDone t.pair.producer Abort (w.entries target) ((moved_all (ticked w moment) after).entries target)) (targets t)

@@ -1,11 +1,14 @@
 -- What holds in every world that moves reach.
-use Rattle.std.specs.Prelude.{◌≡◌, ℕ, ◌≤ℤ◌, List, [], ◌∷◌, Some}
+use Rattle.std.specs.Prelude.{◌≡◌, true, ℕ, ◌≤ℤ◌, List, [], ◌∷◌, Some}
 use Rattle.txn_coordinator.specs.declared.pair.Pair.{Pair}
 use Rattle.txn_coordinator.specs.declared.target.Target.{Target}
 use Rattle.txn_coordinator.specs.declared.transaction.Transaction.{Transaction}
+use Rattle.txn_coordinator.specs.declared.transaction.Phase.TheVariants.{Ongoing}
+use Rattle.txn_coordinator.specs.declared.marker.Outcome.{Outcome}
 use Rattle.txn_coordinator.specs.declared.marker.OwedMarker.{OwedMarker}
 use Rattle.txn_coordinator.specs.Words.{prepared, targets}
 use Rattle.txn_coordinator.specs.Coordinator.{CoordinatorValue, recorded, owner}
+use Rattle.txn_coordinator.specs.Warrants.{owes}
 use Rattle.txn_laws.specs.Small.{World, Entry}
 use Rattle.txn_laws.specs.Small.Entry.{Data, Marker, Other}
 
@@ -68,7 +71,11 @@ pub record IsSound (w : World) : Type 0 where
   -- a record's producer id was given to its id
   pub owned : (id : List ℕ) (t : Transaction) → recorded w.coordinator.transactions id ≡ Some t → owner w.coordinator t.pair.producer ≡ Some (Some id)
   pub distinct : (id : List ℕ) (t : Transaction) → recorded w.coordinator.transactions id ≡ Some t → AreDistinct (targets t)
+  -- an open transaction has a partition or a group
+  pub filled : (id : List ℕ) (t : Transaction) → recorded w.coordinator.transactions id ≡ Some t → t.phase ≡ Ongoing → targets t ≡ [] → ⊥
   pub owed : Each (IsOwed w.coordinator) w.coordinator.warrants
+  -- one that waits owes a marker
+  pub owing : (id : List ℕ) (t : Transaction) (outcome : Outcome) → recorded w.coordinator.transactions id ≡ Some t → t.phase ≡ prepared outcome → owes w.coordinator.warrants id ≡ true
   pub apart : AreApart w.coordinator.warrants
   pub backed : (target : Target) → Each (IsBacked w.coordinator) (w.entries target)
   pub ordered : (target : Target) → IsOrdered (w.entries target)

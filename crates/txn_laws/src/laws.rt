@@ -2,19 +2,11 @@
 
 ghost use Rattle.txn_laws.specs.Small.{World};
 ghost use Rattle.txn_laws.specs.Sound.{HaveOwnIds};
-ghost use Rattle.txn_laws.specs.Laws.{
-  InSound,
-  InReached,
-  SoundLaw,
-  CompletionLaw,
-  WaitingLaw,
-  PreparingLaw,
-  PreparedLaw,
-  FencingLaw,
-  OrderLaw,
-  IdsLaw,
-  ExpiryLaw,
-};
+ghost use Rattle.txn_laws.specs.Laws.{InSound, InReached, SoundLaw};
+ghost use Rattle.txn_laws.specs.Laws.{CompletionLaw, WaitingLaw, PreparingLaw, PreparedLaw, CompletedLaw};
+ghost use Rattle.txn_laws.specs.Laws.{FencingLaw, RefusalLaw, OrderLaw};
+ghost use Rattle.txn_laws.specs.Laws.{IdsLaw, ExpiryLaw, TickLaw};
+ghost use Rattle.txn_laws.specs.Kept.{KeptLaw, KeptEndLaw};
 
 /// What every move keeps holds from the beginning on.
 pub fn soundness()
@@ -33,12 +25,17 @@ pub fn completion()
     ensures preparing_reached { InReached PreparingLaw }
     ensures prepared { InSound PreparedLaw }
     ensures prepared_reached { InReached PreparedLaw }
+    ensures completed { InSound CompletedLaw }
+    ensures completed_reached { InReached CompletedLaw }
 {}
 
-/// A pair that a record has left writes nothing more, and no data stands behind a marker that fenced its producer.
+/// A pair that a record has left writes nothing more, each check refuses it, and no data stands behind a marker that
+/// fenced its producer.
 pub fn fencing()
     ensures left { InSound FencingLaw }
     ensures left_reached { InReached FencingLaw }
+    ensures refused { InSound RefusalLaw }
+    ensures refused_reached { InReached RefusalLaw }
     ensures order { InSound OrderLaw }
     ensures order_reached { InReached OrderLaw }
 {}
@@ -48,5 +45,13 @@ pub fn expiry()
     ensures own_ids { (w : World) → HaveOwnIds w.coordinator.transactions → ExpiryLaw w }
     ensures reached { InReached ExpiryLaw }
     ensures sound { InSound ExpiryLaw }
+    ensures ticks { InSound TickLaw }
+    ensures ticks_reached { InReached TickLaw }
     ensures ids_reached { InReached IdsLaw }
+{}
+
+/// A broker whose groups keep no epochs goes on as the small world does, and shows where a transaction ends.
+pub fn keeping()
+    ensures moves { KeptLaw }
+    ensures ends { KeptEndLaw }
 {}

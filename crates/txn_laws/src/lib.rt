@@ -4,4 +4,4 @@
 
 mod laws;
 
-pub use laws::{completion, expiry, fencing, soundness};
+pub use laws::{completion, expiry, fencing, keeping, soundness};

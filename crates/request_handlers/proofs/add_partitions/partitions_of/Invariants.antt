@@ -3,4 +3,4 @@ use Rattle.request_handlers.specs.AddPartitions.{partitions_of}
 use Rattle.request_handlers.proofs.add_partitions.partitions_of.Given as goal
 
 abbrev pub invariant-loop-topic : goal.invariant-loop-topic
-invariant-loop-topic l = partitions_of l.named ≡ l.partitions.items ++ partitions_of (drop l.topic-index l.named)
+invariant-loop-topic l = l.partitions.items ++ partitions_of (drop l.topic-index l.named) ≡ partitions_of l.named

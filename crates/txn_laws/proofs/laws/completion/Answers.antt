@@ -1,6 +1,7 @@
-use Rattle.txn_laws.specs.Laws.{CompletionLaw, WaitingLaw, PreparingLaw, PreparedLaw}
+use Rattle.txn_laws.specs.Laws.{CompletionLaw, WaitingLaw, PreparingLaw, PreparedLaw, CompletedLaw}
 use Rattle.txn_laws.proofs.Complete.{completion_law, waiting_law}
 use Rattle.txn_laws.proofs.Prepared.{preparing_law, prepared_law}
+use Rattle.txn_laws.proofs.Completed.{completed_law}
 use Rattle.txn_laws.proofs.Reached.{reached}
 use Rattle.txn_laws.proofs.laws.completion.Goals as goal
 
@@ -27,3 +28,9 @@ returns-clause-prepared c = prepared_law
 
 pub returns-clause-prepared_reached : goal.returns-clause-prepared_reached
 returns-clause-prepared_reached c = reached PreparedLaw prepared_law
+
+pub returns-clause-completed : goal.returns-clause-completed
+returns-clause-completed c = completed_law
+
+pub returns-clause-completed_reached : goal.returns-clause-completed_reached
+returns-clause-completed_reached c = reached CompletedLaw completed_law
