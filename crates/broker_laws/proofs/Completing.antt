@@ -1,29 +1,27 @@
 -- A transaction that an event prepares, and one that waits, is completed by marker steps.
-use Rattle.std.proofs.Common.{◌≡◌, ℕ, ◌≤◌, ℤ, List, [], ◌∷◌, ◌++◌, map, Option, Some, None, Bool, true, false, cond, refl, sym, ap, subst, ◌∙◌, arith}
-use Rattle.std.specs.List.{flat_map}
+use Rattle.std.proofs.Common.{◌≡◌, ℕ, ◌≤◌, ℤ, List, [], ◌∷◌, map, Option, Some, None, Bool, true, false, cond, refl, sym, ap, subst, ◌∙◌, arith}
 use Rattle.std.specs.Str.{bytes_eq}
 use Rattle.authorizer.specs.declared.answer.Refusal.{Refusal}
 use Rattle.authorizer.specs.Asking.{part_refusal}
 use Rattle.msg_admin.specs.declared.request.Request.TheVariants.{Produce, Fetch, ListOffsets, Metadata, InitProducerId, AddPartitionsToTxn, EndTxn, DescribeAcls, CreateAcls, DeleteAcls}
 use Rattle.audit_trail.specs.declared.event.Event.{Event}
 use Rattle.audit_trail.specs.declared.event.Event.TheVariants.{Ask, Mark, Tick}
-use Rattle.txn_coordinator.specs.declared.target.Target.{Target}
-use Rattle.txn_coordinator.specs.declared.transaction.Phase.TheVariants.{Ongoing}
+use Rattle.txn_coordinator.specs.declared.transaction.Phase.TheVariants.{Ongoing, PrepareAbort}
 use Rattle.txn_coordinator.specs.declared.transaction.Transaction.{Transaction}
 use Rattle.txn_coordinator.specs.declared.marker.Outcome.{Outcome as Ending}
-use Rattle.txn_coordinator.specs.declared.marker.Outcome.TheVariants.{Abort}
+use Rattle.txn_coordinator.specs.declared.marker.Outcome.TheVariants.{Commit, Abort}
 use Rattle.txn_coordinator.specs.declared.marker.OwedMarker.{OwedMarker}
-use Rattle.txn_coordinator.specs.Words.{raised, prepared, targets}
+use Rattle.txn_coordinator.specs.Words.{prepared, targets}
 use Rattle.txn_coordinator.specs.Coordinator.{has_id, recorded}
-use Rattle.txn_coordinator.specs.Preparing.{marker_for, fenced, fence_markers}
-use Rattle.txn_coordinator.specs.Expiry.{is_due, expired, expiry_markers}
-use Rattle.txn_coordinator.proofs.Table.{recorded_id}
-use Rattle.txn_laws.specs.Small.{World as SmallWorld, Entry, Move, moved_all, marks as small_marks}
+use Rattle.txn_coordinator.specs.Preparing.{fenced}
+use Rattle.txn_coordinator.specs.Expiry.{is_due, expired}
+use Rattle.txn_laws.specs.Small.{World as SmallWorld, Move, moved_all, marks as small_marks}
 use Rattle.txn_laws.specs.Small.Move.{AddPartitions}
 use Rattle.txn_laws.specs.Sound.{Each, IsSound}
 use Rattle.txn_laws.specs.Laws.{IsEnded, IsDone, up_to_last}
 use Rattle.txn_laws.proofs.Complete.{ongoing_waits, waiting_law}
 use Rattle.txn_laws.proofs.Prepared.{prepared_law}
+use Rattle.txn_laws.proofs.Ticks.{tick_law}
 use Rattle.request_handlers.specs.World.{World, rules_of}
 use Rattle.request_handlers.specs.InitProducerId.{init_question}
 use Rattle.request_handlers.specs.AddPartitions.{is_cut, partitions_of}
@@ -88,48 +86,24 @@ recorded_expired moment (x ∷ xs) id t found =
       by_id true rest here = let same : x ≡ t = cc in ap (λ y. Some (expired moment y)) same
       by_id false rest here = rest here
 
-each_second : {X : Type 0} (P : X → Type 0) (xs ys : List X) → Each P (xs ++ ys) → Each P ys
-each_second P [] ys h = h
-each_second P (x ∷ xs) ys h = each_second P xs ys h.1
-
-each_first : {X : Type 0} (P : X → Type 0) (xs ys : List X) → Each P (xs ++ ys) → Each P xs
-each_first P [] ys h = tt
-each_first P (x ∷ xs) ys h = (h.0, each_first P xs ys h.1)
-
-each_of_one : (P : OwedMarker → Type 0) (moment : ℕ) (ts : List Transaction) (id : List ℕ) (t : Transaction) → recorded ts id ≡ Some t → Each P (flat_map (expiry_markers moment) ts) → Each P (expiry_markers moment t)
-each_of_one P moment [] id t found h = absurd (let clash : None ≡ Some t = found in cc)
-each_of_one P moment (x ∷ xs) id t found h = by_id (has_id id x) (each_of_one P moment xs id t) found where
-  by_id : (b : Bool) → (recorded xs id ≡ Some t → Each P (flat_map (expiry_markers moment) xs) → Each P (expiry_markers moment t)) → cond b (Some x) (recorded xs id) ≡ Some t → Each P (expiry_markers moment t)
-  by_id true rest here = let same : x ≡ t = cc in subst (λ y. Each P (expiry_markers moment y)) same (each_first P (expiry_markers moment x) (flat_map (expiry_markers moment) xs) h)
-  by_id false rest here = rest here (each_second P (expiry_markers moment x) (flat_map (expiry_markers moment) xs) h)
-
-marker_done : (id : List ℕ) (t : Transaction) (o : Ending) (old new : Target → List Entry) → t.id ≡ id → (xs : List Target)
-    → Each (λ (x : OwedMarker). x.id ≡ id → IsEnded x.pair o (old x.target) (new x.target)) (map (marker_for t.id (raised t.pair) Abort) xs)
-    → Each (λ target. IsDone t.pair.producer o (old target) (new target)) xs
-marker_done id t o old new own [] h = tt
-marker_done id t o old new own (x ∷ xs) h = ((raised t.pair, refl, h.0 own), marker_done id t o old new own xs h.1)
-
-due_done : (moment : ℕ) (id : List ℕ) (t : Transaction) (o : Ending) (old new : Target → List Entry) → t.id ≡ id → t.phase ≡ Ongoing → (expired moment t).phase ≡ prepared o
-    → Each (λ (x : OwedMarker). x.id ≡ id → IsEnded x.pair o (old x.target) (new x.target)) (expiry_markers moment t)
-    → Each (λ target. IsDone t.pair.producer o (old target) (new target)) (targets t)
-due_done moment id t o old new own ongoing waits each = by_due (is_due moment t) waits each where
-  by_due : (b : Bool) → (cond b (fenced t) t).phase ≡ prepared o → Each (λ (x : OwedMarker). x.id ≡ id → IsEnded x.pair o (old x.target) (new x.target)) (cond b (fence_markers t) [])
-      → Each (λ target. IsDone t.pair.producer o (old target) (new target)) (targets t)
-  by_due true w h = marker_done id t o old new own (targets t) h
-  by_due false w h = absurd (ongoing_waits o (sym ongoing ∙ w))
+abort_is : (o : Ending) → PrepareAbort ≡ prepared o → Abort ≡ o
+abort_is Abort h = refl
+abort_is Commit h = absurd cc
 
 tick_prepared : (w : World) (told : ℕ) → IsGood w → (id : List ℕ) (t u : Transaction) (o : Ending) → recorded w.coordinator.transactions id ≡ Some t → t.phase ≡ Ongoing → u.phase ≡ prepared o → (ms : List Move) → Completes (small w) (small (step w (Tick told))) id t u o ms
-tick_prepared w told good id t u o before ongoing waits ms after enough =
-    let c = w.coordinator in
-    let moment = moment_after w.moment told in
-    let v = small (step w (Tick told)) in
-    let next = good_step w (Tick told) good in
-    let each = waiting_law v next.sound id u o ms after waits enough in
-    let late = each_second _ c.warrants (flat_map (expiry_markers moment) c.transactions) each in
-    let twice : Some (expired moment t) ≡ Some u = sym (recorded_expired moment c.transactions id t before) ∙ after in
-    let same : expired moment t ≡ u = cc in
-    due_done moment id t o (small w).entries (moved_all v ms).entries (recorded_id c.transactions id t before) ongoing (ap (λ (y : Transaction). y.phase) same ∙ waits)
-    (each_of_one _ moment c.transactions id t before late)
+tick_prepared w told good id t u o before ongoing waits ms after enough = by_due (is_due moment t) refl refl where
+  moment : ℕ
+  moment = moment_after w.moment told
+
+  phase : (expired moment t).phase ≡ prepared o
+  phase =
+      let twice : Some (expired moment t) ≡ Some u = sym (recorded_expired moment w.coordinator.transactions id t before) ∙ after in
+      let same : expired moment t ≡ u = cc in
+      ap (λ (y : Transaction). y.phase) same ∙ waits
+
+  by_due : (b : Bool) → is_due moment t ≡ b → expired moment t ≡ cond b (fenced t) t → Each (λ target. IsDone t.pair.producer o (entries_in w target) ((moved_all (small (step w (Tick told))) ms).entries target)) (targets t)
+  by_due true due is = subst (λ end. Each (λ target. IsDone t.pair.producer end (entries_in w target) ((moved_all (small (step w (Tick told))) ms).entries target)) (targets t)) (abort_is o (ap (λ (y : Transaction). y.phase) (sym is) ∙ phase)) (tick_law (small w) good.sound moment id t ms before due enough)
+  by_due false due is = absurd (ongoing_waits o (sym ongoing ∙ ap (λ (y : Transaction). y.phase) (sym is) ∙ phase))
 
 -- ---- any event
 

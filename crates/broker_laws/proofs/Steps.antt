@@ -121,7 +121,7 @@ step_moved w (Ask caller client (DescribeAcls r)) all own = kept_moved (part_ref
 step_moved w (Ask caller client (CreateAcls r)) all own = kept_moved (part_refusal (rules_of w) (alter_questions caller)) w _ _ refl
 step_moved w (Ask caller client (DeleteAcls r)) all own = kept_moved (part_refusal (rules_of w) (alter_questions caller)) w _ _ refl
 step_moved w Mark all own = mark_moved w all
-step_moved w (Tick told) all own = sym (one_by_one (record (small w) { moment = moment_after w.moment told }) own)
+step_moved w (Tick told) all own = sym (one_by_one (small w) own (moment_after w.moment told))
 
 -- ---- what transactions take in exists
 
