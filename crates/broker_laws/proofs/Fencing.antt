@@ -20,36 +20,19 @@ use Rattle.txn_coordinator.specs.Adding.{with_partitions, open_by, open_found, g
 use Rattle.txn_coordinator.specs.EndTxn.{end_by, end_found, end}
 use Rattle.txn_laws.specs.Small.{World as SmallWorld, Move, moved_all}
 use Rattle.txn_laws.specs.Sound.{IsSound, IsFenced}
-use Rattle.txn_laws.specs.Laws.{IsSilent, HasPair as HadPair}
+use Rattle.txn_laws.specs.Laws.{IsSilent, HasPair as HadPair, Refuses}
 use Rattle.txn_laws.proofs.Targets.{same_number}
 use Rattle.txn_laws.proofs.Moves.{held, free_is, one_owner, moves_sound, moves_fence}
-use Rattle.txn_laws.proofs.Fences.{fencing_law}
+use Rattle.txn_laws.proofs.Fences.{gone_past, fencing_law, refusal_law}
 use Rattle.producer_state.proofs.Numbers.{lt_is}
 use Rattle.request_handlers.specs.World.{World}
 use Rattle.request_handlers.specs.Judged.{pair_of, held_code, given_code, producer_code}
 use Rattle.request_handlers.specs.Step.{reached}
-use Rattle.broker_laws.specs.Entries.{entries_in, small}
+use Rattle.broker_laws.specs.Entries.{small}
 use Rattle.broker_laws.specs.Moves.{moves_of_all}
-use Rattle.broker_laws.specs.Laws.{InReached, Refuses, FencedWriteNothing, NoDataBehindAGreaterMarker}
+use Rattle.broker_laws.specs.Laws.{InReached, TurnsAway, FencedWriteNothing, NoDataBehindAGreaterMarker}
 use Rattle.broker_laws.proofs.Passing.{held_holds, owner_free}
 use Rattle.broker_laws.proofs.Reached.{IsGood, good_reached, good, reached_moved}
-
--- ---- the record has gone past the pair
-
-same_pair : (p q : Pair) → p.producer ≡ q.producer → p.epoch ≡ q.epoch → p ≡ q
-same_pair p q producer epoch = λ i. record { producer = producer i; epoch = epoch i }
-
-gone_past : (s : SmallWorld) (ms : List Move) (id : List ℕ) (pair : Pair) → IsSound s → HadPair s id pair → (HadPair (moved_all s ms) id pair → ⊥) → IsFenced (moved_all s ms).coordinator id (raised pair)
-gone_past s ms id pair sound (t, found, pair_is) left =
-    let epoch_is : t.pair.epoch ≡ pair.epoch = ap (λ (q : Pair). q.epoch) pair_is in
-    let before : IsFenced s.coordinator id pair = record { owned = ap (λ (q : Pair). owner s.coordinator q.producer) (sym pair_is) ∙ sound.owned id t found; transaction = t; found = found; reached = λ same. omega (arith, ints) } in
-    let after = moves_fence s ms sound id pair before in
-    record {
-      owned = after.owned;
-      transaction = after.transaction;
-      found = after.found;
-      reached = λ same. let low = after.reached same in let not_same : after.transaction.pair.epoch ≡ pair.epoch → ⊥ = λ e. left (after.transaction, after.found, same_pair after.transaction.pair pair same e) in omega (arith, ints);
-    }
 
 -- ---- no check lets it in
 
@@ -134,8 +117,8 @@ ending_refused s id pair sound f own o none = by_empty (is_empty own) none where
   by_empty true none = let clash : codes.InvalidRequest ≡ codes.None = none in cc
   by_empty false none = by_found (recorded s.coordinator.transactions own) refl none
 
-refuses : (s : SmallWorld) (id : List ℕ) (pair : Pair) → IsSound s → IsFenced s.coordinator id (raised pair) → Refuses s.coordinator pair
-refuses s id pair sound f = record {
+turns_away : (s : SmallWorld) (id : List ℕ) (pair : Pair) → IsSound s → IsFenced s.coordinator id (raised pair) → TurnsAway s.coordinator pair
+turns_away s id pair sound f = record {
   batches = batch_refused s id pair sound f;
   additions = addition_refused s id pair sound f;
   endings = ending_refused s id pair sound f;
@@ -143,15 +126,21 @@ refuses s id pair sound f = record {
 
 -- ---- the laws
 
--- over the small worlds that the events' moves lead through
-shut_out : (s : SmallWorld) (ms ns : List Move) (id : List ℕ) (pair : Pair) → IsSound s → HadPair s id pair → (HadPair (moved_all s ms) id pair → ⊥)
-    → ((target : Target) → IsSilent pair ((moved_all s ms).entries target) ((moved_all (moved_all s ms) ns).entries target)) × Refuses (moved_all (moved_all s ms) ns).coordinator pair
+-- what is left of the broker's worlds once they are small
+pub record IsOut (pair : Pair) (v later : SmallWorld) : Type 0 where
+  pub silent : (target : Target) → IsSilent pair (v.entries target) (later.entries target)
+  pub refused : Refuses later pair
+  pub turned_away : TurnsAway later.coordinator pair
+
+shut_out : (s : SmallWorld) (ms ns : List Move) (id : List ℕ) (pair : Pair) → IsSound s → HadPair s id pair → (HadPair (moved_all s ms) id pair → ⊥) → IsOut pair (moved_all s ms) (moved_all (moved_all s ms) ns)
 shut_out s ms ns id pair sound had left =
     let past = gone_past s ms id pair sound had left in
-    let later = moves_sound s ms sound in (
-      fencing_law s sound ms ns id pair had left,
-      refuses (moved_all (moved_all s ms) ns) id pair (moves_sound (moved_all s ms) ns later) (moves_fence (moved_all s ms) ns later id (raised pair) past),
-    )
+    let later = moves_sound s ms sound in
+    record {
+      silent = fencing_law s sound ms ns id pair had left;
+      refused = refusal_law s sound ms ns id pair had left;
+      turned_away = turns_away (moved_all (moved_all s ms) ns) id pair (moves_sound (moved_all s ms) ns later) (moves_fence (moved_all s ms) ns later id (raised pair) past);
+    }
 
 fenced : (w : World) → IsGood w → FencedWriteNothing w
 fenced w good more after id pair had left =
@@ -159,10 +148,10 @@ fenced w good more after id pair had left =
     let first = reached_moved w more good in
     let second = reached_moved v after (good_reached w more good) in
     let not_had : HadPair (small v) id pair → ⊥ = left in
-    let out = subst (λ (s : SmallWorld). (HadPair s id pair → ⊥) → ((target : Target) → IsSilent pair (s.entries target) ((moved_all s (moves_of_all v after)).entries target)) × Refuses (moved_all s (moves_of_all v after)).coordinator pair) (sym first)
-    (λ gone. shut_out (small w) (moves_of_all w more) (moves_of_all v after) id pair good.sound had gone) not_had in
-    let both = subst (λ (s : SmallWorld). ((target : Target) → IsSilent pair (entries_in v target) (s.entries target)) × Refuses s.coordinator pair) (sym second) out in
-    record { silent = both.0; refused = both.1 }
+    let moves = moves_of_all v after in
+    let out = subst (λ (s : SmallWorld). (HadPair s id pair → ⊥) → IsOut pair s (moved_all s moves)) (sym first) (shut_out (small w) (moves_of_all w more) moves id pair good.sound had) not_had in
+    let both = subst (IsOut pair (small v)) (sym second) out in
+    record { silent = both.silent; refused = both.refused; turned_away = both.turned_away }
 
 pub fenced_write_nothing : InReached FencedWriteNothing
 fenced_write_nothing s es = fenced _ (good s es)

@@ -7,3 +7,5 @@ pub mod Steps
 pub mod Reached
 pub mod Completing
 pub mod Fencing
+pub mod Ending
+pub mod Cores

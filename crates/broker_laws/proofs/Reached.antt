@@ -168,7 +168,7 @@ unmarked_expiries : (ts : List Transaction) → small_marks (expiries ts) ≡ 0
 unmarked_expiries [] = refl
 unmarked_expiries (t ∷ ts) = omega (arith, unmarked_expiries ts)
 
-event_marks : (w : World) (e : Event) → small_marks (moves_of w e) ≡ mark_count e
+pub event_marks : (w : World) (e : Event) → small_marks (moves_of w e) ≡ mark_count e
 event_marks w (Ask caller client (Produce r)) = unmarked_topics w caller r w.topics r.topics
 event_marks w (Ask caller client (Fetch r)) = refl
 event_marks w (Ask caller client (ListOffsets r)) = refl

@@ -1,6 +1,6 @@
 -- What holds in each world that the broker's events reach: each transaction that is prepared is completed, and what is
 -- fenced stays out, whatever is asked, granted and refused meanwhile (KIP-98, 'Transaction Coordinator', 'Fencing').
-use Rattle.std.specs.Prelude.{◌≡◌, ℕ, ◌≤◌, List, [], ◌∷◌, map, Option, Some, None}
+use Rattle.std.specs.Prelude.{◌≡◌, false, ℕ, ◌≤◌, List, [], ◌∷◌, ◌++◌, map, Option, Some, None}
 use Rattle.wire_types.specs.declared.error_code.ErrorCode.TheVariants as codes
 use Rattle.settings.specs.declared.settings.Settings.{Settings}
 use Rattle.record_batch.specs.declared.header.BatchHeader.{BatchHeader}
@@ -15,24 +15,29 @@ use Rattle.txn_coordinator.specs.declared.transaction.Phase.TheVariants.{Ongoing
 use Rattle.txn_coordinator.specs.declared.marker.Outcome.{Outcome as Ending}
 use Rattle.txn_coordinator.specs.declared.marker.OwedMarker.{OwedMarker}
 use Rattle.txn_coordinator.specs.declared.ending.EndForm.TheVariants.{Plain}
-use Rattle.txn_coordinator.specs.Words.{prepared, targets}
+use Rattle.txn_coordinator.specs.Words.{prepared, complete, targets}
 use Rattle.txn_coordinator.specs.Coordinator.{CoordinatorValue, recorded, turn_code}
 use Rattle.txn_coordinator.specs.Adding.{add_partitions}
 use Rattle.txn_coordinator.specs.EndTxn.{end}
 use Rattle.txn_laws.specs.Small.{first_world as first_small_world, moved_all}
 use Rattle.txn_laws.specs.Sound.{Each, IsOrdered}
-use Rattle.txn_laws.specs.Laws.{IsEnded, IsDone, IsSilent, up_to_last}
+use Rattle.txn_laws.specs.Laws.{IsEnded, IsDone, IsSilent, Refuses, up_to_last}
 use Rattle.request_handlers.specs.World.{World, LogValue}
 use Rattle.request_handlers.specs.First.{first_world}
 use Rattle.request_handlers.specs.Logs.{log_at}
 use Rattle.request_handlers.specs.Judged.{pair_of, producer_code}
 use Rattle.request_handlers.specs.Step.{step, reached, refusals_of}
+use Rattle.request_handlers.specs.Core.{CoreValue, IsCore}
 use Rattle.broker_laws.specs.Entries.{entry_of, entries_in, small}
 use Rattle.broker_laws.specs.Moves.{moves_of, moves_of_all, marks}
 
 -- in each world that events reach from any settings
 abbrev pub InReached : (World → Type 0) → Type 0
 InReached Law = (s : Settings) (es : List Event) → Law (reached (first_world s) es)
+
+-- and so in the world of each core that isn't down
+abbrev pub InCores : (World → Type 0) → Type 0
+InCores Law = (core : CoreValue) → IsCore core → core.down ≡ false → Law core.world
 
 -- ---- entries and moves
 
@@ -73,6 +78,21 @@ CompletesWaiting w = (id : List ℕ) (t : Transaction) (outcome : Ending) (after
     → recorded w.coordinator.transactions id ≡ Some t → t.phase ≡ prepared outcome → up_to_last w.coordinator.warrants id ≤ marks after
     → Each (λ (x : OwedMarker). x.id ≡ id → IsEnded x.pair outcome (entries_in w x.target) (entries_in (reached w after) x.target)) w.coordinator.warrants
 
+-- events of which the first ones complete the transaction of the id
+pub record IsCompletedBy (w : World) (events : List Event) (id : List ℕ) (outcome : Ending) : Type 0 where
+  pub first : List Event
+  pub rest : List Event
+  pub parts : events ≡ first ++ rest
+  pub transaction : Transaction
+  pub found : recorded (reached w first).coordinator.transactions id ≡ Some transaction
+  pub is_complete : transaction.phase ≡ complete outcome
+
+-- and so many marker steps complete it
+abbrev pub EndsComplete : World → Type 0
+EndsComplete w = (id : List ℕ) (t : Transaction) (outcome : Ending) (after : List Event)
+    → recorded w.coordinator.transactions id ≡ Some t → t.phase ≡ prepared outcome → up_to_last w.coordinator.warrants id ≤ marks after
+    → IsCompletedBy w after id outcome
+
 -- no permission is asked for a marker step
 abbrev pub MarksAreNotRefused : Type 0
 MarksAreNotRefused = (w : World) → refusals_of w Mark ≡ []
@@ -83,16 +103,17 @@ MarksAreNotRefused = (w : World) → refusals_of w Mark ≡ []
 abbrev pub HasPair : World → List ℕ → Pair → Type 0
 HasPair w id pair = (t : Transaction) × (recorded w.coordinator.transactions id ≡ Some t) × (t.pair ≡ pair)
 
--- no check lets the pair in: not that of a batch, and none of a call that comes with it
-pub record Refuses (c : CoordinatorValue) (pair : Pair) : Type 0 where
+-- no batch of the pair passes Produce's check, and no call that comes with the pair is told that there is no error
+pub record TurnsAway (c : CoordinatorValue) (pair : Pair) : Type 0 where
   pub batches : (id : Option (List ℕ)) (target : Target) (h : BatchHeader) → pair_of h ≡ pair → producer_code c id target h ≡ None → ⊥
   pub additions : (id : List ℕ) (moment : ℕ) (p : TopicPartition) (ps : List TopicPartition) → turn_code (add_partitions c id pair moment (p ∷ ps)) ≡ codes.None → ⊥
   pub endings : (id : List ℕ) (outcome : Ending) → turn_code (end c Plain id pair outcome) ≡ codes.None → ⊥
 
--- no log gets data of the pair, and it is refused
+-- no log gets data of the pair, and it is refused for each partition and each group, and by each request
 pub record IsShutOut (pair : Pair) (w later : World) : Type 0 where
   pub silent : (target : Target) → IsSilent pair (entries_in w target) (entries_in later target)
-  pub refused : Refuses later.coordinator pair
+  pub refused : Refuses (small later) pair
+  pub turned_away : TurnsAway later.coordinator pair
 
 -- once events have made an id's record leave a pair, it is shut out for good
 abbrev pub FencedWriteNothing : World → Type 0
