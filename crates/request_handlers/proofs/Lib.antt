@@ -22,3 +22,4 @@ pub mod Recorded
 pub mod Initials
 pub mod Together
 pub mod Sequenced
+pub mod Grouped

@@ -32,4 +32,5 @@ pub mod DataTenants
 pub mod AclLaws
 pub mod ProducerLaws
 pub mod TxnLaws
+pub mod GroupLaws
 pub mod DescribeLaws

@@ -6,6 +6,7 @@ ghost use Rattle.request_handlers.specs.Tenants.{DependsOnGrants};
 ghost use Rattle.request_handlers.specs.DataLaws.{ProducesAsAnswered, FetchesRuns, ListsEnds};
 ghost use Rattle.request_handlers.specs.ProducerLaws.{HoldsOnce, InitsOnce, InitDependsOnGrants};
 ghost use Rattle.request_handlers.specs.TxnLaws.{AddsAllOrNone, TransactionsDependOnGrants, TransactionsKeepTheRest};
+ghost use Rattle.request_handlers.specs.GroupLaws.{GroupsDependOnGrants, GroupsKeepTheRest};
 ghost use Rattle.request_handlers.specs.AclLaws.{CreatesEach, DeletesEach, RefusedEditNothing, AclsDependOnTheBook, AclsKeepTopics};
 ghost use Rattle.request_handlers.specs.DescribeLaws.{DescribesEach};
 ghost use Rattle.request_handlers.specs.DataTenants.{ProduceKeepsTheRest, ProduceKeepsOtherPartitions, ProduceDependsOnGrants, FetchDependsOnGrants, ListOffsetsDependsOnGrants};
@@ -130,4 +131,15 @@ pub fn transactions_depend_on_grants()
 /// with the id isn't granted, its own record too.
 pub fn transactions_keep_the_rest()
     ensures { TransactionsKeepTheRest }
+{}
+
+/// The requests about groups and offsets are answered by what their questions were granted alone.
+pub fn groups_depend_on_grants()
+    ensures { GroupsDependOnGrants }
+{}
+
+/// A request about a group leaves every other group, every log and every transactional id as they were; and where
+/// reading the group isn't granted, the group too.
+pub fn groups_keep_the_rest()
+    ensures { GroupsKeepTheRest }
 {}
