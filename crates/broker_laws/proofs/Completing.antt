@@ -71,7 +71,7 @@ one_init (Some id) timeout greatest = tt
 
 -- ---- a tick
 
-recorded_expired : (moment : ℕ) (ts : List Transaction) (id : List ℕ) (t : Transaction) → recorded ts id ≡ Some t → recorded (map (expired moment) ts) id ≡ Some (expired moment t)
+pub recorded_expired : (moment : ℕ) (ts : List Transaction) (id : List ℕ) (t : Transaction) → recorded ts id ≡ Some t → recorded (map (expired moment) ts) id ≡ Some (expired moment t)
 recorded_expired moment [] id t found = absurd (let clash : None ≡ Some t = found in cc)
 recorded_expired moment (x ∷ xs) id t found =
     ap (λ own. cond (bytes_eq own id) (Some (expired moment x)) (recorded (map (expired moment) xs) id)) (same_id x)

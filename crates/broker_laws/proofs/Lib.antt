@@ -9,3 +9,4 @@ pub mod Completing
 pub mod Fencing
 pub mod Ending
 pub mod Cores
+pub mod Preparing

@@ -1,11 +1,16 @@
 -- What holds in each world that the broker's events reach: each transaction that is prepared is completed, and what is
 -- fenced stays out, whatever is asked, granted and refused meanwhile (KIP-98, 'Transaction Coordinator', 'Fencing').
-use Rattle.std.specs.Prelude.{◌≡◌, false, ℕ, ◌≤◌, List, [], ◌∷◌, ◌++◌, map, Option, Some, None}
+use Rattle.std.specs.Prelude.{◌≡◌, true, false, ℕ, ◌≤◌, List, [], ◌∷◌, ◌++◌, map, Option, Some, None}
 use Rattle.wire_types.specs.declared.error_code.ErrorCode.TheVariants as codes
+use Rattle.acl_binding.specs.declared.question.Caller.{Caller}
 use Rattle.settings.specs.declared.settings.Settings.{Settings}
 use Rattle.record_batch.specs.declared.header.BatchHeader.{BatchHeader}
+use Rattle.msg_txn.specs.declared.init_producer_id.InitProducerIdRequest.{InitProducerIdRequest}
+use Rattle.msg_txn.specs.declared.end_txn.EndTxnRequest.{EndTxnRequest}
+use Rattle.msg_admin.specs.declared.request.Request.TheVariants.{InitProducerId, EndTxn}
+use Rattle.msg_admin.specs.declared.reply.Reply.TheVariants as replies
 use Rattle.audit_trail.specs.declared.event.Event.{Event}
-use Rattle.audit_trail.specs.declared.event.Event.TheVariants.{Mark}
+use Rattle.audit_trail.specs.declared.event.Event.TheVariants.{Ask, Mark, Tick}
 use Rattle.txn_coordinator.specs.declared.pair.Pair.{Pair}
 use Rattle.txn_coordinator.specs.declared.target.TopicPartition.{TopicPartition}
 use Rattle.txn_coordinator.specs.declared.target.Target.{Target}
@@ -13,12 +18,14 @@ use Rattle.txn_coordinator.specs.declared.target.Target.TheVariants.{Partition}
 use Rattle.txn_coordinator.specs.declared.transaction.Transaction.{Transaction}
 use Rattle.txn_coordinator.specs.declared.transaction.Phase.TheVariants.{Ongoing}
 use Rattle.txn_coordinator.specs.declared.marker.Outcome.{Outcome as Ending}
+use Rattle.txn_coordinator.specs.declared.marker.Outcome.TheVariants.{Abort}
 use Rattle.txn_coordinator.specs.declared.marker.OwedMarker.{OwedMarker}
 use Rattle.txn_coordinator.specs.declared.ending.EndForm.TheVariants.{Plain}
 use Rattle.txn_coordinator.specs.Words.{prepared, complete, targets}
 use Rattle.txn_coordinator.specs.Coordinator.{CoordinatorValue, recorded, turn_code}
 use Rattle.txn_coordinator.specs.Adding.{add_partitions}
 use Rattle.txn_coordinator.specs.EndTxn.{end}
+use Rattle.txn_coordinator.specs.Expiry.{is_due}
 use Rattle.txn_laws.specs.Small.{first_world as first_small_world, moved_all}
 use Rattle.txn_laws.specs.Sound.{Each, IsOrdered}
 use Rattle.txn_laws.specs.Laws.{IsEnded, IsDone, IsSilent, Refuses, up_to_last}
@@ -26,7 +33,10 @@ use Rattle.request_handlers.specs.World.{World, LogValue}
 use Rattle.request_handlers.specs.First.{first_world}
 use Rattle.request_handlers.specs.Logs.{log_at}
 use Rattle.request_handlers.specs.Judged.{pair_of, producer_code}
-use Rattle.request_handlers.specs.Step.{step, reached, refusals_of}
+use Rattle.request_handlers.specs.InitProducerId.{init_answered, init_error}
+use Rattle.request_handlers.specs.EndTxn.{ending, end_reply}
+use Rattle.request_handlers.specs.Ticks.{moment_after}
+use Rattle.request_handlers.specs.Step.{step, reply_to, reached, refusals_of}
 use Rattle.request_handlers.specs.Core.{CoreValue, IsCore}
 use Rattle.broker_laws.specs.Entries.{entry_of, entries_in, small}
 use Rattle.broker_laws.specs.Moves.{moves_of, moves_of_all, marks}
@@ -63,6 +73,17 @@ pub record IsPreparedBy (w : World) (e : Event) (id : List ℕ) (t : Transaction
   pub transaction : Transaction
   pub after : recorded (step w e).coordinator.transactions id ≡ Some transaction
   pub waits : transaction.phase ≡ prepared outcome
+
+-- what prepares an open transaction
+pub record Prepares (w : World) : Type 0 where
+  -- an EndTxn that is answered no error, with the outcome that it names
+  pub ended : (caller : Caller) (client : Option (List ℕ)) (r : EndTxnRequest) (t : Transaction) → recorded w.coordinator.transactions r.transactional_id ≡ Some t → t.phase ≡ Ongoing
+      → reply_to w (Ask caller client (EndTxn r)) ≡ replies.EndTxn (end_reply codes.None) → IsPreparedBy w (Ask caller client (EndTxn r)) r.transactional_id t (ending r.committed)
+  -- an InitProducerId of a producer that takes the id over, which is told to come again
+  pub taken_over : (caller : Caller) (client : Option (List ℕ)) (r : InitProducerIdRequest) (id : List ℕ) (t : Transaction) → r.transactional_id ≡ Some id → recorded w.coordinator.transactions id ≡ Some t → t.phase ≡ Ongoing
+      → reply_to w (Ask caller client (InitProducerId r)) ≡ replies.InitProducerId (init_error codes.ConcurrentTransactions) → IsPreparedBy w (Ask caller client (InitProducerId r)) id t Abort
+  -- a tick behind the end of its time
+  pub timed_out : (told : ℕ) (id : List ℕ) (t : Transaction) → recorded w.coordinator.transactions id ≡ Some t → is_due (moment_after w.moment told) t ≡ true → IsPreparedBy w (Tick told) id t Abort
 
 -- Where an event prepares a transaction, as many marker steps as markers then stand up to and including its last one
 -- write the outcome to each partition that was added, behind all that the transaction's producer wrote there, whatever
@@ -102,6 +123,16 @@ MarksAreNotRefused = (w : World) → refusals_of w Mark ≡ []
 -- the id's record has the pair
 abbrev pub HasPair : World → List ℕ → Pair → Type 0
 HasPair w id pair = (t : Transaction) × (recorded w.coordinator.transactions id ≡ Some t) × (t.pair ≡ pair)
+
+-- what makes an id's record leave its pair
+pub record Fences (w : World) : Type 0 where
+  -- an InitProducerId with the id that is answered a pair
+  pub begun : (caller : Caller) (client : Option (List ℕ)) (r : InitProducerIdRequest) (id : List ℕ) (pair new : Pair) → r.transactional_id ≡ Some id → HasPair w id pair
+      → reply_to w (Ask caller client (InitProducerId r)) ≡ replies.InitProducerId (init_answered (record { code = codes.None; pair = new })) → HasPair (step w (Ask caller client (InitProducerId r))) id pair → ⊥
+  -- what aborts an open transaction that its producer didn't end: each event above but an EndTxn
+  pub taken_over : (caller : Caller) (client : Option (List ℕ)) (r : InitProducerIdRequest) (id : List ℕ) (t : Transaction) → r.transactional_id ≡ Some id → recorded w.coordinator.transactions id ≡ Some t → t.phase ≡ Ongoing
+      → reply_to w (Ask caller client (InitProducerId r)) ≡ replies.InitProducerId (init_error codes.ConcurrentTransactions) → HasPair (step w (Ask caller client (InitProducerId r))) id t.pair → ⊥
+  pub timed_out : (told : ℕ) (id : List ℕ) (t : Transaction) → recorded w.coordinator.transactions id ≡ Some t → is_due (moment_after w.moment told) t ≡ true → HasPair (step w (Tick told)) id t.pair → ⊥
 
 -- no batch of the pair passes Produce's check, and no call that comes with the pair is told that there is no error
 pub record TurnsAway (c : CoordinatorValue) (pair : Pair) : Type 0 where

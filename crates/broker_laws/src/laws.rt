@@ -1,11 +1,12 @@
 //! The laws, each the contract of a function with nothing to do. Most hold of the world that any list of events reaches
 //! from any settings (`reached`), and so of each core that isn't down (`cores`).
 
+ghost use Rattle.request_handlers.specs.World.{World};
 ghost use Rattle.broker_laws.specs.Targets.{HasTargets};
 ghost use Rattle.broker_laws.specs.Laws.{InReached, InCores};
 ghost use Rattle.broker_laws.specs.Laws.{EntriesAreTheLog, IsMoved, EventsAreMoves};
-ghost use Rattle.broker_laws.specs.Laws.{CompletesPrepared, CompletesWaiting, EndsComplete, MarksAreNotRefused};
-ghost use Rattle.broker_laws.specs.Laws.{FencedWriteNothing, NoDataBehindAGreaterMarker};
+ghost use Rattle.broker_laws.specs.Laws.{Prepares, CompletesPrepared, CompletesWaiting, EndsComplete, MarksAreNotRefused};
+ghost use Rattle.broker_laws.specs.Laws.{Fences, FencedWriteNothing, NoDataBehindAGreaterMarker};
 
 /// What the laws see of a partition is its log, batch by batch.
 pub fn entries_are_the_log()
@@ -22,6 +23,12 @@ pub fn events_are_moves()
 pub fn targets_exist()
     ensures reached { InReached HasTargets }
     ensures cores { InCores HasTargets }
+{}
+
+/// An open transaction is prepared by an EndTxn that is answered no error, by an InitProducerId of a producer that takes
+/// its id over, and by a tick behind the end of its time.
+pub fn prepares()
+    ensures { (w : World) → Prepares w }
 {}
 
 /// A transaction that an event prepares is completed at each partition that was added, by as many marker steps as
@@ -47,6 +54,13 @@ pub fn ends_complete()
 /// A marker step is never refused.
 pub fn marks_are_not_refused()
     ensures { MarksAreNotRefused }
+{}
+
+/// An id leaves its pair by each InitProducerId that is answered a pair, and by each event that aborts its open
+/// transaction unasked.
+pub fn fences()
+    ensures reached { InReached Fences }
+    ensures cores { InCores Fences }
 {}
 
 /// A producer whose transactional id has gone on to another producer id or epoch writes nothing more, and is refused.
