@@ -3,7 +3,7 @@ use Rattle.std.proofs.Common.{◌≡◌, ℕ, ◌≤◌, ℤ, List, [], ◌∷�
 use Rattle.std.specs.Str.{bytes_eq}
 use Rattle.authorizer.specs.declared.answer.Refusal.{Refusal}
 use Rattle.authorizer.specs.Asking.{part_refusal}
-use Rattle.msg_admin.specs.declared.request.Request.TheVariants.{Produce, Fetch, ListOffsets, Metadata, InitProducerId, AddPartitionsToTxn, EndTxn, DescribeAcls, CreateAcls, DeleteAcls}
+use Rattle.msg_admin.specs.declared.request.Request.TheVariants.{Produce, Fetch, ListOffsets, Metadata, OffsetCommit, OffsetFetch, FindCoordinator, JoinGroup, Heartbeat, LeaveGroup, SyncGroup, InitProducerId, AddPartitionsToTxn, EndTxn, DescribeAcls, CreateAcls, DeleteAcls}
 use Rattle.audit_trail.specs.declared.event.Event.{Event}
 use Rattle.audit_trail.specs.declared.event.Event.TheVariants.{Ask, Mark, Tick}
 use Rattle.txn_coordinator.specs.declared.transaction.Phase.TheVariants.{Ongoing, PrepareAbort}
@@ -116,6 +116,13 @@ event_prepared w (Ask caller client (Produce r)) good id t u o before ongoing wa
 event_prepared w (Ask caller client (Fetch r)) good id t u o before ongoing waits ms = few_prepared w (Ask caller client (Fetch r)) tt good id t u o before ongoing waits ms
 event_prepared w (Ask caller client (ListOffsets r)) good id t u o before ongoing waits ms = few_prepared w (Ask caller client (ListOffsets r)) tt good id t u o before ongoing waits ms
 event_prepared w (Ask caller client (Metadata r)) good id t u o before ongoing waits ms = few_prepared w (Ask caller client (Metadata r)) tt good id t u o before ongoing waits ms
+event_prepared w (Ask caller client (OffsetCommit r)) good id t u o before ongoing waits ms = few_prepared w (Ask caller client (OffsetCommit r)) tt good id t u o before ongoing waits ms
+event_prepared w (Ask caller client (OffsetFetch r)) good id t u o before ongoing waits ms = few_prepared w (Ask caller client (OffsetFetch r)) tt good id t u o before ongoing waits ms
+event_prepared w (Ask caller client (FindCoordinator r)) good id t u o before ongoing waits ms = few_prepared w (Ask caller client (FindCoordinator r)) tt good id t u o before ongoing waits ms
+event_prepared w (Ask caller client (JoinGroup r)) good id t u o before ongoing waits ms = few_prepared w (Ask caller client (JoinGroup r)) tt good id t u o before ongoing waits ms
+event_prepared w (Ask caller client (Heartbeat r)) good id t u o before ongoing waits ms = few_prepared w (Ask caller client (Heartbeat r)) tt good id t u o before ongoing waits ms
+event_prepared w (Ask caller client (LeaveGroup r)) good id t u o before ongoing waits ms = few_prepared w (Ask caller client (LeaveGroup r)) tt good id t u o before ongoing waits ms
+event_prepared w (Ask caller client (SyncGroup r)) good id t u o before ongoing waits ms = few_prepared w (Ask caller client (SyncGroup r)) tt good id t u o before ongoing waits ms
 event_prepared w (Ask caller client (InitProducerId r)) good id t u o before ongoing waits ms =
     few_prepared w (Ask caller client (InitProducerId r)) (one_refusal (part_refusal (rules_of w) (init_question caller r.transactional_id ∷ [])) _ (one_init r.transactional_id r.timeout w.node.max_txn_timeout)) good id t u o before ongoing waits ms
 event_prepared w (Ask caller client (AddPartitionsToTxn r)) good id t u o before ongoing waits ms =

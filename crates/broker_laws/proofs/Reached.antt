@@ -18,7 +18,7 @@ use Rattle.producer_state.specs.declared.judgment.Judgment.TheVariants.{Next, Re
 use Rattle.producer_state.specs.Sequences.{judged as judged_by_log}
 use Rattle.msg_data.specs.declared.produce.ProduceRequest.{ProduceRequest}
 use Rattle.msg_data.specs.declared.produce.ProducedRecords.{ProducedRecords}
-use Rattle.msg_admin.specs.declared.request.Request.TheVariants.{Produce, Fetch, ListOffsets, Metadata, InitProducerId, AddPartitionsToTxn, EndTxn, DescribeAcls, CreateAcls, DeleteAcls}
+use Rattle.msg_admin.specs.declared.request.Request.TheVariants.{Produce, Fetch, ListOffsets, Metadata, OffsetCommit, OffsetFetch, FindCoordinator, JoinGroup, Heartbeat, LeaveGroup, SyncGroup, InitProducerId, AddPartitionsToTxn, EndTxn, DescribeAcls, CreateAcls, DeleteAcls}
 use Rattle.audit_trail.specs.declared.event.Event.{Event}
 use Rattle.audit_trail.specs.declared.event.Event.TheVariants.{Ask, Mark, Tick}
 use Rattle.walk.specs.Rule.{refusal_of}
@@ -173,6 +173,13 @@ event_marks w (Ask caller client (Produce r)) = unmarked_topics w caller r w.top
 event_marks w (Ask caller client (Fetch r)) = refl
 event_marks w (Ask caller client (ListOffsets r)) = refl
 event_marks w (Ask caller client (Metadata r)) = refl
+event_marks w (Ask caller client (OffsetCommit r)) = refl
+event_marks w (Ask caller client (OffsetFetch r)) = refl
+event_marks w (Ask caller client (FindCoordinator r)) = refl
+event_marks w (Ask caller client (JoinGroup r)) = refl
+event_marks w (Ask caller client (Heartbeat r)) = refl
+event_marks w (Ask caller client (LeaveGroup r)) = refl
+event_marks w (Ask caller client (SyncGroup r)) = refl
 event_marks w (Ask caller client (InitProducerId r)) =
     unmarked_refusal (part_refusal (rules_of w) (init_question caller r.transactional_id ∷ [])) _ (unmarked_init r.transactional_id r.timeout w.node.max_txn_timeout)
 event_marks w (Ask caller client (AddPartitionsToTxn r)) = by_cut (is_cut caller r.transactional_id w.topics (rules_of w) r.topics) where

@@ -12,7 +12,7 @@ use Rattle.partition_log.specs.Log.{at_end}
 use Rattle.msg_data.specs.declared.produce.ProduceRequest.{ProduceRequest}
 use Rattle.msg_data.specs.declared.produce.ProducedRecords.{ProducedRecords}
 use Rattle.msg_admin.specs.declared.reply.Reply.{Reply}
-use Rattle.msg_admin.specs.declared.request.Request.TheVariants.{Produce, Fetch, ListOffsets, Metadata, InitProducerId, AddPartitionsToTxn, EndTxn, DescribeAcls, CreateAcls, DeleteAcls}
+use Rattle.msg_admin.specs.declared.request.Request.TheVariants.{Produce, Fetch, ListOffsets, Metadata, OffsetCommit, OffsetFetch, FindCoordinator, JoinGroup, Heartbeat, LeaveGroup, SyncGroup, InitProducerId, AddPartitionsToTxn, EndTxn, DescribeAcls, CreateAcls, DeleteAcls}
 use Rattle.audit_trail.specs.declared.event.Event.{Event}
 use Rattle.audit_trail.specs.declared.event.Event.TheVariants.{Ask, Mark, Tick}
 use Rattle.walk.specs.Rule.{refusal_of}
@@ -33,6 +33,9 @@ use Rattle.txn_laws.specs.Small.Move.{AddPartitions}
 use Rattle.txn_laws.specs.Sound.{Each, HaveOwnIds}
 use Rattle.txn_laws.proofs.Base.{each_weaker, each_append}
 use Rattle.txn_laws.proofs.Ticks.{one_by_one}
+use Rattle.request_handlers.specs.Members.{read_question}
+use Rattle.request_handlers.specs.FindCoordinator.{kind_of, find_questions}
+use Rattle.request_handlers.proofs.Wholes.{offsets_keep}
 use Rattle.request_handlers.specs.World.{World, TopicValue, LogValue, rules_of}
 use Rattle.request_handlers.specs.First.{magnitude}
 use Rattle.request_handlers.specs.Logs.{log_at, log_after, appended_by}
@@ -110,6 +113,13 @@ step_moved w (Ask caller client (Produce r)) all own =
 step_moved w (Ask caller client (Fetch r)) all own = refl
 step_moved w (Ask caller client (ListOffsets r)) all own = refl
 step_moved w (Ask caller client (Metadata r)) all own = refl
+step_moved w (Ask caller client (OffsetCommit r)) all own = refl
+step_moved w (Ask caller client (OffsetFetch r)) all own = ap small (offsets_keep w caller r)
+step_moved w (Ask caller client (FindCoordinator r)) all own = kept_moved (part_refusal (rules_of w) (find_questions caller (kind_of r.key_type) r.key)) w _ _ refl
+step_moved w (Ask caller client (JoinGroup r)) all own = kept_moved (part_refusal (rules_of w) (read_question caller r.group ∷ [])) w _ _ refl
+step_moved w (Ask caller client (Heartbeat r)) all own = kept_moved (part_refusal (rules_of w) (read_question caller r.group ∷ [])) w _ _ refl
+step_moved w (Ask caller client (LeaveGroup r)) all own = kept_moved (part_refusal (rules_of w) (read_question caller r.group ∷ [])) w _ _ refl
+step_moved w (Ask caller client (SyncGroup r)) all own = kept_moved (part_refusal (rules_of w) (read_question caller r.group ∷ [])) w _ _ refl
 step_moved w (Ask caller client (InitProducerId r)) all own =
     granted_moved (part_refusal (rules_of w) (init_question caller r.transactional_id ∷ [])) w _ (initialized w r) (initializing r.transactional_id r.timeout w.node.max_txn_timeout) (init_moved w r.transactional_id r.timeout w.node.max_txn_timeout)
 step_moved w (Ask caller client (AddPartitionsToTxn r)) all own = by_cut (is_cut caller r.transactional_id w.topics (rules_of w) r.topics) where
@@ -202,6 +212,13 @@ step_targets w (Ask caller client (Produce r)) all =
 step_targets w (Ask caller client (Fetch r)) all = all
 step_targets w (Ask caller client (ListOffsets r)) all = all
 step_targets w (Ask caller client (Metadata r)) all = all
+step_targets w (Ask caller client (OffsetCommit r)) all = all
+step_targets w (Ask caller client (OffsetFetch r)) all = subst HasTargets (sym (offsets_keep w caller r)) all
+step_targets w (Ask caller client (FindCoordinator r)) all = granted_all (part_refusal (rules_of w) (find_questions caller (kind_of r.key_type) r.key)) w _ _ all all
+step_targets w (Ask caller client (JoinGroup r)) all = granted_all (part_refusal (rules_of w) (read_question caller r.group ∷ [])) w _ _ all all
+step_targets w (Ask caller client (Heartbeat r)) all = granted_all (part_refusal (rules_of w) (read_question caller r.group ∷ [])) w _ _ all all
+step_targets w (Ask caller client (LeaveGroup r)) all = granted_all (part_refusal (rules_of w) (read_question caller r.group ∷ [])) w _ _ all all
+step_targets w (Ask caller client (SyncGroup r)) all = granted_all (part_refusal (rules_of w) (read_question caller r.group ∷ [])) w _ _ all all
 step_targets w (Ask caller client (InitProducerId r)) all =
     granted_all (part_refusal (rules_of w) (init_question caller r.transactional_id ∷ [])) w _ (initialized w r) all (init_all w r.transactional_id r.timeout w.node.max_txn_timeout all)
 step_targets w (Ask caller client (AddPartitionsToTxn r)) all = by_cut (is_cut caller r.transactional_id w.topics (rules_of w) r.topics) refl where
