@@ -10,7 +10,7 @@ Standard input holds the settings, a line `---`, and the script, whose lines are
 
     req USER HOST HEX    a request of the principal `User:USER` at HOST, its frame with the size
                          field in hexadecimal digits
-    mark                 the first marker that is owed to an ended transaction is written
+    mark                 the first marker that an ended transaction owes is written
     tick N               the clock shows N milliseconds, in decimal digits; it never goes back
 
 The whole input is read before the first line is answered.

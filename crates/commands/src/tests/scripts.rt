@@ -44,6 +44,7 @@ fn one_line(rt: HostRuntime) -> Result<(), Fail> {
         ("---\nmark 1\n", "line 1: unreadable\n", 1),
         ("---\nmark \n", "line 1: unreadable\n", 1),
         ("---\nMark\n", "line 1: unreadable\n", 1),
+        ("---\ntick\n", "line 1: unreadable\n", 1),
     ] {
         assert!(rt; runs(rt.alloc(), script, text, status)?, "{script}");
     }
