@@ -26,7 +26,7 @@ use Rattle.msg_data.specs.Fetch.{fetch_partition, fetch_request}
 use Rattle.msg_data.specs.ListOffsets.{wanted_offset, list_offsets_request}
 use Rattle.msg_admin.specs.declared.request.Request.{Request}
 use Rattle.msg_acl.specs.declared.create_acls.CreateAclsRequest.{CreateAclsRequest}
-use Rattle.acl_binding.specs.Book.{BookValue, empty_book}
+use Rattle.acl_binding.specs.Book.{empty_book}
 use Rattle.walk.specs.Rule.{PartRule, refusal_of}
 use Rattle.walk.specs.Walk.{world_after, parts_refused, refusals, parts_weight, topics_weight}
 use Rattle.walk.proofs.Weights.{walk_takes}
@@ -44,9 +44,8 @@ use Rattle.request_handlers.specs.Judged.{records_size}
 use Rattle.request_handlers.specs.Produce.{producing}
 use Rattle.request_handlers.specs.Fetch.{fetch_rule}
 use Rattle.request_handlers.specs.ListOffsets.{list_rule}
-use Rattle.request_handlers.specs.Whole.{Served}
-use Rattle.request_handlers.specs.DescribeAcls.{describe_acls_questions, describe_acls_error, describe_acls_reply}
-use Rattle.request_handlers.specs.CreateAcls.{alter_questions, book_created, create_acls_reply}
+use Rattle.request_handlers.specs.DescribeAcls.{describe_acls_questions}
+use Rattle.request_handlers.specs.CreateAcls.{alter_questions, book_created}
 use Rattle.request_handlers.specs.DeleteAcls.{book_deleted}
 use Rattle.request_handlers.specs.InitProducerId.{init_question}
 use Rattle.msg_txn.specs.declared.add_partitions.AddPartitionsToTxnRequest.{AddPartitionsToTxnRequest}
@@ -203,9 +202,9 @@ unfolding request_body
 few_refusals w (Ask caller client (Produce r)) fits =
     omega (arith, fits.1, few_walked (producing w caller r) (rules_of w) r.topics, within_array produced_records (λ p. 1) produced_some r.topics, produce_topics r)
 few_refusals w (Ask caller client (Fetch r)) fits =
-    omega (arith, fits.1, few_walked (fetch_rule caller w.topics) (rules_of w) r.topics, within_array fetch_partition (λ p. 1) fetch_some r.topics, fetch_topics r)
+    omega (arith, fits.1, few_walked (fetch_rule caller r.isolation w.topics) (rules_of w) r.topics, within_array fetch_partition (λ p. 1) fetch_some r.topics, fetch_topics r)
 few_refusals w (Ask caller client (ListOffsets r)) fits =
-    omega (arith, fits.1, few_walked (list_rule caller w.topics) (rules_of w) r.topics, within_array wanted_offset (λ p. 1) wanted_some r.topics, list_topics r)
+    omega (arith, fits.1, few_walked (list_rule caller r.isolation w.topics) (rules_of w) r.topics, within_array wanted_offset (λ p. 1) wanted_some r.topics, list_topics r)
 few_refusals w (Ask caller client (Metadata r)) fits = few_topics (rules_of w) caller r.topics (omega (arith, fits.1))
 few_refusals w (Ask caller client (InitProducerId r)) fits =
     let few : length (refusals_of w (Ask caller client (InitProducerId r))) ≤ 1 = whole_refusals (part_refusal (rules_of w) (init_question caller r.transactional_id ∷ [])) w _ _ in
