@@ -39,7 +39,7 @@ use Rattle.audit_trail.proofs.Counts.{count_push}
 use Rattle.request_handlers.specs.World.{World, TopicValue, rules_of}
 use Rattle.request_handlers.specs.Metadata.{topic_refusal, topic_refusals}
 use Rattle.request_handlers.specs.First.{magnitude, empty_logs, first_topics, first_world}
-use Rattle.request_handlers.specs.Logs.{most_of, most_end, room_of}
+use Rattle.request_handlers.specs.Logs.{most_of, most_end, room_of, HoldLogs}
 use Rattle.request_handlers.specs.Judged.{records_size}
 use Rattle.request_handlers.specs.Produce.{producing}
 use Rattle.request_handlers.specs.Fetch.{fetch_rule}
@@ -61,6 +61,7 @@ use Rattle.request_handlers.specs.RoomLaws.{marked_within}
 use Rattle.request_handlers.proofs.Adds.{add_keeps, mark_keeps}
 use Rattle.request_handlers.specs.Step.{outcome, refusals_of}
 use Rattle.request_handlers.specs.Core.{CoreValue, IsCore, IsBounded, EventFits, most_parts, most_bindings, trail_limit, advanced, entry_of}
+use Rattle.request_handlers.proofs.Held.{first_hold}
 use Rattle.request_handlers.proofs.Histories.{events_outcome, history_goes_on}
 use Rattle.request_handlers.proofs.BookBounds.{with_next, created_next, deleted_next, few_creations, whole_next, whole_refusals, whole_topics}
 
@@ -326,6 +327,7 @@ opened_is_core s w is limit few = record {
     ends = λ up. omega (arith, no_ends w s is);
     numbers = λ up. omega (arith, first_next w s is few);
   };
+  logs = λ up. subst (λ (v : World). HoldLogs v.topics) (sym is) (first_hold s.topics);
 }
 
 pub bounded_goes_on : (core : CoreValue) (e : Event) → core.down ≡ false → length core.trail < trail_limit core.settings → EventFits e → IsBounded core → IsBounded (advanced core e)
@@ -342,8 +344,9 @@ bounded_goes_on core e up room fits h =
       numbers = λ _. omega (arith, numbers_outcome core.world e fits, h.numbers up, longer);
     }
 
-pub core_goes_on : (core : CoreValue) (e : Event) → core.down ≡ false → length core.trail < trail_limit core.settings → EventFits e → IsCore core → IsCore (advanced core e)
-core_goes_on core e up room fits h = record {
+pub core_goes_on : (core : CoreValue) (e : Event) → core.down ≡ false → length core.trail < trail_limit core.settings → EventFits e → HoldLogs (advanced core e).world.topics → IsCore core → IsCore (advanced core e)
+core_goes_on core e up room fits hold h = record {
   history = history_goes_on core e up h.history;
   bounded = bounded_goes_on core e up room fits h.bounded;
+  logs = λ _. hold;
 }

@@ -4,6 +4,7 @@ pub mod AclParts
 pub mod Places
 pub mod Offsets
 pub mod Adds
+pub mod Held
 pub mod Histories
 pub mod BookBounds
 pub mod Bounds
@@ -14,6 +15,7 @@ pub mod DataGrants
 pub mod DataPartitions
 pub mod DataAnswers
 pub mod DataFetches
+pub mod Committed
 pub mod AclEdits
 pub mod Groups
 pub mod Wholes

@@ -1,3 +1,4 @@
+pub mod Partitions
 pub mod World
 pub mod First
 pub mod Logs
@@ -25,6 +26,7 @@ pub mod Headline
 pub mod Tenants
 pub mod DataLaws
 pub mod DataTenants
+pub mod ReadLaws
 pub mod AclLaws
 pub mod ProducerLaws
 pub mod TxnLaws
