@@ -8,3 +8,4 @@ test:
 	rt ci
 	scripts/build.sh
 	scripts/refused_memory.py
+	scripts/worn_epochs.py

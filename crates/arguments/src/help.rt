@@ -6,12 +6,14 @@ pub(crate) const REPLAY: &str = "Answers a script of requests";
 
 pub(crate) const REPLAY_LONG: &str = "Answers a script of requests.
 
-Standard input holds the settings, a line `---`, and the script, in which each line
+Standard input holds the settings, a line `---`, and the script, whose lines are
 
-    req USER HOST HEX
+    req USER HOST HEX    a request of the principal `User:USER` at HOST, its frame with the size
+                         field in hexadecimal digits
+    mark                 the first marker that is owed to an ended transaction is written
+    tick N               the clock shows N milliseconds, in decimal digits; it never goes back
 
-is a request of the principal `User:USER` at HOST, its frame with the size field in hexadecimal
-digits. The whole input is read before the first line is answered.
+The whole input is read before the first line is answered.
 
 Standard output gets, for each line, the response in hexadecimal digits, `-` where none is sent, or
 `closed` where the broker would close the connection, and then one line for each part of the request

@@ -1,1 +1,11 @@
-mod Reading
+pub mod Reading
+pub mod Logs
+pub mod Passing
+pub mod Produced
+pub mod Turns
+pub mod Steps
+pub mod Reached
+pub mod Completing
+pub mod Fencing
+pub mod Ending
+pub mod Cores

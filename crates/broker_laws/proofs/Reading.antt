@@ -1,10 +1,21 @@
--- Entries are the log's.
-use Rattle.std.proofs.Common.{refl, ap}
+-- What the definitions tell as they read.
+use Rattle.std.proofs.Common.{◌≡◌, [], Option, Some, None, refl, ap}
+use Rattle.txn_coordinator.specs.declared.marker.OwedMarker.{OwedMarker}
+use Rattle.txn_coordinator.specs.Warrants.{next_warrant}
+use Rattle.request_handlers.specs.World.{World}
+use Rattle.request_handlers.specs.Marks.{mark_by}
 use Rattle.broker_laws.specs.Entries.{log_entries}
-use Rattle.broker_laws.specs.Laws.{EntriesAreTheLog}
+use Rattle.broker_laws.specs.Laws.{EntriesAreTheLog, MarksAreNotRefused}
 
 pub entries_are_the_log : EntriesAreTheLog
 entries_are_the_log = record {
   there = λ w p log e. ap log_entries e;
   missing = λ w p e. ap log_entries e;
 }
+
+by_front : (w : World) (o : Option OwedMarker) → (mark_by w o).refusals ≡ []
+by_front w None = refl
+by_front w (Some m) = refl
+
+pub marks_are_not_refused : MarksAreNotRefused
+marks_are_not_refused w = by_front w (next_warrant w.coordinator)

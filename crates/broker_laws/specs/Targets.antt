@@ -5,6 +5,7 @@ use Rattle.txn_coordinator.specs.declared.target.Target.TheVariants.{Partition, 
 use Rattle.txn_coordinator.specs.declared.transaction.Transaction.{Transaction}
 use Rattle.txn_coordinator.specs.declared.marker.OwedMarker.{OwedMarker}
 use Rattle.txn_coordinator.specs.Words.{targets}
+use Rattle.txn_coordinator.specs.Coordinator.{CoordinatorValue}
 use Rattle.txn_laws.specs.Sound.{Each}
 use Rattle.request_handlers.specs.World.{World, TopicValue}
 use Rattle.request_handlers.specs.Logs.{log_at}
@@ -24,6 +25,10 @@ TakesInExisting topics t = Each (IsThere topics) (targets t)
 abbrev pub IsOwedToExisting : List TopicValue → OwedMarker → Type 0
 IsOwedToExisting topics m = IsThere topics m.target
 
-pub record HasTargets (w : World) : Type 0 where
-  pub added : Each (TakesInExisting w.topics) w.coordinator.transactions
-  pub owed : Each (IsOwedToExisting w.topics) w.coordinator.warrants
+-- all that transactions take in, and all to which a marker is owed
+pub record AllExist (topics : List TopicValue) (c : CoordinatorValue) : Type 0 where
+  pub added : Each (TakesInExisting topics) c.transactions
+  pub owed : Each (IsOwedToExisting topics) c.warrants
+
+abbrev pub HasTargets : World → Type 0
+HasTargets w = AllExist w.topics w.coordinator

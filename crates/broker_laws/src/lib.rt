@@ -4,4 +4,7 @@
 
 mod laws;
 
-pub use laws::entries;
+pub use laws::{
+    completes_prepared, completes_waiting, ends_complete, entries_are_the_log, events_are_moves,
+    fenced_write_nothing, marks_are_not_refused, no_data_behind_a_greater_marker, targets_exist,
+};

@@ -1,5 +1,5 @@
 -- What is printed for an event that the core took.
-use Rattle.std.proofs.Common.{◌≡◌, ℕ, ℤ, ◌<◌, List, [], ◌∷◌, ◌++◌, length, Option, Some, None, true, nat_lt, refl, sym, ap, ◌∙◌}
+use Rattle.std.proofs.Common.{◌≡◌, ℕ, ℤ, List, [], ◌∷◌, ◌++◌, length, Option, Some, None, true, nat_lt, refl, sym, ap, ◌∙◌}
 use Rattle.std.specs.Prelude.{slice_get}
 use Rattle.std.proofs.lemmas.Bool.Decides.{Decides-ltb}
 use Rattle.audit_trail.specs.declared.event.Event.{Event}
@@ -8,7 +8,7 @@ use Rattle.audit_trail.specs.declared.trail.Receipt.{Receipt}
 use Rattle.request_handlers.specs.declared.stop.Stop.{Stop}
 use Rattle.request_handlers.specs.Core.{CoreValue, IsReady, trail_limit, advanced, entry_of, receipt_of}
 use Rattle.request_handlers.specs.Step.{reply_to}
-use Rattle.commands.specs.Replay.{Turn, goes, stop_of, stepped, step_turn, entry_text, reply_line, audit_lines, refusals_in, refusals_at}
+use Rattle.commands.specs.Replay.{goes, stop_of, stepped, step_turn, entry_text, reply_line, audit_lines, refusals_in, refusals_at}
 
 last_kept : {A : Type 0} (xs : List A) (x : A) → slice_get (xs ++ x ∷ []) (length xs) ≡ Some x
 last_kept [] x = refl

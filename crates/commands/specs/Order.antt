@@ -1,13 +1,16 @@
--- What a line `req USER HOST HEX` of a script asks for.
-use Rattle.std.specs.Prelude.{ℕ, ◌||◌, ◌==◌, nat_lt, if◌then◌else◌, List, [], ◌++◌, codes, length, Option, Some, None, option_map, option_and_then, Result, Ok, Err}
+-- What a line of a script asks for: `req USER HOST HEX`, `mark` or `tick N`.
+use Rattle.std.specs.Prelude.{ℕ, ◌^◌, ◌||◌, ◌&&◌, ◌==◌, nat_lt, if◌then◌else◌, List, ◌++◌, codes, length, Option, Some, None, option_map, option_and_then, Result, Ok, Err}
 use Rattle.std.specs.Int.{w32}
 use Rattle.std.specs.List.{before_first, after_first, position_or_len}
-use Rattle.std.specs.Str.{bytes_eq, is_utf8}
+use Rattle.std.specs.Str.{bytes_eq, is_utf8, all_ascii_digits}
+use Rattle.std.specs.Str.Parse.{digits_value}
 use Rattle.hex.specs.Hex.{decode_of}
 use Rattle.hex.specs.declared.error.FromHexError.{FromHexError}
 use Rattle.acl_binding.specs.declared.question.Caller.{Caller}
 use Rattle.wire_types.specs.Reading.{Found, nat_at}
+use Rattle.commands.specs.declared.order.Sent.{Sent}
 use Rattle.commands.specs.declared.order.Order.{Order}
+use Rattle.commands.specs.declared.order.Order.TheVariants.{Ask, Mark, Tick}
 
 -- a size field, and the bytes that it counts (Kafka protocol guide, "Common Request and Response Structure")
 abbrev pub behind_size : Found ℕ → Option (List ℕ)
@@ -28,26 +31,49 @@ cut text =
     if nat_lt (position_or_len (λ b. b == 32) text) (length text)
     then Some (before_first (λ b. b == 32) text, after_first (λ b. b == 32) text) else None
 
--- the user, the host and the digits of `req USER HOST HEX`: words that are not empty, parted by one blank
+-- ---- `req USER HOST HEX`
+
+-- the user, the host and the digits behind `req `: words that are not empty, parted by one blank
 abbrev pub words_of : List ℕ → Option (List ℕ × List ℕ × List ℕ)
 words_of text =
-    option_and_then (λ a. if bytes_eq a.0 (codes "req") then
     option_and_then (λ b. option_and_then (λ c.
     if length b.0 == 0 || length c.0 == 0 then None else Some (b.0, c.0, c.1))
-    (cut b.1)) (cut a.1) else None)
-    (cut text)
-
--- the bytes, if they are UTF-8
-abbrev pub text_of : List ℕ → Option (List ℕ)
-text_of bytes = if is_utf8 bytes then Some bytes else None
+    (cut b.1)) (cut text)
 
 -- the user's principal, at a host
 abbrev pub caller_of : List ℕ → List ℕ → Caller
 caller_of user host = record { who = codes "User:" ++ user; host = host }
 
-abbrev order_by : List ℕ × List ℕ × List ℕ → Option Order
-order_by words = option_map (λ frame. record { caller = caller_of words.0 words.1; frame = frame }) (frame_of words.2)
+abbrev pub sent_by : List ℕ × List ℕ × List ℕ → Option Sent
+sent_by words = option_map (λ frame. record { caller = caller_of words.0 words.1; frame = frame }) (frame_of words.2)
+
+-- what is sent, and by whom
+abbrev pub sent_of : List ℕ → Option Sent
+sent_of text = option_and_then sent_by (words_of text)
+
+-- ---- `tick N`
+
+-- the number below 2^64 that decimal digits write, of which there is one at least
+abbrev pub number_of : List ℕ → Option ℕ
+number_of digits =
+    if (nat_lt 0 (length digits) && all_ascii_digits digits) && nat_lt (digits_value 10 digits) (2 ^ 64)
+    then Some (digits_value 10 digits) else None
+
+-- ---- any line
+
+-- a first word, and what stands behind its blank
+abbrev pub order_by : List ℕ × List ℕ → Option Order
+order_by parts =
+    if bytes_eq parts.0 (codes "req") then option_map Ask (sent_of parts.1) else
+    if bytes_eq parts.0 (codes "tick") then option_map Tick (number_of parts.1) else None
+
+abbrev pub order_in : List ℕ → Option Order
+order_in text = if bytes_eq text (codes "mark") then Some Mark else option_and_then order_by (cut text)
+
+-- the bytes, if they are UTF-8
+abbrev pub text_of : List ℕ → Option (List ℕ)
+text_of bytes = if is_utf8 bytes then Some bytes else None
 
 -- what a line asks for, if it is readable
 abbrev pub order_of : List ℕ → Option Order
-order_of line = option_and_then (λ text. option_and_then order_by (words_of text)) (text_of line)
+order_of line = option_and_then order_in (text_of line)

@@ -1,5 +1,5 @@
 -- What `replay` answers to its input.
-use Rattle.std.specs.Prelude.{◌≡◌, ℕ, ℤ, ◌+◌, nat_lt, if◌then◌else◌, List, [], ◌∷◌, ◌++◌, map, codes, decimal, length, slice_get, Option, Some, None, Result, Ok, Err}
+use Rattle.std.specs.Prelude.{◌≡◌, ℕ, ℤ, pos, ◌+◌, nat_lt, if◌then◌else◌, List, [], ◌∷◌, ◌++◌, codes, decimal, length, slice_get, Option, Some, None, Result, Ok, Err}
 use Rattle.std.specs.Io.BufRead.{strip_last}
 use Rattle.std.specs.List.{flat_map}
 use Rattle.hex.specs.Hex.{encode_lower}
@@ -13,7 +13,7 @@ use Rattle.msg_admin.specs.declared.request.Request.{Request}
 use Rattle.msg_admin.specs.Request.{request_at}
 use Rattle.msg_admin.specs.Response.{response, is_sendable}
 use Rattle.audit_trail.specs.declared.event.Event.{Event}
-use Rattle.audit_trail.specs.declared.event.Event.TheVariants.{Ask}
+use Rattle.audit_trail.specs.declared.event.Event.TheVariants as events
 use Rattle.audit_trail.specs.declared.trail.Entry.{Entry}
 use Rattle.audit_trail.specs.Line.{line_of}
 use Rattle.request_handlers.specs.declared.stop.Stop.{Stop}
@@ -23,7 +23,9 @@ use Rattle.settings_text.specs.declared.document.Document.{Document}
 use Rattle.settings_text.specs.declared.fault.SettingsFault.{SettingsFault}
 use Rattle.settings_text.specs.Document.{document_of_text, fault_name}
 use Rattle.commands.specs.Lines.{lines_of, settings_part, script_part}
+use Rattle.commands.specs.declared.order.Sent.{Sent}
 use Rattle.commands.specs.declared.order.Order.{Order}
+use Rattle.commands.specs.declared.order.Order.TheVariants.{Ask, Mark, Tick}
 use Rattle.commands.specs.Order.{order_of}
 use Rattle.commands.specs.declared.turn.Turn as code
 use Rattle.commands.specs.declared.turn.Turn.TheVariants.{Goes, Ends}
@@ -101,21 +103,30 @@ abbrev pub step_turn : CoreValue → ℤ → Event → Turn
 step_turn core correlation e = stepped core correlation e (stop_of core)
 
 -- what is no request closes, and is no event
-abbrev pub request_turn : CoreValue → Order → Result (Header × Request) Malformed → Turn
-request_turn core order (Err fault) = goes core closed
-request_turn core order (Ok x) = step_turn core x.0.correlation (Ask order.caller x.0.client x.1)
+abbrev pub request_turn : CoreValue → Sent → Result (Header × Request) Malformed → Turn
+request_turn core sent (Err fault) = goes core closed
+request_turn core sent (Ok x) = step_turn core x.0.correlation (events.Ask sent.caller x.0.client x.1)
 
 -- a frame above the limit closes before it is read
-abbrev pub frame_turn : CoreValue → Order → Turn
-frame_turn core order = if nat_lt FRAME_LIMIT (length order.frame) then goes core closed else request_turn core order (request_at order.frame)
+abbrev pub frame_turn : CoreValue → Sent → Turn
+frame_turn core sent = if nat_lt FRAME_LIMIT (length sent.frame) then goes core closed else request_turn core sent (request_at sent.frame)
 
-abbrev pub order_turn : CoreValue → ℕ → Option Order → Turn
-order_turn core number None = ends (unreadable number)
-order_turn core number (Some order) = frame_turn core order
+-- the step of an event that no one asked for: what it is answered is not sent, so no correlation id stands in it
+abbrev pub unasked_turn : CoreValue → Event → Turn
+unasked_turn core e = step_turn core (pos 0) e
+
+abbrev pub order_turn : CoreValue → Order → Turn
+order_turn core (Ask sent) = frame_turn core sent
+order_turn core Mark = unasked_turn core events.Mark
+order_turn core (Tick moment) = unasked_turn core (events.Tick moment)
+
+abbrev pub read_turn : CoreValue → ℕ → Option Order → Turn
+read_turn core number None = ends (unreadable number)
+read_turn core number (Some order) = order_turn core order
 
 -- what the line of this number does
 abbrev pub line_turn : CoreValue → ℕ → List ℕ → Turn
-line_turn core number line = order_turn core number (order_of (strip_last 10 line))
+line_turn core number line = read_turn core number (order_of (strip_last 10 line))
 
 abbrev pub after_turn : Turn → (CoreValue → Answer) → Answer
 after_turn (goes core text) rest = after text (rest core)

@@ -19,13 +19,16 @@ impl Cause {
         match self {
             Cause::Unreadable(Unreadable::Text) => "the line is not UTF-8",
             Cause::Unreadable(Unreadable::Words) => {
-                "a line is `req USER HOST HEX`, its words parted by one blank each"
+                "a line is `req USER HOST HEX`, `mark` or `tick N`, its words parted by one blank each"
             }
             Cause::Unreadable(Unreadable::Digits) => {
                 "the frame is not written in pairs of hexadecimal digits"
             }
             Cause::Unreadable(Unreadable::Size) => {
                 "the first four bytes of the frame are not the number of bytes behind them"
+            }
+            Cause::Unreadable(Unreadable::Moment) => {
+                "the moment is not written in decimal digits, or is above 18,446,744,073,709,551,615"
             }
             Cause::Stop(Stop::NoMemory) => "there is not enough memory",
             Cause::Stop(Stop::TrailFull) =>

@@ -4,7 +4,7 @@ ghost use Rattle.std.specs.Prelude.{◌≡◌, IfOk, option_map};
 ghost use Rattle.std.specs.Result.{result_ok};
 ghost use Rattle.std.specs.Int.{w32};
 ghost use Rattle.wire_types.specs.Reading.{nat_at};
-ghost use Rattle.commands.specs.Order.{behind_size, frame_of, words_of, text_of, caller_of, order_of};
+ghost use Rattle.commands.specs.Order.{behind_size, frame_of, words_of, caller_of, sent_of, number_of, order_in, text_of, order_of};
 
 use acl_binding::Caller;
 use bytes::Bytes;
@@ -18,9 +18,20 @@ const SIZE_FIELD: usize = 4;
 
 /// A frame without its size field, and who sends it.
 #[derive(Debug, Drop)]
-pub(crate) struct Order {
+pub(crate) struct Sent {
     pub(crate) caller: Caller,
     pub(crate) frame: Bytes,
+}
+
+/// What a line of a script asks for.
+#[derive(Debug, Drop)]
+pub(crate) enum Order {
+    /// A frame is to be answered.
+    Ask(Sent),
+    /// The front of the markers that are owed is to be written.
+    Mark,
+    /// The clock shows a moment, in milliseconds.
+    Tick(u64),
 }
 
 /// Why a line of a script can't be read.
@@ -28,15 +39,17 @@ pub(crate) struct Order {
 pub(crate) enum Unreadable {
     /// It is not UTF-8.
     Text,
-    /// It is not `req`, a user, a host and the frame's digits, parted by one blank each.
+    /// It is not `mark`, nor `req` or `tick` and their words, parted by one blank each.
     Words,
     /// The frame is not written in pairs of hexadecimal digits.
     Digits,
     /// The frame's size field isn't the number of bytes behind it.
     Size,
+    /// The moment is not written in decimal digits, or is above the greatest number of 64 bits.
+    Moment,
 }
 
-/// The words of a line `req USER HOST HEX` behind the first.
+/// The words of `req USER HOST HEX` behind the first.
 #[derive(Drop)]
 struct Words<'a> {
     user: &'a str,
@@ -76,30 +89,16 @@ fn parse_frame(alloc: Global, digits: &str) -> Result<Result<Bytes, Unreadable>,
     }
 }
 
-/// The words of a line `req USER HOST HEX`.
-fn split_words(line: &str) -> Option<Words<'_>>
-    ensures { option_map (λ w. (w.user.now, w.host.now, w.digits.now)) result ≡ words_of line.now }
+/// The words behind `req `.
+fn split_words(text: &str) -> Option<Words<'_>>
+    ensures { option_map (λ w. (w.user.now, w.host.now, w.digits.now)) result ≡ words_of text.now }
 {
-    let (command, rest) = line.split_once(' ')?;
-    if command != "req" {
-        return None;
-    }
-    let (user, rest) = rest.split_once(' ')?;
+    let (user, rest) = text.split_once(' ')?;
     let (host, digits) = rest.split_once(' ')?;
     if user.is_empty() || host.is_empty() {
         return None;
     }
     Some(Words { user, host, digits })
-}
-
-/// The bytes as text, if they are UTF-8.
-fn text_of(bytes: &[u8]) -> Option<&str>
-    ensures { option_map (λ t. t.now) result ≡ text_of bytes.now }
-{
-    match from_utf8(bytes) {
-        Ok(text) => Some(text),
-        Err(_) => None,
-    }
 }
 
 /// The principal of a user, and its host.
@@ -112,6 +111,70 @@ fn caller(alloc: Global, user: &str, host: &str) -> Result<Caller, AllocError>
     })
 }
 
+/// What is sent by the words behind `req `, and by whom.
+fn parse_sent(alloc: Global, text: &str) -> Result<Result<Sent, Unreadable>, AllocError>
+    ensures { IfOk result (λ read. result_ok read ≡ sent_of text.now) }
+{
+    let Some(words) = split_words(text) else {
+        return Ok(Err(Unreadable::Words));
+    };
+    match parse_frame(alloc, words.digits)? {
+        Ok(frame) => Ok(Ok(Sent {
+            caller: caller(alloc, words.user, words.host)?,
+            frame,
+        })),
+        Err(unreadable) => Ok(Err(unreadable)),
+    }
+}
+
+/// The number that decimal digits write, without a sign.
+fn parse_number(digits: &str) -> Option<u64>
+    ensures { result ≡ number_of digits.now }
+{
+    if digits.starts_with('+') {
+        return None;
+    }
+    match digits.parse::<u64>() {
+        Ok(number) => Some(number),
+        Err(_) => None,
+    }
+}
+
+/// What a text asks for, or why it can't be read.
+fn parse_text(alloc: Global, text: &str) -> Result<Result<Order, Unreadable>, AllocError>
+    ensures { IfOk result (λ read. result_ok read ≡ order_in text.now) }
+{
+    if text == "mark" {
+        return Ok(Ok(Order::Mark));
+    }
+    let Some((first, rest)) = text.split_once(' ') else {
+        return Ok(Err(Unreadable::Words));
+    };
+    if first == "req" {
+        return match parse_sent(alloc, rest)? {
+            Ok(sent) => Ok(Ok(Order::Ask(sent))),
+            Err(unreadable) => Ok(Err(unreadable)),
+        };
+    }
+    if first != "tick" {
+        return Ok(Err(Unreadable::Words));
+    }
+    match parse_number(rest) {
+        Some(moment) => Ok(Ok(Order::Tick(moment))),
+        None => Ok(Err(Unreadable::Moment)),
+    }
+}
+
+/// The bytes as text, if they are UTF-8.
+fn text_of(bytes: &[u8]) -> Option<&str>
+    ensures { option_map (λ t. t.now) result ≡ text_of bytes.now }
+{
+    match from_utf8(bytes) {
+        Ok(text) => Some(text),
+        Err(_) => None,
+    }
+}
+
 /// What a line without its line feed asks for, or why it can't be read.
 pub(crate) fn parse_order(
     alloc: Global,
@@ -119,17 +182,8 @@ pub(crate) fn parse_order(
 ) -> Result<Result<Order, Unreadable>, AllocError>
     ensures { IfOk result (λ read. result_ok read ≡ order_of line.now) }
 {
-    let Some(line) = text_of(line) else {
-        return Ok(Err(Unreadable::Text));
-    };
-    let Some(words) = split_words(line) else {
-        return Ok(Err(Unreadable::Words));
-    };
-    match parse_frame(alloc, words.digits)? {
-        Ok(frame) => Ok(Ok(Order {
-            caller: caller(alloc, words.user, words.host)?,
-            frame,
-        })),
-        Err(unreadable) => Ok(Err(unreadable)),
+    match text_of(line) {
+        Some(text) => parse_text(alloc, text),
+        None => Ok(Err(Unreadable::Text)),
     }
 }

@@ -4,3 +4,4 @@ mod acls;
 mod devices;
 mod producers;
 mod scripts;
+mod transactions;

@@ -2,13 +2,13 @@
 
 ghost use Rattle.std.specs.Prelude.{◌≡◌, ◌≤◌, ◌++◌, length, IfOk, string_bytes};
 ghost use Rattle.msg_admin.specs.Request.{request_at, Fits};
-ghost use Rattle.audit_trail.specs.declared.event.Event.TheVariants.{Ask};
+ghost use Rattle.audit_trail.specs.declared.event.Event.TheVariants as events;
 ghost use Rattle.request_handlers.specs.Core.{EventFits};
-ghost use Rattle.commands.specs.Replay.{refusals_at, reply_line, audit_lines, Turns, step_turn, request_turn, frame_turn, line_turn};
+ghost use Rattle.commands.specs.Replay.{refusals_at, reply_line, audit_lines, Turns, step_turn, request_turn, frame_turn, unasked_turn, order_turn, line_turn};
 
 use crate::cause::Cause;
 use crate::lines::content;
-use crate::order::{Order, parse_order};
+use crate::order::{Order, Sent, parse_order};
 use crate::text::{closed_text, push_audit_lines, reply_text, stop_text, unreadable_text};
 use acl_binding::Caller;
 use audit_trail::{Event, Receipt};
@@ -72,7 +72,7 @@ fn ask(
     request: Request,
 ) -> Result<Turn, AllocError>
     requires { Fits request }
-    ensures { IfOk result (Turns (step_turn core.old header.correlation (Ask caller header.client request)) core.new) }
+    ensures { IfOk result (Turns (step_turn core.old header.correlation (events.Ask caller header.client request)) core.new) }
 {
     let correlation = header.correlation;
     let event = Event::Ask {
@@ -84,11 +84,11 @@ fn ask(
 }
 
 /// Answers a frame within the limit.
-fn request_turn(alloc: Global, core: &mut Core, order: Order) -> Result<Turn, AllocError>
-    requires { length order.frame ≤ FRAME_LIMIT }
-    ensures { IfOk result (Turns (request_turn core.old order (request_at order.frame)) core.new) }
+fn request_turn(alloc: Global, core: &mut Core, sent: Sent) -> Result<Turn, AllocError>
+    requires { length sent.frame ≤ FRAME_LIMIT }
+    ensures { IfOk result (Turns (request_turn core.old sent (request_at sent.frame)) core.new) }
 {
-    let Order { caller, frame } = order;
+    let Sent { caller, frame } = sent;
     match read_request(alloc, &frame) {
         Ok((header, request)) => ask(alloc, core, caller, header, request),
         Err(ReadFault::Malformed(_)) => Ok(Turn::Goes(closed_text(alloc)?)),
@@ -97,13 +97,32 @@ fn request_turn(alloc: Global, core: &mut Core, order: Order) -> Result<Turn, Al
 }
 
 /// Answers a frame.
-fn frame_turn(alloc: Global, core: &mut Core, order: Order) -> Result<Turn, AllocError>
-    ensures { IfOk result (Turns (frame_turn core.old order) core.new) }
+fn frame_turn(alloc: Global, core: &mut Core, sent: Sent) -> Result<Turn, AllocError>
+    ensures { IfOk result (Turns (frame_turn core.old sent) core.new) }
 {
-    if order.frame.len() > FRAME_LIMIT {
+    if sent.frame.len() > FRAME_LIMIT {
         return Ok(Turn::Goes(closed_text(alloc)?));
     }
-    request_turn(alloc, core, order)
+    request_turn(alloc, core, sent)
+}
+
+/// Makes the step of an event that no one asked for: its reply isn't sent.
+fn unasked_turn(alloc: Global, core: &mut Core, event: Event) -> Result<Turn, AllocError>
+    requires { EventFits event }
+    ensures { IfOk result (Turns (unasked_turn core.old event) core.new) }
+{
+    step(alloc, core, 0, event)
+}
+
+/// Does what was asked for.
+fn order_turn(alloc: Global, core: &mut Core, order: Order) -> Result<Turn, AllocError>
+    ensures { IfOk result (Turns (order_turn core.old order) core.new) }
+{
+    match order {
+        Order::Ask(sent) => frame_turn(alloc, core, sent),
+        Order::Mark => unasked_turn(alloc, core, Event::Mark),
+        Order::Tick(moment) => unasked_turn(alloc, core, Event::Tick(moment)),
+    }
 }
 
 /// What the line of this number does.
@@ -116,7 +135,7 @@ pub(crate) fn line_turn(
     ensures { IfOk result (Turns (line_turn core.old number line.now) core.new) }
 {
     match parse_order(alloc, content(line))? {
-        Ok(order) => frame_turn(alloc, core, order),
+        Ok(order) => order_turn(alloc, core, order),
         Err(unreadable) => Ok(Turn::Ends(
             unreadable_text(alloc, number)?,
             Cause::Unreadable(unreadable),

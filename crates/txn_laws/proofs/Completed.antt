@@ -49,18 +49,18 @@ last_as_before [] ys id none = last_of_none ys id none
 last_as_before (x ∷ xs) ys id none =
     ap (λ b. cond b (1 + up_to_last (xs ++ ys) id) 0) (owes_as_before (x ∷ xs) ys id none) ∙ ap (λ n. cond (owes (x ∷ xs) id) (1 + n) 0) (last_as_before xs ys id none)
 
-one_more : (x : OwedMarker) (xs : List OwedMarker) (id : List ℕ) → owes (x ∷ xs) id ≡ true → up_to_last (x ∷ xs) id ≡ 1 + up_to_last xs id
+pub one_more : (x : OwedMarker) (xs : List OwedMarker) (id : List ℕ) → owes (x ∷ xs) id ≡ true → up_to_last (x ∷ xs) id ≡ 1 + up_to_last xs id
 one_more x xs id some = ap (λ b. cond b (1 + up_to_last xs id) 0) some
 
-some_owed : (ws : List OwedMarker) (id : List ℕ) → owes ws id ≡ true → 0 < up_to_last ws id
+pub some_owed : (ws : List OwedMarker) (id : List ℕ) → owes ws id ≡ true → 0 < up_to_last ws id
 some_owed [] id h = absurd (let clash : false ≡ true = h in cc)
 some_owed (x ∷ xs) id h = let more = one_more x xs id h in omega arith
 
 -- ---- a move that is no mark leaves it waiting
 
-record StillWaits (w v : World) (id : List ℕ) (t : Transaction) : Type 0 where
-  found : recorded v.coordinator.transactions id ≡ Some t
-  last : up_to_last v.coordinator.warrants id ≡ up_to_last w.coordinator.warrants id
+pub record StillWaits (w v : World) (id : List ℕ) (t : Transaction) : Type 0 where
+  pub found : recorded v.coordinator.transactions id ≡ Some t
+  pub last : up_to_last v.coordinator.warrants id ≡ up_to_last w.coordinator.warrants id
 
 turned_waits : (w : World) (turn : Turn) → IsTurned w.coordinator turn → (id : List ℕ) (t : Transaction) (o : Outcome) → recorded w.coordinator.transactions id ≡ Some t → t.phase ≡ prepared o → StillWaits w (with_turn w turn) id t
 turned_waits w (Stays code) h id t o found waits = record { found = found; last = refl }
@@ -83,7 +83,7 @@ written_waits w v id t same found = record {
   last = ap (λ (c : CoordinatorValue). up_to_last c.warrants id) same;
 }
 
-move_waits : (w : World) (m : Move) → IsSound w → mark_count m ≡ 0 → (id : List ℕ) (t : Transaction) (o : Outcome) → recorded w.coordinator.transactions id ≡ Some t → t.phase ≡ prepared o → StillWaits w (moved w m) id t
+pub move_waits : (w : World) (m : Move) → IsSound w → mark_count m ≡ 0 → (id : List ℕ) (t : Transaction) (o : Outcome) → recorded w.coordinator.transactions id ≡ Some t → t.phase ≡ prepared o → StillWaits w (moved w m) id t
 move_waits w (Init own timeout greatest) s e id t o found waits = turned_waits w (init w.coordinator own timeout greatest) (init_turn w own timeout greatest s) id t o found waits
 move_waits w Give s e id t o found waits = record { found = found; last = refl }
 move_waits w (AddPartitions own pair partitions) s e id t o found waits = turned_waits w (add_partitions w.coordinator own pair w.moment partitions) (partitions_turn w own pair partitions s) id t o found waits
@@ -99,10 +99,10 @@ move_waits w Mark s e id t o found waits = absurd (omega arith)
 -- ---- a mark
 
 -- it completes the transaction, or the transaction waits for one marker less
-abbrev WaitsOrEnds : World → List OwedMarker → World → List ℕ → Transaction → Outcome → Type 0
+abbrev pub WaitsOrEnds : World → List OwedMarker → World → List ℕ → Transaction → Outcome → Type 0
 WaitsOrEnds w xs v id t o = ((recorded v.coordinator.transactions id ≡ Some t) × (v.coordinator.warrants ≡ xs)) ⊎ ((u : Transaction) × (recorded v.coordinator.transactions id ≡ Some u) × (u.phase ≡ complete o))
 
-mark_waits : (w : World) (x : OwedMarker) (xs : List OwedMarker) → IsOwed w.coordinator x → (id : List ℕ) (t : Transaction) (o : Outcome) → recorded w.coordinator.transactions id ≡ Some t → t.phase ≡ prepared o → WaitsOrEnds w xs (marked (x ∷ xs) w) id t o
+pub mark_waits : (w : World) (x : OwedMarker) (xs : List OwedMarker) → IsOwed w.coordinator x → (id : List ℕ) (t : Transaction) (o : Outcome) → recorded w.coordinator.transactions id ≡ Some t → t.phase ≡ prepared o → WaitsOrEnds w xs (marked (x ∷ xs) w) id t o
 mark_waits w x xs owed id t o found waits = by_owes (owes xs x.id) where
   ts : List Transaction
   ts = w.coordinator.transactions

@@ -48,7 +48,7 @@ same_pair : (p q : Pair) → p.producer ≡ q.producer → p.epoch ≡ q.epoch �
 same_pair p q producer epoch = λ i. record { producer = producer i; epoch = epoch i }
 
 -- a record that left the pair has gone past it
-gone_past : (w : World) (ms : List Move) (id : List ℕ) (pair : Pair) → IsSound w → HasPair w id pair → (HasPair (moved_all w ms) id pair → ⊥) → IsFenced (moved_all w ms).coordinator id (raised pair)
+pub gone_past : (w : World) (ms : List Move) (id : List ℕ) (pair : Pair) → IsSound w → HasPair w id pair → (HasPair (moved_all w ms) id pair → ⊥) → IsFenced (moved_all w ms).coordinator id (raised pair)
 gone_past w ms id pair s (t, found, pair_is) left =
     let epoch_is : t.pair.epoch ≡ pair.epoch = ap (λ (q : Pair). q.epoch) pair_is in
     let before : IsFenced w.coordinator id pair = record { owned = ap (λ (q : Pair). owner w.coordinator q.producer) (sym pair_is) ∙ s.owned id t found; transaction = t; found = found; reached = λ same. omega (arith, ints) } in

@@ -3,7 +3,7 @@
 use super::scripts::is_answered;
 use std::test::Fail;
 
-/// Producer ids are given out from 0 up to those who may have them. A producer id that was never given out writes nothing.
+/// Producer ids are given out from 0 up to those who may have them, and not for transactions that may take no time. A producer id that was never given out writes nothing.
 const GIVEN: (&str, &str) = (
     concat!(
         "node_id = 1\n",
@@ -31,7 +31,7 @@ const GIVEN: (&str, &str) = (
         "unmatched IDEMPOTENT_WRITE Cluster kafka-cluster User:zed 10.0.0.9\n",
         "0000001400000005000000000035ffffffffffffffffffff\n",
         "unmatched WRITE TransactionalId t User:zed 10.0.0.9\n",
-        "000000140000000600000000002affffffffffffffffffff\n",
+        "0000001400000006000000000032ffffffffffffffffffff\n",
         "00000029000000070000000100016200000001000000000031ffffffffffffffffffffffffffffffff00000000\n",
     ),
 );

@@ -40,10 +40,37 @@ fn one_line(rt: HostRuntime) -> Result<(), Fail> {
         ("---\nreq ann h 00000001ff\n", "closed\n", 0),
         ("---\nreq ann  h 00000000\n", "line 1: unreadable\n", 1),
         ("---\nreq ann h 00000000 \n", "line 1: unreadable\n", 1),
-        ("---\nmark\n", "line 1: unreadable\n", 1),
-        ("---\ntick 5\n", "line 1: unreadable\n", 1),
+        ("---\nmark\n", "-\n", 0),
+        ("---\nmark 1\n", "line 1: unreadable\n", 1),
+        ("---\nmark \n", "line 1: unreadable\n", 1),
+        ("---\nMark\n", "line 1: unreadable\n", 1),
     ] {
         assert!(rt; runs(rt.alloc(), script, text, status)?, "{script}");
+    }
+    Ok(())
+}
+
+/// Moments are read up to the greatest number of 64 bits.
+#[test]
+fn a_tick(rt: HostRuntime) -> Result<(), Fail> {
+    for (moment, text, status) in [
+        ("0", "-\n", 0),
+        ("007", "-\n", 0),
+        ("18446744073709551615", "-\n", 0),
+        ("18446744073709551616", "line 1: unreadable\n", 1),
+        ("", "line 1: unreadable\n", 1),
+        ("-1", "line 1: unreadable\n", 1),
+        ("+1", "line 1: unreadable\n", 1),
+        ("1x", "line 1: unreadable\n", 1),
+        ("1 2", "line 1: unreadable\n", 1),
+        (" 1", "line 1: unreadable\n", 1),
+        ("1 ", "line 1: unreadable\n", 1),
+    ] {
+        let script = format!(in rt.alloc(); "---\ntick {moment}\n")?;
+        assert!(rt;
+            runs(rt.alloc(), script.as_str(), text, status)?,
+            "{moment}"
+        );
     }
     Ok(())
 }

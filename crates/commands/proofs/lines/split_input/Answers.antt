@@ -1,5 +1,5 @@
-use Rattle.std.proofs.Common.{◌≡◌, List, ℕ, ◌++◌, false, ap, ◌∙◌, append_assoc, sym, rules}
-use Rattle.commands.specs.Lines.{is_bar, lines_of, settings_part, script_part}
+use Rattle.std.proofs.Common.{◌≡◌, ◌++◌, false, ap, ◌∙◌, append_assoc, sym, rules}
+use Rattle.commands.specs.Lines.{is_bar, lines_of, settings_part}
 use Rattle.commands.proofs.lines.split_input.Goals as goal
 
 pub loop-line-preserved : goal.loop-line-preserved

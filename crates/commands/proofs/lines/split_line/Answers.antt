@@ -1,4 +1,3 @@
-use Rattle.std.proofs.Common.{rules, arith}
 use Rattle.commands.proofs.LinesLemmas.{first_line, only_line}
 use Rattle.commands.proofs.lines.split_line.Goals as goal
 

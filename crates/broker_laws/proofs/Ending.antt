@@ -1,0 +1,78 @@
+-- A transaction that waits is complete once its last marker is written.
+use Rattle.std.proofs.Common.{◌≡◌, ℕ, ◌+◌, ◌≤◌, List, [], ◌∷◌, Some, true, false, refl, sym, ap, subst, ◌∙◌, inl, inr, ◌⊎◌, arith}
+use Rattle.audit_trail.specs.declared.event.Event.{Event}
+use Rattle.audit_trail.specs.declared.event.Event.TheVariants.{Ask, Mark, Tick}
+use Rattle.txn_coordinator.specs.declared.transaction.Transaction.{Transaction}
+use Rattle.txn_coordinator.specs.declared.marker.Outcome.{Outcome as Ending}
+use Rattle.txn_coordinator.specs.declared.marker.OwedMarker.{OwedMarker}
+use Rattle.txn_coordinator.specs.Words.{prepared, complete}
+use Rattle.txn_coordinator.specs.Coordinator.{recorded}
+use Rattle.txn_coordinator.specs.Warrants.{owes}
+use Rattle.txn_laws.specs.Small.{World as SmallWorld, Move, marked, moved, moved_all, marks as small_marks}
+use Rattle.txn_laws.specs.Sound.{Each, IsSound, IsOwed}
+use Rattle.txn_laws.specs.Laws.{up_to_last}
+use Rattle.txn_laws.proofs.Moves.{move_sound}
+use Rattle.txn_laws.proofs.Completed.{StillWaits, move_waits, mark_waits, some_owed, one_more}
+use Rattle.request_handlers.specs.World.{World}
+use Rattle.request_handlers.specs.Step.{step}
+use Rattle.broker_laws.specs.Entries.{small}
+use Rattle.broker_laws.specs.Moves.{moves_of, mark_count, marks}
+use Rattle.broker_laws.specs.Laws.{InReached, IsCompletedBy, EndsComplete}
+use Rattle.broker_laws.proofs.Reached.{IsGood, good_moved, good_step, good, event_marks}
+
+-- ---- moves without a mark
+
+quiet_waits : (s : SmallWorld) (ms : List Move) → IsSound s → small_marks ms ≡ 0 → (id : List ℕ) (t : Transaction) (o : Ending) → recorded s.coordinator.transactions id ≡ Some t → t.phase ≡ prepared o → StillWaits s (moved_all s ms) id t
+quiet_waits s [] sound none id t o found waits = record { found = found; last = refl }
+quiet_waits s (m ∷ ms) sound none id t o found waits =
+    let one = move_waits s m sound (omega (arith, none)) id t o found waits in
+    let rest = quiet_waits (moved s m) ms (move_sound s m sound) (omega (arith, none)) id t o one.found waits in
+    record { found = rest.found; last = rest.last ∙ one.last }
+
+-- ---- an event
+
+-- the transaction waits after it, for one marker less if it is a marker step, or is complete
+abbrev WaitsOrEnds : SmallWorld → ℕ → SmallWorld → List ℕ → Transaction → Ending → Type 0
+WaitsOrEnds s written v id t o = ((recorded v.coordinator.transactions id ≡ Some t) × (written + up_to_last v.coordinator.warrants id ≡ up_to_last s.coordinator.warrants id))
+    ⊎ ((u : Transaction) × (recorded v.coordinator.transactions id ≡ Some u) × (u.phase ≡ complete o))
+
+quiet_event : (w : World) (e : Event) → IsGood w → mark_count e ≡ 0 → (id : List ℕ) (t : Transaction) (o : Ending) → recorded w.coordinator.transactions id ≡ Some t → t.phase ≡ prepared o → WaitsOrEnds (small w) 0 (small (step w e)) id t o
+quiet_event w e good none id t o found waits =
+    let still = subst (λ v. StillWaits (small w) v id t) (sym (good_moved w e good)) (quiet_waits (small w) (moves_of w e) good.sound (event_marks w e ∙ none) id t o found waits) in
+    let last = still.last in
+    inl (still.found, omega (arith, last))
+
+front_written : (s : SmallWorld) (ws : List OwedMarker) → IsSound s → s.coordinator.warrants ≡ ws → (id : List ℕ) (t : Transaction) (o : Ending) → recorded s.coordinator.transactions id ≡ Some t → t.phase ≡ prepared o → WaitsOrEnds s 1 (marked ws s) id t o
+front_written s [] sound at id t o found waits =
+    absurd (let some : owes [] id ≡ true = ap (λ ws. owes ws id) (sym at) ∙ sound.owing id t o found waits in let clash : false ≡ true = some in cc)
+front_written s (x ∷ xs) sound at id t o found waits = by_mark (mark_waits s x xs (front_of (subst (Each (IsOwed s.coordinator)) at sound.owed)) id t o found waits) where
+  front_of : Each (IsOwed s.coordinator) (x ∷ xs) → IsOwed s.coordinator x
+  front_of owed = owed.0
+
+  by_mark : ((recorded (marked (x ∷ xs) s).coordinator.transactions id ≡ Some t) × ((marked (x ∷ xs) s).coordinator.warrants ≡ xs)) ⊎ ((u : Transaction) × (recorded (marked (x ∷ xs) s).coordinator.transactions id ≡ Some u) × (u.phase ≡ complete o)) → WaitsOrEnds s 1 (marked (x ∷ xs) s) id t o
+  by_mark (inl h) =
+      let some : owes (x ∷ xs) id ≡ true = ap (λ ws. owes ws id) (sym at) ∙ sound.owing id t o found waits in
+      inl (h.0, ap (λ ws. 1 + up_to_last ws id) h.1 ∙ sym (ap (λ ws. up_to_last ws id) at ∙ one_more x xs id some))
+  by_mark (inr h) = inr h
+
+one_event : (w : World) (e : Event) → IsGood w → (id : List ℕ) (t : Transaction) (o : Ending) → recorded w.coordinator.transactions id ≡ Some t → t.phase ≡ prepared o → WaitsOrEnds (small w) (mark_count e) (small (step w e)) id t o
+one_event w (Ask caller client request) good id t o found waits = quiet_event w (Ask caller client request) good refl id t o found waits
+one_event w (Tick told) good id t o found waits = quiet_event w (Tick told) good refl id t o found waits
+one_event w Mark good id t o found waits =
+    subst (λ v. WaitsOrEnds (small w) 1 v id t o) (sym (good_moved w Mark good)) (front_written (small w) w.coordinator.warrants good.sound refl id t o found waits)
+
+-- ---- events
+
+later : (w : World) (e : Event) (es : List Event) (id : List ℕ) (o : Ending) → IsCompletedBy (step w e) es id o → IsCompletedBy w (e ∷ es) id o
+later w e es id o by = record { first = e ∷ by.first; rest = by.rest; parts = ap (λ l. e ∷ l) by.parts; transaction = by.transaction; found = by.found; is_complete = by.is_complete }
+
+ends : (es : List Event) (w : World) → IsGood w → (id : List ℕ) (t : Transaction) (o : Ending) → recorded w.coordinator.transactions id ≡ Some t → t.phase ≡ prepared o → up_to_last w.coordinator.warrants id ≤ marks es → IsCompletedBy w es id o
+ends [] w good id t o found waits enough = let some = some_owed w.coordinator.warrants id (good.sound.owing id t o found waits) in absurd (omega (arith, some, enough))
+ends (e ∷ es) w good id t o found waits enough = by_event (ends es (step w e) (good_step w e good) id t o) (one_event w e good id t o found waits) where
+  by_event : (recorded (step w e).coordinator.transactions id ≡ Some t → t.phase ≡ prepared o → up_to_last (step w e).coordinator.warrants id ≤ marks es → IsCompletedBy (step w e) es id o)
+      → WaitsOrEnds (small w) (mark_count e) (small (step w e)) id t o → IsCompletedBy w (e ∷ es) id o
+  by_event rest (inl h) = let left = h.1 in later w e es id o (rest h.0 waits (omega (arith, left, enough)))
+  by_event rest (inr h) = record { first = e ∷ []; rest = es; parts = refl; transaction = h.0; found = h.1; is_complete = h.2 }
+
+pub ends_complete : InReached EndsComplete
+ends_complete s es id t o after found waits enough = ends after _ (good s es) id t o found waits enough

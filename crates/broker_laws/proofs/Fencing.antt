@@ -1,0 +1,160 @@
+-- A pair that an id has left writes nothing more, and is refused.
+use Rattle.std.proofs.Common.{◌≡◌, ℕ, ℤ, pos, negsuc, List, ◌∷◌, Option, Some, None, Err, Bool, true, false, cond, refl, sym, ap, subst, ◌∙◌, arith}
+use Rattle.std.specs.Prelude.{◌&&◌, int_lt}
+use Rattle.std.specs.Ordering.{int_eq}
+use Rattle.std.proofs.lemmas.Int.{ints}
+use Rattle.wire_types.specs.declared.error_code.ErrorCode.{ErrorCode}
+use Rattle.wire_types.specs.declared.error_code.ErrorCode.TheVariants as codes
+use Rattle.record_batch.specs.declared.header.BatchHeader.{BatchHeader}
+use Rattle.record_batch.specs.BatchHeader.{is_transactional}
+use Rattle.txn_coordinator.specs.declared.pair.Pair.{Pair}
+use Rattle.txn_coordinator.specs.declared.target.TopicPartition.{TopicPartition}
+use Rattle.txn_coordinator.specs.declared.target.Target.{Target}
+use Rattle.txn_coordinator.specs.declared.transaction.Transaction.{Transaction}
+use Rattle.txn_coordinator.specs.declared.marker.Outcome.{Outcome as Ending}
+use Rattle.txn_coordinator.specs.declared.ending.EndForm.TheVariants.{Plain}
+use Rattle.txn_coordinator.specs.declared.turn.Turn.TheVariants.{Stays}
+use Rattle.txn_coordinator.specs.Words.{last_epoch, is_empty, raised}
+use Rattle.txn_coordinator.specs.Coordinator.{CoordinatorValue, recorded, owner, given_by, fresh, turn_code}
+use Rattle.txn_coordinator.specs.Adding.{with_partitions, open_by, open_found, grown, add_partitions}
+use Rattle.txn_coordinator.specs.EndTxn.{end_by, end_found, end}
+use Rattle.txn_laws.specs.Small.{World as SmallWorld, Move, moved_all}
+use Rattle.txn_laws.specs.Sound.{IsSound, IsFenced}
+use Rattle.txn_laws.specs.Laws.{IsSilent, HasPair as HadPair, Refuses}
+use Rattle.txn_laws.proofs.Targets.{same_number}
+use Rattle.txn_laws.proofs.Moves.{held, free_is, one_owner, moves_sound, moves_fence}
+use Rattle.txn_laws.proofs.Fences.{gone_past, fencing_law, refusal_law}
+use Rattle.producer_state.proofs.Numbers.{lt_is}
+use Rattle.request_handlers.specs.World.{World}
+use Rattle.request_handlers.specs.Judged.{pair_of, held_code, given_code, producer_code}
+use Rattle.request_handlers.specs.Step.{reached}
+use Rattle.broker_laws.specs.Entries.{small}
+use Rattle.broker_laws.specs.Moves.{moves_of_all}
+use Rattle.broker_laws.specs.Laws.{InReached, TurnsAway, FencedWriteNothing, NoDataBehindAGreaterMarker}
+use Rattle.broker_laws.proofs.Passing.{held_holds, owner_free}
+use Rattle.broker_laws.proofs.Reached.{IsGood, good_reached, good, reached_moved}
+
+-- ---- no check lets it in
+
+-- no record has the pair
+not_own : (s : SmallWorld) (id own : List ℕ) (pair : Pair) (t : Transaction) → IsSound s → IsFenced s.coordinator id (raised pair) → recorded s.coordinator.transactions own ≡ Some t → t.pair.producer ≡ pair.producer → t.pair.epoch ≡ pair.epoch → ⊥
+not_own s id own pair t sound f found producer epoch =
+    let c = s.coordinator in
+    let mine : owner c pair.producer ≡ Some (Some own) = ap (owner c) (sym producer) ∙ sound.owned own t found in
+    let one : own ≡ id = one_owner c pair.producer own id mine f.owned in
+    let twice : Some t ≡ Some f.transaction = sym found ∙ ap (recorded c.transactions) one ∙ f.found in
+    let record_is : f.transaction ≡ t = cc in
+    let reached = f.reached (ap (λ (y : Transaction). y.pair.producer) record_is ∙ producer) in
+    let epochs : f.transaction.pair.epoch ≡ pair.epoch = ap (λ (y : Transaction). y.pair.epoch) record_is ∙ epoch in
+    omega (arith, ints)
+
+not_stored : (s : SmallWorld) (id : List ℕ) (pair : Pair) → IsSound s → IsFenced s.coordinator id (raised pair) → (own : Option (List ℕ)) (target : Target) → held_code s.coordinator own pair target ≡ None → ⊥
+not_stored s id pair sound f None target none = let clash : Some codes.InvalidTxnState ≡ None = none in cc
+not_stored s id pair sound f (Some own) target none =
+    let h = held s.coordinator own pair target (recorded s.coordinator.transactions own) refl (held_holds s.coordinator own pair target none) in
+    not_own s id own pair h.transaction sound f h.found h.producer_is h.epoch_is
+
+owner_low : (c : CoordinatorValue) (p : ℤ) (id : List ℕ) → owner c p ≡ Some (Some id) → int_lt p (pos 0) ≡ true → ⊥
+owner_low c (pos n) id owned low = let below = lt_is (pos n) (pos 0) low in omega (arith, ints)
+owner_low c (negsuc n) id owned low = let clash : None ≡ Some (Some id) = owned in cc
+
+not_sent : (s : SmallWorld) (id : List ℕ) (pair : Pair) → IsFenced s.coordinator id (raised pair) → given_code (given_by (owner s.coordinator pair.producer)) ≡ None → ⊥
+not_sent s id pair f none =
+    let free = free_is (owner s.coordinator pair.producer) (owner_free s.coordinator pair.producer none) in
+    let clash : Some None ≡ Some (Some id) = sym free ∙ f.owned in
+    let inner : None ≡ Some id = cc in
+    absurd cc
+
+not_passed : (s : SmallWorld) (id : List ℕ) (pair : Pair) → IsSound s → IsFenced s.coordinator id (raised pair) → (own : Option (List ℕ)) (target : Target) (k : Bool)
+    → cond k (held_code s.coordinator own pair target) (cond (int_lt pair.producer (pos 0)) None (given_code (given_by (owner s.coordinator pair.producer)))) ≡ None → ⊥
+not_passed s id pair sound f own target true none = not_stored s id pair sound f own target none
+not_passed s id pair sound f own target false none = by_sign (int_lt pair.producer (pos 0)) refl none where
+  by_sign : (l : Bool) → int_lt pair.producer (pos 0) ≡ l → cond l None (given_code (given_by (owner s.coordinator pair.producer))) ≡ None → ⊥
+  by_sign true e none = owner_low s.coordinator pair.producer id f.owned e
+  by_sign false e none = not_sent s id pair f none
+
+batch_refused : (s : SmallWorld) (id : List ℕ) (pair : Pair) → IsSound s → IsFenced s.coordinator id (raised pair) → (own : Option (List ℕ)) (target : Target) (h : BatchHeader) → pair_of h ≡ pair → producer_code s.coordinator own target h ≡ None → ⊥
+batch_refused s id pair sound f own target h same none =
+    not_passed s id (pair_of h) sound (subst (λ p. IsFenced s.coordinator id (raised p)) (sym same) f) own target (is_transactional h) none
+
+-- ---- no call comes in with it
+
+-- what the pair of a call is told that isn't the record's
+abbrev told : Bool → Bool → Bool → ErrorCode → Option ErrorCode
+told a b l other = cond a (cond (b && l) None (Some other)) (Some codes.InvalidProducerIdMapping)
+
+addition_refused : (s : SmallWorld) (id : List ℕ) (pair : Pair) → IsSound s → IsFenced s.coordinator id (raised pair) → (own : List ℕ) (moment : ℕ) (p : TopicPartition) (ps : List TopicPartition) → turn_code (add_partitions s.coordinator own pair moment (p ∷ ps)) ≡ codes.None → ⊥
+addition_refused s id pair sound f own moment p ps none = by_empty (is_empty own) none where
+  by_tests : (t : Transaction) (a b l : Bool) → (a ≡ true → b ≡ true → ⊥) → turn_code (grown (with_partitions (p ∷ ps)) (open_by (told a b l codes.InvalidProducerEpoch) t moment)) ≡ codes.None → ⊥
+  by_tests t true true l differ none = differ refl refl
+  by_tests t true false l differ none = let clash : codes.InvalidProducerEpoch ≡ codes.None = none in cc
+  by_tests t false b l differ none = let clash : codes.InvalidProducerIdMapping ≡ codes.None = none in cc
+
+  by_found : (found : Option Transaction) → recorded s.coordinator.transactions own ≡ found → turn_code (grown (with_partitions (p ∷ ps)) (open_found found pair moment)) ≡ codes.None → ⊥
+  by_found None e none = let clash : codes.InvalidProducerIdMapping ≡ codes.None = none in cc
+  by_found (Some t) e none =
+      by_tests t (int_eq t.pair.producer pair.producer) (int_eq t.pair.epoch pair.epoch) (int_lt pair.epoch last_epoch)
+      (λ producer epoch. not_own s id own pair t sound f e (same_number t.pair.producer pair.producer producer) (same_number t.pair.epoch pair.epoch epoch)) none
+
+  by_empty : (b : Bool) → turn_code (grown (with_partitions (p ∷ ps)) (cond b (Err codes.InvalidRequest) (open_found (recorded s.coordinator.transactions own) pair moment))) ≡ codes.None → ⊥
+  by_empty true none = let clash : codes.InvalidRequest ≡ codes.None = none in cc
+  by_empty false none = by_found (recorded s.coordinator.transactions own) refl none
+
+ending_refused : (s : SmallWorld) (id : List ℕ) (pair : Pair) → IsSound s → IsFenced s.coordinator id (raised pair) → (own : List ℕ) (o : Ending) → turn_code (end s.coordinator Plain own pair o) ≡ codes.None → ⊥
+ending_refused s id pair sound f own o none = by_empty (is_empty own) none where
+  by_tests : (t : Transaction) (a b l : Bool) → (a ≡ true → b ≡ true → ⊥) → turn_code (end_by (told a b l codes.InvalidProducerEpoch) Plain t (fresh s.coordinator) o) ≡ codes.None → ⊥
+  by_tests t true true l differ none = differ refl refl
+  by_tests t true false l differ none = let clash : codes.InvalidProducerEpoch ≡ codes.None = none in cc
+  by_tests t false b l differ none = let clash : codes.InvalidProducerIdMapping ≡ codes.None = none in cc
+
+  by_found : (found : Option Transaction) → recorded s.coordinator.transactions own ≡ found → turn_code (end_found found Plain (fresh s.coordinator) pair o) ≡ codes.None → ⊥
+  by_found None e none = let clash : codes.InvalidProducerIdMapping ≡ codes.None = none in cc
+  by_found (Some t) e none =
+      by_tests t (int_eq t.pair.producer pair.producer) (int_eq t.pair.epoch pair.epoch) (int_lt pair.epoch last_epoch)
+      (λ producer epoch. not_own s id own pair t sound f e (same_number t.pair.producer pair.producer producer) (same_number t.pair.epoch pair.epoch epoch)) none
+
+  by_empty : (b : Bool) → turn_code (cond b (Stays codes.InvalidRequest) (end_found (recorded s.coordinator.transactions own) Plain (fresh s.coordinator) pair o)) ≡ codes.None → ⊥
+  by_empty true none = let clash : codes.InvalidRequest ≡ codes.None = none in cc
+  by_empty false none = by_found (recorded s.coordinator.transactions own) refl none
+
+turns_away : (s : SmallWorld) (id : List ℕ) (pair : Pair) → IsSound s → IsFenced s.coordinator id (raised pair) → TurnsAway s.coordinator pair
+turns_away s id pair sound f = record {
+  batches = batch_refused s id pair sound f;
+  additions = addition_refused s id pair sound f;
+  endings = ending_refused s id pair sound f;
+}
+
+-- ---- the laws
+
+-- what is left of the broker's worlds once they are small
+pub record IsOut (pair : Pair) (v later : SmallWorld) : Type 0 where
+  pub silent : (target : Target) → IsSilent pair (v.entries target) (later.entries target)
+  pub refused : Refuses later pair
+  pub turned_away : TurnsAway later.coordinator pair
+
+shut_out : (s : SmallWorld) (ms ns : List Move) (id : List ℕ) (pair : Pair) → IsSound s → HadPair s id pair → (HadPair (moved_all s ms) id pair → ⊥) → IsOut pair (moved_all s ms) (moved_all (moved_all s ms) ns)
+shut_out s ms ns id pair sound had left =
+    let past = gone_past s ms id pair sound had left in
+    let later = moves_sound s ms sound in
+    record {
+      silent = fencing_law s sound ms ns id pair had left;
+      refused = refusal_law s sound ms ns id pair had left;
+      turned_away = turns_away (moved_all (moved_all s ms) ns) id pair (moves_sound (moved_all s ms) ns later) (moves_fence (moved_all s ms) ns later id (raised pair) past);
+    }
+
+fenced : (w : World) → IsGood w → FencedWriteNothing w
+fenced w good more after id pair had left =
+    let v = reached w more in
+    let first = reached_moved w more good in
+    let second = reached_moved v after (good_reached w more good) in
+    let not_had : HadPair (small v) id pair → ⊥ = left in
+    let moves = moves_of_all v after in
+    let out = subst (λ (s : SmallWorld). (HadPair s id pair → ⊥) → IsOut pair s (moved_all s moves)) (sym first) (shut_out (small w) (moves_of_all w more) moves id pair good.sound had) not_had in
+    let both = subst (IsOut pair (small v)) (sym second) out in
+    record { silent = both.silent; refused = both.refused; turned_away = both.turned_away }
+
+pub fenced_write_nothing : InReached FencedWriteNothing
+fenced_write_nothing s es = fenced _ (good s es)
+
+pub no_data_behind_a_greater_marker : InReached NoDataBehindAGreaterMarker
+no_data_behind_a_greater_marker s es = (good s es).sound.ordered

@@ -1,0 +1,220 @@
+-- Each event is its moves, and what transactions take in exists after it.
+use Rattle.std.proofs.Common.{◌≡◌, ℕ, ℤ, List, [], ◌∷◌, ◌++◌, map, Option, Some, None, Result, Ok, Err, Bool, true, false, cond, refl, sym, ap, subst, ◌∙◌}
+use Rattle.std.specs.Prelude.{◌||◌, slice_get, is_some, is_none}
+use Rattle.std.proofs.lemmas.List.{map-append}
+use Rattle.acl_binding.specs.declared.question.Caller.{Caller}
+use Rattle.authorizer.specs.declared.answer.Refusal.{Refusal}
+use Rattle.authorizer.specs.Asking.{part_refusal}
+use Rattle.wire_types.specs.declared.error_code.ErrorCode.{ErrorCode}
+use Rattle.wire_types.specs.declared.topic.Topic.{Topic}
+use Rattle.record_batch.specs.Batch.{BatchData}
+use Rattle.partition_log.specs.Log.{at_end}
+use Rattle.msg_data.specs.declared.produce.ProduceRequest.{ProduceRequest}
+use Rattle.msg_data.specs.declared.produce.ProducedRecords.{ProducedRecords}
+use Rattle.msg_admin.specs.declared.reply.Reply.{Reply}
+use Rattle.msg_admin.specs.declared.request.Request.TheVariants.{Produce, Fetch, ListOffsets, Metadata, InitProducerId, AddPartitionsToTxn, EndTxn, DescribeAcls, CreateAcls, DeleteAcls}
+use Rattle.audit_trail.specs.declared.event.Event.{Event}
+use Rattle.audit_trail.specs.declared.event.Event.TheVariants.{Ask, Mark, Tick}
+use Rattle.walk.specs.Rule.{refusal_of}
+use Rattle.walk.specs.Walk.{refusals}
+use Rattle.walk.specs.Woven.{has_any}
+use Rattle.walk.specs.Steps.{world_by, part_world, parts_world, topics_world}
+use Rattle.walk.proofs.Weaving.{woven}
+use Rattle.txn_coordinator.specs.declared.target.Target.{Target}
+use Rattle.txn_coordinator.specs.declared.target.Target.TheVariants.{Partition, Group}
+use Rattle.txn_coordinator.specs.declared.marker.Outcome.{Outcome as Ending}
+use Rattle.txn_coordinator.specs.declared.marker.Outcome.TheVariants.{Commit, Abort}
+use Rattle.txn_coordinator.specs.declared.marker.OwedMarker.{OwedMarker}
+use Rattle.txn_coordinator.specs.Coordinator.{CoordinatorValue}
+use Rattle.txn_coordinator.specs.Warrants.{written_by}
+use Rattle.txn_laws.specs.Small.{Move, marked as marked_small, with_entry, moved_all}
+use Rattle.txn_laws.specs.Small.Entry.{Marker}
+use Rattle.txn_laws.specs.Small.Move.{AddPartitions}
+use Rattle.txn_laws.specs.Sound.{Each, HaveOwnIds}
+use Rattle.txn_laws.proofs.Base.{each_weaker, each_append}
+use Rattle.txn_laws.proofs.Ticks.{one_by_one}
+use Rattle.request_handlers.specs.World.{World, TopicValue, LogValue, rules_of}
+use Rattle.request_handlers.specs.First.{magnitude}
+use Rattle.request_handlers.specs.Logs.{log_at, log_after, appended_by}
+use Rattle.request_handlers.specs.Judged.{partition_at, judged, topics_produced}
+use Rattle.request_handlers.specs.Produce.{producing}
+use Rattle.request_handlers.specs.Whole.{Served, whole_by}
+use Rattle.request_handlers.specs.InitProducerId.{init_question, coordinator_for, initialized}
+use Rattle.request_handlers.specs.AddPartitions.{cut_rule, is_missing_in, is_missing, is_cut, partitions_in, partitions_of, cut_outcome, added_outcome, add_turn}
+use Rattle.request_handlers.specs.EndTxn.{id_question, ended, ending, end_turn}
+use Rattle.request_handlers.specs.DescribeAcls.{describe_acls_questions}
+use Rattle.request_handlers.specs.CreateAcls.{alter_questions}
+use Rattle.request_handlers.specs.Marks.{marked_outcome, marker_batch, log_marked, marked_by, marked_at, mark_by}
+use Rattle.request_handlers.specs.Ticks.{moment_after}
+use Rattle.request_handlers.specs.Step.{step}
+use Rattle.broker_laws.specs.Entries.{ending_of, entry_of, entries_at, small}
+use Rattle.broker_laws.specs.Moves.{unless_refused, initializing, moves_of}
+use Rattle.broker_laws.specs.Targets.{is_there, IsThere, TakesInExisting, IsOwedToExisting, AllExist, HasTargets}
+use Rattle.broker_laws.proofs.Logs.{entries_with, places_kept}
+use Rattle.broker_laws.proofs.Produced.{produce_moved}
+use Rattle.broker_laws.proofs.Turns.{turned_exist, init_exists, add_exists, end_exists, written_exist, expire_exist}
+
+-- ---- a marker step
+
+ending_again : (o : Ending) → ending_of (marked_outcome o) ≡ o
+ending_again Commit = refl
+ending_again Abort = refl
+
+marker_log : (log : LogValue) (m : OwedMarker) (moment : ℕ) → map entry_of (log_marked log (marker_batch m moment)) ≡ map entry_of log ++ Marker m.pair m.outcome ∷ []
+marker_log log m moment =
+    map-append entry_of log (at_end log (marker_batch m moment) ∷ [])
+    ∙ ap (λ o. map entry_of log ++ Marker m.pair o ∷ []) (ending_again m.outcome)
+
+log_found : (o : Option LogValue) → is_some o ≡ true → (log : LogValue) × (o ≡ Some log)
+log_found None h = absurd (let clash : false ≡ true = h in cc)
+log_found (Some log) h = (log, refl)
+
+marker_entries : (topics : List TopicValue) (m : OwedMarker) (moment : ℕ) (target : Target) → IsThere topics target → (t : Target) → entries_at (marked_at topics target (marker_batch m moment)) t ≡ with_entry (entries_at topics) target (Marker m.pair m.outcome) t
+marker_entries topics m moment (Group g) there t = absurd (let clash : false ≡ true = there in cc)
+marker_entries topics m moment (Partition p) there t =
+    let found = log_found (log_at topics p.topic p.index) there in
+    ap (λ o. entries_at (marked_by topics p.topic p.index (marker_batch m moment) o) t) found.1
+    ∙ entries_with topics p.topic p.index found.0 (log_marked found.0 (marker_batch m moment)) (Marker m.pair m.outcome) found.1 (marker_log found.0 m moment) t
+
+marked_moved : (w : World) (ws : List OwedMarker) → w.coordinator.warrants ≡ ws → Each (IsOwedToExisting w.topics) ws → small (mark_by w (slice_get ws 0)).world ≡ marked_small ws (small w)
+marked_moved w [] e owed = refl
+marked_moved w (m ∷ rest) e owed = λ k. record {
+  coordinator = written_by w.coordinator (e k);
+  entries = λ t. marker_entries w.topics m w.moment m.target owed.0 t k;
+  moment = w.moment;
+}
+
+mark_moved : (w : World) → HasTargets w → small (step w Mark) ≡ marked_small w.coordinator.warrants (small w)
+mark_moved w all = marked_moved w w.coordinator.warrants refl all.owed
+
+-- ---- the calls
+
+init_moved : (w : World) (id : Option (List ℕ)) (timeout greatest : ℤ) → small (record w { coordinator = coordinator_for id w.coordinator greatest timeout }) ≡ moved_all (small w) (initializing id timeout greatest)
+init_moved w None timeout greatest = refl
+init_moved w (Some id) timeout greatest = refl
+
+granted_moved : (o : Option Refusal) (w : World) (refused : ErrorCode → Reply) (served : Served) (ms : List Move) → small served.world ≡ moved_all (small w) ms → small (whole_by o w refused served).world ≡ moved_all (small w) (unless_refused o ms)
+granted_moved None w refused served ms same = same
+granted_moved (Some x) w refused served ms same = refl
+
+kept_moved : (o : Option Refusal) (w : World) (refused : ErrorCode → Reply) (served : Served) → small served.world ≡ small w → small (whole_by o w refused served).world ≡ small w
+kept_moved None w refused served same = same
+kept_moved (Some x) w refused served same = refl
+
+-- ---- an event
+
+pub step_moved : (w : World) (e : Event) → HasTargets w → HaveOwnIds w.coordinator.transactions → small (step w e) ≡ moved_all (small w) (moves_of w e)
+step_moved w (Ask caller client (Produce r)) all own =
+    ap (λ topics. small (record w { topics = topics })) (sym (woven (producing w caller r) (rules_of w) w.topics r.topics).world)
+    ∙ produce_moved w caller r
+step_moved w (Ask caller client (Fetch r)) all own = refl
+step_moved w (Ask caller client (ListOffsets r)) all own = refl
+step_moved w (Ask caller client (Metadata r)) all own = refl
+step_moved w (Ask caller client (InitProducerId r)) all own =
+    granted_moved (part_refusal (rules_of w) (init_question caller r.transactional_id ∷ [])) w _ (initialized w r) (initializing r.transactional_id r.timeout w.node.max_txn_timeout) (init_moved w r.transactional_id r.timeout w.node.max_txn_timeout)
+step_moved w (Ask caller client (AddPartitionsToTxn r)) all own = by_cut (is_cut caller r.transactional_id w.topics (rules_of w) r.topics) where
+  by_cut : (b : Bool) → small (cond b (cut_outcome w caller r) (added_outcome w r)).world ≡ moved_all (small w) (cond b [] (AddPartitions r.transactional_id (record { producer = r.producer; epoch = r.epoch }) (partitions_of r.topics) ∷ []))
+  by_cut true = refl
+  by_cut false = refl
+step_moved w (Ask caller client (EndTxn r)) all own = granted_moved (part_refusal (rules_of w) (id_question caller r.transactional_id ∷ [])) w _ (ended w r) _ refl
+step_moved w (Ask caller client (DescribeAcls r)) all own = kept_moved (part_refusal (rules_of w) (describe_acls_questions caller)) w _ _ refl
+step_moved w (Ask caller client (CreateAcls r)) all own = kept_moved (part_refusal (rules_of w) (alter_questions caller)) w _ _ refl
+step_moved w (Ask caller client (DeleteAcls r)) all own = kept_moved (part_refusal (rules_of w) (alter_questions caller)) w _ _ refl
+step_moved w Mark all own = mark_moved w all
+step_moved w (Tick told) all own = sym (one_by_one (small w) own (moment_after w.moment told))
+
+-- ---- what transactions take in exists
+
+places_all : (old new : List TopicValue) (c : CoordinatorValue) → ((target : Target) → is_there new target ≡ is_there old target) → AllExist old c → AllExist new c
+places_all old new c same all = record {
+  added = each_weaker (TakesInExisting old) (TakesInExisting new) (λ t h. each_weaker (IsThere old) (IsThere new) (λ target there. same target ∙ there) _ h) c.transactions all.added;
+  owed = each_weaker (IsOwedToExisting old) (IsOwedToExisting new) (λ m there. same m.target ∙ there) c.warrants all.owed;
+}
+
+batch_places : (topics : List TopicValue) (name : List ℕ) (i : ℤ) (r : Result BatchData ErrorCode) (target : Target) → is_there (topics_produced r topics name i) target ≡ is_there topics target
+batch_places topics name i (Err code) target = refl
+batch_places topics name i (Ok b) target = by_log (log_at topics name i) refl where
+  by_log : (o : Option LogValue) → log_at topics name i ≡ o → is_there (appended_by topics name i b o) target ≡ is_there topics target
+  by_log None e = refl
+  by_log (Some log) e = places_kept topics name i (log_after log b) (ap is_some e) target
+
+module _ (w : World) (caller : Caller) (r : ProduceRequest) (target : Target) where
+  part_places : (topics : List TopicValue) (name : List ℕ) (p : ProducedRecords) → is_there (part_world (producing w caller r) (rules_of w) topics name p) target ≡ is_there topics target
+  part_places topics name p = by_refusal (refusal_of (producing w caller r) (rules_of w) name p) where
+    by_refusal : (o : Option Refusal) → is_there (world_by (producing w caller r) o topics name p) target ≡ is_there topics target
+    by_refusal (Some x) = refl
+    by_refusal None = batch_places topics name p.index (judged (magnitude w.node.max_batch) w.coordinator r.transactional_id r.acks (partition_at name p.index) p.records) target
+
+  parts_places : (topics : List TopicValue) (name : List ℕ) (ps : List ProducedRecords) → is_there (parts_world (producing w caller r) (rules_of w) topics name ps) target ≡ is_there topics target
+  parts_places topics name [] = refl
+  parts_places topics name (p ∷ ps) = parts_places (part_world (producing w caller r) (rules_of w) topics name p) name ps ∙ part_places topics name p
+
+  topics_places : (topics : List TopicValue) (ts : List (Topic ProducedRecords)) → is_there (topics_world (producing w caller r) (rules_of w) topics ts) target ≡ is_there topics target
+  topics_places topics [] = refl
+  topics_places topics (t ∷ ts) = topics_places (parts_world (producing w caller r) (rules_of w) topics t.name t.partitions) ts ∙ parts_places topics t.name t.partitions
+
+-- what a request names that misses nothing
+or_false : (a b : Bool) → (a || b) ≡ false → (a ≡ false) × (b ≡ false)
+or_false true b h = absurd (let clash : true ≡ false = h in cc)
+or_false false b h = (refl, h)
+
+found_there : (o : Option LogValue) → is_none o ≡ false → is_some o ≡ true
+found_there None h = absurd (let clash : true ≡ false = h in cc)
+found_there (Some log) h = refl
+
+named_in : (topics : List TopicValue) (name : List ℕ) (indices : List ℤ) → is_missing_in topics name indices ≡ false → Each (λ p. IsThere topics (Partition p)) (partitions_in name indices)
+named_in topics name [] h = tt
+named_in topics name (i ∷ is) h =
+    let parts = or_false (is_none (log_at topics name i)) (is_missing_in topics name is) h in
+    (found_there (log_at topics name i) parts.0, named_in topics name is parts.1)
+
+named_there : (topics : List TopicValue) (ts : List (Topic ℤ)) → is_missing topics ts ≡ false → Each (λ p. IsThere topics (Partition p)) (partitions_of ts)
+named_there topics [] h = tt
+named_there topics (t ∷ ts) h =
+    let parts = or_false (is_missing_in topics t.name t.partitions) (is_missing topics ts) h in
+    each_append (λ p. IsThere topics (Partition p)) (partitions_in t.name t.partitions) (partitions_of ts) (named_in topics t.name t.partitions parts.0) (named_there topics ts parts.1)
+
+mark_places : (topics : List TopicValue) (b : BatchData) (front t : Target) → is_there (marked_at topics front b) t ≡ is_there topics t
+mark_places topics b (Group g) t = refl
+mark_places topics b (Partition p) t = by_log (log_at topics p.topic p.index) refl where
+  by_log : (o : Option LogValue) → log_at topics p.topic p.index ≡ o → is_there (marked_by topics p.topic p.index b o) t ≡ is_there topics t
+  by_log None e = refl
+  by_log (Some log) e = places_kept topics p.topic p.index (log_marked log b) (ap is_some e) t
+
+init_all : (w : World) (id : Option (List ℕ)) (timeout greatest : ℤ) → HasTargets w → AllExist w.topics (coordinator_for id w.coordinator greatest timeout)
+init_all w None timeout greatest all = record { added = all.added; owed = all.owed }
+init_all w (Some id) timeout greatest all = turned_exist w.topics w.coordinator _ all (init_exists w.topics w.coordinator id timeout greatest all)
+
+granted_all : (o : Option Refusal) (w : World) (refused : ErrorCode → Reply) (served : Served) → HasTargets w → HasTargets served.world → HasTargets (whole_by o w refused served).world
+granted_all None w refused served all h = h
+granted_all (Some x) w refused served all h = all
+
+marked_all : (w : World) (ws : List OwedMarker) → w.coordinator.warrants ≡ ws → HasTargets w → HasTargets (mark_by w (slice_get ws 0)).world
+marked_all w [] e all = all
+marked_all w (m ∷ rest) e all =
+    places_all w.topics (marked_at w.topics m.target (marker_batch m w.moment)) (written_by w.coordinator w.coordinator.warrants) (mark_places w.topics (marker_batch m w.moment) m.target)
+    (written_exist w.topics w.coordinator w.coordinator.warrants refl all)
+
+pub step_targets : (w : World) (e : Event) → HasTargets w → HasTargets (step w e)
+step_targets w (Ask caller client (Produce r)) all =
+    subst (λ topics. AllExist topics w.coordinator) (woven (producing w caller r) (rules_of w) w.topics r.topics).world
+    (places_all w.topics (topics_world (producing w caller r) (rules_of w) w.topics r.topics) w.coordinator (λ target. topics_places w caller r target w.topics r.topics) all)
+step_targets w (Ask caller client (Fetch r)) all = all
+step_targets w (Ask caller client (ListOffsets r)) all = all
+step_targets w (Ask caller client (Metadata r)) all = all
+step_targets w (Ask caller client (InitProducerId r)) all =
+    granted_all (part_refusal (rules_of w) (init_question caller r.transactional_id ∷ [])) w _ (initialized w r) all (init_all w r.transactional_id r.timeout w.node.max_txn_timeout all)
+step_targets w (Ask caller client (AddPartitionsToTxn r)) all = by_cut (is_cut caller r.transactional_id w.topics (rules_of w) r.topics) refl where
+  by_cut : (b : Bool) → is_cut caller r.transactional_id w.topics (rules_of w) r.topics ≡ b → HasTargets (cond b (cut_outcome w caller r) (added_outcome w r)).world
+  by_cut true e = all
+  by_cut false e =
+      let parts = or_false (has_any (refusals (cut_rule caller r.transactional_id w.topics) (rules_of w) r.topics)) (is_missing w.topics r.topics) e in
+      turned_exist w.topics w.coordinator (add_turn w.coordinator w.moment r) all (add_exists w.topics w.coordinator r.transactional_id _ w.moment (partitions_of r.topics) all (named_there w.topics r.topics parts.1))
+step_targets w (Ask caller client (EndTxn r)) all =
+    granted_all (part_refusal (rules_of w) (id_question caller r.transactional_id ∷ [])) w _ (ended w r) all
+    (turned_exist w.topics w.coordinator (end_turn w.coordinator r) all (end_exists w.topics w.coordinator r.transactional_id _ (ending r.committed) all))
+step_targets w (Ask caller client (DescribeAcls r)) all = granted_all (part_refusal (rules_of w) (describe_acls_questions caller)) w _ _ all all
+step_targets w (Ask caller client (CreateAcls r)) all = granted_all (part_refusal (rules_of w) (alter_questions caller)) w _ _ all all
+step_targets w (Ask caller client (DeleteAcls r)) all = granted_all (part_refusal (rules_of w) (alter_questions caller)) w _ _ all all
+step_targets w Mark all = marked_all w w.coordinator.warrants refl all
+step_targets w (Tick told) all = expire_exist w.topics w.coordinator (moment_after w.moment told) all

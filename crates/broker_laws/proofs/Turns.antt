@@ -1,0 +1,202 @@
+-- What the coordinator's calls take in exists, where it did before and what is named does.
+use Rattle.std.proofs.Common.{◌≡◌, ℕ, ℤ, List, [], ◌∷◌, ◌++◌, map, Option, Some, None, Result, Ok, Err, Bool, true, false, cond, refl, subst}
+use Rattle.std.specs.List.{flat_map}
+use Rattle.wire_types.specs.declared.error_code.ErrorCode.{ErrorCode}
+use Rattle.wire_types.specs.declared.error_code.ErrorCode.TheVariants as codes
+use Rattle.txn_coordinator.specs.declared.pair.Pair.{Pair}
+use Rattle.txn_coordinator.specs.declared.target.TopicPartition.{TopicPartition}
+use Rattle.txn_coordinator.specs.declared.target.Target.{Target}
+use Rattle.txn_coordinator.specs.declared.target.Target.TheVariants.{Partition, Group}
+use Rattle.txn_coordinator.specs.declared.transaction.Phase.{Phase}
+use Rattle.txn_coordinator.specs.declared.transaction.Phase.TheVariants.{Empty, Ongoing, PrepareCommit, PrepareAbort, CompleteCommit, CompleteAbort}
+use Rattle.txn_coordinator.specs.declared.transaction.Transaction.{Transaction}
+use Rattle.txn_coordinator.specs.declared.marker.Outcome.{Outcome}
+use Rattle.txn_coordinator.specs.declared.marker.Outcome.TheVariants.{Commit, Abort}
+use Rattle.txn_coordinator.specs.declared.marker.OwedMarker.{OwedMarker}
+use Rattle.txn_coordinator.specs.declared.ending.EndForm.TheVariants.{Plain}
+use Rattle.txn_coordinator.specs.declared.turn.Turn.{Turn}
+use Rattle.txn_coordinator.specs.declared.turn.Turn.TheVariants.{Stays, Puts}
+use Rattle.txn_coordinator.specs.Words.{is_empty, has_partition, targets}
+use Rattle.txn_coordinator.specs.Coordinator.{CoordinatorValue, has_id, recorded, put, fresh, turned}
+use Rattle.txn_coordinator.specs.Preparing.{marker_for, markers, fenced, fence_markers, pair_refusal}
+use Rattle.txn_coordinator.specs.InitProducerId.{timeout_within, init_in, init_for, init}
+use Rattle.txn_coordinator.specs.Adding.{partition_added, partitions_added, with_partitions, open_in, open_by, open_found, open_transaction, grown, add_partitions}
+use Rattle.txn_coordinator.specs.EndTxn.{other_epoch, end_in, end_by, end_found, end}
+use Rattle.txn_coordinator.specs.Expiry.{is_due, expired, expiry_markers, expire}
+use Rattle.txn_coordinator.specs.Warrants.{owes, completed, with_completed, written_by}
+use Rattle.txn_laws.specs.Sound.{Each}
+use Rattle.txn_laws.proofs.Base.{each_append}
+use Rattle.request_handlers.specs.World.{TopicValue}
+use Rattle.broker_laws.specs.Targets.{IsThere, TakesInExisting, IsOwedToExisting, AllExist}
+
+-- ---- lists
+
+each_put : (P : Transaction → Type 0) (ts : List Transaction) (r : Transaction) → Each P ts → P r → Each P (put ts r)
+each_put P [] r h k = (k, tt)
+each_put P (t ∷ ts) r h k = by_same (has_id r.id t) (each_put P ts r h.1 k) where
+  by_same : (b : Bool) → Each P (put ts r) → Each P (cond b (r ∷ ts) (t ∷ put ts r))
+  by_same true rest = (k, h.1)
+  by_same false rest = (h.0, rest)
+
+pub each_recorded : (P : Transaction → Type 0) (ts : List Transaction) (id : List ℕ) (t : Transaction) → Each P ts → recorded ts id ≡ Some t → P t
+each_recorded P [] id t h found = absurd (let clash : None ≡ Some t = found in cc)
+each_recorded P (x ∷ xs) id t h found = by_same (has_id id x) (each_recorded P xs id t h.1) found where
+  by_same : (b : Bool) → (recorded xs id ≡ Some t → P t) → cond b (Some x) (recorded xs id) ≡ Some t → P t
+  by_same true rest here = let same : x ≡ t = cc in subst P same h.0
+  by_same false rest here = rest here
+
+module _ (topics : List TopicValue) where
+  -- ---- markers
+
+  markers_exist : (t : Transaction) (pair : Pair) (o : Outcome) → TakesInExisting topics t → Each (IsOwedToExisting topics) (markers t pair o)
+  markers_exist t pair o h = each_marker (targets t) h where
+    each_marker : (xs : List Target) → Each (IsThere topics) xs → Each (IsOwedToExisting topics) (map (marker_for t.id pair o) xs)
+    each_marker [] h = tt
+    each_marker (x ∷ xs) h = (h.0, each_marker xs h.1)
+
+  -- ---- a turn
+
+  abbrev TurnExists : Turn → Type 0
+  TurnExists (Stays code) = Unit {0}
+  TurnExists (Puts code t given owed) = TakesInExisting topics t × Each (IsOwedToExisting topics) owed
+
+  pub turned_exist : (c : CoordinatorValue) (turn : Turn) → AllExist topics c → TurnExists turn → AllExist topics (turned c turn)
+  turned_exist c (Stays code) all h = all
+  turned_exist c (Puts code t given owed) all h = record {
+    added = each_put (TakesInExisting topics) c.transactions t all.added h.0;
+    owed = each_append (IsOwedToExisting topics) c.warrants owed all.owed h.1;
+  }
+
+  -- ---- InitProducerId
+
+  init_in_exists : (phase : Phase) (t : Transaction) (next : ℤ) (timeout : ℕ) → TakesInExisting topics t → TurnExists (init_in phase t next timeout)
+  init_in_exists Empty t next timeout h = (h, tt)
+  init_in_exists CompleteCommit t next timeout h = (h, tt)
+  init_in_exists CompleteAbort t next timeout h = (h, tt)
+  init_in_exists Ongoing t next timeout h = (h, markers_exist t _ _ h)
+  init_in_exists PrepareCommit t next timeout h = tt
+  init_in_exists PrepareAbort t next timeout h = tt
+
+  init_for_exists : (o : Option ℕ) (found : Option Transaction) (id : List ℕ) (next : ℤ) → ((t : Transaction) → found ≡ Some t → TakesInExisting topics t) → TurnExists (init_for o found id next)
+  init_for_exists None found id next h = tt
+  init_for_exists (Some timeout) None id next h = (tt, tt)
+  init_for_exists (Some timeout) (Some t) id next h = init_in_exists t.phase t next timeout (h t refl)
+
+  pub init_exists : (c : CoordinatorValue) (id : List ℕ) (timeout greatest : ℤ) → AllExist topics c → TurnExists (init c id timeout greatest)
+  init_exists c id timeout greatest all = by_empty (is_empty id) where
+    by_empty : (b : Bool) → TurnExists (cond b (Stays codes.InvalidRequest) (init_for (timeout_within timeout greatest) (recorded c.transactions id) id (fresh c)))
+    by_empty true = tt
+    by_empty false = init_for_exists (timeout_within timeout greatest) (recorded c.transactions id) id (fresh c) (λ t found. each_recorded (TakesInExisting topics) c.transactions id t all.added found)
+
+  -- ---- AddPartitionsToTxn
+
+  one_added : (xs : List TopicPartition) (p : TopicPartition) (gs : List Target) → IsThere topics (Partition p) → Each (IsThere topics) (map (λ x. Partition x) xs ++ gs) → Each (IsThere topics) (map (λ x. Partition x) (xs ++ p ∷ []) ++ gs)
+  one_added [] p gs here h = (here, h)
+  one_added (x ∷ xs) p gs here h = (h.0, one_added xs p gs here h.1)
+
+  all_added : (new xs : List TopicPartition) (gs : List Target) → Each (λ p. IsThere topics (Partition p)) new → Each (IsThere topics) (map (λ x. Partition x) xs ++ gs) → Each (IsThere topics) (map (λ x. Partition x) (partitions_added xs new) ++ gs)
+  all_added [] xs gs there h = h
+  all_added (p ∷ ps) xs gs there h = all_added ps (partition_added xs p) gs there.1 (by_has (has_partition xs p)) where
+    by_has : (b : Bool) → Each (IsThere topics) (map (λ x. Partition x) (cond b xs (xs ++ p ∷ [])) ++ gs)
+    by_has true = h
+    by_has false = one_added xs p gs there.0 h
+
+  grown_exists : (ps : List TopicPartition) (r : Result Transaction ErrorCode) → Each (λ p. IsThere topics (Partition p)) ps → ((t : Transaction) → r ≡ Ok t → TakesInExisting topics t) → TurnExists (grown (with_partitions ps) r)
+  grown_exists ps (Ok t) there h = (all_added ps t.partitions (map (λ g. Group g) t.groups) there (h t refl), tt)
+  grown_exists ps (Err code) there h = tt
+
+  -- what is opened takes in what it did
+  abbrev OpensExisting : Result Transaction ErrorCode → Type 0
+  OpensExisting (Ok t) = TakesInExisting topics t
+  OpensExisting (Err code) = Unit {0}
+
+  open_in_exists : (phase : Phase) (t : Transaction) (moment : ℕ) → TakesInExisting topics t → OpensExisting (open_in phase t moment)
+  open_in_exists Ongoing t moment h = h
+  open_in_exists Empty t moment h = h
+  open_in_exists CompleteCommit t moment h = h
+  open_in_exists CompleteAbort t moment h = h
+  open_in_exists PrepareCommit t moment h = tt
+  open_in_exists PrepareAbort t moment h = tt
+
+  open_by_exists : (o : Option ErrorCode) (t : Transaction) (moment : ℕ) → TakesInExisting topics t → OpensExisting (open_by o t moment)
+  open_by_exists (Some code) t moment h = tt
+  open_by_exists None t moment h = open_in_exists t.phase t moment h
+
+  open_found_exists : (found : Option Transaction) (pair : Pair) (moment : ℕ) → ((t : Transaction) → found ≡ Some t → TakesInExisting topics t) → OpensExisting (open_found found pair moment)
+  open_found_exists None pair moment h = tt
+  open_found_exists (Some t) pair moment h = open_by_exists (pair_refusal codes.InvalidProducerEpoch t pair) t moment (h t refl)
+
+  opened : (r : Result Transaction ErrorCode) → OpensExisting r → (t : Transaction) → r ≡ Ok t → TakesInExisting topics t
+  opened (Ok x) h t e = let same : x ≡ t = cc in subst (TakesInExisting topics) same h
+  opened (Err code) h t e = absurd (let clash : Err code ≡ Ok t = e in cc)
+
+  open_exists : (c : CoordinatorValue) (id : List ℕ) (pair : Pair) (moment : ℕ) → AllExist topics c → OpensExisting (open_transaction c id pair moment)
+  open_exists c id pair moment all = by_empty (is_empty id) where
+    by_empty : (b : Bool) → OpensExisting (cond b (Err codes.InvalidRequest) (open_found (recorded c.transactions id) pair moment))
+    by_empty true = tt
+    by_empty false = open_found_exists (recorded c.transactions id) pair moment (λ t found. each_recorded (TakesInExisting topics) c.transactions id t all.added found)
+
+  pub add_exists : (c : CoordinatorValue) (id : List ℕ) (pair : Pair) (moment : ℕ) (ps : List TopicPartition) → AllExist topics c → Each (λ p. IsThere topics (Partition p)) ps → TurnExists (add_partitions c id pair moment ps)
+  add_exists c id pair moment [] all there = tt
+  add_exists c id pair moment (p ∷ ps) all there = grown_exists (p ∷ ps) (open_transaction c id pair moment) there (opened (open_transaction c id pair moment) (open_exists c id pair moment all))
+
+  -- ---- EndTxn
+
+  end_in_exists : (phase : Phase) (t : Transaction) (next : ℤ) (o : Outcome) → TakesInExisting topics t → TurnExists (end_in phase Plain t next o)
+  end_in_exists Ongoing t next o h = (h, markers_exist t t.pair o h)
+  end_in_exists PrepareCommit t next Commit h = tt
+  end_in_exists PrepareCommit t next Abort h = tt
+  end_in_exists PrepareAbort t next Commit h = tt
+  end_in_exists PrepareAbort t next Abort h = tt
+  end_in_exists Empty t next o h = tt
+  end_in_exists CompleteCommit t next Commit h = tt
+  end_in_exists CompleteCommit t next Abort h = tt
+  end_in_exists CompleteAbort t next Commit h = tt
+  end_in_exists CompleteAbort t next Abort h = tt
+
+  end_by_exists : (refusal : Option ErrorCode) (t : Transaction) (next : ℤ) (o : Outcome) → TakesInExisting topics t → TurnExists (end_by refusal Plain t next o)
+  end_by_exists (Some code) t next o h = tt
+  end_by_exists None t next o h = end_in_exists t.phase t next o h
+
+  end_found_exists : (found : Option Transaction) (next : ℤ) (pair : Pair) (o : Outcome) → ((t : Transaction) → found ≡ Some t → TakesInExisting topics t) → TurnExists (end_found found Plain next pair o)
+  end_found_exists None next pair o h = tt
+  end_found_exists (Some t) next pair o h = end_by_exists (pair_refusal (other_epoch Plain) t pair) t next o (h t refl)
+
+  pub end_exists : (c : CoordinatorValue) (id : List ℕ) (pair : Pair) (o : Outcome) → AllExist topics c → TurnExists (end c Plain id pair o)
+  end_exists c id pair o all = by_empty (is_empty id) where
+    by_empty : (b : Bool) → TurnExists (cond b (Stays codes.InvalidRequest) (end_found (recorded c.transactions id) Plain (fresh c) pair o))
+    by_empty true = tt
+    by_empty false = end_found_exists (recorded c.transactions id) (fresh c) pair o (λ t found. each_recorded (TakesInExisting topics) c.transactions id t all.added found)
+
+  -- ---- a marker step
+
+  completed_exist : (o : Outcome) (found : Option Transaction) (ts : List Transaction) → Each (TakesInExisting topics) ts → Each (TakesInExisting topics) (with_completed o found ts)
+  completed_exist o None ts h = h
+  completed_exist o (Some t) ts h = each_put (TakesInExisting topics) ts (completed o t) h tt
+
+  pub written_exist : (c : CoordinatorValue) (ws : List OwedMarker) → c.warrants ≡ ws → AllExist topics c → AllExist topics (written_by c ws)
+  written_exist c [] e all = all
+  written_exist c (m ∷ rest) e all = record { added = by_owes (owes rest m.id); owed = (subst (Each (IsOwedToExisting topics)) e all.owed).1 } where
+    by_owes : (b : Bool) → Each (TakesInExisting topics) (cond b c.transactions (with_completed m.outcome (recorded c.transactions m.id) c.transactions))
+    by_owes true = all.added
+    by_owes false = completed_exist m.outcome (recorded c.transactions m.id) c.transactions all.added
+
+  -- ---- a tick
+
+  one_expired : (moment : ℕ) (t : Transaction) → TakesInExisting topics t → TakesInExisting topics (expired moment t) × Each (IsOwedToExisting topics) (expiry_markers moment t)
+  one_expired moment t h = by_due (is_due moment t) where
+    by_due : (b : Bool) → TakesInExisting topics (cond b (fenced t) t) × Each (IsOwedToExisting topics) (cond b (fence_markers t) [])
+    by_due true = (h, markers_exist t _ _ h)
+    by_due false = (h, tt)
+
+  each_expired : (moment : ℕ) (ts : List Transaction) → Each (TakesInExisting topics) ts → Each (TakesInExisting topics) (map (expired moment) ts) × Each (IsOwedToExisting topics) (flat_map (expiry_markers moment) ts)
+  each_expired moment [] h = (tt, tt)
+  each_expired moment (t ∷ ts) h =
+      let one = one_expired moment t h.0 in
+      let rest = each_expired moment ts h.1 in
+      ((one.0, rest.0), each_append (IsOwedToExisting topics) (expiry_markers moment t) (flat_map (expiry_markers moment) ts) one.1 rest.1)
+
+  pub expire_exist : (c : CoordinatorValue) (moment : ℕ) → AllExist topics c → AllExist topics (expire c moment)
+  expire_exist c moment all =
+      let each = each_expired moment c.transactions all.added in
+      record { added = each.0; owed = each_append (IsOwedToExisting topics) c.warrants (flat_map (expiry_markers moment) c.transactions) all.owed each.1 }

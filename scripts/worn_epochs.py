@@ -1,0 +1,102 @@
+#!/usr/bin/env python3
+"""Runs `kbroker replay` over a transactional id that uses up the epochs of its producer id.
+
+Each InitProducerId gives the next epoch, 0 to 32,766, and the one behind them epoch 0 of the next producer id. Where the
+time of a transaction of epoch 32,766 is over, the marker that aborts it carries 32,767, which no producer has; the next
+InitProducerId gives a new producer id too.
+"""
+
+import struct
+import subprocess
+import sys
+from pathlib import Path
+
+ROOT = Path(__file__).resolve().parent.parent
+PROGRAM = ROOT / "crates/kbroker/out/kbroker"
+SETTINGS = """node_id = 1
+host = "h"
+port = 9092
+supers = ["User:root"]
+[[topic]]
+name = "b"
+partitions = 1
+---
+"""
+EPOCHS = 32_767
+TIMEOUT = 1_000
+
+
+def request(api, version, body):
+    """A line for a request of root, without a client's name."""
+    frame = struct.pack(">hhih", api, version, 1, -1) + body
+    return f"req root h {struct.pack('>i', len(frame)).hex()}{frame.hex()}\n"
+
+
+# InitProducerId 0 of the id `t`; AddPartitionsToTxn 0 of partition 0 of `b`, by the last epoch; Fetch 4 from its start
+INIT = request(22, 0, b"\0\1t" + struct.pack(">i", TIMEOUT))
+ADD = request(
+    24, 0, b"\0\1t" + struct.pack(">qhi", 0, EPOCHS - 1, 1) + b"\0\1b" + struct.pack(">ii", 1, 0)
+)
+FETCH = request(
+    1,
+    4,
+    struct.pack(">iiiibi", -1, 0, 0, 1000, 0, 1)
+    + b"\0\1b"
+    + struct.pack(">iiqi", 1, 0, 0, 1000),
+)
+
+
+def response(body):
+    """The line of a response that isn't delayed, to what `request` makes."""
+    frame = struct.pack(">ii", 1, 0) + body
+    return struct.pack(">i", len(frame)).hex() + frame.hex()
+
+
+def given(producer, epoch):
+    """What an InitProducerId is answered."""
+    return response(struct.pack(">hqh", 0, producer, epoch))
+
+
+def replay(script):
+    """The lines that are printed for a script."""
+    run = subprocess.run(
+        [PROGRAM, "replay"],
+        input=(SETTINGS + script).encode(),
+        capture_output=True,
+        check=True,
+        timeout=60,
+    )
+    return run.stdout.decode().splitlines()
+
+
+def wear_out():
+    """Every epoch of producer 0, and then producer 1."""
+    expected = [given(0, epoch) for epoch in range(EPOCHS)] + [given(1, 0)]
+    if replay(INIT * (EPOCHS + 1)) != expected:
+        sys.exit("worn epochs: a producer has not got the next epoch")
+
+
+def expire_last():
+    """A transaction of the last epoch that is given is aborted when its time is over."""
+    script = INIT * EPOCHS + ADD + f"tick {TIMEOUT + 1}\nmark\n" + FETCH + INIT
+    added, ticked, marked, fetched, again = replay(script)[EPOCHS:]
+    if added != response(struct.pack(">i", 1) + b"\0\1b" + struct.pack(">iih", 1, 0, 0)):
+        sys.exit("worn epochs: the partition was not added")
+    if (ticked, marked) != ("-", "-"):
+        sys.exit("worn epochs: a line that sends nothing has sent something")
+    # a control batch of 78 bytes stands at the end: its attributes, and its producer's id and epoch
+    batch = bytes.fromhex(fetched)[-78:]
+    if struct.unpack(">h20xqh", batch[21:53]) != (48, 0, EPOCHS):
+        sys.exit(f"worn epochs: the marker is {batch.hex()}")
+    if again != given(1, 0):
+        sys.exit("worn epochs: the next producer is not a new one")
+
+
+def main():
+    wear_out()
+    expire_last()
+    print(f"worn epochs: producer 0 had each of {EPOCHS} epochs, and producer 1 came next")
+
+
+if __name__ == "__main__":
+    main()
