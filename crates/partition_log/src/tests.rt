@@ -1,5 +1,8 @@
 //! A log of batches that another encoder made.
 
+mod plain;
+mod small_logs;
+
 use crate::fault::FetchFault;
 use crate::log::Log;
 use crate::view::consumer_view;
