@@ -13,7 +13,7 @@ use std::alloc::{AllocError, Global};
 use std::test::Fail;
 
 /// How many batches a log has at most.
-const MOST: u32 = 4;
+const MOST: u32 = 6;
 
 /// A log, and the plain list of its entries.
 #[derive(Drop)]
@@ -198,9 +198,9 @@ fn is_right_from_each(alloc: Global, small: &Small) -> Result<bool, AllocError> 
     Ok(true)
 }
 
-/// All logs of so many batches.
+/// All logs of so many batches, the last of them of producer 0: with the two exchanged a log is the same.
 fn all_are_right(alloc: Global, length: u32) -> Result<bool, AllocError> {
-    for number in 0..8u32.saturating_pow(length) {
+    for number in 0..8u32.saturating_pow(length).div_ceil(2) {
         match log_of(alloc, number, length)? {
             Some(small) if is_right_from_each(alloc, &small)? => (),
             _ => return Ok(false),
