@@ -31,8 +31,8 @@ pub struct FetchRequest {
     pub topics: Items<Topic<FetchPartition>>,
 }
 
-/// A producer whose records from an offset on were aborted.
-#[derive(Clone, Debug, Drop, PartialEq, Eq)]
+/// A producer whose transaction from an offset on was aborted.
+#[derive(Clone, Copy, Debug, PartialEq, Eq)]
 pub struct AbortedTransaction {
     pub producer: i64,
     pub first_offset: i64,

@@ -7,6 +7,7 @@ use wire_types::{Cursor, Malformed, ReadFault, Wire, WriteFault, room_behind, wr
 #[derive(Clone, Copy, Debug, PartialEq, Eq)]
 pub enum Isolation {
     ReadUncommitted = 0,
+    ReadCommitted = 1,
 }
 
 impl Wire for Isolation {
@@ -18,6 +19,7 @@ impl Wire for Isolation {
     fn read(_alloc: Global, cursor: &mut Cursor<'_>) -> Result<Isolation, ReadFault> {
         match cursor.read_i8()? {
             0 => Ok(Isolation::ReadUncommitted),
+            1 => Ok(Isolation::ReadCommitted),
             _ => Err(ReadFault::Malformed(Malformed::Range)),
         }
     }

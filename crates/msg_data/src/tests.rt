@@ -88,11 +88,17 @@ fn the_end_of_a_partition(rt: HostRuntime) -> Result<(), Fail> {
 }
 
 #[test]
-fn another_isolation(rt: HostRuntime) {
+fn isolation_levels(rt: HostRuntime) -> Result<(), Fail> {
+    let committed = read::<Isolation>(rt.alloc(), b"\x01")?;
+    assert_eq!(rt; committed, Isolation::ReadCommitted);
+    assert_eq!(rt;
+        written(rt.alloc(), &committed)?.as_slice(),
+        b"\x01".as_slice()
+    );
     let refused = Err(ReadFault::Malformed(Malformed::Range));
-    assert_eq!(rt; read::<Isolation>(rt.alloc(), b"\x01"), refused);
     assert_eq!(rt; read::<Isolation>(rt.alloc(), b"\x02"), refused);
     assert_eq!(rt; read::<Isolation>(rt.alloc(), b"\xff"), refused);
+    Ok(())
 }
 
 #[test]

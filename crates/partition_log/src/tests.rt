@@ -1,10 +1,13 @@
 //! A log of batches that another encoder made.
 
+mod plain;
+mod small_logs;
+
 use crate::fault::FetchFault;
-use crate::isolation::Isolation;
 use crate::log::Log;
 use crate::view::consumer_view;
 use bytes::Bytes;
+use msg_data::Isolation;
 use producer_state::Judgment;
 use record_batch::{Batch, Outcome};
 use std::alloc::Global;

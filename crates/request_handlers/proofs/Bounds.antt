@@ -26,7 +26,7 @@ use Rattle.msg_data.specs.Fetch.{fetch_partition, fetch_request}
 use Rattle.msg_data.specs.ListOffsets.{wanted_offset, list_offsets_request}
 use Rattle.msg_admin.specs.declared.request.Request.{Request}
 use Rattle.msg_acl.specs.declared.create_acls.CreateAclsRequest.{CreateAclsRequest}
-use Rattle.acl_binding.specs.Book.{BookValue, empty_book}
+use Rattle.acl_binding.specs.Book.{empty_book}
 use Rattle.walk.specs.Rule.{PartRule, refusal_of}
 use Rattle.walk.specs.Walk.{world_after, parts_refused, refusals, parts_weight, topics_weight}
 use Rattle.walk.proofs.Weights.{walk_takes}
@@ -39,14 +39,13 @@ use Rattle.audit_trail.proofs.Counts.{count_push}
 use Rattle.request_handlers.specs.World.{World, TopicValue, rules_of}
 use Rattle.request_handlers.specs.Metadata.{topic_refusal, topic_refusals}
 use Rattle.request_handlers.specs.First.{magnitude, empty_logs, first_topics, first_world}
-use Rattle.request_handlers.specs.Logs.{most_of, most_end, room_of}
+use Rattle.request_handlers.specs.Logs.{most_of, most_end, room_of, HoldLogs}
 use Rattle.request_handlers.specs.Judged.{records_size}
 use Rattle.request_handlers.specs.Produce.{producing}
 use Rattle.request_handlers.specs.Fetch.{fetch_rule}
 use Rattle.request_handlers.specs.ListOffsets.{list_rule}
-use Rattle.request_handlers.specs.Whole.{Served}
-use Rattle.request_handlers.specs.DescribeAcls.{describe_acls_questions, describe_acls_error, describe_acls_reply}
-use Rattle.request_handlers.specs.CreateAcls.{alter_questions, book_created, create_acls_reply}
+use Rattle.request_handlers.specs.DescribeAcls.{describe_acls_questions}
+use Rattle.request_handlers.specs.CreateAcls.{alter_questions, book_created}
 use Rattle.request_handlers.specs.DeleteAcls.{book_deleted}
 use Rattle.request_handlers.specs.InitProducerId.{init_question}
 use Rattle.msg_txn.specs.declared.add_partitions.AddPartitionsToTxnRequest.{AddPartitionsToTxnRequest}
@@ -73,6 +72,7 @@ use Rattle.request_handlers.specs.FindCoordinator.{kind_of, find_questions}
 use Rattle.request_handlers.proofs.Adds.{add_keeps, mark_keeps}
 use Rattle.request_handlers.specs.Step.{outcome, refusals_of}
 use Rattle.request_handlers.specs.Core.{CoreValue, IsCore, IsBounded, EventFits, most_parts, most_bindings, trail_limit, advanced, entry_of}
+use Rattle.request_handlers.proofs.Held.{first_hold}
 use Rattle.request_handlers.proofs.Histories.{events_outcome, history_goes_on}
 use Rattle.request_handlers.proofs.BookBounds.{with_next, created_next, deleted_next, few_creations, whole_next, whole_refusals, whole_topics}
 
@@ -247,9 +247,9 @@ unfolding request_body
 few_refusals w (Ask caller client (Produce r)) fits =
     omega (arith, fits.1, few_walked (producing w caller r) (rules_of w) r.topics, within_array produced_records (λ p. 1) produced_some r.topics, produce_topics r)
 few_refusals w (Ask caller client (Fetch r)) fits =
-    omega (arith, fits.1, few_walked (fetch_rule caller w.topics) (rules_of w) r.topics, within_array fetch_partition (λ p. 1) fetch_some r.topics, fetch_topics r)
+    omega (arith, fits.1, few_walked (fetch_rule caller r.isolation w.topics) (rules_of w) r.topics, within_array fetch_partition (λ p. 1) fetch_some r.topics, fetch_topics r)
 few_refusals w (Ask caller client (ListOffsets r)) fits =
-    omega (arith, fits.1, few_walked (list_rule caller w.topics) (rules_of w) r.topics, within_array wanted_offset (λ p. 1) wanted_some r.topics, list_topics r)
+    omega (arith, fits.1, few_walked (list_rule caller r.isolation w.topics) (rules_of w) r.topics, within_array wanted_offset (λ p. 1) wanted_some r.topics, list_topics r)
 few_refusals w (Ask caller client (Metadata r)) fits = few_topics (rules_of w) caller r.topics (omega (arith, fits.1))
 few_refusals w (Ask caller client (OffsetCommit r)) fits =
     omega (arith, fits.1, few_walked (committing_rule w caller r) (rules_of w) r.topics, within_array offset_to_commit (λ p. 1) commit_some r.topics, commit_topics r)
@@ -411,6 +411,7 @@ opened_is_core s w is limit few = record {
     generations = λ up. no_groups w s is;
     numbers = λ up. omega (arith, first_next w s is few);
   };
+  logs = λ up. subst (λ (v : World). HoldLogs v.topics) (sym is) (first_hold s.topics);
 }
 
 pub bounded_goes_on : (core : CoreValue) (e : Event) → core.down ≡ false → length core.trail < trail_limit core.settings → EventFits e → IsBounded core → IsBounded (advanced core e)
@@ -428,8 +429,9 @@ bounded_goes_on core e up room fits h =
       numbers = λ _. omega (arith, numbers_outcome core.world e fits, h.numbers up, longer);
     }
 
-pub core_goes_on : (core : CoreValue) (e : Event) → core.down ≡ false → length core.trail < trail_limit core.settings → EventFits e → IsCore core → IsCore (advanced core e)
-core_goes_on core e up room fits h = record {
+pub core_goes_on : (core : CoreValue) (e : Event) → core.down ≡ false → length core.trail < trail_limit core.settings → EventFits e → HoldLogs (advanced core e).world.topics → IsCore core → IsCore (advanced core e)
+core_goes_on core e up room fits hold h = record {
   history = history_goes_on core e up h.history;
   bounded = bounded_goes_on core e up room fits h.bounded;
+  logs = λ _. hold;
 }

@@ -15,7 +15,8 @@ use Rattle.record_batch.specs.Fault.{code_of}
 use Rattle.producer_state.specs.declared.judgment.Judgment.{Judgment}
 use Rattle.producer_state.specs.declared.judgment.Judgment.TheVariants.{Next, Repeat, Refused}
 use Rattle.producer_state.specs.Sequences.{is_of_producer, begun, gone_on, Sequence, sequence, repeat, judged_in, judged as judged_by_log}
-use Rattle.partition_log.specs.Log.{end_of, at_end}
+use Rattle.partition_log.specs.Log.{at_end}
+use Rattle.partition_log.specs.Fetch.{limit_of}
 use Rattle.msg_data.specs.declared.produce.ProducedRecords.{ProducedRecords}
 use Rattle.request_handlers.specs.World.{TopicValue, LogValue, find_topic}
 use Rattle.request_handlers.specs.Logs.{log_in, log_of, log_at, logs_with, with_log, log_by, offset_by, appended_by}
@@ -36,8 +37,8 @@ use Rattle.request_handlers.specs.DataLaws.{IsAppended, IsRepeated, IsUnchanged,
 
 pub lists_ends : ListsEnds
 lists_ends = record {
-  end = λ topics name p log there minus. ap (listed_by p) there ∙ ap (λ (z : ℤ). cond (int_eq z (negsuc 0)) (listed_at (end_of log) p) (cond (int_eq z (negsuc 1)) (listed_at (pos 0) p) (listed_error codes.InvalidRequest p))) minus;
-  start = λ topics name p log there minus. ap (listed_by p) there ∙ ap (λ (z : ℤ). cond (int_eq z (negsuc 0)) (listed_at (end_of log) p) (cond (int_eq z (negsuc 1)) (listed_at (pos 0) p) (listed_error codes.InvalidRequest p))) minus;
+  end = λ level topics name p log there minus. ap (listed_by level p) there ∙ ap (λ (z : ℤ). cond (int_eq z (negsuc 0)) (listed_at (limit_of level log) p) (cond (int_eq z (negsuc 1)) (listed_at (pos 0) p) (listed_error codes.InvalidRequest p))) minus;
+  start = λ level topics name p log there minus. ap (listed_by level p) there ∙ ap (λ (z : ℤ). cond (int_eq z (negsuc 0)) (listed_at (limit_of level log) p) (cond (int_eq z (negsuc 1)) (listed_at (pos 0) p) (listed_error codes.InvalidRequest p))) minus;
 }
 
 -- ---- Produce: the log that was appended to

@@ -6,11 +6,10 @@ use Rattle.std.proofs.lemmas.Bool.{leb-true}
 use Rattle.wire_types.specs.declared.error_code.ErrorCode.{ErrorCode}
 use Rattle.wire_types.specs.declared.error_code.ErrorCode.TheVariants as codes
 use Rattle.record_batch.specs.Batch.{BatchData, next_offset}
-use Rattle.partition_log.specs.declared.isolation.Isolation.TheVariants as levels
 use Rattle.partition_log.specs.declared.served.Served.{Served}
-use Rattle.partition_log.specs.Log.{end_of}
-use Rattle.partition_log.specs.Fetch.{reaching, below, fitting, at_least_one, served_of, run_of}
+use Rattle.partition_log.specs.Fetch.{reaching, below, fitting, at_least_one, limit_of, served_of, run_of}
 use Rattle.partition_log.specs.Laws.{total_bytes}
+use Rattle.msg_data.specs.declared.isolation.Isolation.{Isolation}
 use Rattle.msg_data.specs.declared.fetch.FetchPartition.{FetchPartition}
 use Rattle.request_handlers.specs.declared.room.Room.{Room}
 use Rattle.request_handlers.specs.World.{TopicValue, LogValue}
@@ -75,12 +74,12 @@ least_small given room candidates (b ∷ run) small = inl small
 three_parts : (log before reach bel run more later : List BatchData) → log ≡ before ++ reach → reach ≡ bel ++ later → bel ≡ run ++ more → log ≡ before ++ (run ++ (more ++ later))
 three_parts log before reach bel run more later p q r = p ∙ ap (λ l. before ++ l) (q ∙ ap (λ l. l ++ later) r ∙ append_assoc run more later)
 
-run_served : (log : List BatchData) (offset : ℤ) (room : ℕ) (given : Bool) → IsServed log offset room given (run_of log offset levels.ReadUncommitted room (not given))
-run_served log offset room given =
-    let candidates : List BatchData = below (end_of log) (reaching offset log) in
+run_served : (level : Isolation) (log : List BatchData) (offset : ℤ) (room : ℕ) (given : Bool) → IsServed log offset room given (run_of log offset level room (not given))
+run_served level log offset room given =
+    let candidates : List BatchData = below (limit_of level log) (reaching offset log) in
     let run : List BatchData = fitting room candidates in
     let b = behind offset log in
-    let later = below_first (end_of log) (reaching offset log) in
+    let later = below_first (limit_of level log) (reaching offset log) in
     let more = least_first (not given) candidates run (fitting_first room candidates) in
     record {
       before = b.before;
@@ -92,19 +91,19 @@ run_served log offset room given =
 
 -- ---- what is answered
 
-inside_served : (topics : List TopicValue) (room : Room) (name : List ℕ) (p : FetchPartition) (log : LogValue) → log_at topics name p.index ≡ Some log → is_outside log p.offset ≡ false
-    → served_at topics room name p ≡ Ok (served_of log p.offset levels.ReadUncommitted (room_for room p) (not room.given))
-inside_served topics room name p log there inside =
-    ap (served_by room p) there ∙ ap (λ x. cond x (Err codes.OffsetOutOfRange) (Ok (served_of log p.offset levels.ReadUncommitted (room_for room p) (not room.given)))) inside
+inside_served : (level : Isolation) (topics : List TopicValue) (room : Room) (name : List ℕ) (p : FetchPartition) (log : LogValue) → log_at topics name p.index ≡ Some log → is_outside log p.offset ≡ false
+    → served_at level topics room name p ≡ Ok (served_of log p.offset level (room_for room p) (not room.given))
+inside_served level topics room name p log there inside =
+    ap (served_by level room p) there ∙ ap (λ x. cond x (Err codes.OffsetOutOfRange) (Ok (served_of log p.offset level (room_for room p) (not room.given)))) inside
 
-outside_served : (topics : List TopicValue) (room : Room) (name : List ℕ) (p : FetchPartition) (log : LogValue) → log_at topics name p.index ≡ Some log → is_outside log p.offset ≡ true → served_at topics room name p ≡ Err codes.OffsetOutOfRange
-outside_served topics room name p log there outside =
-    ap (served_by room p) there ∙ ap (λ x. cond x (Err codes.OffsetOutOfRange) (Ok (served_of log p.offset levels.ReadUncommitted (room_for room p) (not room.given)))) outside
+outside_served : (level : Isolation) (topics : List TopicValue) (room : Room) (name : List ℕ) (p : FetchPartition) (log : LogValue) → log_at topics name p.index ≡ Some log → is_outside log p.offset ≡ true → served_at level topics room name p ≡ Err codes.OffsetOutOfRange
+outside_served level topics room name p log there outside =
+    ap (served_by level room p) there ∙ ap (λ x. cond x (Err codes.OffsetOutOfRange) (Ok (served_of log p.offset level (room_for room p) (not room.given)))) outside
 
-within : (log : LogValue) (room : Room) (p : FetchPartition) → IsFetched log room p (fetched p (Ok (served_of log p.offset levels.ReadUncommitted (room_for room p) (not room.given)))) (room_after room (Ok (served_of log p.offset levels.ReadUncommitted (room_for room p) (not room.given))))
-within log room p = record {
-  batches = run_of log p.offset levels.ReadUncommitted (room_for room p) (not room.given);
-  served = run_served log p.offset (room_for room p) room.given;
+within : (level : Isolation) (log : LogValue) (room : Room) (p : FetchPartition) → IsFetched log room p (fetched level p (Ok (served_of log p.offset level (room_for room p) (not room.given)))) (room_after room (Ok (served_of log p.offset level (room_for room p) (not room.given))))
+within level log room p = record {
+  batches = run_of log p.offset level (room_for room p) (not room.given);
+  served = run_served level log p.offset (room_for room p) room.given;
   error = refl;
   records = refl;
   high = refl;
@@ -112,12 +111,12 @@ within log room p = record {
   left = refl;
 }
 
-unserved : (room : Room) (p : FetchPartition) (code : ErrorCode) (s : Result Served ErrorCode) → s ≡ Err code → ((fetched p s).error ≡ code) × IsUnserved room (fetched p s) (room_after room s)
-unserved room p code s is = subst (λ (x : Result Served ErrorCode). ((fetched p x).error ≡ code) × IsUnserved room (fetched p x) (room_after room x)) (sym is) (refl, record { records = refl; high = refl; left = refl })
+unserved : (level : Isolation) (room : Room) (p : FetchPartition) (code : ErrorCode) (s : Result Served ErrorCode) → s ≡ Err code → ((fetched level p s).error ≡ code) × IsUnserved room (fetched level p s) (room_after room s)
+unserved level room p code s is = subst (λ (x : Result Served ErrorCode). ((fetched level p x).error ≡ code) × IsUnserved room (fetched level p x) (room_after room x)) (sym is) (refl, record { records = refl; high = refl; left = refl })
 
 pub fetches_runs : FetchesRuns
 fetches_runs = record {
-  within = λ topics room name p log there inside. subst (λ (x : Result Served ErrorCode). IsFetched log room p (fetched p x) (room_after room x)) (sym (inside_served topics room name p log there inside)) (within log room p);
-  outside = λ topics room name p log there outside. unserved room p codes.OffsetOutOfRange (served_at topics room name p) (outside_served topics room name p log there outside);
-  missing = λ topics room name p none. unserved room p codes.UnknownTopicOrPartition (served_at topics room name p) (ap (served_by room p) none);
+  within = λ level topics room name p log there inside. subst (λ (x : Result Served ErrorCode). IsFetched log room p (fetched level p x) (room_after room x)) (sym (inside_served level topics room name p log there inside)) (within level log room p);
+  outside = λ level topics room name p log there outside. unserved level room p codes.OffsetOutOfRange (served_at level topics room name p) (outside_served level topics room name p log there outside);
+  missing = λ level topics room name p none. unserved level room p codes.UnknownTopicOrPartition (served_at level topics room name p) (ap (served_by level room p) none);
 }

@@ -1,5 +1,5 @@
 -- The answers to Produce, Fetch and ListOffsets depend on what the questions of their parts were granted.
-use Rattle.std.proofs.Common.{◌≡◌, ℕ, ℤ, pos, negsuc, length, eqb, ◌⊎◌, inl, inr, Bool, true, false, cond, List, [], ◌∷◌, ◌++◌, Option, Some, None, Result, Ok, Err, refl, sym, ap, subst, ◌∙◌}
+use Rattle.std.proofs.Common.{◌≡◌, ℕ, ℤ, pos, negsuc, length, eqb, ◌⊎◌, inl, inr, Bool, true, false, cond, List, [], ◌∷◌, Option, Some, None, Result, Ok, Err, refl, sym, ap, subst, ◌∙◌}
 use Rattle.std.specs.Prelude.{slice_get, int_lt}
 use Rattle.std.specs.Option.{option_map, option_and_then}
 use Rattle.std.specs.Str.{bytes_eq}
@@ -22,6 +22,7 @@ use Rattle.record_batch.specs.declared.header.BatchHeader.{BatchHeader}
 use Rattle.record_batch.specs.declared.fault.BatchFault.{BatchFault}
 use Rattle.record_batch.specs.BatchHeader.{is_transactional}
 use Rattle.record_batch.specs.Batch.{BatchData}
+use Rattle.msg_data.specs.declared.isolation.Isolation.{Isolation}
 use Rattle.msg_data.specs.declared.produce.ProducedRecords.{ProducedRecords}
 use Rattle.msg_data.specs.declared.fetch.FetchPartition.{FetchPartition}
 use Rattle.msg_admin.specs.declared.reply.Reply.TheVariants as replies
@@ -70,45 +71,45 @@ same_log us vs name index same = ap (option_and_then (log_of index)) same
 
 -- ---- Fetch
 
-same_served : (us vs : List TopicValue) (a b : Room) (name : List ℕ) (p : FetchPartition) → find_topic us name ≡ find_topic vs name → a ≡ b → served_at us a name p ≡ served_at vs b name p
-same_served us vs a b name p same room = ap (served_by a p) (same_log us vs name p.index same) ∙ ap (λ (r : Room). served_at vs r name p) room
+same_served : (level : Isolation) (us vs : List TopicValue) (a b : Room) (name : List ℕ) (p : FetchPartition) → find_topic us name ≡ find_topic vs name → a ≡ b → served_at level us a name p ≡ served_at level vs b name p
+same_served level us vs a b name p same room = ap (served_by level a p) (same_log us vs name p.index same) ∙ ap (λ (r : Room). served_at level vs r name p) room
 
-fetch_alike : (v w : World) (caller : Caller) → AreAlike (fetch_rule caller v.topics) (fetch_rule caller w.topics) (rules_of w) (λ name p. SameGranted v w ((fetch_rule caller w.topics).questions name p)) (λ a b. a ≡ b)
-fetch_alike v w caller = record {
+fetch_alike : (v w : World) (caller : Caller) (level : Isolation) → AreAlike (fetch_rule caller level v.topics) (fetch_rule caller level w.topics) (rules_of w) (λ name p. SameGranted v w ((fetch_rule caller level w.topics).questions name p)) (λ a b. a ≡ b)
+fetch_alike v w caller level = record {
   questions = λ name p. refl;
   refused = λ code name p. refl;
-  plain = λ a b name p is room none. ap (fetched p) (same_served v.topics w.topics a b name p (same_topic v w (asked caller operations.Read kinds.Topic name) is none) room);
+  plain = λ a b name p is room none. ap (fetched level p) (same_served level v.topics w.topics a b name p (same_topic v w (asked caller operations.Read kinds.Topic name) is none) room);
   after = λ a b name p is room none.
-      ap (λ (r : Room). room_after r (served_at v.topics a name p)) room
-      ∙ ap (room_after b) (same_served v.topics w.topics a b name p (same_topic v w (asked caller operations.Read kinds.Topic name) is none) room);
+      ap (λ (r : Room). room_after r (served_at level v.topics a name p)) room
+      ∙ ap (room_after b) (same_served level v.topics w.topics a b name p (same_topic v w (asked caller operations.Read kinds.Topic name) is none) room);
 }
 
 pub fetch_depends : FetchDependsOnGrants
 fetch_depends v w caller r base same =
-    let alike = answer_alike (fetch_rule caller v.topics) (fetch_rule caller w.topics) (rules_of w) (λ name p. SameGranted v w ((fetch_rule caller w.topics).questions name p)) (λ a b. a ≡ b) (fetch_alike v w caller) (whole_room r) (whole_room r) r.topics same refl in
-    let told = ap (λ (rules : Rules). answers (fetch_rule caller v.topics) rules (whole_room r) r.topics) base.rules ∙ alike.answers in
+    let alike = answer_alike (fetch_rule caller r.isolation v.topics) (fetch_rule caller r.isolation w.topics) (rules_of w) (λ name p. SameGranted v w ((fetch_rule caller r.isolation w.topics).questions name p)) (λ a b. a ≡ b) (fetch_alike v w caller r.isolation) (whole_room r) (whole_room r) r.topics same refl in
+    let told = ap (λ (rules : Rules). answers (fetch_rule caller r.isolation v.topics) rules (whole_room r) r.topics) base.rules ∙ alike.answers in
     record {
       reply = ap (λ topics. replies.Fetch (record { throttle = pos 0; topics = topics })) told;
-      refusals = ap (λ (rules : Rules). refusals (fetch_rule caller v.topics) rules r.topics) base.rules ∙ alike.refusals;
+      refusals = ap (λ (rules : Rules). refusals (fetch_rule caller r.isolation v.topics) rules r.topics) base.rules ∙ alike.refusals;
     }
 
 -- ---- ListOffsets
 
-list_alike : (v w : World) (caller : Caller) → AreAlike (list_rule caller v.topics) (list_rule caller w.topics) (rules_of w) (λ name p. SameGranted v w ((list_rule caller w.topics).questions name p)) (λ a b. a ≡ b)
-list_alike v w caller = record {
+list_alike : (v w : World) (caller : Caller) (level : Isolation) → AreAlike (list_rule caller level v.topics) (list_rule caller level w.topics) (rules_of w) (λ name p. SameGranted v w ((list_rule caller level w.topics).questions name p)) (λ a b. a ≡ b)
+list_alike v w caller level = record {
   questions = λ name p. refl;
   refused = λ code name p. refl;
-  plain = λ a b name p is world none. ap (listed_by p) (same_log v.topics w.topics name p.index (same_topic v w (asked caller operations.Describe kinds.Topic name) is none));
+  plain = λ a b name p is world none. ap (listed_by level p) (same_log v.topics w.topics name p.index (same_topic v w (asked caller operations.Describe kinds.Topic name) is none));
   after = λ a b name p is world none. world;
 }
 
 pub list_offsets_depends : ListOffsetsDependsOnGrants
 list_offsets_depends v w caller r base same =
-    let alike = answer_alike (list_rule caller v.topics) (list_rule caller w.topics) (rules_of w) (λ name p. SameGranted v w ((list_rule caller w.topics).questions name p)) (λ a b. a ≡ b) (list_alike v w caller) tt tt r.topics same refl in
-    let told = ap (λ (rules : Rules). answers (list_rule caller v.topics) rules tt r.topics) base.rules ∙ alike.answers in
+    let alike = answer_alike (list_rule caller r.isolation v.topics) (list_rule caller r.isolation w.topics) (rules_of w) (λ name p. SameGranted v w ((list_rule caller r.isolation w.topics).questions name p)) (λ a b. a ≡ b) (list_alike v w caller r.isolation) tt tt r.topics same refl in
+    let told = ap (λ (rules : Rules). answers (list_rule caller r.isolation v.topics) rules tt r.topics) base.rules ∙ alike.answers in
     record {
       reply = ap (λ topics. replies.ListOffsets (record { throttle = pos 0; topics = topics })) told;
-      refusals = ap (λ (rules : Rules). refusals (list_rule caller v.topics) rules r.topics) base.rules ∙ alike.refusals;
+      refusals = ap (λ (rules : Rules). refusals (list_rule caller r.isolation v.topics) rules r.topics) base.rules ∙ alike.refusals;
     }
 
 -- ---- Produce: a topic among topics of which one was appended to

@@ -4,6 +4,7 @@ pub mod AclParts
 pub mod Places
 pub mod Offsets
 pub mod Adds
+pub mod Held
 pub mod Wholes
 pub mod Histories
 pub mod BookBounds
@@ -16,6 +17,7 @@ pub mod DataGrants
 pub mod DataPartitions
 pub mod DataAnswers
 pub mod DataFetches
+pub mod Committed
 pub mod AclEdits
 pub mod Groups
 pub mod Recorded

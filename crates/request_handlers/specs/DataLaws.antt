@@ -6,7 +6,9 @@ use Rattle.record_batch.specs.Batch.{BatchData, IsBatch, next_offset}
 use Rattle.producer_state.specs.declared.judgment.Judgment.TheVariants.{Next, Repeat}
 use Rattle.producer_state.specs.Sequences.{judged as judged_by_log}
 use Rattle.partition_log.specs.Log.{end_of, at_end, stable}
+use Rattle.partition_log.specs.Fetch.{limit_of}
 use Rattle.partition_log.specs.Laws.{total_bytes}
+use Rattle.msg_data.specs.declared.isolation.Isolation.{Isolation}
 use Rattle.msg_data.specs.declared.produce.ProducedRecords.{ProducedRecords}
 use Rattle.msg_data.specs.declared.produce.ProducedOffset.{ProducedOffset}
 use Rattle.msg_data.specs.declared.fetch.FetchPartition.{FetchPartition}
@@ -60,10 +62,10 @@ pub record ProducesAsAnswered : Type 0 where
 
 -- ---- ListOffsets
 
--- of a partition that is there: the end for -1, the start for -2
+-- of a partition that is there: for -1 the end, as far as the reader sees, and the start for -2
 pub record ListsEnds : Type 0 where
-  pub end : (topics : List TopicValue) (name : List ℕ) (p : WantedOffset) (log : LogValue) → log_at topics name p.index ≡ Some log → p.timestamp ≡ negsuc 0 → listed topics name p ≡ listed_at (end_of log) p
-  pub start : (topics : List TopicValue) (name : List ℕ) (p : WantedOffset) (log : LogValue) → log_at topics name p.index ≡ Some log → p.timestamp ≡ negsuc 1 → listed topics name p ≡ listed_at (pos 0) p
+  pub end : (level : Isolation) (topics : List TopicValue) (name : List ℕ) (p : WantedOffset) (log : LogValue) → log_at topics name p.index ≡ Some log → p.timestamp ≡ negsuc 0 → listed level topics name p ≡ listed_at (limit_of level log) p
+  pub start : (level : Isolation) (topics : List TopicValue) (name : List ℕ) (p : WantedOffset) (log : LogValue) → log_at topics name p.index ≡ Some log → p.timestamp ≡ negsuc 1 → listed level topics name p ≡ listed_at (pos 0) p
 
 -- ---- Fetch
 
@@ -95,9 +97,9 @@ pub record IsUnserved (room : Room) (answer : FetchedRecords) (next : Room) : Ty
 
 -- an offset within the log is served, and one outside it or of a partition that isn't there is not
 pub record FetchesRuns : Type 0 where
-  pub within : (topics : List TopicValue) (room : Room) (name : List ℕ) (p : FetchPartition) (log : LogValue) → log_at topics name p.index ≡ Some log → is_outside log p.offset ≡ false
-      → IsFetched log room p (fetched p (served_at topics room name p)) (room_after room (served_at topics room name p))
-  pub outside : (topics : List TopicValue) (room : Room) (name : List ℕ) (p : FetchPartition) (log : LogValue) → log_at topics name p.index ≡ Some log → is_outside log p.offset ≡ true
-      → ((fetched p (served_at topics room name p)).error ≡ codes.OffsetOutOfRange) × IsUnserved room (fetched p (served_at topics room name p)) (room_after room (served_at topics room name p))
-  pub missing : (topics : List TopicValue) (room : Room) (name : List ℕ) (p : FetchPartition) → log_at topics name p.index ≡ None
-      → ((fetched p (served_at topics room name p)).error ≡ codes.UnknownTopicOrPartition) × IsUnserved room (fetched p (served_at topics room name p)) (room_after room (served_at topics room name p))
+  pub within : (level : Isolation) (topics : List TopicValue) (room : Room) (name : List ℕ) (p : FetchPartition) (log : LogValue) → log_at topics name p.index ≡ Some log → is_outside log p.offset ≡ false
+      → IsFetched log room p (fetched level p (served_at level topics room name p)) (room_after room (served_at level topics room name p))
+  pub outside : (level : Isolation) (topics : List TopicValue) (room : Room) (name : List ℕ) (p : FetchPartition) (log : LogValue) → log_at topics name p.index ≡ Some log → is_outside log p.offset ≡ true
+      → ((fetched level p (served_at level topics room name p)).error ≡ codes.OffsetOutOfRange) × IsUnserved room (fetched level p (served_at level topics room name p)) (room_after room (served_at level topics room name p))
+  pub missing : (level : Isolation) (topics : List TopicValue) (room : Room) (name : List ℕ) (p : FetchPartition) → log_at topics name p.index ≡ None
+      → ((fetched level p (served_at level topics room name p)).error ≡ codes.UnknownTopicOrPartition) × IsUnserved room (fetched level p (served_at level topics room name p)) (room_after room (served_at level topics room name p))

@@ -29,10 +29,10 @@ pub record SameAnswer (a b : Outcome) : Type 0 where
 
 -- worlds that agree on what a request was granted give it the same answer
 abbrev pub FetchDependsOnGrants : Type 0
-FetchDependsOnGrants = (v w : World) (caller : Caller) (r : FetchRequest) → SameBase v w → SameForParts v w (fetch_rule caller w.topics) r.topics → SameAnswer (fetch_outcome v caller r) (fetch_outcome w caller r)
+FetchDependsOnGrants = (v w : World) (caller : Caller) (r : FetchRequest) → SameBase v w → SameForParts v w (fetch_rule caller r.isolation w.topics) r.topics → SameAnswer (fetch_outcome v caller r) (fetch_outcome w caller r)
 
 abbrev pub ListOffsetsDependsOnGrants : Type 0
-ListOffsetsDependsOnGrants = (v w : World) (caller : Caller) (r : ListOffsetsRequest) → SameBase v w → SameForParts v w (list_rule caller w.topics) r.topics
+ListOffsetsDependsOnGrants = (v w : World) (caller : Caller) (r : ListOffsetsRequest) → SameBase v w → SameForParts v w (list_rule caller r.isolation w.topics) r.topics
     → SameAnswer (list_offsets_outcome v caller r) (list_offsets_outcome w caller r)
 
 abbrev pub ProduceDependsOnGrants : Type 0

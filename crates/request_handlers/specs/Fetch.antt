@@ -9,11 +9,13 @@ use Rattle.acl_binding.specs.Verdict.{asked}
 use Rattle.wire_types.specs.declared.error_code.ErrorCode.{ErrorCode}
 use Rattle.wire_types.specs.declared.error_code.ErrorCode.TheVariants as codes
 use Rattle.record_batch.specs.Batch.{BatchData}
-use Rattle.partition_log.specs.declared.isolation.Isolation.TheVariants as levels
 use Rattle.partition_log.specs.declared.served.Served.{Served}
 use Rattle.partition_log.specs.Log.{end_of}
 use Rattle.partition_log.specs.Fetch.{served_of}
 use Rattle.partition_log.specs.Laws.{total_bytes}
+use Rattle.msg_data.specs.declared.isolation.Isolation.{Isolation}
+use Rattle.msg_data.specs.declared.isolation.Isolation.TheVariants as levels
+use Rattle.msg_data.specs.declared.fetch.AbortedTransaction.{AbortedTransaction}
 use Rattle.msg_data.specs.declared.fetch.FetchRequest.{FetchRequest}
 use Rattle.msg_data.specs.declared.fetch.FetchPartition.{FetchPartition}
 use Rattle.msg_data.specs.declared.fetch.FetchedRecords.{FetchedRecords}
@@ -43,12 +45,12 @@ abbrev pub is_outside : LogValue → ℤ → Bool
 is_outside log offset = int_lt offset (pos 0) || int_lt (end_of log) offset
 
 -- What is served of a partition: where none of the answer was given a batch yet, one is forced.
-abbrev pub served_by : Room → FetchPartition → Option LogValue → Result Served ErrorCode
-served_by room p None = Err codes.UnknownTopicOrPartition
-served_by room p (Some log) = if is_outside log p.offset then Err codes.OffsetOutOfRange else Ok (served_of log p.offset levels.ReadUncommitted (room_for room p) (not room.given))
+abbrev pub served_by : Isolation → Room → FetchPartition → Option LogValue → Result Served ErrorCode
+served_by level room p None = Err codes.UnknownTopicOrPartition
+served_by level room p (Some log) = if is_outside log p.offset then Err codes.OffsetOutOfRange else Ok (served_of log p.offset level (room_for room p) (not room.given))
 
-abbrev pub served_at : List TopicValue → Room → List ℕ → FetchPartition → Result Served ErrorCode
-served_at topics room name p = served_by room p (log_at topics name p.index)
+abbrev pub served_at : Isolation → List TopicValue → Room → List ℕ → FetchPartition → Result Served ErrorCode
+served_at level topics room name p = served_by level room p (log_at topics name p.index)
 
 abbrev pub fetched_error : ErrorCode → FetchPartition → FetchedRecords
 fetched_error code p = record { index = p.index; error = code; high_watermark = negsuc 0; last_stable_offset = negsuc 0; aborted = None; records = [] }
@@ -57,20 +59,25 @@ fetched_error code p = record { index = p.index; error = code; high_watermark = 
 abbrev pub batch_bytes : List BatchData → List ℕ
 batch_bytes batches = flat_map (λ (b : BatchData). b.bytes) batches
 
-abbrev pub fetched : FetchPartition → Result Served ErrorCode → FetchedRecords
-fetched p (Err code) = fetched_error code p
-fetched p (Ok s) = record { index = p.index; error = codes.None; high_watermark = s.high; last_stable_offset = s.stable; aborted = None; records = batch_bytes s.batches }
+-- read_committed is told the aborted transactions, of which there may be none, and read_uncommitted no list
+abbrev pub list_told : Isolation → List AbortedTransaction → Option (List AbortedTransaction)
+list_told levels.ReadUncommitted list = None
+list_told levels.ReadCommitted list = Some list
+
+abbrev pub fetched : Isolation → FetchPartition → Result Served ErrorCode → FetchedRecords
+fetched level p (Err code) = fetched_error code p
+fetched level p (Ok s) = record { index = p.index; error = codes.None; high_watermark = s.high; last_stable_offset = s.stable; aborted = list_told level s.aborted; records = batch_bytes s.batches }
 
 abbrev pub room_after : Room → Result Served ErrorCode → Room
 room_after room (Err code) = room
 room_after room (Ok s) = less room s.batches
 
 -- it changes nothing but the room of its answer
-abbrev pub fetch_rule : Caller → List TopicValue → PartRule FetchPartition FetchedRecords Room
-fetch_rule caller topics = record {
+abbrev pub fetch_rule : Caller → Isolation → List TopicValue → PartRule FetchPartition FetchedRecords Room
+fetch_rule caller level topics = record {
   questions = λ name p. asked caller operations.Read kinds.Topic name ∷ [];
-  plain = λ room name p. fetched p (served_at topics room name p);
-  after = λ room name p. room_after room (served_at topics room name p);
+  plain = λ room name p. fetched level p (served_at level topics room name p);
+  after = λ room name p. room_after room (served_at level topics room name p);
   refused = λ code name p. fetched_error code p;
   weight = λ p. 0;
   room = λ room. 0;
@@ -85,6 +92,6 @@ whole_room r = record { left = magnitude r.max_bytes; given = false }
 abbrev pub fetch_outcome : World → Caller → FetchRequest → Outcome
 fetch_outcome w caller r = record {
   world = w;
-  reply = replies.Fetch (record { throttle = pos 0; topics = answers (fetch_rule caller w.topics) (rules_of w) (whole_room r) r.topics });
-  refusals = refusals (fetch_rule caller w.topics) (rules_of w) r.topics;
+  reply = replies.Fetch (record { throttle = pos 0; topics = answers (fetch_rule caller r.isolation w.topics) (rules_of w) (whole_room r) r.topics });
+  refusals = refusals (fetch_rule caller r.isolation w.topics) (rules_of w) r.topics;
 }

@@ -1,3 +1,4 @@
+pub mod Partitions
 pub mod World
 pub mod First
 pub mod Logs
@@ -29,6 +30,7 @@ pub mod Headline
 pub mod Tenants
 pub mod DataLaws
 pub mod DataTenants
+pub mod ReadLaws
 pub mod AclLaws
 pub mod ProducerLaws
 pub mod TxnLaws

@@ -8,7 +8,8 @@ use Rattle.acl_binding.specs.declared.words.Operation.TheVariants as operations
 use Rattle.acl_binding.specs.Verdict.{asked}
 use Rattle.wire_types.specs.declared.error_code.ErrorCode.{ErrorCode}
 use Rattle.wire_types.specs.declared.error_code.ErrorCode.TheVariants as codes
-use Rattle.partition_log.specs.Log.{end_of}
+use Rattle.partition_log.specs.Fetch.{limit_of}
+use Rattle.msg_data.specs.declared.isolation.Isolation.{Isolation}
 use Rattle.msg_data.specs.declared.list_offsets.ListOffsetsRequest.{ListOffsetsRequest}
 use Rattle.msg_data.specs.declared.list_offsets.WantedOffset.{WantedOffset}
 use Rattle.msg_data.specs.declared.list_offsets.FoundOffset.{FoundOffset}
@@ -27,23 +28,24 @@ listed_error code p = record { index = p.index; error = code; timestamp = negsuc
 abbrev pub listed_at : ℤ → WantedOffset → FoundOffset
 listed_at offset p = record { index = p.index; error = codes.None; timestamp = negsuc 0; offset = offset }
 
--- the timestamp -1 wants the high watermark, and -2 the first offset; no other one is looked up
-abbrev pub listed_in : LogValue → WantedOffset → FoundOffset
-listed_in log p = if int_eq p.timestamp (negsuc 0) then listed_at (end_of log) p else if int_eq p.timestamp (negsuc 1) then listed_at (pos 0) p else listed_error codes.InvalidRequest p
+-- the timestamp -1 wants the high watermark, or with read_committed the last stable offset, and -2 the first offset; no
+-- other one is looked up
+abbrev pub listed_in : Isolation → LogValue → WantedOffset → FoundOffset
+listed_in level log p = if int_eq p.timestamp (negsuc 0) then listed_at (limit_of level log) p else if int_eq p.timestamp (negsuc 1) then listed_at (pos 0) p else listed_error codes.InvalidRequest p
 
 -- whether the partition is there comes first
-abbrev pub listed_by : WantedOffset → Option LogValue → FoundOffset
-listed_by p None = listed_error codes.UnknownTopicOrPartition p
-listed_by p (Some log) = listed_in log p
+abbrev pub listed_by : Isolation → WantedOffset → Option LogValue → FoundOffset
+listed_by level p None = listed_error codes.UnknownTopicOrPartition p
+listed_by level p (Some log) = listed_in level log p
 
-abbrev pub listed : List TopicValue → List ℕ → WantedOffset → FoundOffset
-listed topics name p = listed_by p (log_at topics name p.index)
+abbrev pub listed : Isolation → List TopicValue → List ℕ → WantedOffset → FoundOffset
+listed level topics name p = listed_by level p (log_at topics name p.index)
 
 -- it changes nothing
-abbrev pub list_rule : Caller → List TopicValue → PartRule WantedOffset FoundOffset (Unit {0})
-list_rule caller topics = record {
+abbrev pub list_rule : Caller → Isolation → List TopicValue → PartRule WantedOffset FoundOffset (Unit {0})
+list_rule caller level topics = record {
   questions = λ name p. asked caller operations.Describe kinds.Topic name ∷ [];
-  plain = λ w name p. listed topics name p;
+  plain = λ w name p. listed level topics name p;
   after = λ w name p. w;
   refused = λ code name p. listed_error code p;
   weight = λ p. 0;
@@ -56,6 +58,6 @@ list_rule caller topics = record {
 abbrev pub list_offsets_outcome : World → Caller → ListOffsetsRequest → Outcome
 list_offsets_outcome w caller r = record {
   world = w;
-  reply = replies.ListOffsets (record { throttle = pos 0; topics = answers (list_rule caller w.topics) (rules_of w) tt r.topics });
-  refusals = refusals (list_rule caller w.topics) (rules_of w) r.topics;
+  reply = replies.ListOffsets (record { throttle = pos 0; topics = answers (list_rule caller r.isolation w.topics) (rules_of w) tt r.topics });
+  refusals = refusals (list_rule caller r.isolation w.topics) (rules_of w) r.topics;
 }

@@ -2,7 +2,7 @@
 
 ghost use Rattle.std.specs.Prelude.{◌≡◌, IfOk};
 ghost use Rattle.std.specs.Option.{option_copied};
-ghost use Rattle.request_handlers.specs.Fetch.{room_for, less, served_by, served_at, fetched_error, batch_bytes, fetched, room_after, whole_room, fetch_outcome};
+ghost use Rattle.request_handlers.specs.Fetch.{room_for, less, served_by, served_at, fetched_error, batch_bytes, list_told, fetched, room_after, whole_room, fetch_outcome};
 
 use crate::numbers::magnitude;
 use crate::outcome::Outcome;
@@ -13,24 +13,27 @@ use acl_binding::{Caller, Kind, Operation};
 use authorizer::{Policy, ask_one};
 use bytes::Bytes;
 use msg_admin::Reply;
-use msg_data::{FetchPartition, FetchReply, FetchRequest, FetchedRecords};
-use partition_log::{FetchFault, Isolation, Log, Served};
+use msg_data::{
+    AbortedTransaction, FetchPartition, FetchReply, FetchRequest, FetchedRecords, Isolation,
+};
+use partition_log::{FetchFault, Log, Served};
 use record_batch::Batch;
 use std::alloc::{AllocError, Global};
 use walk::{Part, PartApi, refusal_code, walk};
-use wire_types::{ErrorCode, Text};
+use wire_types::{ErrorCode, Items, Text};
 
-/// Who fetches, and from what.
+/// Who fetches, what that reader sees of transactions, and from what.
 #[derive(Drop)]
 pub(crate) struct Fetching<'a> {
     pub(crate) caller: &'a Caller,
+    pub(crate) isolation: Isolation,
     pub(crate) topics: &'a Topics,
 }
 
 impl<'a> PartApi<FetchPartition, FetchedRecords, Room> for Fetching<'a> {
     ghost use Rattle.request_handlers.specs.Fetch.{fetch_rule};
 
-    ghost rule = { λ api. fetch_rule api.caller.now api.topics.now };
+    ghost rule = { λ api. fetch_rule api.caller.now api.isolation api.topics.now };
 
     fn serve(
         &self,
@@ -44,9 +47,9 @@ impl<'a> PartApi<FetchPartition, FetchedRecords, Room> for Fetching<'a> {
         match ask_one(policy, topic) {
             Ok(permit) => {
                 permit.spend(policy);
-                let served = serve(alloc, self.topics, *room, name, part)?;
+                let served = serve(alloc, self.topics, self.isolation, *room, name, part)?;
                 *room = room.after(&served);
-                Ok(Part::served(fetched(alloc, part, &served)?))
+                Ok(Part::served(fetched(alloc, part, self.isolation, served)?))
             }
             Err(refusal) => {
                 let answer = fetched_error(refusal_code(&refusal), part);
@@ -60,34 +63,30 @@ impl<'a> PartApi<FetchPartition, FetchedRecords, Room> for Fetching<'a> {
 fn serve(
     alloc: Global,
     topics: &Topics,
+    isolation: Isolation,
     room: Room,
     name: &Text,
     part: &FetchPartition,
 ) -> Result<Result<Served, ErrorCode>, AllocError>
-    ensures { IfOk result (λ served. served ≡ served_at topics.now room name.now part.now) }
+    ensures { IfOk result (λ served. served ≡ served_at isolation topics.now room name.now part.now) }
 {
-    serve_from(alloc, topics.log(name, part.index), room, part)
+    serve_from(alloc, topics.log(name, part.index), isolation, room, part)
 }
 
 fn serve_from(
     alloc: Global,
     log: Option<&Log>,
+    isolation: Isolation,
     room: Room,
     part: &FetchPartition,
 ) -> Result<Result<Served, ErrorCode>, AllocError>
-    ensures { IfOk result (λ served. served ≡ served_by room part.now (option_copied log.entry)) }
+    ensures { IfOk result (λ served. served ≡ served_by isolation room part.now (option_copied log.entry)) }
 {
     let Some(log) = log else {
         return Ok(Err(ErrorCode::UnknownTopicOrPartition));
     };
     let most = room.most_for(part);
-    match log.fetch(
-        alloc,
-        part.offset,
-        Isolation::ReadUncommitted,
-        most,
-        !room.given,
-    ) {
+    match log.fetch(alloc, part.offset, isolation, most, !room.given) {
         Ok(served) => Ok(Ok(served)),
         Err(FetchFault::OutOfRange) => Ok(Err(ErrorCode::OffsetOutOfRange)),
         Err(FetchFault::NoMemory) => Err(AllocError),
@@ -144,9 +143,10 @@ fn fetched_error(error: ErrorCode, part: &FetchPartition) -> FetchedRecords
 fn fetched(
     alloc: Global,
     part: &FetchPartition,
-    served: &Result<Served, ErrorCode>,
+    isolation: Isolation,
+    served: Result<Served, ErrorCode>,
 ) -> Result<FetchedRecords, AllocError>
-    ensures { IfOk result (λ answer. answer ≡ fetched part.now served.now) }
+    ensures { IfOk result (λ answer. answer ≡ fetched isolation part.now served) }
 {
     match served {
         Ok(served) => Ok(FetchedRecords {
@@ -154,10 +154,23 @@ fn fetched(
             error: ErrorCode::None,
             high_watermark: served.high,
             last_stable_offset: served.stable,
-            aborted: None,
             records: joined(alloc, served.batches.as_slice())?,
+            aborted: list_told(isolation, served.aborted),
         }),
-        Err(code) => Ok(fetched_error(*code, part)),
+        Err(code) => Ok(fetched_error(code, part)),
+    }
+}
+
+/// The list of aborted transactions, for a reader that needs one.
+fn list_told(
+    isolation: Isolation,
+    aborted: Items<AbortedTransaction>,
+) -> Option<Items<AbortedTransaction>>
+    ensures { result ≡ list_told isolation aborted }
+{
+    match isolation {
+        Isolation::ReadUncommitted => None,
+        Isolation::ReadCommitted => Some(aborted),
     }
 }
 
@@ -185,6 +198,7 @@ impl State {
     {
         let api = Fetching {
             caller,
+            isolation: request.isolation,
             topics: self.topics(),
         };
         let mut room = whole_room(request);

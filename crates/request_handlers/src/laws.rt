@@ -4,6 +4,7 @@ ghost use Rattle.request_handlers.specs.Core.{WholeRuns};
 ghost use Rattle.request_handlers.specs.Headline.{AnswersEachTopic, RefusesEachTopic};
 ghost use Rattle.request_handlers.specs.Tenants.{DependsOnGrants};
 ghost use Rattle.request_handlers.specs.DataLaws.{ProducesAsAnswered, FetchesRuns, ListsEnds};
+ghost use Rattle.request_handlers.specs.ReadLaws.{ReadsCommitted, FetchesCommitted};
 ghost use Rattle.request_handlers.specs.ProducerLaws.{HoldsOnce, InitsOnce, InitDependsOnGrants};
 ghost use Rattle.request_handlers.specs.TxnLaws.{AddsAllOrNone, TransactionsDependOnGrants, TransactionsKeepTheRest};
 ghost use Rattle.request_handlers.specs.GroupLaws.{GroupsDependOnGrants, GroupsKeepTheRest};
@@ -42,7 +43,18 @@ pub fn fetches_runs()
     ensures { FetchesRuns }
 {}
 
-/// An allowed partition of a ListOffsets is told the end of its log, or the start.
+/// Where the topics hold logs, a partition that is answered without an error shows a consumer with read_committed the
+/// committed records of the served run, and no others.
+pub fn reads_committed()
+    ensures { ReadsCommitted }
+{}
+
+/// Each read_committed Fetch of a core shows consumers exactly the committed records of what was served.
+pub fn fetches_committed()
+    ensures { FetchesCommitted }
+{}
+
+/// An allowed partition of a ListOffsets is told the end of its log as far as the reader sees, or the start.
 pub fn lists_ends()
     ensures { ListsEnds }
 {}

@@ -2,7 +2,7 @@
 
 ghost use Rattle.std.specs.Prelude.{◌≡◌, IfOk};
 ghost use Rattle.std.specs.Option.{option_copied};
-ghost use Rattle.request_handlers.specs.ListOffsets.{listed_error, listed_at, listed_by, list_offsets_outcome};
+ghost use Rattle.request_handlers.specs.ListOffsets.{listed_error, listed_at, listed_by, listed, list_offsets_outcome};
 
 use crate::outcome::Outcome;
 use crate::state::State;
@@ -10,29 +10,30 @@ use crate::topics::Topics;
 use acl_binding::{Caller, Kind, Operation};
 use authorizer::{Policy, ask_one};
 use msg_admin::Reply;
-use msg_data::{FoundOffset, ListOffsetsReply, ListOffsetsRequest, WantedOffset};
+use msg_data::{FoundOffset, Isolation, ListOffsetsReply, ListOffsetsRequest, WantedOffset};
 use partition_log::Log;
 use std::alloc::{AllocError, Global};
 use walk::{Part, PartApi, refusal_code, walk};
 use wire_types::{ErrorCode, Text};
 
-/// The timestamp that wants the high watermark.
+/// The timestamp that wants the offset up to which a reader sees.
 const END: i64 = -1;
 
 /// The timestamp that wants the first offset.
 const START: i64 = -2;
 
-/// Who asks for offsets, and of what.
+/// Who asks for offsets, what that reader sees of transactions, and of what.
 #[derive(Drop)]
 pub(crate) struct Listing<'a> {
     pub(crate) caller: &'a Caller,
+    pub(crate) isolation: Isolation,
     pub(crate) topics: &'a Topics,
 }
 
 impl<'a> PartApi<WantedOffset, FoundOffset, ()> for Listing<'a> {
     ghost use Rattle.request_handlers.specs.ListOffsets.{list_rule};
 
-    ghost rule = { λ api. list_rule api.caller.now api.topics.now };
+    ghost rule = { λ api. list_rule api.caller.now api.isolation api.topics.now };
 
     fn serve(
         &self,
@@ -46,8 +47,8 @@ impl<'a> PartApi<WantedOffset, FoundOffset, ()> for Listing<'a> {
         match ask_one(policy, topic) {
             Ok(permit) => {
                 permit.spend(policy);
-                let log = self.topics.log(name, part.index);
-                Ok(Part::served(listed(log, part)))
+                let answer = listed(self.topics, self.isolation, name, part);
+                Ok(Part::served(answer))
             }
             Err(refusal) => {
                 let answer = listed_error(refusal_code(&refusal), part);
@@ -57,12 +58,19 @@ impl<'a> PartApi<WantedOffset, FoundOffset, ()> for Listing<'a> {
     }
 }
 
+/// The answer for a topic's partition.
+fn listed(topics: &Topics, isolation: Isolation, name: &Text, part: &WantedOffset) -> FoundOffset
+    ensures { result ≡ listed isolation topics.now name.now part.now }
+{
+    listed_by(topics.log(name, part.index), isolation, part)
+}
+
 /// The answer for a partition, if it is there.
-fn listed(log: Option<&Log>, part: &WantedOffset) -> FoundOffset
-    ensures { result ≡ listed_by part.now (option_copied log.entry) }
+fn listed_by(log: Option<&Log>, isolation: Isolation, part: &WantedOffset) -> FoundOffset
+    ensures { result ≡ listed_by isolation part.now (option_copied log.entry) }
 {
     match log {
-        Some(log) if part.timestamp == END => listed_at(log.end(), part),
+        Some(log) if part.timestamp == END => listed_at(log.limit(isolation), part),
         Some(_) if part.timestamp == START => listed_at(0, part),
         Some(_) => listed_error(ErrorCode::InvalidRequest, part),
         None => listed_error(ErrorCode::UnknownTopicOrPartition, part),
@@ -104,6 +112,7 @@ impl State {
     {
         let api = Listing {
             caller,
+            isolation: request.isolation,
             topics: self.topics(),
         };
         let walked = walk(

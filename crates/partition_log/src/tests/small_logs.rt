@@ -1,0 +1,218 @@
+//! All logs of a few batches of two producers: what is served of them, and what a consumer shows.
+
+use crate::fault::FetchFault;
+use crate::log::Log;
+use crate::tests::plain::{Ask, Entry, Kind, end, is_served, is_shown};
+use crate::tests::{ONE, RICH};
+use crate::view::consumer_view;
+use bytes::Bytes;
+use msg_data::Isolation;
+use producer_state::Judgment;
+use record_batch::{Batch, Outcome, crc32c};
+use std::alloc::{AllocError, Global};
+use std::test::Fail;
+
+/// How many batches a log has at most.
+const MOST: u32 = 6;
+
+/// A log, and the plain list of its entries.
+#[derive(Drop)]
+struct Small {
+    log: Log,
+    entries: Vec<Entry>,
+}
+
+/// One record of a producer that is in no transaction.
+fn plain_bytes(producer: u8, sequence: u8) -> [u8; 69] {
+    let mut bytes = ONE;
+    for place in 43..57 {
+        bytes[place] = 0;
+    }
+    bytes[50] = producer;
+    bytes[56] = sequence;
+    let [a, b, c, d] = crc32c(&bytes[21..]).to_be_bytes();
+    bytes[17] = a;
+    bytes[18] = b;
+    bytes[19] = c;
+    bytes[20] = d;
+    bytes
+}
+
+/// Three records of a producer's transaction.
+fn transactional_bytes(producer: u8, sequence: u8) -> [u8; 95] {
+    let mut bytes = RICH;
+    bytes[50] = producer;
+    bytes[52] = 0;
+    bytes[56] = sequence;
+    let [a, b, c, d] = crc32c(&bytes[21..]).to_be_bytes();
+    bytes[17] = a;
+    bytes[18] = b;
+    bytes[19] = c;
+    bytes[20] = d;
+    bytes
+}
+
+/// The sequence number that the producer goes on with.
+fn sequence(entries: &[Entry], producer: u8) -> u8 {
+    let mut sequence = 0u8;
+    for entry in entries {
+        if entry.producer == i64::from(producer) {
+            sequence = match entry.kind {
+                Kind::Transactional => sequence.saturating_add(3),
+                Kind::Plain => sequence.saturating_add(1),
+                Kind::Commit | Kind::Abort => sequence,
+            };
+        }
+    }
+    sequence
+}
+
+/// Appends records, if they are the next ones of their producer.
+fn send(alloc: Global, log: &mut Log, bytes: &[u8]) -> Result<bool, AllocError> {
+    let bytes = Bytes::copy_from_slice(alloc, bytes)?;
+    let Ok(batch) = Batch::check(bytes, 1000) else {
+        return Ok(false);
+    };
+    if !log.has_room(&batch) {
+        return Ok(false);
+    }
+    match log.judge(&batch) {
+        Judgment::Next => {
+            log.append(alloc, batch)?;
+            Ok(true)
+        }
+        _ => Ok(false),
+    }
+}
+
+fn mark(alloc: Global, log: &mut Log, outcome: Outcome, producer: u8) -> Result<bool, AllocError> {
+    if log.end() >= 1000 {
+        return Ok(false);
+    }
+    log.append_marker(alloc, outcome, i64::from(producer), 0, 1000)?;
+    Ok(true)
+}
+
+fn append(alloc: Global, small: &mut Small, kind: Kind, producer: u8) -> Result<bool, AllocError> {
+    let sequence = sequence(&small.entries, producer);
+    let log = &mut small.log;
+    match kind {
+        Kind::Transactional => send(alloc, log, &transactional_bytes(producer, sequence)),
+        Kind::Plain => send(alloc, log, &plain_bytes(producer, sequence)),
+        Kind::Commit => mark(alloc, log, Outcome::Commit, producer),
+        Kind::Abort => mark(alloc, log, Outcome::Abort, producer),
+    }
+}
+
+/// The entry of a kind at the end of the log.
+fn entry_at(base: i64, kind: Kind, producer: u8) -> Entry {
+    let (records, size) = match kind {
+        Kind::Transactional => (3, 95),
+        Kind::Plain => (1, 69),
+        Kind::Commit | Kind::Abort => (1, 78),
+    };
+    Entry {
+        kind,
+        producer: i64::from(producer),
+        base,
+        next: base.saturating_add(records),
+        size,
+    }
+}
+
+fn kind_of(digit: u32) -> Kind {
+    match digit % 4 {
+        0 => Kind::Transactional,
+        1 => Kind::Plain,
+        2 => Kind::Commit,
+        _ => Kind::Abort,
+    }
+}
+
+/// The log of so many batches that a number tells, a digit for each.
+fn log_of(alloc: Global, number: u32, length: u32) -> Result<Option<Small>, AllocError> {
+    let mut small = Small {
+        log: Log::new(alloc),
+        entries: Vec::new(alloc),
+    };
+    let mut digits = number;
+    for _ in 0..length {
+        let kind = kind_of(digits);
+        let producer = if digits / 4 % 2 == 0 { 0 } else { 1 };
+        if !append(alloc, &mut small, kind, producer)? {
+            return Ok(None);
+        }
+        let entry = entry_at(end(&small.entries), kind, producer);
+        small.entries.push(entry)?;
+        digits /= 8;
+    }
+    Ok(Some(small))
+}
+
+/// Whether the log answers what the plain list of its entries says.
+fn is_right(alloc: Global, small: &Small, ask: &Ask) -> Result<bool, AllocError> {
+    let answer = small
+        .log
+        .fetch(alloc, ask.offset, ask.isolation, ask.room, ask.forced);
+    match answer {
+        Ok(served) => {
+            let view = consumer_view(alloc, &served, ask.offset)?;
+            let shown = match ask.isolation {
+                Isolation::ReadCommitted => is_shown(&small.entries, ask, &view),
+                Isolation::ReadUncommitted => true,
+            };
+            Ok(shown && is_served(&small.entries, ask, &served))
+        }
+        Err(FetchFault::OutOfRange) => Ok(ask.offset < 0 || ask.offset > end(&small.entries)),
+        Err(FetchFault::NoMemory) => Err(AllocError),
+    }
+}
+
+/// From an offset on, in room for no batch, for some and for all, forced or not, and with both levels.
+fn are_right(alloc: Global, small: &Small, offset: i64) -> Result<bool, AllocError> {
+    for room in [0, 95, 173, 1000] {
+        for forced in [false, true] {
+            for isolation in [Isolation::ReadUncommitted, Isolation::ReadCommitted] {
+                let ask = Ask {
+                    offset,
+                    isolation,
+                    room,
+                    forced,
+                };
+                if !is_right(alloc, small, &ask)? {
+                    return Ok(false);
+                }
+            }
+        }
+    }
+    Ok(true)
+}
+
+/// From each offset on, and from one below the log and one behind its end.
+fn is_right_from_each(alloc: Global, small: &Small) -> Result<bool, AllocError> {
+    for offset in -1..end(&small.entries).saturating_add(2) {
+        if !are_right(alloc, small, offset)? {
+            return Ok(false);
+        }
+    }
+    Ok(true)
+}
+
+/// All logs of so many batches, the last of them of producer 0: with the two exchanged a log is the same.
+fn all_are_right(alloc: Global, length: u32) -> Result<bool, AllocError> {
+    for number in 0..8u32.saturating_pow(length).div_ceil(2) {
+        match log_of(alloc, number, length)? {
+            Some(small) if is_right_from_each(alloc, &small)? => (),
+            _ => return Ok(false),
+        }
+    }
+    Ok(true)
+}
+
+#[test]
+fn small_logs_are_served_as_listed(rt: HostRuntime) -> Result<(), Fail> {
+    for length in 0..MOST + 1 {
+        assert!(rt; all_are_right(rt.alloc(), length)?, "of {length} batches");
+    }
+    Ok(())
+}

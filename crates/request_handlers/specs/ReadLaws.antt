@@ -1,0 +1,55 @@
+-- What a consumer with read_committed is shown of a Fetch (KIP-98, "Consumer"; Kafka protocol guide, isolation_level 1).
+use Rattle.std.specs.Prelude.{◌≡◌, ◌≤◌, ℕ, ℤ, pos, false, not, List, Option, Some}
+use Rattle.wire_types.specs.declared.error_code.ErrorCode.TheVariants as codes
+use Rattle.wire_types.specs.declared.topic.Topic.{Topic}
+use Rattle.acl_binding.specs.declared.question.Caller.{Caller}
+use Rattle.record_batch.specs.Batch.{BatchData}
+use Rattle.partition_log.specs.Log.{IsLog, end_from, end_of, stable, committed}
+use Rattle.partition_log.specs.Fetch.{run_of}
+use Rattle.partition_log.specs.Filter.{filtered}
+use Rattle.msg_data.specs.declared.isolation.Isolation.TheVariants.{ReadCommitted}
+use Rattle.msg_data.specs.declared.fetch.AbortedTransaction.{AbortedTransaction}
+use Rattle.msg_data.specs.declared.fetch.FetchRequest.{FetchRequest}
+use Rattle.msg_data.specs.declared.fetch.FetchPartition.{FetchPartition}
+use Rattle.msg_data.specs.declared.fetch.FetchedRecords.{FetchedRecords}
+use Rattle.msg_admin.specs.declared.request.Request.TheVariants.{Fetch}
+use Rattle.msg_admin.specs.declared.reply.Reply.TheVariants as replies
+use Rattle.audit_trail.specs.declared.event.Event.TheVariants.{Ask}
+use Rattle.walk.specs.Headline.{at}
+use Rattle.request_handlers.specs.declared.room.Room.{Room}
+use Rattle.request_handlers.specs.World.{LogValue, TopicValue}
+use Rattle.request_handlers.specs.Logs.{log_at, HoldLogs}
+use Rattle.request_handlers.specs.Fetch.{room_for, batch_bytes, served_at, fetched}
+use Rattle.request_handlers.specs.Step.{reply_to}
+use Rattle.request_handlers.specs.Core.{CoreValue, IsCore}
+
+-- The partition is there. It is answered the bytes of a run of its log, and the list that goes with them. What a
+-- consumer makes of the two, which never sees the log, is the records from the asked offset to the end of the run that
+-- are of no transaction, or of one that was committed.
+pub record ShowsCommitted (topics : List TopicValue) (name : List ℕ) (p : FetchPartition) (a : FetchedRecords) : Type 0 where
+  pub log : LogValue
+  pub there : log_at topics name p.index ≡ Some log
+  -- what was left of the request's bytes
+  pub room : Room
+  pub batches : List BatchData
+  pub list : List AbortedTransaction
+  pub run : batches ≡ run_of log p.offset ReadCommitted (room_for room p) (not room.given)
+  pub records : a.records ≡ batch_bytes batches
+  pub aborted : a.aborted ≡ Some list
+  pub high : a.high_watermark ≡ end_of log
+  pub last_stable : a.last_stable_offset ≡ stable log
+  pub shown : filtered batches list p.offset ≡ committed log p.offset (end_from p.offset batches)
+
+-- a partition that is answered no error, among topics that hold logs
+abbrev pub ReadsCommitted : Type 0
+ReadsCommitted = (topics : List TopicValue) (room : Room) (name : List ℕ) (p : FetchPartition) → HoldLogs topics
+    → (fetched ReadCommitted p (served_at ReadCommitted topics room name p)).error ≡ codes.None
+    → ShowsCommitted topics name p (fetched ReadCommitted p (served_at ReadCommitted topics room name p))
+
+-- Whatever a core has seen: each partition that a Fetch with read_committed is answered without an error shows consumers
+-- exactly the committed records of what was served. Partitions stand at the places at which they were asked for.
+abbrev pub FetchesCommitted : Type 0
+FetchesCommitted = (core : CoreValue) (caller : Caller) (client : Option (List ℕ)) (r : FetchRequest) (answered : List (Topic FetchedRecords)) → IsCore core → core.down ≡ false → r.isolation ≡ ReadCommitted
+    → reply_to core.world (Ask caller client (Fetch r)) ≡ replies.Fetch (record { throttle = pos 0; topics = answered })
+    → (i j : ℕ) (t : Topic FetchPartition) (p : FetchPartition) (told : Topic FetchedRecords) (a : FetchedRecords) → at r.topics i ≡ Some t → at t.partitions j ≡ Some p → at answered i ≡ Some told → at told.partitions j ≡ Some a
+    → a.error ≡ codes.None → ShowsCommitted core.world.topics t.name p a
