@@ -1,5 +1,8 @@
 //! One broker for the tests: three topics, one of which ann may describe.
 
+ghost use Rattle.std.specs.Prelude.{IfSome};
+ghost use Rattle.request_handlers.specs.Core.{EventFits};
+
 use crate::Core;
 use acl_binding::{Binding, Caller, Kind, Operation, Pattern, Permission};
 use audit_trail::Event;
@@ -58,6 +61,30 @@ pub(crate) fn core(alloc: Global, trail_limit: i64) -> Result<Core, OpenFault> {
     }
 }
 
+fn caller(alloc: Global, who: &str, host: &str) -> Result<Caller, AllocError> {
+    Ok(Caller {
+        who: Text::of(alloc, who)?,
+        host: Text::of(alloc, host)?,
+    })
+}
+
+/// The correlation id of a frame, which is given without its size field, and the event that it asks for.
+fn asked(alloc: Global, caller: Caller, frame: &Bytes) -> Option<(i32, Event)>
+    ensures { IfSome result (λ asked. EventFits asked.1) }
+{
+    let (header, request) = read_request(alloc, frame).ok()?;
+    if !request.fits() {
+        return None;
+    }
+    let client = header.client;
+    let event = Event::Ask {
+        caller,
+        client,
+        request,
+    };
+    Some((header.correlation, event))
+}
+
 /// What the core answers to a frame, which is given without its size field.
 pub(crate) fn answer(
     alloc: Global,
@@ -67,21 +94,10 @@ pub(crate) fn answer(
     frame: &[u8],
 ) -> Option<Bytes> {
     let frame = Bytes::copy_from_slice(alloc, frame).ok()?;
-    let (header, request) = read_request(alloc, &frame).ok()?;
-    if !request.fits() {
-        return None;
-    }
-    let caller = Caller {
-        who: Text::of(alloc, who).ok()?,
-        host: Text::of(alloc, host).ok()?,
-    };
-    let event = Event::Ask {
-        caller,
-        client: header.client,
-        request,
-    };
+    let caller = caller(alloc, who, host).ok()?;
+    let (correlation, event) = asked(alloc, caller, &frame)?;
     let receipt = core.step(event).ok()?;
-    write_reply(alloc, header.correlation, receipt.reply.value()).ok()
+    write_reply(alloc, correlation, receipt.reply.value()).ok()
 }
 
 pub(crate) fn is(answer: Option<Bytes>, bytes: &[u8]) -> bool {
