@@ -1,6 +1,7 @@
 //! Scripts, and what they are answered.
 
 mod acls;
+mod committed;
 mod devices;
 mod producers;
 mod scripts;
