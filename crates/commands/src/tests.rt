@@ -2,6 +2,7 @@
 
 mod acls;
 mod devices;
+mod groups;
 mod producers;
 mod scripts;
 mod transactions;
