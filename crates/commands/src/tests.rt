@@ -3,6 +3,7 @@
 mod acls;
 mod committed;
 mod devices;
+mod groups;
 mod producers;
 mod scripts;
 mod transactions;

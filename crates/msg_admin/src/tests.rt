@@ -1,6 +1,7 @@
 //! Whole frames of Metadata, as they travel.
 
 mod data;
+mod groups;
 mod transactions;
 mod versions;
 
