@@ -25,3 +25,4 @@ pub mod Initials
 pub mod Together
 pub mod Sequenced
 pub mod Grouped
+pub mod Rows
