@@ -1,7 +1,10 @@
 pub mod Reading
 pub mod Logs
+pub mod Offsets
+pub mod Walks
 pub mod Passing
 pub mod Produced
+pub mod Noted
 pub mod Turns
 pub mod Steps
 pub mod Reached

@@ -1,0 +1,157 @@
+-- The moves of an OffsetCommit and of a TxnOffsetCommit lead where their partitions do, and a group keeps its events.
+use Rattle.std.proofs.Common.{◌≡◌, ℕ, List, [], ◌∷◌, ◌++◌, map, Option, Some, None, Bool, true, false, cond, refl, sym, ap, ◌∙◌, append-nil, append_assoc}
+use Rattle.std.specs.Str.{bytes_eq}
+use Rattle.acl_binding.specs.declared.question.Caller.{Caller}
+use Rattle.wire_types.specs.declared.error_code.ErrorCode.{ErrorCode}
+use Rattle.msg_group.specs.declared.offset_commit.OffsetCommitRequest.{OffsetCommitRequest}
+use Rattle.msg_group.specs.declared.offset_commit.OffsetToCommit.{OffsetToCommit}
+use Rattle.msg_txn.specs.declared.txn_offset_commit.TxnOffsetCommitRequest.{TxnOffsetCommitRequest}
+use Rattle.msg_txn.specs.declared.txn_offset_commit.OffsetToStage.{OffsetToStage}
+use Rattle.walk.specs.Steps.{topics_world}
+use Rattle.txn_coordinator.specs.declared.target.Target.TheVariants.{Group}
+use Rattle.group_offsets.specs.declared.event.PartitionOffset.{PartitionOffset}
+use Rattle.group_offsets.specs.declared.event.OffsetEvent.{OffsetEvent}
+use Rattle.group_offsets.specs.declared.event.OffsetEvent.TheVariants.{Put, Stage}
+use Rattle.group_offsets.specs.declared.group.Group.{Group as GroupValue}
+use Rattle.group_offsets.specs.Group.{commit_refusal, stage_refusal, with_event, noted}
+use Rattle.group_offsets.specs.Groups.{group_of, put, turned}
+use Rattle.txn_laws.specs.Small.{World as SmallWorld, Move, appended, marks as small_marks}
+use Rattle.txn_laws.specs.Small.Entry.{Data}
+use Rattle.txn_laws.specs.Small.Move.{Store, Plain}
+use Rattle.txn_laws.specs.Kept.{kept_moved_all}
+use Rattle.request_handlers.specs.World.{World, LogValue, rules_of}
+use Rattle.request_handlers.specs.Logs.{log_at}
+use Rattle.request_handlers.specs.OffsetCommit.{Committing, committing, offset_of, groups_by, committing_rule}
+use Rattle.request_handlers.specs.TxnOffsetCommit.{Staging, staging, offset_staged, turn_by, staging_refusal, stage_turn, staging_rule}
+use Rattle.broker_laws.specs.Entries.{in_group, event_entry, small}
+use Rattle.broker_laws.specs.Moves.{topics_moves, turn_moves, commit_moves, committed_moves, staged_moves}
+use Rattle.broker_laws.proofs.Offsets.{noted_offsets, noted_entries, SameOffsets}
+use Rattle.broker_laws.proofs.Passing.{held_holds}
+use Rattle.broker_laws.proofs.Walks.{walk_moved, unmarked_walk, walk_goes}
+
+-- the world with these groups
+abbrev at : World → List GroupValue → SmallWorld
+at w gs = small (record w { groups = gs })
+
+-- ---- an event that a group notes, if it doesn't refuse it
+
+noted_moved : (w : World) (gs : List GroupValue) (name : List ℕ) (e : OffsetEvent) (ms : List Move) → kept_moved_all (at w gs) ms ≡ appended (at w gs) (Group name) (event_entry e) → (refusal : Option ErrorCode)
+    → at w (turned gs (noted refusal (group_of gs name) e)) ≡ kept_moved_all (at w gs) (turn_moves (noted refusal (group_of gs name) e) ms)
+noted_moved w gs name e ms is (Some code) = refl
+noted_moved w gs name e ms is None = (λ k. record { coordinator = w.coordinator; entries = λ t. noted_entries w.topics gs name e t k; moment = w.moment }) ∙ sym is
+
+-- ---- OffsetCommit
+
+commit_moved : (w : World) (c : Committing) (gs : List GroupValue) (name : List ℕ) (p : OffsetToCommit) (o : Option LogValue) → at w (groups_by c gs name p o) ≡ kept_moved_all (at w gs) (commit_moves c gs name p o)
+commit_moved w c gs name p None = refl
+commit_moved w c gs name p (Some log) = noted_moved w gs c.group (Put (offset_of name p)) (Plain (Group c.group) ∷ []) refl (commit_refusal (group_of gs c.group) c.generation c.member)
+
+pub commits_moved : (w : World) (caller : Caller) (r : OffsetCommitRequest)
+    → at w (topics_world (committing_rule w caller r) (rules_of w) w.groups r.topics) ≡ kept_moved_all (small w) (topics_moves (committing_rule w caller r) (rules_of w) (committed_moves w r) w.groups r.topics)
+commits_moved w caller r =
+    walk_moved (committing_rule w caller r) (rules_of w) (committed_moves w r) (at w) (λ gs name p. commit_moved w (committing r) gs name p (log_at w.topics name p.index)) w.groups r.topics
+
+-- ---- TxnOffsetCommit
+
+stage_moved : (w : World) (s : Staging) (gs : List GroupValue) (o : PartitionOffset) (found : Option LogValue) (refusal : Option ErrorCode) → staging_refusal w.coordinator s ≡ refusal
+    → at w (turned gs (turn_by refusal s gs o found)) ≡ kept_moved_all (at w gs) (turn_moves (turn_by refusal s gs o found) (Store s.id s.pair (Group s.group) ∷ []))
+stage_moved w s gs o None refusal e = refl
+stage_moved w s gs o (Some log) (Some code) e = refl
+stage_moved w s gs o (Some log) None e =
+    noted_moved w gs s.group (Stage s.pair.producer o) (Store s.id s.pair (Group s.group) ∷ []) stored (stage_refusal (group_of gs s.group) s.generation s.member) where
+      stored : kept_moved_all (at w gs) (Store s.id s.pair (Group s.group) ∷ []) ≡ appended (at w gs) (Group s.group) (Data (in_group s.pair.producer))
+      stored = ap (λ k. cond k (appended (at w gs) (Group s.group) (Data (in_group s.pair.producer))) (at w gs)) (held_holds w.coordinator s.id s.pair (Group s.group) e)
+
+pub stages_moved : (w : World) (caller : Caller) (r : TxnOffsetCommitRequest)
+    → at w (topics_world (staging_rule w caller r) (rules_of w) w.groups r.topics) ≡ kept_moved_all (small w) (topics_moves (staging_rule w caller r) (rules_of w) (staged_moves w r) w.groups r.topics)
+stages_moved w caller r =
+    walk_moved (staging_rule w caller r) (rules_of w) (staged_moves w r) (at w)
+    (λ gs name p. stage_moved w (staging r) gs (offset_staged name p) (log_at w.topics name p.index) (staging_refusal w.coordinator (staging r)) refl)
+    w.groups r.topics
+
+-- ---- no marks are among them
+
+unmarked_turn : (refusal : Option ErrorCode) (g : GroupValue) (e : OffsetEvent) (ms : List Move) → small_marks ms ≡ 0 → small_marks (turn_moves (noted refusal g e) ms) ≡ 0
+unmarked_turn None g e ms h = h
+unmarked_turn (Some code) g e ms h = refl
+
+unmarked_commit : (c : Committing) (gs : List GroupValue) (name : List ℕ) (p : OffsetToCommit) (o : Option LogValue) → small_marks (commit_moves c gs name p o) ≡ 0
+unmarked_commit c gs name p None = refl
+unmarked_commit c gs name p (Some log) = unmarked_turn (commit_refusal (group_of gs c.group) c.generation c.member) (group_of gs c.group) (Put (offset_of name p)) _ refl
+
+unmarked_stage : (s : Staging) (gs : List GroupValue) (o : PartitionOffset) (found : Option LogValue) (refusal : Option ErrorCode) (ms : List Move) → small_marks ms ≡ 0 → small_marks (turn_moves (turn_by refusal s gs o found) ms) ≡ 0
+unmarked_stage s gs o None refusal ms h = refl
+unmarked_stage s gs o (Some log) (Some code) ms h = refl
+unmarked_stage s gs o (Some log) None ms h = unmarked_turn (stage_refusal (group_of gs s.group) s.generation s.member) (group_of gs s.group) (Stage s.pair.producer o) ms h
+
+pub unmarked_commits : (w : World) (caller : Caller) (r : OffsetCommitRequest) → small_marks (topics_moves (committing_rule w caller r) (rules_of w) (committed_moves w r) w.groups r.topics) ≡ 0
+unmarked_commits w caller r =
+    unmarked_walk (committing_rule w caller r) (rules_of w) (committed_moves w r) (λ gs name p. unmarked_commit (committing r) gs name p (log_at w.topics name p.index)) w.groups r.topics
+
+pub unmarked_stages : (w : World) (caller : Caller) (r : TxnOffsetCommitRequest) → small_marks (topics_moves (staging_rule w caller r) (rules_of w) (staged_moves w r) w.groups r.topics) ≡ 0
+unmarked_stages w caller r =
+    unmarked_walk (staging_rule w caller r) (rules_of w) (staged_moves w r)
+    (λ gs name p. unmarked_stage (staging r) gs (offset_staged name p) (log_at w.topics name p.index) (staging_refusal w.coordinator (staging r)) _ refl)
+    w.groups r.topics
+
+-- ---- a group's events stay, and others come behind them
+
+pub record Follows (old new : List OffsetEvent) : Type 0 where
+  pub more : List OffsetEvent
+  pub events : new ≡ old ++ more
+
+abbrev pub GoOn : List GroupValue → List GroupValue → Type 0
+GoOn old new = (name : List ℕ) → Follows (group_of old name).offsets (group_of new name).offsets
+
+pub follows_same : (old new : List OffsetEvent) → new ≡ old → Follows old new
+follows_same old new same = record { more = []; events = same ∙ sym (append-nil old) }
+
+pub go_same : (gs : List GroupValue) → GoOn gs gs
+go_same gs name = follows_same (group_of gs name).offsets (group_of gs name).offsets refl
+
+pub go_joined : (us vs ws : List GroupValue) → GoOn us vs → GoOn vs ws → GoOn us ws
+go_joined us vs ws first second name =
+    let a = first name in
+    let b = second name in
+    record { more = a.more ++ b.more; events = b.events ∙ ap (λ l. l ++ b.more) a.events ∙ append_assoc (group_of us name).offsets a.more b.more }
+
+pub go_kept : (old new : List GroupValue) → SameOffsets old new → GoOn old new
+go_kept old new same name = follows_same (group_of old name).offsets (group_of new name).offsets (same name)
+
+pub go_noted : (gs : List GroupValue) (name : List ℕ) (e : OffsetEvent) (refusal : Option ErrorCode) → GoOn gs (turned gs (noted refusal (group_of gs name) e))
+go_noted gs name e (Some code) other = go_same gs other
+go_noted gs name e None other = by_name (bytes_eq name other) (noted_offsets gs name e other) where
+  by_name : (b : Bool) → (group_of (put gs (with_event e (group_of gs name))) other).offsets ≡ cond b ((group_of gs other).offsets ++ e ∷ []) (group_of gs other).offsets → Follows (group_of gs other).offsets (group_of (put gs (with_event e (group_of gs name))) other).offsets
+  by_name true is = record { more = e ∷ []; events = is }
+  by_name false is = follows_same _ _ is
+
+go_committed : (c : Committing) (gs : List GroupValue) (name : List ℕ) (p : OffsetToCommit) (o : Option LogValue) → GoOn gs (groups_by c gs name p o)
+go_committed c gs name p None = go_same gs
+go_committed c gs name p (Some log) = go_noted gs c.group (Put (offset_of name p)) (commit_refusal (group_of gs c.group) c.generation c.member)
+
+pub go_commits : (w : World) (caller : Caller) (r : OffsetCommitRequest) → GoOn w.groups (topics_world (committing_rule w caller r) (rules_of w) w.groups r.topics)
+go_commits w caller r = walk_goes (committing_rule w caller r) (rules_of w) GoOn go_same go_joined (λ gs name p. go_committed (committing r) gs name p (log_at w.topics name p.index)) w.groups r.topics
+
+go_staged : (s : Staging) (gs : List GroupValue) (o : PartitionOffset) (found : Option LogValue) (refusal : Option ErrorCode) → GoOn gs (turned gs (turn_by refusal s gs o found))
+go_staged s gs o None refusal = go_same gs
+go_staged s gs o (Some log) (Some code) = go_same gs
+go_staged s gs o (Some log) None = go_noted gs s.group (Stage s.pair.producer o) (stage_refusal (group_of gs s.group) s.generation s.member)
+
+pub go_stages : (w : World) (caller : Caller) (r : TxnOffsetCommitRequest) → GoOn w.groups (topics_world (staging_rule w caller r) (rules_of w) w.groups r.topics)
+go_stages w caller r =
+    walk_goes (staging_rule w caller r) (rules_of w) GoOn go_same go_joined
+    (λ gs name p. go_staged (staging r) gs (offset_staged name p) (log_at w.topics name p.index) (staging_refusal w.coordinator (staging r)))
+    w.groups r.topics
+
+-- ---- a transaction that is refused stages nothing
+
+refused_staging : (s : Staging) (gs : List GroupValue) (o : PartitionOffset) (found : Option LogValue) (refusal : Option ErrorCode) → (refusal ≡ None → ⊥) → turned gs (turn_by refusal s gs o found) ≡ gs
+refused_staging s gs o None refusal refused = refl
+refused_staging s gs o (Some log) (Some code) refused = refl
+refused_staging s gs o (Some log) None refused = absurd (refused refl)
+
+pub refused_stages : (w : World) (caller : Caller) (r : TxnOffsetCommitRequest) → (staging_refusal w.coordinator (staging r) ≡ None → ⊥) → topics_world (staging_rule w caller r) (rules_of w) w.groups r.topics ≡ w.groups
+refused_stages w caller r refused =
+    walk_goes (staging_rule w caller r) (rules_of w) (λ old new. new ≡ old) (λ gs. refl) (λ us vs ws a b. b ∙ a)
+    (λ gs name p. refused_staging (staging r) gs (offset_staged name p) (log_at w.topics name p.index) (staging_refusal w.coordinator (staging r)) refused)
+    w.groups r.topics
