@@ -25,4 +25,5 @@ pub mod Initials
 pub mod Together
 pub mod Sequenced
 pub mod Grouped
+pub mod Staged
 pub mod Rows

@@ -37,4 +37,5 @@ pub mod AclLaws
 pub mod ProducerLaws
 pub mod TxnLaws
 pub mod GroupLaws
+pub mod StagingLaws
 pub mod DescribeLaws

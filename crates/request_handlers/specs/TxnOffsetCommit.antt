@@ -64,18 +64,18 @@ abbrev pub turn_by : Option ErrorCode → Staging → List Group → PartitionOf
 turn_by refusal s gs o None = Stays codes.UnknownTopicOrPartition
 turn_by refusal s gs o (Some log) = held_turn refusal s gs o
 
--- why the transaction can't commit for the group
+-- why the transaction can't commit for the group, if it can't
 abbrev pub staging_refusal : CoordinatorValue → Staging → Option ErrorCode
 staging_refusal c s = refused_by (holds c s.id s.pair (group_target s.group))
 
-abbrev pub stage_turn : CoordinatorValue → List TopicValue → Staging → List Group → List ℕ → OffsetToStage → Turn (Unit {0})
-stage_turn c topics s gs name p = turn_by (staging_refusal c s) s gs (offset_staged name p) (log_at topics name p.index)
+abbrev pub stage_turn : Option ErrorCode → List TopicValue → Staging → List Group → List ℕ → OffsetToStage → Turn (Unit {0})
+stage_turn refusal topics s gs name p = turn_by refusal s gs (offset_staged name p) (log_at topics name p.index)
 
-abbrev pub stage_rule : Caller → Staging → CoordinatorValue → List TopicValue → PartRule OffsetToStage StagedOffset (List Group)
-stage_rule caller s c topics = record {
+abbrev pub stage_rule : Caller → Staging → Option ErrorCode → List TopicValue → PartRule OffsetToStage StagedOffset (List Group)
+stage_rule caller s refusal topics = record {
   questions = λ name p. stage_questions caller s name;
-  plain = λ gs name p. staged_code (code_in (answered (stage_turn c topics s gs name p))) p;
-  after = λ gs name p. turned gs (stage_turn c topics s gs name p);
+  plain = λ gs name p. staged_code (code_in (answered (stage_turn refusal topics s gs name p))) p;
+  after = λ gs name p. turned gs (stage_turn refusal topics s gs name p);
   refused = λ code name p. staged_code code p;
   weight = λ p. 0;
   room = λ gs. 0;
@@ -85,7 +85,7 @@ stage_rule caller s c topics = record {
 -- ---- the request
 
 abbrev pub staging_rule : World → Caller → TxnOffsetCommitRequest → PartRule OffsetToStage StagedOffset (List Group)
-staging_rule w caller r = stage_rule caller (staging r) w.coordinator w.topics
+staging_rule w caller r = stage_rule caller (staging r) (staging_refusal w.coordinator (staging r)) w.topics
 
 abbrev pub txn_offset_commit_outcome : World → Caller → TxnOffsetCommitRequest → Outcome
 txn_offset_commit_outcome w caller r = record {
