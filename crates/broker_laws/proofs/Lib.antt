@@ -9,6 +9,7 @@ pub mod Turns
 pub mod Steps
 pub mod Reached
 pub mod Completing
+pub mod Deciding
 pub mod Fencing
 pub mod Ending
 pub mod Cores
