@@ -1,5 +1,5 @@
 -- What becomes of a group that a transaction takes in: what its producer had staged is decided.
-use Rattle.std.proofs.Common.{◌≡◌, ℕ, ℤ, ◌+◌, ◌≤◌, List, [], ◌∷◌, ◌++◌, map, Option, Some, None, Bool, true, false, cond, refl, sym, ap, subst, ◌∙◌, append-nil, append_assoc}
+use Rattle.std.proofs.Common.{◌≡◌, ℕ, ℤ, ◌+◌, List, [], ◌∷◌, ◌++◌, map, Some, None, Bool, true, false, cond, refl, sym, ap, subst, ◌∙◌, append-nil, append_assoc}
 use Rattle.std.specs.Prelude.{◌&&◌}
 use Rattle.std.specs.Option.{option_map}
 use Rattle.std.specs.Ordering.{int_eq}
@@ -15,7 +15,6 @@ use Rattle.txn_coordinator.specs.declared.target.Target.TheVariants.{Partition, 
 use Rattle.txn_coordinator.specs.declared.marker.Outcome.{Outcome as Ending}
 use Rattle.txn_coordinator.specs.declared.marker.Outcome.TheVariants.{Commit, Abort}
 use Rattle.txn_coordinator.specs.declared.marker.OwedMarker.{OwedMarker}
-use Rattle.group_offsets.specs.declared.event.PartitionOffset.{PartitionOffset}
 use Rattle.group_offsets.specs.declared.event.OffsetEvent.{OffsetEvent}
 use Rattle.group_offsets.specs.declared.event.OffsetEvent.TheVariants.{Put, Stage, Decide}
 use Rattle.group_offsets.specs.Offsets.{is_of, first_decision, offset_of}
@@ -33,7 +32,7 @@ use Rattle.request_handlers.specs.World.{World}
 use Rattle.request_handlers.specs.Marks.{marked_outcome}
 use Rattle.request_handlers.specs.Step.{step, reached}
 use Rattle.broker_laws.specs.Entries.{ending_of, in_group, event_entry, entries_in}
-use Rattle.broker_laws.specs.Laws.{InReached, IsNotBy, IsDecidedAs, shown_by, IsDecided, DecidesPrepared, DecidesWaiting}
+use Rattle.broker_laws.specs.Laws.{InReached, IsNotBy, shown_by, IsDecided, DecidesPrepared, DecidesWaiting}
 use Rattle.broker_laws.proofs.Noted.{Follows, GoOn, go_same, go_joined}
 use Rattle.broker_laws.proofs.Steps.{step_goes}
 use Rattle.broker_laws.proofs.Reached.{IsGood, good}
@@ -149,6 +148,9 @@ shows p Commit topic index old between h =
     committed_goes_on.commit (old ++ between) p topic index ∙ ap (λ x. or_else x (offset_of (old ++ between) topic index)) (still_waits p topic index old between h)
 shows p Abort topic index old between h = committed_goes_on.abort (old ++ between) p topic index
 
+settles : (p : ℤ) (d : MarkedOutcome) (topic : List ℕ) (index : ℤ) (es : List OffsetEvent) → pending (es ++ Decide p d ∷ []) p topic index ≡ None
+settles p d topic index es = pending_goes_on.decide es p d p topic index ∙ ap (λ b. cond b None (pending es p topic index)) (own_number p)
+
 -- ---- a group
 
 decided : (old new : List OffsetEvent) (pair : Pair) (o : Ending) → Follows old new → IsEnded pair o (map event_entry old) (map event_entry new) → IsDecided pair.producer o old new
@@ -169,6 +171,7 @@ decided old new pair o more ended =
         first = first_is p (marked_outcome o) after is.between is.after none is.nothing;
       };
       shown = λ topic index. shows p o topic index old is.between is.nothing;
+      settled = λ topic index. settles p (marked_outcome o) topic index (old ++ is.between);
     }
 
 -- ---- the laws
@@ -201,8 +204,8 @@ waiting_decides w good id t o after found waits enough =
     each_weaker (λ (x : OwedMarker). x.id ≡ id → IsEnded (kept_pair x.target x.pair) o (entries_in w x.target) (entries_in v x.target))
     (λ (x : OwedMarker). x.id ≡ id → (g : List ℕ) → x.target ≡ Group g → IsDecided x.pair.producer o (group_of w.groups g).offsets (group_of v.groups g).offsets)
     (λ x h own g is.
-        decided (group_of w.groups g).offsets (group_of v.groups g).offsets (kept_pair (Group g) x.pair) o (reached_goes w after g)
-        (subst (λ target. IsEnded (kept_pair target x.pair) o (entries_in w target) (entries_in v target)) is (h own)))
+    decided (group_of w.groups g).offsets (group_of v.groups g).offsets (kept_pair (Group g) x.pair) o (reached_goes w after g)
+    (subst (λ target. IsEnded (kept_pair target x.pair) o (entries_in w target) (entries_in v target)) is (h own)))
     w.coordinator.warrants (waiting_completes w good id t o after found waits enough)
 
 pub waiting_groups : InReached DecidesWaiting

@@ -1,12 +1,11 @@
 -- The moves of an OffsetCommit and of a TxnOffsetCommit lead where their partitions do, and a group keeps its events.
-use Rattle.std.proofs.Common.{◌≡◌, ℕ, List, [], ◌∷◌, ◌++◌, map, Option, Some, None, Bool, true, false, cond, refl, sym, ap, ◌∙◌, append-nil, append_assoc}
+use Rattle.std.proofs.Common.{◌≡◌, ℕ, List, [], ◌∷◌, ◌++◌, Option, Some, None, Bool, true, false, cond, refl, sym, ap, ◌∙◌, append-nil, append_assoc}
 use Rattle.std.specs.Str.{bytes_eq}
 use Rattle.acl_binding.specs.declared.question.Caller.{Caller}
 use Rattle.wire_types.specs.declared.error_code.ErrorCode.{ErrorCode}
 use Rattle.msg_group.specs.declared.offset_commit.OffsetCommitRequest.{OffsetCommitRequest}
 use Rattle.msg_group.specs.declared.offset_commit.OffsetToCommit.{OffsetToCommit}
 use Rattle.msg_txn.specs.declared.txn_offset_commit.TxnOffsetCommitRequest.{TxnOffsetCommitRequest}
-use Rattle.msg_txn.specs.declared.txn_offset_commit.OffsetToStage.{OffsetToStage}
 use Rattle.walk.specs.Steps.{topics_world}
 use Rattle.txn_coordinator.specs.declared.target.Target.TheVariants.{Group}
 use Rattle.group_offsets.specs.declared.event.PartitionOffset.{PartitionOffset}
@@ -22,7 +21,7 @@ use Rattle.txn_laws.specs.Kept.{kept_moved_all}
 use Rattle.request_handlers.specs.World.{World, LogValue, rules_of}
 use Rattle.request_handlers.specs.Logs.{log_at}
 use Rattle.request_handlers.specs.OffsetCommit.{Committing, committing, offset_of, groups_by, committing_rule}
-use Rattle.request_handlers.specs.TxnOffsetCommit.{Staging, staging, offset_staged, turn_by, staging_refusal, stage_turn, staging_rule}
+use Rattle.request_handlers.specs.TxnOffsetCommit.{Staging, staging, offset_staged, turn_by, staging_refusal, staging_rule}
 use Rattle.broker_laws.specs.Entries.{in_group, event_entry, small}
 use Rattle.broker_laws.specs.Moves.{topics_moves, turn_moves, commit_moves, committed_moves, staged_moves}
 use Rattle.broker_laws.proofs.Offsets.{noted_offsets, noted_entries, SameOffsets}

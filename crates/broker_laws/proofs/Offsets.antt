@@ -1,5 +1,5 @@
 -- What calls on groups change among the entries.
-use Rattle.std.proofs.Common.{◌≡◌, ℕ, ℤ, List, [], ◌∷◌, ◌++◌, map, Option, Some, None, Bool, true, false, cond, refl, sym, ap, ◌∙◌}
+use Rattle.std.proofs.Common.{◌≡◌, ℕ, List, [], ◌∷◌, ◌++◌, map, Option, Some, None, Bool, true, false, cond, refl, sym, ap, ◌∙◌}
 use Rattle.std.specs.Prelude.{not, unwrap_or}
 use Rattle.std.specs.Option.{option_map}
 use Rattle.std.specs.Str.{bytes_eq}
@@ -17,8 +17,8 @@ use Rattle.txn_coordinator.specs.declared.target.Target.TheVariants.{Partition, 
 use Rattle.group_offsets.specs.declared.event.OffsetEvent.{OffsetEvent}
 use Rattle.group_offsets.specs.declared.group.Group.{Group as GroupValue}
 use Rattle.group_offsets.specs.Turn.{Turn, Stays, Puts, group_after}
-use Rattle.group_offsets.specs.Group.{fresh_group, is_empty, is_member, member_refusal, synced, sync_group, beaten, beat_group, leave_group, left, is_lapsed, expired, with_event}
-use Rattle.group_offsets.specs.Joining.{session_timeout, chosen, entry_refusal, let_in, join_under, join_within, join_group}
+use Rattle.group_offsets.specs.Group.{fresh_group, is_empty, is_member, member_refusal, synced, beaten, left, is_lapsed, expired, with_event}
+use Rattle.group_offsets.specs.Joining.{session_timeout, chosen, entry_refusal, let_in, join_under, join_within}
 use Rattle.group_offsets.specs.Groups.{find_group, group_of, put, turned, join, sync, beat, leave}
 use Rattle.group_offsets.proofs.Apart.{name_of, find_put, find_expired}
 use Rattle.txn_laws.specs.Small.{with_entry}

@@ -145,6 +145,8 @@ pub record IsDecided (producer : ℤ) (outcome : Ending) (old new : List OffsetE
   pub staged : (before behind : List OffsetEvent) (o : PartitionOffset) → old ≡ before ++ Stage producer o ∷ behind → first_decision producer 0 behind ≡ None → IsDecidedAs producer outcome new before behind o
   -- and the decision shows of each partition the offset that had waited, if it is a commit, and nothing else
   pub shown : (topic : List ℕ) (index : ℤ) → offset_of ((old ++ between) ++ Decide producer (marked_outcome outcome) ∷ []) topic index ≡ shown_by outcome (pending old producer topic index) (offset_of (old ++ between) topic index)
+  -- and leaves nothing of the producer waiting
+  pub settled : (topic : List ℕ) (index : ℤ) → pending ((old ++ between) ++ Decide producer (marked_outcome outcome) ∷ []) producer topic index ≡ None
 
 -- Where an event prepares a transaction, so many marker steps decide what its producer had staged in each group that was
 -- added.

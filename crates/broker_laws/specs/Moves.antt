@@ -47,7 +47,7 @@ use Rattle.request_handlers.specs.AddPartitions.{is_cut, partitions_of}
 use Rattle.request_handlers.specs.AddOffsets.{add_offsets_questions}
 use Rattle.request_handlers.specs.EndTxn.{id_question, ending}
 use Rattle.request_handlers.specs.OffsetCommit.{Committing, committing, offset_of, committing_rule}
-use Rattle.request_handlers.specs.TxnOffsetCommit.{staging, stage_turn, staging_rule}
+use Rattle.request_handlers.specs.TxnOffsetCommit.{staging, staging_refusal, stage_turn, staging_rule}
 use Rattle.request_handlers.specs.Ticks.{moment_after}
 use Rattle.request_handlers.specs.Step.{step}
 
@@ -116,7 +116,7 @@ abbrev pub committed_moves : World → OffsetCommitRequest → List GroupValue �
 committed_moves w r gs name p = commit_moves (committing r) gs name p (log_at w.topics name p.index)
 
 abbrev pub staged_moves : World → TxnOffsetCommitRequest → List GroupValue → List ℕ → OffsetToStage → List Move
-staged_moves w r gs name p = turn_moves (stage_turn w.coordinator w.topics (staging r) gs name p) (moves.Store r.transactional_id (staging r).pair (Group r.group) ∷ [])
+staged_moves w r gs name p = turn_moves (stage_turn (staging_refusal w.coordinator (staging r)) w.topics (staging r) gs name p) (moves.Store r.transactional_id (staging r).pair (Group r.group) ∷ [])
 
 -- ---- the calls of the coordinator
 
