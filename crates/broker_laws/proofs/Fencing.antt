@@ -26,16 +26,15 @@ use Rattle.txn_laws.proofs.Targets.{same_number}
 use Rattle.txn_laws.proofs.Moves.{held, free_is, one_owner, moves_sound, moves_fence}
 use Rattle.txn_laws.proofs.Fences.{gone_past, fencing_law, refusal_law}
 use Rattle.producer_state.proofs.Numbers.{lt_is}
-use Rattle.walk.proofs.Weaving.{woven}
-use Rattle.request_handlers.specs.World.{World, rules_of}
+use Rattle.request_handlers.specs.World.{World}
 use Rattle.request_handlers.specs.Judged.{pair_of, held_code, given_code, producer_code}
-use Rattle.request_handlers.specs.TxnOffsetCommit.{Staging, staging, staging_refusal, staging_rule}
+use Rattle.request_handlers.specs.TxnOffsetCommit.{Staging, staging, staging_refusal}
 use Rattle.request_handlers.specs.Step.{reached}
 use Rattle.broker_laws.specs.Entries.{entries_in}
 use Rattle.broker_laws.specs.Moves.{moves_of_all}
 use Rattle.broker_laws.specs.Laws.{InReached, TurnsAway, FencedWriteNothing, NoDataBehindAGreaterMarker}
 use Rattle.broker_laws.proofs.Passing.{held_holds, owner_free}
-use Rattle.broker_laws.proofs.Noted.{refused_stages}
+use Rattle.broker_laws.proofs.Noted.{stages_nothing}
 use Rattle.broker_laws.proofs.Reached.{full, IsGood, good_reached, good, reached_moved}
 
 -- ---- no check lets it in
@@ -176,7 +175,7 @@ fenced w good more after id pair had left =
     let both = subst (IsOut pair (full v there.entries)) (sym (reached_moved v after there)) out in
     record {
       silent = λ p. silent_kept v end pair there last p (both.silent (Partition p));
-      stages_nothing = λ caller client r same. sym (woven (staging_rule end caller r) (rules_of end) end.groups r.topics).world ∙ refused_stages end caller r (both.turned_away.stagings (staging r) same);
+      stages_nothing = λ caller client r same. stages_nothing end caller client r (both.turned_away.stagings (staging r) same);
       refused = record { in_transaction = both.refused.in_transaction; without_id = both.refused.without_id };
       turned_away = both.turned_away;
     }

@@ -1,32 +1,45 @@
 -- The moves of an OffsetCommit and of a TxnOffsetCommit lead where their partitions do, and a group keeps its events.
-use Rattle.std.proofs.Common.{◌≡◌, ℕ, List, [], ◌∷◌, ◌++◌, Option, Some, None, Bool, true, false, cond, refl, sym, ap, ◌∙◌, append-nil, append_assoc}
+use Rattle.std.proofs.Common.{◌≡◌, ℕ, List, [], ◌∷◌, ◌++◌, Option, Some, None, Bool, true, false, cond, refl, sym, ap, subst, ◌∙◌, append-nil, append_assoc}
 use Rattle.std.specs.Str.{bytes_eq}
 use Rattle.acl_binding.specs.declared.question.Caller.{Caller}
 use Rattle.wire_types.specs.declared.error_code.ErrorCode.{ErrorCode}
+use Rattle.wire_types.specs.declared.error_code.ErrorCode.TheVariants as codes
+use Rattle.wire_types.specs.declared.topic.Topic.{Topic}
 use Rattle.msg_group.specs.declared.offset_commit.OffsetCommitRequest.{OffsetCommitRequest}
 use Rattle.msg_group.specs.declared.offset_commit.OffsetToCommit.{OffsetToCommit}
 use Rattle.msg_txn.specs.declared.txn_offset_commit.TxnOffsetCommitRequest.{TxnOffsetCommitRequest}
-use Rattle.walk.specs.Steps.{topics_world}
+use Rattle.msg_txn.specs.declared.txn_offset_commit.TxnOffsetCommitReply.{TxnOffsetCommitReply}
+use Rattle.msg_txn.specs.declared.txn_offset_commit.OffsetToStage.{OffsetToStage}
+use Rattle.msg_txn.specs.declared.txn_offset_commit.StagedOffset.{StagedOffset}
+use Rattle.msg_admin.specs.declared.request.Request.TheVariants.{TxnOffsetCommit}
+use Rattle.msg_admin.specs.declared.reply.Reply.TheVariants as replies
+use Rattle.audit_trail.specs.declared.event.Event.TheVariants.{Ask}
+use Rattle.walk.specs.Steps.{topics_world, topics_answers}
+use Rattle.walk.proofs.Weaving.{woven}
 use Rattle.txn_coordinator.specs.declared.target.Target.TheVariants.{Group}
 use Rattle.group_offsets.specs.declared.event.PartitionOffset.{PartitionOffset}
 use Rattle.group_offsets.specs.declared.event.OffsetEvent.{OffsetEvent}
 use Rattle.group_offsets.specs.declared.event.OffsetEvent.TheVariants.{Put, Stage}
 use Rattle.group_offsets.specs.declared.group.Group.{Group as GroupValue}
+use Rattle.group_offsets.specs.Turn.{answered}
 use Rattle.group_offsets.specs.Group.{commit_refusal, stage_refusal, with_event, noted}
 use Rattle.group_offsets.specs.Groups.{group_of, put, turned}
 use Rattle.txn_laws.specs.Small.{World as SmallWorld, Move, appended, marks as small_marks}
 use Rattle.txn_laws.specs.Small.Entry.{Data}
 use Rattle.txn_laws.specs.Small.Move.{Store, Plain}
+use Rattle.txn_laws.specs.Sound.{Each}
 use Rattle.txn_laws.specs.Kept.{kept_moved_all}
 use Rattle.request_handlers.specs.World.{World, LogValue, rules_of}
 use Rattle.request_handlers.specs.Logs.{log_at}
+use Rattle.request_handlers.specs.Members.{code_in}
 use Rattle.request_handlers.specs.OffsetCommit.{Committing, committing, offset_of, groups_by, committing_rule}
-use Rattle.request_handlers.specs.TxnOffsetCommit.{Staging, staging, offset_staged, turn_by, staging_refusal, staging_rule}
+use Rattle.request_handlers.specs.TxnOffsetCommit.{Staging, staging, offset_staged, staged_code, turn_by, staging_refusal, staging_rule}
 use Rattle.broker_laws.specs.Entries.{in_group, event_entry, small}
 use Rattle.broker_laws.specs.Moves.{topics_moves, turn_moves, commit_moves, committed_moves, staged_moves}
+use Rattle.broker_laws.specs.Laws.{StagesNothing}
 use Rattle.broker_laws.proofs.Offsets.{noted_offsets, noted_entries, SameOffsets}
-use Rattle.broker_laws.proofs.Passing.{held_holds}
-use Rattle.broker_laws.proofs.Walks.{walk_moved, unmarked_walk, walk_goes}
+use Rattle.broker_laws.proofs.Passing.{held_holds, never_none, held_error}
+use Rattle.broker_laws.proofs.Walks.{walk_moved, unmarked_walk, walk_goes, walk_is}
 
 -- the world with these groups
 abbrev at : World → List GroupValue → SmallWorld
@@ -149,8 +162,37 @@ refused_staging s gs o None refusal refused = refl
 refused_staging s gs o (Some log) (Some code) refused = refl
 refused_staging s gs o (Some log) None refused = absurd (refused refl)
 
-pub refused_stages : (w : World) (caller : Caller) (r : TxnOffsetCommitRequest) → (staging_refusal w.coordinator (staging r) ≡ None → ⊥) → topics_world (staging_rule w caller r) (rules_of w) w.groups r.topics ≡ w.groups
+refused_stages : (w : World) (caller : Caller) (r : TxnOffsetCommitRequest) → (staging_refusal w.coordinator (staging r) ≡ None → ⊥) → topics_world (staging_rule w caller r) (rules_of w) w.groups r.topics ≡ w.groups
 refused_stages w caller r refused =
     walk_goes (staging_rule w caller r) (rules_of w) (λ old new. new ≡ old) (λ gs. refl) (λ us vs ws a b. b ∙ a)
     (λ gs name p. refused_staging (staging r) gs (offset_staged name p) (log_at w.topics name p.index) (staging_refusal w.coordinator (staging r)) refused)
     w.groups r.topics
+
+-- the partition is answered an error
+abbrev Fails : StagedOffset → Type 0
+Fails p = p.error ≡ codes.None → ⊥
+
+refused_fails : (s : Staging) (gs : List GroupValue) (name : List ℕ) (p : OffsetToStage) (found : Option LogValue) (refusal : Option ErrorCode) → (refusal ≡ None → ⊥) → (refusal ≡ Some codes.None → ⊥)
+    → Fails (staged_code (code_in (answered (turn_by refusal s gs (offset_staged name p) found))) p)
+refused_fails s gs name p None refusal refused error h = let clash : codes.UnknownTopicOrPartition ≡ codes.None = h in cc
+refused_fails s gs name p (Some log) (Some code) refused error h = error (ap Some h)
+refused_fails s gs name p (Some log) None refused error h = refused refl
+
+fails_all : (w : World) (caller : Caller) (r : TxnOffsetCommitRequest) → (staging_refusal w.coordinator (staging r) ≡ None → ⊥) → Each (λ (t : Topic StagedOffset). Each Fails t.partitions) (topics_answers (staging_rule w caller r) (rules_of w) w.groups r.topics)
+fails_all w caller r refused =
+    let s = staging r in
+    walk_is (staging_rule w caller r) (rules_of w) Fails
+    (λ gs name p. refused_fails s gs name p (log_at w.topics name p.index) (staging_refusal w.coordinator s) refused (held_error w.coordinator s.id s.pair (Group s.group)))
+    (λ refusal name p. never_none refusal.question.kind)
+    w.groups r.topics
+
+reply_topics : (a b : TxnOffsetCommitReply) → replies.TxnOffsetCommit a ≡ replies.TxnOffsetCommit b → a.topics ≡ b.topics
+reply_topics a b h = let same : a ≡ b = cc in ap (λ (x : TxnOffsetCommitReply). x.topics) same
+
+pub stages_nothing : (w : World) (caller : Caller) (client : Option (List ℕ)) (r : TxnOffsetCommitRequest) → (staging_refusal w.coordinator (staging r) ≡ None → ⊥) → StagesNothing w (Ask caller client (TxnOffsetCommit r))
+stages_nothing w caller client r refused =
+    let walk = woven (staging_rule w caller r) (rules_of w) w.groups r.topics in
+    record {
+      groups = sym walk.world ∙ refused_stages w caller r refused;
+      fails = λ reply told. subst (Each (λ (t : Topic StagedOffset). Each Fails t.partitions)) (walk.answers ∙ reply_topics _ reply told) (fails_all w caller r refused);
+    }

@@ -4,8 +4,10 @@ use Rattle.authorizer.specs.declared.answer.Refusal.{Refusal}
 use Rattle.authorizer.specs.Asking.{Rules}
 use Rattle.wire_types.specs.declared.topic.Topic.{Topic}
 use Rattle.walk.specs.Rule.{PartRule, refusal_of}
-use Rattle.walk.specs.Steps.{world_by, part_world, parts_world, topics_world}
+use Rattle.walk.specs.Codes.{refusal_code}
+use Rattle.walk.specs.Steps.{answer_by, world_by, part_world, parts_world, parts_answers, topics_world, topics_answers}
 use Rattle.txn_laws.specs.Small.{World as SmallWorld, Move, marks as small_marks}
+use Rattle.txn_laws.specs.Sound.{Each}
 use Rattle.txn_laws.specs.Kept.{kept_moved_all}
 use Rattle.txn_laws.proofs.GroupsKeep.{kept_append}
 use Rattle.broker_laws.specs.Moves.{unless_refused, part_moves, parts_moves, topics_moves}
@@ -83,3 +85,20 @@ module _ {P A W : Type 0} (api : PartRule P A W) (rules : Rules) (Goes : W → W
   walk_goes w (t ∷ ts) =
       let next = parts_world api rules w t.name t.partitions in
       joined w next (topics_world api rules next ts) (parts_go w t.name t.partitions) (walk_goes next ts)
+
+-- ---- what each answer is
+
+module _ {P A W : Type 0} (api : PartRule P A W) (rules : Rules) (Is : A → Type 0) (plain : (w : W) (name : List ℕ) (p : P) → Is (api.plain w name p)) (refused : (r : Refusal) (name : List ℕ) (p : P) → Is (api.refused (refusal_code r) name p)) where
+  part_is : (w : W) (name : List ℕ) (p : P) → Is (answer_by api (refusal_of api rules name p) w name p)
+  part_is w name p = by_refusal (refusal_of api rules name p) where
+    by_refusal : (o : Option Refusal) → Is (answer_by api o w name p)
+    by_refusal (Some r) = refused r name p
+    by_refusal None = plain w name p
+
+  parts_are : (w : W) (name : List ℕ) (ps : List P) → Each Is (parts_answers api rules w name ps)
+  parts_are w name [] = tt
+  parts_are w name (p ∷ ps) = (part_is w name p, parts_are (part_world api rules w name p) name ps)
+
+  pub walk_is : (w : W) (ts : List (Topic P)) → Each (λ (t : Topic A). Each Is t.partitions) (topics_answers api rules w ts)
+  walk_is w [] = tt
+  walk_is w (t ∷ ts) = (parts_are w t.name t.partitions, walk_is (parts_world api rules w t.name t.partitions) ts)

@@ -3,12 +3,15 @@
 use Rattle.std.specs.Prelude.{◌≡◌, true, false, ℕ, ℤ, ◌≤◌, List, [], ◌∷◌, ◌++◌, map, Option, Some, None}
 use Rattle.std.specs.Option.{option_map}
 use Rattle.wire_types.specs.declared.error_code.ErrorCode.TheVariants as codes
+use Rattle.wire_types.specs.declared.topic.Topic.{Topic}
 use Rattle.acl_binding.specs.declared.question.Caller.{Caller}
 use Rattle.settings.specs.declared.settings.Settings.{Settings}
 use Rattle.record_batch.specs.declared.header.BatchHeader.{BatchHeader}
 use Rattle.msg_txn.specs.declared.init_producer_id.InitProducerIdRequest.{InitProducerIdRequest}
 use Rattle.msg_txn.specs.declared.end_txn.EndTxnRequest.{EndTxnRequest}
 use Rattle.msg_txn.specs.declared.txn_offset_commit.TxnOffsetCommitRequest.{TxnOffsetCommitRequest}
+use Rattle.msg_txn.specs.declared.txn_offset_commit.TxnOffsetCommitReply.{TxnOffsetCommitReply}
+use Rattle.msg_txn.specs.declared.txn_offset_commit.StagedOffset.{StagedOffset}
 use Rattle.msg_admin.specs.declared.request.Request.TheVariants.{InitProducerId, EndTxn, TxnOffsetCommit}
 use Rattle.msg_admin.specs.declared.reply.Reply.TheVariants as replies
 use Rattle.audit_trail.specs.declared.event.Event.{Event}
@@ -207,12 +210,17 @@ pub record TurnsAway (c : CoordinatorValue) (pair : Pair) : Type 0 where
   pub stagings : (s : Staging) → s.pair ≡ pair → staging_refusal c s ≡ None → ⊥
   pub endings : (id : List ℕ) (outcome : Ending) → turn_code (end c Plain id pair outcome) ≡ codes.None → ⊥
 
+-- a TxnOffsetCommit leaves each group as it is, and is answered an error for each partition
+pub record StagesNothing (w : World) (e : Event) : Type 0 where
+  pub groups : (step w e).groups ≡ w.groups
+  pub fails : (reply : TxnOffsetCommitReply) → reply_to w e ≡ replies.TxnOffsetCommit reply → Each (λ (t : Topic StagedOffset). Each (λ (p : StagedOffset). p.error ≡ codes.None → ⊥) t.partitions) reply.topics
+
 -- no log gets data of the pair and no group an offset, and it is refused for each partition and each group, and by each
 -- request
 pub record IsShutOut (pair : Pair) (w later : World) : Type 0 where
   pub silent : (p : TopicPartition) → IsSilent pair (entries_in w (Partition p)) (entries_in later (Partition p))
-  -- since a group doesn't keep the epoch, this is said of the request: with the pair it leaves each group as it is
-  pub stages_nothing : (caller : Caller) (client : Option (List ℕ)) (r : TxnOffsetCommitRequest) → (staging r).pair ≡ pair → (step later (Ask caller client (TxnOffsetCommit r))).groups ≡ later.groups
+  -- a group doesn't keep the epoch, so this is said of the requests that come with the pair
+  pub stages_nothing : (caller : Caller) (client : Option (List ℕ)) (r : TxnOffsetCommitRequest) → (staging r).pair ≡ pair → StagesNothing later (Ask caller client (TxnOffsetCommit r))
   pub refused : Refuses (small later) pair
   pub turned_away : TurnsAway later.coordinator pair
 
