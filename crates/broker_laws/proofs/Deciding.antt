@@ -7,7 +7,6 @@ use Rattle.std.proofs.lemmas.Bool.Decides.{Decides-int_eq}
 use Rattle.std.proofs.lemmas.List.{map-append}
 use Rattle.record_batch.specs.declared.outcome.Outcome.{Outcome as MarkedOutcome}
 use Rattle.record_batch.specs.declared.outcome.Outcome.TheVariants as marked
-use Rattle.audit_trail.specs.declared.event.Event.{Event}
 use Rattle.txn_coordinator.specs.declared.pair.Pair.{Pair}
 use Rattle.txn_coordinator.specs.declared.target.TopicPartition.{TopicPartition}
 use Rattle.txn_coordinator.specs.declared.target.Target.{Target}
@@ -33,8 +32,8 @@ use Rattle.request_handlers.specs.Marks.{marked_outcome}
 use Rattle.request_handlers.specs.Step.{step, reached}
 use Rattle.broker_laws.specs.Entries.{ending_of, in_group, event_entry, entries_in}
 use Rattle.broker_laws.specs.Laws.{InReached, IsNotBy, shown_by, IsDecided, DecidesPrepared, DecidesWaiting}
-use Rattle.broker_laws.proofs.Noted.{Follows, GoOn, go_same, go_joined}
-use Rattle.broker_laws.proofs.Steps.{step_goes}
+use Rattle.broker_laws.proofs.Noted.{Follows, GoOn}
+use Rattle.broker_laws.proofs.Growing.{Anything, reached_goes}
 use Rattle.broker_laws.proofs.Reached.{IsGood, good}
 use Rattle.broker_laws.proofs.Completing.{prepared_completes, waiting_completes}
 
@@ -153,7 +152,7 @@ settles p d topic index es = pending_goes_on.decide es p d p topic index ∙ ap 
 
 -- ---- a group
 
-decided : (old new : List OffsetEvent) (pair : Pair) (o : Ending) → Follows old new → IsEnded pair o (map event_entry old) (map event_entry new) → IsDecided pair.producer o old new
+decided : (old new : List OffsetEvent) (pair : Pair) (o : Ending) → Follows (λ e. Unit {0}) old new → IsEnded pair o (map event_entry old) (map event_entry new) → IsDecided pair.producer o old new
 decided old new pair o more ended =
     let p = pair.producer in
     let entries = cancelled (map event_entry old) (map event_entry more.more) (ended.between ++ Marker pair o ∷ ended.after) (sym (map-append event_entry old more.more) ∙ ap (map event_entry) (sym more.events) ∙ ended.log) in
@@ -176,10 +175,6 @@ decided old new pair o more ended =
 
 -- ---- the laws
 
-reached_goes : (w : World) (es : List Event) → GoOn w.groups (reached w es).groups
-reached_goes w [] = go_same w.groups
-reached_goes w (e ∷ es) = go_joined w.groups (step w e).groups (reached (step w e) es).groups (step_goes w e) (reached_goes (step w e) es)
-
 added_groups : (P : Target → Type 0) (ps : List TopicPartition) (gs : List (List ℕ)) → Each P (map (λ p. Partition p) ps ++ map (λ g. Group g) gs) → Each (λ g. P (Group g)) gs
 added_groups P (p ∷ ps) gs h = added_groups P ps gs h.1
 added_groups P [] [] h = tt
@@ -191,7 +186,7 @@ prepared_decides w good e id t o after by enough =
     each_weaker (λ g. IsDone t.pair.producer o (entries_in w (Group g)) (entries_in v (Group g))) (λ g. IsDecided t.pair.producer o (group_of w.groups g).offsets (group_of v.groups g).offsets)
     (λ g done. one v (reached_goes w (e ∷ after)) g done) t.groups
     (added_groups (λ target. IsDone t.pair.producer o (entries_in w target) (entries_in v target)) t.partitions t.groups (prepared_completes w good e id t o after by enough)) where
-      one : (v : World) → GoOn w.groups v.groups → (g : List ℕ) → IsDone t.pair.producer o (entries_in w (Group g)) (entries_in v (Group g)) → IsDecided t.pair.producer o (group_of w.groups g).offsets (group_of v.groups g).offsets
+      one : (v : World) → GoOn Anything w.groups v.groups → (g : List ℕ) → IsDone t.pair.producer o (entries_in w (Group g)) (entries_in v (Group g)) → IsDecided t.pair.producer o (group_of w.groups g).offsets (group_of v.groups g).offsets
       one v goes g (pair, is, ended) =
           subst (λ producer. IsDecided producer o (group_of w.groups g).offsets (group_of v.groups g).offsets) is (decided (group_of w.groups g).offsets (group_of v.groups g).offsets pair o (goes g) ended)
 

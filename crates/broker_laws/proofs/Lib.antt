@@ -5,6 +5,7 @@ pub mod Walks
 pub mod Passing
 pub mod Produced
 pub mod Noted
+pub mod Growing
 pub mod Turns
 pub mod Steps
 pub mod Reached

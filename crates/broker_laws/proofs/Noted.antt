@@ -29,6 +29,7 @@ use Rattle.txn_laws.specs.Small.Entry.{Data}
 use Rattle.txn_laws.specs.Small.Move.{Store, Plain}
 use Rattle.txn_laws.specs.Sound.{Each}
 use Rattle.txn_laws.specs.Kept.{kept_moved_all}
+use Rattle.txn_laws.proofs.Base.{each_append}
 use Rattle.request_handlers.specs.World.{World, LogValue, rules_of}
 use Rattle.request_handlers.specs.Logs.{log_at}
 use Rattle.request_handlers.specs.Members.{code_in}
@@ -37,7 +38,7 @@ use Rattle.request_handlers.specs.TxnOffsetCommit.{Staging, staging, offset_stag
 use Rattle.broker_laws.specs.Entries.{in_group, event_entry, small}
 use Rattle.broker_laws.specs.Moves.{topics_moves, turn_moves, commit_moves, committed_moves, staged_moves}
 use Rattle.broker_laws.specs.Laws.{StagesNothing}
-use Rattle.broker_laws.proofs.Offsets.{noted_offsets, noted_entries, SameOffsets}
+use Rattle.broker_laws.proofs.Offsets.{text_is, noted_offsets, noted_entries, SameOffsets}
 use Rattle.broker_laws.proofs.Passing.{held_holds, never_none, held_error}
 use Rattle.broker_laws.proofs.Walks.{walk_moved, unmarked_walk, walk_goes, walk_is}
 
@@ -108,52 +109,61 @@ unmarked_stages w caller r =
 
 -- ---- a group's events stay, and others come behind them
 
-pub record Follows (old new : List OffsetEvent) : Type 0 where
+pub record Follows (Comes : OffsetEvent → Type 0) (old new : List OffsetEvent) : Type 0 where
   pub more : List OffsetEvent
   pub events : new ≡ old ++ more
+  pub ways : Each Comes more
 
-abbrev pub GoOn : List GroupValue → List GroupValue → Type 0
-GoOn old new = (name : List ℕ) → Follows (group_of old name).offsets (group_of new name).offsets
+-- so in each group, by what may come into it
+abbrev pub GoOn : (List ℕ → OffsetEvent → Type 0) → List GroupValue → List GroupValue → Type 0
+GoOn Comes old new = (name : List ℕ) → Follows (Comes name) (group_of old name).offsets (group_of new name).offsets
 
-pub follows_same : (old new : List OffsetEvent) → new ≡ old → Follows old new
-follows_same old new same = record { more = []; events = same ∙ sym (append-nil old) }
+module _ (Comes : List ℕ → OffsetEvent → Type 0) where
+  follows_same : (name : List ℕ) (old new : List OffsetEvent) → new ≡ old → Follows (Comes name) old new
+  follows_same name old new same = record { more = []; events = same ∙ sym (append-nil old); ways = tt }
 
-pub go_same : (gs : List GroupValue) → GoOn gs gs
-go_same gs name = follows_same (group_of gs name).offsets (group_of gs name).offsets refl
+  pub go_kept : (old new : List GroupValue) → SameOffsets old new → GoOn Comes old new
+  go_kept old new same name = follows_same name (group_of old name).offsets (group_of new name).offsets (same name)
 
-pub go_joined : (us vs ws : List GroupValue) → GoOn us vs → GoOn vs ws → GoOn us ws
-go_joined us vs ws first second name =
-    let a = first name in
-    let b = second name in
-    record { more = a.more ++ b.more; events = b.events ∙ ap (λ l. l ++ b.more) a.events ∙ append_assoc (group_of us name).offsets a.more b.more }
+  pub go_same : (gs : List GroupValue) → GoOn Comes gs gs
+  go_same gs = go_kept gs gs (λ name. refl)
 
-pub go_kept : (old new : List GroupValue) → SameOffsets old new → GoOn old new
-go_kept old new same name = follows_same (group_of old name).offsets (group_of new name).offsets (same name)
+  pub go_joined : (us vs ws : List GroupValue) → GoOn Comes us vs → GoOn Comes vs ws → GoOn Comes us ws
+  go_joined us vs ws first second name =
+      let a = first name in
+      let b = second name in
+      record {
+        more = a.more ++ b.more;
+        events = b.events ∙ ap (λ l. l ++ b.more) a.events ∙ append_assoc (group_of us name).offsets a.more b.more;
+        ways = each_append (Comes name) a.more b.more a.ways b.ways;
+      }
 
-pub go_noted : (gs : List GroupValue) (name : List ℕ) (e : OffsetEvent) (refusal : Option ErrorCode) → GoOn gs (turned gs (noted refusal (group_of gs name) e))
-go_noted gs name e (Some code) other = go_same gs other
-go_noted gs name e None other = by_name (bytes_eq name other) (noted_offsets gs name e other) where
-  by_name : (b : Bool) → (group_of (put gs (with_event e (group_of gs name))) other).offsets ≡ cond b ((group_of gs other).offsets ++ e ∷ []) (group_of gs other).offsets → Follows (group_of gs other).offsets (group_of (put gs (with_event e (group_of gs name))) other).offsets
-  by_name true is = record { more = e ∷ []; events = is }
-  by_name false is = follows_same _ _ is
+  pub go_noted : (gs : List GroupValue) (name : List ℕ) (e : OffsetEvent) (refusal : Option ErrorCode) → Comes name e → GoOn Comes gs (turned gs (noted refusal (group_of gs name) e))
+  go_noted gs name e (Some code) way other = go_same gs other
+  go_noted gs name e None way other = by_name (bytes_eq name other) refl (noted_offsets gs name e other) where
+    by_name : (b : Bool) → bytes_eq name other ≡ b → (group_of (put gs (with_event e (group_of gs name))) other).offsets ≡ cond b ((group_of gs other).offsets ++ e ∷ []) (group_of gs other).offsets
+        → Follows (Comes other) (group_of gs other).offsets (group_of (put gs (with_event e (group_of gs name))) other).offsets
+    by_name true same is = record { more = e ∷ []; events = is; ways = (subst (λ n. Comes n e) (text_is name other same) way, tt) }
+    by_name false same is = follows_same other _ _ is
 
-go_committed : (c : Committing) (gs : List GroupValue) (name : List ℕ) (p : OffsetToCommit) (o : Option LogValue) → GoOn gs (groups_by c gs name p o)
-go_committed c gs name p None = go_same gs
-go_committed c gs name p (Some log) = go_noted gs c.group (Put (offset_of name p)) (commit_refusal (group_of gs c.group) c.generation c.member)
+  go_committed : (c : Committing) → ((o : PartitionOffset) → Comes c.group (Put o)) → (gs : List GroupValue) (name : List ℕ) (p : OffsetToCommit) (o : Option LogValue) → GoOn Comes gs (groups_by c gs name p o)
+  go_committed c way gs name p None = go_same gs
+  go_committed c way gs name p (Some log) = go_noted gs c.group (Put (offset_of name p)) (commit_refusal (group_of gs c.group) c.generation c.member) (way (offset_of name p))
 
-pub go_commits : (w : World) (caller : Caller) (r : OffsetCommitRequest) → GoOn w.groups (topics_world (committing_rule w caller r) (rules_of w) w.groups r.topics)
-go_commits w caller r = walk_goes (committing_rule w caller r) (rules_of w) GoOn go_same go_joined (λ gs name p. go_committed (committing r) gs name p (log_at w.topics name p.index)) w.groups r.topics
+  pub go_commits : (w : World) (caller : Caller) (r : OffsetCommitRequest) → ((o : PartitionOffset) → Comes r.group (Put o)) → GoOn Comes w.groups (topics_world (committing_rule w caller r) (rules_of w) w.groups r.topics)
+  go_commits w caller r way =
+      walk_goes (committing_rule w caller r) (rules_of w) (GoOn Comes) go_same go_joined (λ gs name p. go_committed (committing r) way gs name p (log_at w.topics name p.index)) w.groups r.topics
 
-go_staged : (s : Staging) (gs : List GroupValue) (o : PartitionOffset) (found : Option LogValue) (refusal : Option ErrorCode) → GoOn gs (turned gs (turn_by refusal s gs o found))
-go_staged s gs o None refusal = go_same gs
-go_staged s gs o (Some log) (Some code) = go_same gs
-go_staged s gs o (Some log) None = go_noted gs s.group (Stage s.pair.producer o) (stage_refusal (group_of gs s.group) s.generation s.member)
+  go_staged : (s : Staging) (refusal : Option ErrorCode) → (refusal ≡ None → (o : PartitionOffset) → Comes s.group (Stage s.pair.producer o)) → (gs : List GroupValue) (o : PartitionOffset) (found : Option LogValue) → GoOn Comes gs (turned gs (turn_by refusal s gs o found))
+  go_staged s refusal way gs o None = go_same gs
+  go_staged s (Some code) way gs o (Some log) = go_same gs
+  go_staged s None way gs o (Some log) = go_noted gs s.group (Stage s.pair.producer o) (stage_refusal (group_of gs s.group) s.generation s.member) (way refl o)
 
-pub go_stages : (w : World) (caller : Caller) (r : TxnOffsetCommitRequest) → GoOn w.groups (topics_world (staging_rule w caller r) (rules_of w) w.groups r.topics)
-go_stages w caller r =
-    walk_goes (staging_rule w caller r) (rules_of w) GoOn go_same go_joined
-    (λ gs name p. go_staged (staging r) gs (offset_staged name p) (log_at w.topics name p.index) (staging_refusal w.coordinator (staging r)))
-    w.groups r.topics
+  pub go_stages : (w : World) (caller : Caller) (r : TxnOffsetCommitRequest) → (staging_refusal w.coordinator (staging r) ≡ None → (o : PartitionOffset) → Comes r.group (Stage r.producer o)) → GoOn Comes w.groups (topics_world (staging_rule w caller r) (rules_of w) w.groups r.topics)
+  go_stages w caller r way =
+      walk_goes (staging_rule w caller r) (rules_of w) (GoOn Comes) go_same go_joined
+      (λ gs name p. go_staged (staging r) (staging_refusal w.coordinator (staging r)) way gs (offset_staged name p) (log_at w.topics name p.index))
+      w.groups r.topics
 
 -- ---- a transaction that is refused stages nothing
 

@@ -25,7 +25,7 @@ use Rattle.txn_laws.specs.Small.{with_entry}
 use Rattle.request_handlers.specs.World.{TopicValue}
 use Rattle.broker_laws.specs.Entries.{event_entry, entries_at}
 
-text_is : (a b : List ℕ) → bytes_eq a b ≡ true → a ≡ b
+pub text_is : (a b : List ℕ) → bytes_eq a b ≡ true → a ≡ b
 text_is a b h = (bytes_eq-Decides a b).0 h
 
 group_put : (gs : List GroupValue) (new : GroupValue) (name : List ℕ) → group_of (put gs new) name ≡ cond (bytes_eq new.name name) new (group_of gs name)

@@ -64,7 +64,7 @@ use Rattle.broker_laws.specs.Targets.{is_there, IsThere, TakesInExisting, IsOwed
 use Rattle.broker_laws.proofs.Logs.{entries_with, places_kept}
 use Rattle.broker_laws.proofs.Produced.{produce_moved}
 use Rattle.broker_laws.proofs.Offsets.{noted_entries, SameOffsets, same_entries, join_keeps, sync_keeps, beat_keeps, leave_keeps, expiry_keeps}
-use Rattle.broker_laws.proofs.Noted.{GoOn, go_same, go_kept, go_noted, go_commits, go_stages, commits_moved, stages_moved}
+use Rattle.broker_laws.proofs.Noted.{commits_moved, stages_moved}
 use Rattle.broker_laws.proofs.Turns.{turned_exist, init_exists, add_exists, add_group_exists, end_exists, written_exist, expire_exist}
 
 -- ---- a marker step
@@ -164,49 +164,6 @@ step_moved w (Tick told) all own =
     let moment = moment_after w.moment told in
     (λ k. record { coordinator = expire w.coordinator moment; entries = λ t. same_entries w.topics w.groups (map (expired moment) w.groups) (expiry_keeps w.groups moment) t k; moment = moment })
     ∙ sym (kept_tick (small w) moment own)
-
--- ---- a group's events stay
-
-unless_gone : (o : Option Refusal) (w : World) (refused : ErrorCode → Reply) (served : Served) → GoOn w.groups served.world.groups → GoOn w.groups (whole_by o w refused served).world.groups
-unless_gone None w refused served h = h
-unless_gone (Some x) w refused served h = go_same w.groups
-
-pub step_goes : (w : World) (e : Event) → GoOn w.groups (step w e).groups
-step_goes w (Ask caller client (Produce r)) = go_same w.groups
-step_goes w (Ask caller client (Fetch r)) = go_same w.groups
-step_goes w (Ask caller client (ListOffsets r)) = go_same w.groups
-step_goes w (Ask caller client (Metadata r)) = go_same w.groups
-step_goes w (Ask caller client (OffsetCommit r)) = subst (GoOn w.groups) (woven (committing_rule w caller r) (rules_of w) w.groups r.topics).world (go_commits w caller r)
-step_goes w (Ask caller client (OffsetFetch r)) = subst (λ (v : World). GoOn w.groups v.groups) (sym (offsets_keep w caller r)) (go_same w.groups)
-step_goes w (Ask caller client (FindCoordinator r)) = unless_gone (part_refusal (rules_of w) (find_questions caller (kind_of r.key_type) r.key)) w _ _ (go_same w.groups)
-step_goes w (Ask caller client (JoinGroup r)) =
-    unless_gone (part_refusal (rules_of w) (read_question caller r.group ∷ [])) w _ (joined w r) (go_kept w.groups (joined w r).world.groups (join_keeps w.groups r w.events w.moment))
-step_goes w (Ask caller client (Heartbeat r)) =
-    unless_gone (part_refusal (rules_of w) (read_question caller r.group ∷ [])) w _ (heard w r) (go_kept w.groups (heard w r).world.groups (beat_keeps w.groups r w.moment))
-step_goes w (Ask caller client (LeaveGroup r)) =
-    unless_gone (part_refusal (rules_of w) (read_question caller r.group ∷ [])) w _ (left w r) (go_kept w.groups (left w r).world.groups (leave_keeps w.groups r))
-step_goes w (Ask caller client (SyncGroup r)) =
-    unless_gone (part_refusal (rules_of w) (read_question caller r.group ∷ [])) w _ (synced w r) (go_kept w.groups (synced w r).world.groups (sync_keeps w.groups r w.moment))
-step_goes w (Ask caller client (InitProducerId r)) = unless_gone (part_refusal (rules_of w) (init_question caller r.transactional_id ∷ [])) w _ (initialized w r) (go_same w.groups)
-step_goes w (Ask caller client (AddPartitionsToTxn r)) = by_cut (is_cut caller r.transactional_id w.topics (rules_of w) r.topics) where
-  by_cut : (b : Bool) → GoOn w.groups (cond b (cut_outcome w caller r) (added_outcome w r)).world.groups
-  by_cut true = go_same w.groups
-  by_cut false = go_same w.groups
-step_goes w (Ask caller client (AddOffsetsToTxn r)) = unless_gone (part_refusal (rules_of w) (add_offsets_questions caller r.transactional_id r.group)) w _ (offsets_added w r) (go_same w.groups)
-step_goes w (Ask caller client (EndTxn r)) = unless_gone (part_refusal (rules_of w) (id_question caller r.transactional_id ∷ [])) w _ (ended w r) (go_same w.groups)
-step_goes w (Ask caller client (TxnOffsetCommit r)) = subst (GoOn w.groups) (woven (staging_rule w caller r) (rules_of w) w.groups r.topics).world (go_stages w caller r)
-step_goes w (Ask caller client (DescribeAcls r)) = unless_gone (part_refusal (rules_of w) (describe_acls_questions caller)) w _ _ (go_same w.groups)
-step_goes w (Ask caller client (CreateAcls r)) = unless_gone (part_refusal (rules_of w) (alter_questions caller)) w _ _ (go_same w.groups)
-step_goes w (Ask caller client (DeleteAcls r)) = unless_gone (part_refusal (rules_of w) (alter_questions caller)) w _ _ (go_same w.groups)
-step_goes w Mark = by_front w.coordinator.warrants where
-  by_target : (target : Target) (m : OwedMarker) → GoOn w.groups (decided_at w.groups target m)
-  by_target (Partition p) m = go_same w.groups
-  by_target (Group g) m = go_noted w.groups g (Decide m.pair.producer (marked_outcome m.outcome)) None
-
-  by_front : (ws : List OwedMarker) → GoOn w.groups (mark_by w (slice_get ws 0)).world.groups
-  by_front [] = go_same w.groups
-  by_front (m ∷ rest) = by_target m.target m
-step_goes w (Tick told) = go_kept w.groups (map (expired (moment_after w.moment told)) w.groups) (expiry_keeps w.groups (moment_after w.moment told))
 
 -- ---- what transactions take in exists
 

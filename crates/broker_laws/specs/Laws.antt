@@ -6,13 +6,15 @@ use Rattle.wire_types.specs.declared.error_code.ErrorCode.TheVariants as codes
 use Rattle.wire_types.specs.declared.topic.Topic.{Topic}
 use Rattle.acl_binding.specs.declared.question.Caller.{Caller}
 use Rattle.settings.specs.declared.settings.Settings.{Settings}
+use Rattle.record_batch.specs.declared.outcome.Outcome.{Outcome as MarkedOutcome}
 use Rattle.record_batch.specs.declared.header.BatchHeader.{BatchHeader}
+use Rattle.msg_group.specs.declared.offset_commit.OffsetCommitRequest.{OffsetCommitRequest}
 use Rattle.msg_txn.specs.declared.init_producer_id.InitProducerIdRequest.{InitProducerIdRequest}
 use Rattle.msg_txn.specs.declared.end_txn.EndTxnRequest.{EndTxnRequest}
 use Rattle.msg_txn.specs.declared.txn_offset_commit.TxnOffsetCommitRequest.{TxnOffsetCommitRequest}
 use Rattle.msg_txn.specs.declared.txn_offset_commit.TxnOffsetCommitReply.{TxnOffsetCommitReply}
 use Rattle.msg_txn.specs.declared.txn_offset_commit.StagedOffset.{StagedOffset}
-use Rattle.msg_admin.specs.declared.request.Request.TheVariants.{InitProducerId, EndTxn, TxnOffsetCommit}
+use Rattle.msg_admin.specs.declared.request.Request.TheVariants.{OffsetCommit, InitProducerId, EndTxn, TxnOffsetCommit}
 use Rattle.msg_admin.specs.declared.reply.Reply.TheVariants as replies
 use Rattle.audit_trail.specs.declared.event.Event.{Event}
 use Rattle.audit_trail.specs.declared.event.Event.TheVariants.{Ask, Mark, Tick}
@@ -31,6 +33,7 @@ use Rattle.txn_coordinator.specs.Coordinator.{CoordinatorValue, recorded, turn_c
 use Rattle.txn_coordinator.specs.Adding.{add_partitions, add_group}
 use Rattle.txn_coordinator.specs.EndTxn.{end}
 use Rattle.txn_coordinator.specs.Expiry.{is_due}
+use Rattle.txn_coordinator.specs.Warrants.{next_warrant}
 use Rattle.group_offsets.specs.declared.event.PartitionOffset.{PartitionOffset}
 use Rattle.group_offsets.specs.declared.event.OffsetEvent.{OffsetEvent}
 use Rattle.group_offsets.specs.declared.event.OffsetEvent.TheVariants.{Put, Stage, Decide}
@@ -163,6 +166,50 @@ abbrev pub DecidesWaiting : World → Type 0
 DecidesWaiting w = (id : List ℕ) (t : Transaction) (outcome : Ending) (after : List Event)
     → recorded w.coordinator.transactions id ≡ Some t → t.phase ≡ prepared outcome → up_to_last w.coordinator.warrants id ≤ marks after
     → Each (λ (x : OwedMarker). x.id ≡ id → (g : List ℕ) → x.target ≡ Group g → IsDecided x.pair.producer outcome (group_of w.groups g).offsets (group_of (reached w after).groups g).offsets) w.coordinator.warrants
+
+-- ---- what comes into a group
+
+-- an OffsetCommit for the group
+pub record IsCommitFor (e : Event) (g : List ℕ) : Type 0 where
+  pub caller : Caller
+  pub client : Option (List ℕ)
+  pub request : OffsetCommitRequest
+  pub event : e ≡ Ask caller client (OffsetCommit request)
+  pub group : request.group ≡ g
+
+-- a TxnOffsetCommit of the producer for the group, whose transaction takes the group in
+pub record IsStagingFor (w : World) (e : Event) (g : List ℕ) (producer : ℤ) : Type 0 where
+  pub caller : Caller
+  pub client : Option (List ℕ)
+  pub request : TxnOffsetCommitRequest
+  pub event : e ≡ Ask caller client (TxnOffsetCommit request)
+  pub group : request.group ≡ g
+  pub by : request.producer ≡ producer
+  pub held : staging_refusal w.coordinator (staging request) ≡ None
+
+-- a marker step, where the front marker is owed to the group for the producer's transaction of that outcome
+pub record IsDecisionFor (w : World) (e : Event) (g : List ℕ) (producer : ℤ) (outcome : MarkedOutcome) : Type 0 where
+  pub event : e ≡ Mark
+  pub marker : OwedMarker
+  pub front : next_warrant w.coordinator ≡ Some marker
+  pub target : marker.target ≡ Group g
+  pub by : marker.pair.producer ≡ producer
+  pub ends : marked_outcome marker.outcome ≡ outcome
+
+-- the ways in which an offset event comes into a group
+abbrev pub ComesBy : World → Event → List ℕ → OffsetEvent → Type 0
+ComesBy w e g (Put o) = IsCommitFor e g
+ComesBy w e g (Stage producer o) = IsStagingFor w e g producer
+ComesBy w e g (Decide producer outcome) = IsDecisionFor w e g producer outcome
+
+-- what a group holds stays, and behind it comes what comes in such a way
+pub record GoesOn (w : World) (e : Event) (g : List ℕ) : Type 0 where
+  pub more : List OffsetEvent
+  pub events : (group_of (step w e).groups g).offsets ≡ (group_of w.groups g).offsets ++ more
+  pub ways : Each (ComesBy w e g) more
+
+abbrev pub GroupsGoOn : World → Type 0
+GroupsGoOn w = (e : Event) (g : List ℕ) → GoesOn w e g
 
 -- ---- the end of a transaction
 

@@ -6,7 +6,7 @@ ghost use Rattle.broker_laws.specs.Targets.{HasTargets};
 ghost use Rattle.broker_laws.specs.Laws.{InReached, InCores};
 ghost use Rattle.broker_laws.specs.Laws.{EntriesAreTheLog, IsMoved, EventsAreMoves};
 ghost use Rattle.broker_laws.specs.Laws.{Prepares, CompletesPrepared, CompletesWaiting, EndsComplete, MarksAreNotRefused};
-ghost use Rattle.broker_laws.specs.Laws.{DecidesPrepared, DecidesWaiting};
+ghost use Rattle.broker_laws.specs.Laws.{DecidesPrepared, DecidesWaiting, GroupsGoOn};
 ghost use Rattle.broker_laws.specs.Laws.{Fences, FencedWriteNothing, NoDataBehindAGreaterMarker};
 
 /// What the laws see of a partition is its log, batch by batch, and of a group its offset events.
@@ -53,6 +53,12 @@ pub fn decides_groups()
     ensures prepared_cores { InCores DecidesPrepared }
     ensures waiting_reached { InReached DecidesWaiting }
     ensures waiting_cores { InCores DecidesWaiting }
+{}
+
+/// A group's offset events stay, and what comes behind them comes by an OffsetCommit for the group, by a TxnOffsetCommit
+/// for it of a transaction that takes it in, or by a marker that is owed to it.
+pub fn groups_go_on()
+    ensures { (w : World) → GroupsGoOn w }
 {}
 
 /// The record of a transaction that waits is complete once its last marker is written.
