@@ -1,0 +1,6 @@
+pub mod Parts
+pub mod Described
+pub mod Answered
+pub mod Walks
+pub mod Settled
+pub mod Kept

@@ -1,0 +1,78 @@
+-- Tenants are apart: whatever a request is, its answer depends on nothing but what its questions were granted, and what
+-- they were not granted it leaves as it was.
+use Rattle.std.specs.Prelude.{◌≡◌, ◌⊎◌, ℕ, true, List, [], ◌∷◌, Option, None}
+use Rattle.std.specs.List.{AllByRecursion}
+use Rattle.acl_binding.specs.declared.question.Caller.{Caller}
+use Rattle.acl_binding.specs.declared.question.Question.{Question}
+use Rattle.acl_binding.specs.declared.question.Verdict.TheVariants.{Yes}
+use Rattle.acl_binding.specs.declared.words.Kind.{Kind}
+use Rattle.acl_binding.specs.declared.words.Kind.TheVariants.{Cluster}
+use Rattle.acl_binding.specs.Creatable.{cluster_name}
+use Rattle.authorizer.specs.Policy.{verdict}
+use Rattle.authorizer.specs.Asking.{part_refusal}
+use Rattle.msg_admin.specs.declared.request.Request.{Request}
+use Rattle.audit_trail.specs.declared.event.Event.{Event}
+use Rattle.audit_trail.specs.declared.event.Event.TheVariants.{Ask}
+use Rattle.request_handlers.specs.World.{World, rules_of, topic_names}
+use Rattle.request_handlers.specs.Step.{step, reply_to, refusals_of}
+use Rattle.request_handlers.specs.Tenants.{SameBase, SameOn, SameGranted}
+use Rattle.request_handlers.specs.GroupLaws.{described_slots}
+use Rattle.tenant_laws.specs.Questions.{parts_of, questions_of, wants_all}
+
+-- ---- what answers depend on
+
+-- the worlds agree on all that the request is granted
+pub record SameForRequest (v w : World) (caller : Caller) (request : Request) : Type 0 where
+  -- in the settings but for topics, the book, the moment, the number of events and the producer ids given out
+  pub base : SameBase v w
+  -- on each topic, group and transactional id on which a question is granted: whether it is there, and all that it holds
+  pub granted : SameGranted v w (questions_of caller request)
+  -- and where the list of topics is null, on the topics that may be described, in order
+  pub described : wants_all request ≡ true → described_slots (rules_of v) caller v.topics ≡ described_slots (rules_of w) caller w.topics
+
+-- the event is answered the same, and refused the same
+pub record SameTold (v w : World) (e : Event) : Type 0 where
+  pub reply : reply_to v e ≡ reply_to w e
+  pub refusals : refusals_of v e ≡ refusals_of w e
+
+abbrev pub AnswersDependOnGrants : Type 0
+AnswersDependOnGrants = (v w : World) (caller : Caller) (client : Option (List ℕ)) (request : Request)
+    → SameForRequest v w caller request → SameTold v w (Ask caller client request)
+
+-- ---- what stays as it was
+
+abbrev pub IsAbout : Kind → List ℕ → Question → Type 0
+IsAbout kind name q = (q.kind ≡ kind) × (q.name ≡ name)
+
+-- some question of the part is about the resource
+abbrev pub AsksAbout : Kind → List ℕ → List Question → Type 0
+AsksAbout kind name [] = ⊥
+AsksAbout kind name (q ∷ qs) = IsAbout kind name q ⊎ AsksAbout kind name qs
+
+-- no part that asks about the resource is granted
+abbrev pub NoPartIsGranted : World → Kind → List ℕ → List (List Question) → Type 0
+NoPartIsGranted w kind name parts = AllByRecursion (λ part. AsksAbout kind name part → part_refusal (rules_of w) part ≡ None → ⊥) parts
+
+-- no question about the resource is granted
+abbrev pub NoQuestionIsGranted : World → Kind → List ℕ → List Question → Type 0
+NoQuestionIsGranted w kind name questions = AllByRecursion (λ q. IsAbout kind name q → verdict w.book w.supers q ≡ Yes → ⊥) questions
+
+-- what no request changes: the node, the super users, the moment, and which topics there are, in order
+pub record KeepsSettings (w new : World) : Type 0 where
+  pub node : new.node ≡ w.node
+  pub supers : new.supers ≡ w.supers
+  pub moment : new.moment ≡ w.moment
+  pub names : topic_names new.topics ≡ topic_names w.topics
+
+-- What a request leaves as it was: by its parts, and so by its questions.
+pub record UngrantedStays : Type 0 where
+  -- a topic with its logs, a group, a transactional id
+  pub by_parts : (w : World) (caller : Caller) (client : Option (List ℕ)) (request : Request) (kind : Kind) (name : List ℕ)
+      → NoPartIsGranted w kind name (parts_of caller request) → SameOn w (step w (Ask caller client request)) kind name
+  pub by_questions : (w : World) (caller : Caller) (client : Option (List ℕ)) (request : Request) (kind : Kind) (name : List ℕ)
+      → NoQuestionIsGranted w kind name (questions_of caller request) → SameOn w (step w (Ask caller client request)) kind name
+  -- the book of bindings, which is the cluster's
+  pub book : (w : World) (caller : Caller) (client : Option (List ℕ)) (request : Request)
+      → NoQuestionIsGranted w Cluster cluster_name (questions_of caller request) → (step w (Ask caller client request)).book ≡ w.book
+  -- and whatever was granted
+  pub settings : (w : World) (caller : Caller) (client : Option (List ℕ)) (request : Request) → KeepsSettings w (step w (Ask caller client request))

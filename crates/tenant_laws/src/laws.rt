@@ -1,0 +1,14 @@
+//! The laws, each the contract of a function with nothing to do. They hold of every world, and so of each that events
+//! reach.
+
+ghost use Rattle.tenant_laws.specs.Laws.{AnswersDependOnGrants, UngrantedStays};
+
+/// Two worlds that agree on what a request is granted give it the same reply and the same refusals.
+pub fn answers_depend_on_grants()
+    ensures { AnswersDependOnGrants }
+{}
+
+/// A topic, a group or a transactional id on which no question of a request is granted is as before.
+pub fn ungranted_stays()
+    ensures { UngrantedStays }
+{}
