@@ -4,3 +4,4 @@ pub mod Answered
 pub mod Walks
 pub mod Settled
 pub mod Kept
+pub mod Told

@@ -1,7 +1,7 @@
--- Tenants are apart: whatever a request is, its answer depends on nothing but what its questions were granted, and what
--- they were not granted it leaves as it was.
-use Rattle.std.specs.Prelude.{◌≡◌, ◌⊎◌, ℕ, true, List, [], ◌∷◌, Option, None}
-use Rattle.std.specs.List.{AllByRecursion}
+-- Tenants are apart: whatever a request is, its answer depends on nothing but what its questions were granted, what they
+-- were not granted it leaves as it was, and it is refused for each part that isn't granted, and for nothing else.
+use Rattle.std.specs.Prelude.{◌≡◌, ◌⊎◌, ℕ, true, List, [], ◌∷◌, Option, Some, None}
+use Rattle.std.specs.List.{AllByRecursion, filter_map}
 use Rattle.acl_binding.specs.declared.question.Caller.{Caller}
 use Rattle.acl_binding.specs.declared.question.Question.{Question}
 use Rattle.acl_binding.specs.declared.question.Verdict.TheVariants.{Yes}
@@ -9,15 +9,18 @@ use Rattle.acl_binding.specs.declared.words.Kind.{Kind}
 use Rattle.acl_binding.specs.declared.words.Kind.TheVariants.{Cluster}
 use Rattle.acl_binding.specs.Creatable.{cluster_name}
 use Rattle.authorizer.specs.Policy.{verdict}
-use Rattle.authorizer.specs.Asking.{part_refusal}
+use Rattle.authorizer.specs.declared.answer.Refusal.{Refusal}
+use Rattle.authorizer.specs.Asking.{Rules, part_refusal}
 use Rattle.msg_admin.specs.declared.request.Request.{Request}
+use Rattle.msg_admin.specs.declared.request.Request.TheVariants.{OffsetFetch}
 use Rattle.audit_trail.specs.declared.event.Event.{Event}
 use Rattle.audit_trail.specs.declared.event.Event.TheVariants.{Ask}
 use Rattle.request_handlers.specs.World.{World, rules_of, topic_names}
 use Rattle.request_handlers.specs.Step.{step, reply_to, refusals_of}
+use Rattle.request_handlers.specs.OffsetFetch.{group_question}
 use Rattle.request_handlers.specs.Tenants.{SameBase, SameOn, SameGranted}
 use Rattle.request_handlers.specs.GroupLaws.{described_slots}
-use Rattle.tenant_laws.specs.Questions.{parts_of, questions_of, wants_all}
+use Rattle.tenant_laws.specs.Questions.{offset_parts, parts_of, questions_of, wants_all}
 
 -- ---- what answers depend on
 
@@ -76,3 +79,24 @@ pub record UngrantedStays : Type 0 where
       → NoQuestionIsGranted w Cluster cluster_name (questions_of caller request) → (step w (Ask caller client request)).book ≡ w.book
   -- and whatever was granted
   pub settings : (w : World) (caller : Caller) (client : Option (List ℕ)) (request : Request) → KeepsSettings w (step w (Ask caller client request))
+
+-- ---- what is refused
+
+-- the refusals of these parts, in order
+abbrev pub refusals_in : Rules → List (List Question) → List Refusal
+refusals_in rules parts = filter_map (part_refusal rules) parts
+
+-- where the part that stands for the request is refused, it comes to no other
+abbrev pub told_alone : Option Refusal → List Refusal → List Refusal
+told_alone (Some r) rest = r ∷ []
+told_alone None rest = rest
+
+-- the refusals of a request: those of its parts
+abbrev pub request_refusals : Rules → Caller → Request → List Refusal
+request_refusals rules caller (OffsetFetch r) = told_alone (part_refusal rules (group_question caller r.group ∷ [])) (refusals_in rules (offset_parts caller r.topics))
+request_refusals rules caller request = refusals_in rules (parts_of caller request)
+
+-- so the parts and questions above are those that are asked, whatever the book is
+abbrev pub RefusalsAreOfParts : Type 0
+RefusalsAreOfParts = (w : World) (caller : Caller) (client : Option (List ℕ)) (request : Request)
+    → refusals_of w (Ask caller client request) ≡ request_refusals (rules_of w) caller request
