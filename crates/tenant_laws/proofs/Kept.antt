@@ -26,10 +26,14 @@ use Rattle.msg_txn.specs.declared.end_txn.EndTxnRequest.{EndTxnRequest}
 use Rattle.msg_admin.specs.declared.request.Request.{Request}
 use Rattle.msg_admin.specs.declared.request.Request.TheVariants.{Produce, Fetch, ListOffsets, Metadata, OffsetCommit, OffsetFetch, FindCoordinator, JoinGroup, Heartbeat, LeaveGroup, SyncGroup, InitProducerId, AddPartitionsToTxn, EndTxn, DescribeAcls, CreateAcls, DeleteAcls}
 use Rattle.msg_admin.specs.declared.reply.Reply.{Reply}
+use Rattle.audit_trail.specs.declared.event.Event.{Event}
+use Rattle.audit_trail.specs.declared.event.Event.TheVariants.{Ask, Mark, Tick}
 use Rattle.walk.specs.Walk.{parts_refused, refusals}
 use Rattle.walk.specs.Woven.{has_any}
 use Rattle.walk.specs.Alike.{AllParts, AllTopics}
+use Rattle.txn_coordinator.specs.declared.marker.OwedMarker.{OwedMarker}
 use Rattle.txn_coordinator.specs.Coordinator.{CoordinatorValue, recorded}
+use Rattle.txn_coordinator.specs.InitProducerId.{init}
 use Rattle.group_offsets.specs.declared.group.Group.{Group as GroupValue}
 use Rattle.group_offsets.specs.Groups.{find_group}
 use Rattle.request_handlers.specs.World.{World, TopicValue, LogValue, rules_of, find_topic}
@@ -42,11 +46,11 @@ use Rattle.request_handlers.specs.Produce.{produce_questions, producing, produce
 use Rattle.request_handlers.specs.Members.{read_question, join_group_outcome, sync_group_outcome, heartbeat_outcome, leave_group_outcome, joined, synced, heard, left}
 use Rattle.request_handlers.specs.OffsetCommit.{commit_questions, committing_rule, offset_commit_outcome}
 use Rattle.request_handlers.specs.InitProducerId.{init_question, coordinator_for, initialized, init_producer_id_outcome}
-use Rattle.request_handlers.specs.EndTxn.{id_question, ended, end_txn_outcome}
-use Rattle.request_handlers.specs.AddPartitions.{add_questions, cut_rule, is_missing, is_cut, cut_outcome, added_outcome, add_partitions_outcome, partitions_in, partitions_of}
+use Rattle.request_handlers.specs.EndTxn.{id_question, ending, end_turn, ended, end_txn_outcome}
+use Rattle.request_handlers.specs.AddPartitions.{add_questions, cut_rule, is_missing, is_cut, add_turn, cut_outcome, added_outcome, add_partitions_outcome, partitions_in, partitions_of}
 use Rattle.request_handlers.specs.CreateAcls.{alter_questions, book_created}
 use Rattle.request_handlers.specs.DeleteAcls.{book_deleted}
-use Rattle.request_handlers.specs.Step.{request_outcome, counted}
+use Rattle.request_handlers.specs.Step.{request_outcome, counted, step, reached}
 use Rattle.request_handlers.specs.Tenants.{SameOn}
 use Rattle.request_handlers.specs.TxnLaws.{KeepsOtherIds}
 use Rattle.request_handlers.specs.GroupLaws.{KeepsOtherGroups}
@@ -57,10 +61,11 @@ use Rattle.request_handlers.proofs.Together.{keep_the_rest, nothing_added}
 use Rattle.request_handlers.proofs.Adds.{add_keeps}
 use Rattle.request_handlers.proofs.AclEdits.{refused_edit_nothing}
 use Rattle.request_handlers.proofs.Wholes.{describe_keeps, find_keeps, offsets_keep}
-use Rattle.tenant_laws.specs.Questions.{partition_parts, parts_of}
-use Rattle.tenant_laws.specs.Laws.{AsksAbout, NoPartIsGranted, KeepsSettings, UngrantedStays}
+use Rattle.tenant_laws.specs.Questions.{partition_parts, parts_of, questions_of}
+use Rattle.tenant_laws.specs.Laws.{AsksAbout, NoPartIsGranted, NoQuestionIsGranted, AreUngranted, owed_by, KeepsSettings, UngrantedStays}
 use Rattle.tenant_laws.proofs.Parts.{no_part_granted, each_partition}
 use Rattle.tenant_laws.proofs.Walks.{Leaves, walk_leaves}
+use Rattle.tenant_laws.proofs.Owed.{other_owed, init_owes, end_owes, add_owes}
 use Rattle.tenant_laws.proofs.Settled.{whole_keeps, settings_kept}
 
 -- ---- a resource in two worlds
@@ -86,6 +91,12 @@ same_counted w u Topic name same = same
 same_counted w u Group name same = same
 same_counted w u Cluster name same = same
 same_counted w u TransactionalId name same = same
+
+same_then : (u v w : World) (kind : Kind) (name : List ℕ) → SameOn u v kind name → SameOn v w kind name → SameOn u w kind name
+same_then u v w Topic name first second = first ∙ second
+same_then u v w Group name first second = first ∙ second
+same_then u v w Cluster name first second = tt
+same_then u v w TransactionalId name first second = first ∙ second
 
 differ : (xs ys : List ℕ) → bytes_eq xs ys ≡ false → xs ≡ ys → ⊥
 differ xs ys e same = let clash : false ≡ true = sym e ∙ (bytes_eq-Decides xs ys).1 same in cc
@@ -171,6 +182,11 @@ module _ (w : World) (caller : Caller) (r : InitProducerIdRequest) (kind : Kind)
   init_groups : (init_producer_id_outcome w caller r).world.groups ≡ w.groups
   init_groups = whole_keeps (λ (u : World). u.groups) (part_refusal (rules_of w) (init_question caller r.transactional_id ∷ [])) w _ (initialized w r) refl
 
+  init_refused : (id : List ℕ) → r.transactional_id ≡ Some id → NoPartIsGranted w kind name ((init_question caller r.transactional_id ∷ []) ∷ []) → kind ≡ TransactionalId → name ≡ id → (init_producer_id_outcome w caller r).world ≡ w
+  init_refused id is none k named =
+      one_refused w kind name (init_question caller r.transactional_id) ((init_producer_id_outcome w caller r).world ≡ w) (λ refusal refused. (inits_once.refused w caller r refusal refused).world) none
+      (ap (λ (x : Option (List ℕ)). (init_question caller x).kind) is ∙ sym k) (ap (λ (x : Option (List ℕ)). (init_question caller x).name) is ∙ sym named)
+
   init_kept : NoPartIsGranted w kind name ((init_question caller r.transactional_id ∷ []) ∷ []) → SameOn w (init_producer_id_outcome w caller r).world kind name
   init_kept none = by_id r.transactional_id refl where
     by_id : (id : Option (List ℕ)) → r.transactional_id ≡ id → SameOn w (init_producer_id_outcome w caller r).world kind name
@@ -178,17 +194,17 @@ module _ (w : World) (caller : Caller) (r : InitProducerIdRequest) (kind : Kind)
         same_by w (init_producer_id_outcome w caller r).world kind name (λ k. ap (λ (ts : List TopicValue). find_topic ts name) (init_depends.topics w caller r)) (λ k. ap (λ (gs : List GroupValue). find_group gs name) init_groups)
         (λ k. whole_keeps (λ (u : World). recorded u.coordinator.transactions name) (part_refusal (rules_of w) (init_question caller r.transactional_id ∷ [])) w _ (initialized w r)
         (ap (λ (id : Option (List ℕ)). recorded (coordinator_for id w.coordinator w.node.max_txn_timeout r.timeout).transactions name) is))
-    by_id (Some id) is =
-        id_kept w id (init_producer_id_outcome w caller r) (keep_the_rest.inits w caller r id is) init_groups kind name
-        (λ k named. one_refused w kind name (init_question caller r.transactional_id) ((init_producer_id_outcome w caller r).world ≡ w) (λ refusal refused. (inits_once.refused w caller r refusal refused).world) none
-        (ap (λ (x : Option (List ℕ)). (init_question caller x).kind) is ∙ sym k) (ap (λ (x : Option (List ℕ)). (init_question caller x).name) is ∙ sym named))
+    by_id (Some id) is = id_kept w id (init_producer_id_outcome w caller r) (keep_the_rest.inits w caller r id is) init_groups kind name (λ k named. init_refused id is none k named)
 
 -- ---- EndTxn
 
-end_kept : (w : World) (caller : Caller) (r : EndTxnRequest) (kind : Kind) (name : List ℕ) → NoPartIsGranted w kind name ((id_question caller r.transactional_id ∷ []) ∷ []) → SameOn w (end_txn_outcome w caller r).world kind name
-end_kept w caller r kind name none =
-    id_kept w r.transactional_id (end_txn_outcome w caller r) (keep_the_rest.ends w caller r) (whole_keeps (λ (u : World). u.groups) (part_refusal (rules_of w) (id_question caller r.transactional_id ∷ [])) w _ (ended w r) refl) kind name
-    (λ k named. one_refused w kind name (id_question caller r.transactional_id) ((end_txn_outcome w caller r).world ≡ w) (λ refusal refused. (keep_the_rest.refused_end w caller r refusal refused).world) none (sym k) (sym named))
+module _ (w : World) (caller : Caller) (r : EndTxnRequest) (kind : Kind) (name : List ℕ) where
+  end_refused : NoPartIsGranted w kind name ((id_question caller r.transactional_id ∷ []) ∷ []) → kind ≡ TransactionalId → name ≡ r.transactional_id → (end_txn_outcome w caller r).world ≡ w
+  end_refused none k named = one_refused w kind name (id_question caller r.transactional_id) ((end_txn_outcome w caller r).world ≡ w) (λ refusal refused. (keep_the_rest.refused_end w caller r refusal refused).world) none (sym k) (sym named)
+
+  end_kept : NoPartIsGranted w kind name ((id_question caller r.transactional_id ∷ []) ∷ []) → SameOn w (end_txn_outcome w caller r).world kind name
+  end_kept none =
+      id_kept w r.transactional_id (end_txn_outcome w caller r) (keep_the_rest.ends w caller r) (whole_keeps (λ (u : World). u.groups) (part_refusal (rules_of w) (id_question caller r.transactional_id ∷ [])) w _ (ended w r) refl) kind name (end_refused none)
 
 -- ---- AddPartitionsToTxn
 
@@ -222,11 +238,14 @@ nothing_granted w caller r all = by_case (refused_or_none w caller r.transaction
   by_case (inl some) = ap (λ (b : Bool). (cond (b || is_missing w.topics r.topics) (cut_outcome w caller r) (added_outcome w r)).world) some
   by_case (inr none) = by_cut (is_cut caller r.transactional_id w.topics (rules_of w) r.topics) none
 
-add_kept : (w : World) (caller : Caller) (r : AddPartitionsToTxnRequest) (kind : Kind) (name : List ℕ) → NoPartIsGranted w kind name (partition_parts (add_questions caller r.transactional_id) r.topics) → SameOn w (add_partitions_outcome w caller r).world kind name
-add_kept w caller r kind name none =
-    id_kept w r.transactional_id (add_partitions_outcome w caller r) (keep_the_rest.adds w caller r) (add_keeps (λ (u : World). u.groups) (λ u c. refl) w caller r) kind name
-    (λ k named. nothing_granted w caller r
-    (each_partition (add_questions caller r.transactional_id) _ (IsRefused w caller r.transactional_id) (λ topic index refused granted. refused (inl (sym k, sym named)) granted) r.topics none))
+module _ (w : World) (caller : Caller) (r : AddPartitionsToTxnRequest) (kind : Kind) (name : List ℕ) where
+  add_refused : NoPartIsGranted w kind name (partition_parts (add_questions caller r.transactional_id) r.topics) → kind ≡ TransactionalId → name ≡ r.transactional_id → (add_partitions_outcome w caller r).world ≡ w
+  add_refused none k named =
+      nothing_granted w caller r
+      (each_partition (add_questions caller r.transactional_id) _ (IsRefused w caller r.transactional_id) (λ topic index refused granted. refused (inl (sym k, sym named)) granted) r.topics none)
+
+  add_kept : NoPartIsGranted w kind name (partition_parts (add_questions caller r.transactional_id) r.topics) → SameOn w (add_partitions_outcome w caller r).world kind name
+  add_kept none = id_kept w r.transactional_id (add_partitions_outcome w caller r) (keep_the_rest.adds w caller r) (add_keeps (λ (u : World). u.groups) (λ u c. refl) w caller r) kind name (add_refused none)
 
 -- ---- edits of the book
 
@@ -235,6 +254,46 @@ with_book w book Topic name = refl
 with_book w book Group name = refl
 with_book w book Cluster name = tt
 with_book w book TransactionalId name = refl
+
+-- ---- what a transactional id owes
+
+module _ (w : World) (caller : Caller) (id : List ℕ) where
+  abbrev SameOwed : World → Type 0
+  SameOwed u = owed_by id u.coordinator.warrants ≡ owed_by id w.coordinator.warrants
+
+  -- of a call for this id or for another one
+  owed_after : (u : World) (own : List ℕ) → (id ≡ own → u ≡ w) → ((id ≡ own → ⊥) → SameOwed u) → SameOwed u
+  owed_after u own refused other = by_name (bytes_eq id own) refl where
+    by_name : (b : Bool) → bytes_eq id own ≡ b → SameOwed u
+    by_name true e = ap (λ (x : World). owed_by id x.coordinator.warrants) (refused ((bytes_eq-Decides id own).0 e))
+    by_name false e = other (differ id own e)
+
+  whole_owed : (qs : List Question) (refused : ErrorCode → Reply) (served : Served) → SameOwed served.world → SameOwed (whole_by (part_refusal (rules_of w) qs) w refused served).world
+  whole_owed qs refused served same = whole_keeps (λ (u : World). owed_by id u.coordinator.warrants) (part_refusal (rules_of w) qs) w refused served same
+
+  init_owed : (r : InitProducerIdRequest) → NoPartIsGranted w TransactionalId id ((init_question caller r.transactional_id ∷ []) ∷ []) → SameOwed (init_producer_id_outcome w caller r).world
+  init_owed r none = by_id r.transactional_id refl where
+    owed_for : Option (List ℕ) → List OwedMarker
+    owed_for x = owed_by id (coordinator_for x w.coordinator w.node.max_txn_timeout r.timeout).warrants
+
+    by_id : (x : Option (List ℕ)) → r.transactional_id ≡ x → SameOwed (init_producer_id_outcome w caller r).world
+    by_id None is = whole_owed (init_question caller r.transactional_id ∷ []) _ (initialized w r) (ap owed_for is)
+    by_id (Some own) is =
+        owed_after (init_producer_id_outcome w caller r).world own (λ named. init_refused w caller r TransactionalId id own is none refl named)
+        (λ apart. whole_owed (init_question caller r.transactional_id ∷ []) _ (initialized w r)
+        (ap owed_for is ∙ other_owed w.coordinator own id (init w.coordinator own r.timeout w.node.max_txn_timeout) (init_owes w.coordinator own r.timeout w.node.max_txn_timeout) apart))
+
+  end_owed : (r : EndTxnRequest) → NoPartIsGranted w TransactionalId id ((id_question caller r.transactional_id ∷ []) ∷ []) → SameOwed (end_txn_outcome w caller r).world
+  end_owed r none =
+      owed_after (end_txn_outcome w caller r).world r.transactional_id (end_refused w caller r TransactionalId id none refl)
+      (λ apart. whole_owed (id_question caller r.transactional_id ∷ []) _ (ended w r)
+      (other_owed w.coordinator r.transactional_id id (end_turn w.coordinator r) (end_owes w.coordinator r.transactional_id _ (ending r.committed)) apart))
+
+  add_owed : (r : AddPartitionsToTxnRequest) → NoPartIsGranted w TransactionalId id (partition_parts (add_questions caller r.transactional_id) r.topics) → SameOwed (add_partitions_outcome w caller r).world
+  add_owed r none = owed_after (add_partitions_outcome w caller r).world r.transactional_id (add_refused w caller r TransactionalId id none refl) (by_cut (is_cut caller r.transactional_id w.topics (rules_of w) r.topics)) where
+    by_cut : (b : Bool) → (id ≡ r.transactional_id → ⊥) → SameOwed (cond b (cut_outcome w caller r) (added_outcome w r)).world
+    by_cut true apart = refl
+    by_cut false apart = other_owed w.coordinator r.transactional_id id (add_turn w.coordinator w.moment r) (add_owes w.coordinator r.transactional_id _ w.moment (partitions_of r.topics)) apart
 
 -- ---- each api
 
@@ -257,6 +316,26 @@ module _ (w : World) (caller : Caller) where
   kept (DescribeAcls r) kind name none = same_in w (request_outcome w caller (DescribeAcls r)).world kind name (describe_keeps w caller r)
   kept (CreateAcls r) kind name none = whole_same (part_refusal (rules_of w) (alter_questions caller)) w _ _ kind name (with_book w (book_created w.book r.creations) kind name)
   kept (DeleteAcls r) kind name none = whole_same (part_refusal (rules_of w) (alter_questions caller)) w _ _ kind name (with_book w (book_deleted w.book r.filters) kind name)
+
+  -- what the id owes
+  owed_kept : (request : Request) (id : List ℕ) → NoPartIsGranted w TransactionalId id (parts_of caller request) → SameOwed w caller id (request_outcome w caller request).world
+  owed_kept (Produce r) id none = refl
+  owed_kept (Fetch r) id none = refl
+  owed_kept (ListOffsets r) id none = refl
+  owed_kept (Metadata r) id none = refl
+  owed_kept (OffsetCommit r) id none = refl
+  owed_kept (OffsetFetch r) id none = ap (λ (u : World). owed_by id u.coordinator.warrants) (offsets_keep w caller r)
+  owed_kept (FindCoordinator r) id none = ap (λ (u : World). owed_by id u.coordinator.warrants) (find_keeps w caller r)
+  owed_kept (JoinGroup r) id none = whole_owed w caller id (read_question caller r.group ∷ []) _ (joined w r) refl
+  owed_kept (Heartbeat r) id none = whole_owed w caller id (read_question caller r.group ∷ []) _ (heard w r) refl
+  owed_kept (LeaveGroup r) id none = whole_owed w caller id (read_question caller r.group ∷ []) _ (left w r) refl
+  owed_kept (SyncGroup r) id none = whole_owed w caller id (read_question caller r.group ∷ []) _ (synced w r) refl
+  owed_kept (InitProducerId r) id none = init_owed w caller id r none
+  owed_kept (AddPartitionsToTxn r) id none = add_owed w caller id r none
+  owed_kept (EndTxn r) id none = end_owed w caller id r none
+  owed_kept (DescribeAcls r) id none = ap (λ (u : World). owed_by id u.coordinator.warrants) (describe_keeps w caller r)
+  owed_kept (CreateAcls r) id none = whole_owed w caller id (alter_questions caller) _ _ refl
+  owed_kept (DeleteAcls r) id none = whole_owed w caller id (alter_questions caller) _ _ refl
 
   -- the book
   asked_whole : (qs : List Question) (refused : ErrorCode → Reply) (served : Served) → served.world.book ≡ w.book → (whole_by (part_refusal (rules_of w) qs) w refused served).world.book ≡ w.book
@@ -287,11 +366,23 @@ module _ (w : World) (caller : Caller) where
 settings_counted : (w : World) (caller : Caller) (request : Request) → KeepsSettings w (counted (request_outcome w caller request).world)
 settings_counted w caller request = let kept = settings_kept w caller request in record { node = kept.node; supers = kept.supers; moment = kept.moment; names = kept.names }
 
+by_questions : (w : World) (caller : Caller) (client : Option (List ℕ)) (request : Request) (kind : Kind) (name : List ℕ) → NoQuestionIsGranted w kind name (questions_of caller request) → SameOn w (step w (Ask caller client request)) kind name
+by_questions w caller client request kind name none = same_counted w (request_outcome w caller request).world kind name (kept w caller request kind name (no_part_granted w kind name (parts_of caller request) none))
+
+over_events : (w : World) (kind : Kind) (name : List ℕ) (events : List Event) → AreUngranted w kind name events → SameOn w (reached w events) kind name
+over_events w kind name [] none = same_self w kind name
+over_events w kind name (Ask caller client request ∷ es) none =
+    let next : World = step w (Ask caller client request) in
+    same_then w next (reached next es) kind name (by_questions w caller client request kind name none.0) (over_events next kind name es none.1)
+over_events w kind name (Mark ∷ es) none = absurd none.0
+over_events w kind name (Tick told ∷ es) none = absurd none.0
+
 pub ungranted_stays : UngrantedStays
 ungranted_stays = record {
   by_parts = λ w caller client request kind name none. same_counted w (request_outcome w caller request).world kind name (kept w caller request kind name none);
-  by_questions = λ w caller client request kind name none.
-      same_counted w (request_outcome w caller request).world kind name (kept w caller request kind name (no_part_granted w kind name (parts_of caller request) none));
+  by_questions = by_questions;
+  over_events = over_events;
+  owed = λ w caller client request id none. owed_kept w caller request id none;
   book = λ w caller client request none. book_kept w caller request (no_part_granted w Cluster cluster_name (parts_of caller request) none);
   settings = λ w caller client request. settings_counted w caller request;
 }

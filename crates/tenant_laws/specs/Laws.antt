@@ -1,12 +1,13 @@
 -- Tenants are apart: whatever a request is, its answer depends on nothing but what its questions were granted, what they
 -- were not granted it leaves as it was, and it is refused for each part that isn't granted, and for nothing else.
 use Rattle.std.specs.Prelude.{◌≡◌, ◌⊎◌, ℕ, true, List, [], ◌∷◌, Option, Some, None}
-use Rattle.std.specs.List.{AllByRecursion, filter_map}
+use Rattle.std.specs.List.{AllByRecursion, filter, filter_map}
+use Rattle.std.specs.Str.{bytes_eq}
 use Rattle.acl_binding.specs.declared.question.Caller.{Caller}
 use Rattle.acl_binding.specs.declared.question.Question.{Question}
 use Rattle.acl_binding.specs.declared.question.Verdict.TheVariants.{Yes}
 use Rattle.acl_binding.specs.declared.words.Kind.{Kind}
-use Rattle.acl_binding.specs.declared.words.Kind.TheVariants.{Cluster}
+use Rattle.acl_binding.specs.declared.words.Kind.TheVariants.{Cluster, TransactionalId}
 use Rattle.acl_binding.specs.Creatable.{cluster_name}
 use Rattle.authorizer.specs.Policy.{verdict}
 use Rattle.authorizer.specs.declared.answer.Refusal.{Refusal}
@@ -14,9 +15,10 @@ use Rattle.authorizer.specs.Asking.{Rules, part_refusal}
 use Rattle.msg_admin.specs.declared.request.Request.{Request}
 use Rattle.msg_admin.specs.declared.request.Request.TheVariants.{OffsetFetch}
 use Rattle.audit_trail.specs.declared.event.Event.{Event}
-use Rattle.audit_trail.specs.declared.event.Event.TheVariants.{Ask}
+use Rattle.audit_trail.specs.declared.event.Event.TheVariants.{Ask, Mark, Tick}
+use Rattle.txn_coordinator.specs.declared.marker.OwedMarker.{OwedMarker}
 use Rattle.request_handlers.specs.World.{World, rules_of, topic_names}
-use Rattle.request_handlers.specs.Step.{step, reply_to, refusals_of}
+use Rattle.request_handlers.specs.Step.{step, reply_to, refusals_of, reached}
 use Rattle.request_handlers.specs.OffsetFetch.{group_question}
 use Rattle.request_handlers.specs.Tenants.{SameBase, SameOn, SameGranted}
 use Rattle.request_handlers.specs.GroupLaws.{described_slots}
@@ -60,6 +62,21 @@ NoPartIsGranted w kind name parts = AllByRecursion (λ part. AsksAbout kind name
 abbrev pub NoQuestionIsGranted : World → Kind → List ℕ → List Question → Type 0
 NoQuestionIsGranted w kind name questions = AllByRecursion (λ q. IsAbout kind name q → verdict w.book w.supers q ≡ Yes → ⊥) questions
 
+-- the event is a request, of which no question about the resource is granted
+abbrev pub IsUngranted : World → Kind → List ℕ → Event → Type 0
+IsUngranted w kind name (Ask caller client request) = NoQuestionIsGranted w kind name (questions_of caller request)
+IsUngranted w kind name Mark = ⊥
+IsUngranted w kind name (Tick told) = ⊥
+
+-- so is each of the events, by the book that is then in force
+abbrev pub AreUngranted : World → Kind → List ℕ → List Event → Type 0
+AreUngranted w kind name [] = Unit {0}
+AreUngranted w kind name (e ∷ es) = IsUngranted w kind name e × AreUngranted (step w e) kind name es
+
+-- the markers that the transactional id owes, in order
+abbrev pub owed_by : List ℕ → List OwedMarker → List OwedMarker
+owed_by id warrants = filter (λ (m : OwedMarker). bytes_eq m.id id) warrants
+
 -- what no request changes: the node, the super users, the moment, and which topics there are, in order
 pub record KeepsSettings (w new : World) : Type 0 where
   pub node : new.node ≡ w.node
@@ -74,6 +91,10 @@ pub record UngrantedStays : Type 0 where
       → NoPartIsGranted w kind name (parts_of caller request) → SameOn w (step w (Ask caller client request)) kind name
   pub by_questions : (w : World) (caller : Caller) (client : Option (List ℕ)) (request : Request) (kind : Kind) (name : List ℕ)
       → NoQuestionIsGranted w kind name (questions_of caller request) → SameOn w (step w (Ask caller client request)) kind name
+  pub over_events : (w : World) (kind : Kind) (name : List ℕ) (events : List Event) → AreUngranted w kind name events → SameOn w (reached w events) kind name
+  -- what a transactional id owes
+  pub owed : (w : World) (caller : Caller) (client : Option (List ℕ)) (request : Request) (id : List ℕ)
+      → NoPartIsGranted w TransactionalId id (parts_of caller request) → owed_by id (step w (Ask caller client request)).coordinator.warrants ≡ owed_by id w.coordinator.warrants
   -- the book of bindings, which is the cluster's
   pub book : (w : World) (caller : Caller) (client : Option (List ℕ)) (request : Request)
       → NoQuestionIsGranted w Cluster cluster_name (questions_of caller request) → (step w (Ask caller client request)).book ≡ w.book
