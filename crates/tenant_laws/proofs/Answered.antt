@@ -1,5 +1,5 @@
 -- Each api is answered by what its questions were granted.
-use Rattle.std.proofs.Common.{◌≡◌, ℕ, ℤ, true, List, [], ◌∷◌, map, Option, Some, None, refl, ap}
+use Rattle.std.proofs.Common.{◌≡◌, ℕ, ℤ, true, List, [], ◌∷◌, map, length, Option, Some, None, refl, sym, ap, ◌∙◌}
 use Rattle.std.specs.Prelude.{is_none}
 use Rattle.std.specs.List.{AllByRecursion}
 use Rattle.acl_binding.specs.declared.question.Caller.{Caller}
@@ -9,6 +9,7 @@ use Rattle.msg_data.specs.declared.metadata.MetadataRequest.{MetadataRequest}
 use Rattle.msg_admin.specs.declared.request.Request.{Request}
 use Rattle.msg_admin.specs.declared.request.Request.TheVariants.{Produce, Fetch, ListOffsets, Metadata, OffsetCommit, OffsetFetch, FindCoordinator, JoinGroup, Heartbeat, LeaveGroup, SyncGroup, InitProducerId, AddPartitionsToTxn, EndTxn, DescribeAcls, CreateAcls, DeleteAcls}
 use Rattle.msg_admin.specs.declared.reply.Reply.TheVariants as replies
+use Rattle.audit_trail.specs.declared.event.Event.TheVariants.{Ask}
 use Rattle.walk.specs.Alike.{AllTopics}
 use Rattle.request_handlers.specs.World.{World, rules_of}
 use Rattle.request_handlers.specs.Metadata.{topic_part, metadata_outcome}
@@ -26,7 +27,7 @@ use Rattle.request_handlers.proofs.Initials.{init_depends}
 use Rattle.request_handlers.proofs.Together.{transactions_depend}
 use Rattle.request_handlers.proofs.AclEdits.{acls_depend}
 use Rattle.tenant_laws.specs.Questions.{fetch_questions, partition_parts, topic_parts, parts_of}
-use Rattle.tenant_laws.specs.Laws.{SameForRequest, AnswersDependOnGrants}
+use Rattle.tenant_laws.specs.Laws.{SameForRequest, AnswersDependOnGrants, ReceiptsDependOnGrants}
 use Rattle.tenant_laws.proofs.Parts.{granted_each, each_partition}
 use Rattle.tenant_laws.proofs.Described.{same_listed}
 
@@ -81,3 +82,13 @@ module _ (v w : World) (caller : Caller) where
 
 pub answers_depend : AnswersDependOnGrants
 answers_depend v w caller client request same = let told = answered v w caller request same in record { reply = told.reply; refusals = told.refusals }
+
+-- the number of events is the place of the next one
+pub receipts_depend : ReceiptsDependOnGrants
+receipts_depend a b caller client request ia ib up_a up_b same =
+    let told = answered a.world b.world caller request same in
+    let place : length a.trail ≡ length b.trail = sym (ia.bounded.events up_a) ∙ same.base.events ∙ ib.bounded.events up_b in
+    record {
+      receipt = λ i. record { place = place i; event = Ask caller client request; reply = told.reply i };
+      entry = λ i. record { event = Ask caller client request; reply = told.reply i; refusals = told.refusals i };
+    }

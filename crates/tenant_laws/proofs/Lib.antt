@@ -6,3 +6,4 @@ pub mod Settled
 pub mod Owed
 pub mod Kept
 pub mod Told
+pub mod Rows

@@ -1,6 +1,6 @@
 -- Tenants are apart: whatever a request is, its answer depends on nothing but what its questions were granted, what they
 -- were not granted it leaves as it was, and it is refused for each part that isn't granted, and for nothing else.
-use Rattle.std.specs.Prelude.{◌≡◌, ◌⊎◌, ℕ, true, List, [], ◌∷◌, Option, Some, None}
+use Rattle.std.specs.Prelude.{◌≡◌, ◌⊎◌, ℕ, true, false, List, [], ◌∷◌, Option, Some, None}
 use Rattle.std.specs.List.{AllByRecursion, filter, filter_map}
 use Rattle.std.specs.Str.{bytes_eq}
 use Rattle.acl_binding.specs.declared.question.Caller.{Caller}
@@ -20,6 +20,7 @@ use Rattle.txn_coordinator.specs.declared.marker.OwedMarker.{OwedMarker}
 use Rattle.request_handlers.specs.World.{World, rules_of, topic_names}
 use Rattle.request_handlers.specs.Step.{step, reply_to, refusals_of, reached}
 use Rattle.request_handlers.specs.OffsetFetch.{group_question}
+use Rattle.request_handlers.specs.Core.{CoreValue, IsCore, entry_of, receipt_of}
 use Rattle.request_handlers.specs.Tenants.{SameBase, SameOn, SameGranted}
 use Rattle.request_handlers.specs.GroupLaws.{described_slots}
 use Rattle.tenant_laws.specs.Questions.{offset_parts, parts_of, questions_of, wants_all}
@@ -43,6 +44,15 @@ pub record SameTold (v w : World) (e : Event) : Type 0 where
 abbrev pub AnswersDependOnGrants : Type 0
 AnswersDependOnGrants = (v w : World) (caller : Caller) (client : Option (List ℕ)) (request : Request)
     → SameForRequest v w caller request → SameTold v w (Ask caller client request)
+
+-- cores that are up give the same receipt for it, and keep the same entry of it
+pub record SameReceipt (a b : CoreValue) (e : Event) : Type 0 where
+  pub receipt : receipt_of a e ≡ receipt_of b e
+  pub entry : entry_of a.world e ≡ entry_of b.world e
+
+abbrev pub ReceiptsDependOnGrants : Type 0
+ReceiptsDependOnGrants = (a b : CoreValue) (caller : Caller) (client : Option (List ℕ)) (request : Request) → IsCore a → IsCore b → a.down ≡ false → b.down ≡ false
+    → SameForRequest a.world b.world caller request → SameReceipt a b (Ask caller client request)
 
 -- ---- what stays as it was
 
