@@ -19,7 +19,9 @@ key_of apis.LeaveGroup = pos 13
 key_of apis.SyncGroup = pos 14
 key_of apis.InitProducerId = pos 22
 key_of apis.AddPartitionsToTxn = pos 24
+key_of apis.AddOffsetsToTxn = pos 25
 key_of apis.EndTxn = pos 26
+key_of apis.TxnOffsetCommit = pos 28
 key_of apis.DescribeAcls = pos 29
 key_of apis.CreateAcls = pos 30
 key_of apis.DeleteAcls = pos 31
@@ -38,7 +40,9 @@ version_of apis.LeaveGroup = pos 1
 version_of apis.SyncGroup = pos 1
 version_of apis.InitProducerId = pos 0
 version_of apis.AddPartitionsToTxn = pos 0
+version_of apis.AddOffsetsToTxn = pos 0
 version_of apis.EndTxn = pos 0
+version_of apis.TxnOffsetCommit = pos 3
 version_of apis.DescribeAcls = pos 1
 version_of apis.CreateAcls = pos 1
 version_of apis.DeleteAcls = pos 1
@@ -58,13 +62,15 @@ is_flexible apis.LeaveGroup = false
 is_flexible apis.SyncGroup = false
 is_flexible apis.InitProducerId = false
 is_flexible apis.AddPartitionsToTxn = false
+is_flexible apis.AddOffsetsToTxn = false
 is_flexible apis.EndTxn = false
+is_flexible apis.TxnOffsetCommit = true
 is_flexible apis.DescribeAcls = false
 is_flexible apis.CreateAcls = false
 is_flexible apis.DeleteAcls = false
 
 unfoldable pub all_apis : List Api
-all_apis = apis.Produce ∷ apis.Fetch ∷ apis.ListOffsets ∷ apis.Metadata ∷ apis.OffsetCommit ∷ apis.OffsetFetch ∷ apis.FindCoordinator ∷ apis.JoinGroup ∷ apis.Heartbeat ∷ apis.LeaveGroup ∷ apis.SyncGroup ∷ apis.InitProducerId ∷ apis.AddPartitionsToTxn ∷ apis.EndTxn ∷ apis.DescribeAcls ∷ apis.CreateAcls ∷ apis.DeleteAcls ∷ []
+all_apis = apis.Produce ∷ apis.Fetch ∷ apis.ListOffsets ∷ apis.Metadata ∷ apis.OffsetCommit ∷ apis.OffsetFetch ∷ apis.FindCoordinator ∷ apis.JoinGroup ∷ apis.Heartbeat ∷ apis.LeaveGroup ∷ apis.SyncGroup ∷ apis.InitProducerId ∷ apis.AddPartitionsToTxn ∷ apis.AddOffsetsToTxn ∷ apis.EndTxn ∷ apis.TxnOffsetCommit ∷ apis.DescribeAcls ∷ apis.CreateAcls ∷ apis.DeleteAcls ∷ []
 
 -- the api that is served under a key in a version
 unfoldable pub api_at : ℤ → ℤ → Option Api
@@ -86,7 +92,9 @@ api_at-own apis.LeaveGroup = refl
 api_at-own apis.SyncGroup = refl
 api_at-own apis.InitProducerId = refl
 api_at-own apis.AddPartitionsToTxn = refl
+api_at-own apis.AddOffsetsToTxn = refl
 api_at-own apis.EndTxn = refl
+api_at-own apis.TxnOffsetCommit = refl
 api_at-own apis.DescribeAcls = refl
 api_at-own apis.CreateAcls = refl
 api_at-own apis.DeleteAcls = refl

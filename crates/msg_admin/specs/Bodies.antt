@@ -45,9 +45,15 @@ use Rattle.msg_group.specs.SyncGroup.{sync_group_request, sync_group_reply}
 use Rattle.msg_txn.specs.declared.add_partitions.AddPartitionsToTxnRequest.{AddPartitionsToTxnRequest}
 use Rattle.msg_txn.specs.declared.add_partitions.AddPartitionsToTxnReply.{AddPartitionsToTxnReply}
 use Rattle.msg_txn.specs.AddPartitions.{add_partitions_to_txn_request, add_partitions_to_txn_reply, add_partitions_to_txn_strings}
+use Rattle.msg_txn.specs.declared.add_offsets.AddOffsetsToTxnRequest.{AddOffsetsToTxnRequest}
+use Rattle.msg_txn.specs.declared.add_offsets.AddOffsetsToTxnReply.{AddOffsetsToTxnReply}
+use Rattle.msg_txn.specs.AddOffsets.{add_offsets_to_txn_request, add_offsets_to_txn_reply}
 use Rattle.msg_txn.specs.declared.end_txn.EndTxnRequest.{EndTxnRequest}
 use Rattle.msg_txn.specs.declared.end_txn.EndTxnReply.{EndTxnReply}
 use Rattle.msg_txn.specs.EndTxn.{end_txn_request, end_txn_reply}
+use Rattle.msg_txn.specs.declared.txn_offset_commit.TxnOffsetCommitRequest.{TxnOffsetCommitRequest}
+use Rattle.msg_txn.specs.declared.txn_offset_commit.TxnOffsetCommitReply.{TxnOffsetCommitReply}
+use Rattle.msg_txn.specs.TxnOffsetCommit.{txn_offset_commit_request, txn_offset_commit_reply}
 use Rattle.msg_acl.specs.declared.create_acls.CreateAclsRequest.{CreateAclsRequest}
 use Rattle.msg_acl.specs.declared.create_acls.CreateAclsReply.{CreateAclsReply}
 use Rattle.msg_acl.specs.CreateAcls.{create_acls_request, create_acls_reply, create_acls_strings}
@@ -76,7 +82,9 @@ api_of (requests.LeaveGroup r) = apis.LeaveGroup
 api_of (requests.SyncGroup r) = apis.SyncGroup
 api_of (requests.InitProducerId r) = apis.InitProducerId
 api_of (requests.AddPartitionsToTxn r) = apis.AddPartitionsToTxn
+api_of (requests.AddOffsetsToTxn r) = apis.AddOffsetsToTxn
 api_of (requests.EndTxn r) = apis.EndTxn
+api_of (requests.TxnOffsetCommit r) = apis.TxnOffsetCommit
 api_of (requests.DescribeAcls r) = apis.DescribeAcls
 api_of (requests.CreateAcls r) = apis.CreateAcls
 api_of (requests.DeleteAcls r) = apis.DeleteAcls
@@ -97,7 +105,9 @@ sent_as (replies.LeaveGroup r) = Some apis.LeaveGroup
 sent_as (replies.SyncGroup r) = Some apis.SyncGroup
 sent_as (replies.InitProducerId r) = Some apis.InitProducerId
 sent_as (replies.AddPartitionsToTxn r) = Some apis.AddPartitionsToTxn
+sent_as (replies.AddOffsetsToTxn r) = Some apis.AddOffsetsToTxn
 sent_as (replies.EndTxn r) = Some apis.EndTxn
+sent_as (replies.TxnOffsetCommit r) = Some apis.TxnOffsetCommit
 sent_as (replies.DescribeAcls r) = Some apis.DescribeAcls
 sent_as (replies.CreateAcls r) = Some apis.CreateAcls
 sent_as (replies.DeleteAcls r) = Some apis.DeleteAcls
@@ -121,7 +131,9 @@ strings_of (replies.LeaveGroup r) = no_strings r
 strings_of (replies.SyncGroup r) = no_strings r
 strings_of (replies.InitProducerId r) = no_strings r
 strings_of (replies.AddPartitionsToTxn r) = add_partitions_to_txn_strings r
+strings_of (replies.AddOffsetsToTxn r) = no_strings r
 strings_of (replies.EndTxn r) = no_strings r
+strings_of (replies.TxnOffsetCommit r) = no_strings r
 strings_of (replies.DescribeAcls r) = describe_acls_strings r
 strings_of (replies.CreateAcls r) = create_acls_strings r
 strings_of (replies.DeleteAcls r) = delete_acls_strings r
@@ -363,6 +375,24 @@ pub add_partitions_to_txn-answered : (r : Reply) (x : AddPartitionsToTxnReply) �
 add_partitions_to_txn-answered (replies.AddPartitionsToTxn y) x e = cc
 add_partitions_to_txn-answered _ x e = absurd cc
 
+-- ---- AddOffsetsToTxn
+
+abbrev pub asked_add_offsets_to_txn : Request → Option AddOffsetsToTxnRequest
+asked_add_offsets_to_txn (requests.AddOffsetsToTxn r) = Some r
+asked_add_offsets_to_txn _ = None
+
+pub add_offsets_to_txn-asked : (r : Request) (x : AddOffsetsToTxnRequest) → asked_add_offsets_to_txn r ≡ Some x → requests.AddOffsetsToTxn x ≡ r
+add_offsets_to_txn-asked (requests.AddOffsetsToTxn y) x e = cc
+add_offsets_to_txn-asked _ x e = absurd cc
+
+abbrev pub answered_add_offsets_to_txn : Reply → Option AddOffsetsToTxnReply
+answered_add_offsets_to_txn (replies.AddOffsetsToTxn r) = Some r
+answered_add_offsets_to_txn _ = None
+
+pub add_offsets_to_txn-answered : (r : Reply) (x : AddOffsetsToTxnReply) → answered_add_offsets_to_txn r ≡ Some x → replies.AddOffsetsToTxn x ≡ r
+add_offsets_to_txn-answered (replies.AddOffsetsToTxn y) x e = cc
+add_offsets_to_txn-answered _ x e = absurd cc
+
 -- ---- EndTxn
 
 abbrev pub asked_end_txn : Request → Option EndTxnRequest
@@ -380,6 +410,24 @@ answered_end_txn _ = None
 pub end_txn-answered : (r : Reply) (x : EndTxnReply) → answered_end_txn r ≡ Some x → replies.EndTxn x ≡ r
 end_txn-answered (replies.EndTxn y) x e = cc
 end_txn-answered _ x e = absurd cc
+
+-- ---- TxnOffsetCommit
+
+abbrev pub asked_txn_offset_commit : Request → Option TxnOffsetCommitRequest
+asked_txn_offset_commit (requests.TxnOffsetCommit r) = Some r
+asked_txn_offset_commit _ = None
+
+pub txn_offset_commit-asked : (r : Request) (x : TxnOffsetCommitRequest) → asked_txn_offset_commit r ≡ Some x → requests.TxnOffsetCommit x ≡ r
+txn_offset_commit-asked (requests.TxnOffsetCommit y) x e = cc
+txn_offset_commit-asked _ x e = absurd cc
+
+abbrev pub answered_txn_offset_commit : Reply → Option TxnOffsetCommitReply
+answered_txn_offset_commit (replies.TxnOffsetCommit r) = Some r
+answered_txn_offset_commit _ = None
+
+pub txn_offset_commit-answered : (r : Reply) (x : TxnOffsetCommitReply) → answered_txn_offset_commit r ≡ Some x → replies.TxnOffsetCommit x ≡ r
+txn_offset_commit-answered (replies.TxnOffsetCommit y) x e = cc
+txn_offset_commit-answered _ x e = absurd cc
 
 -- ---- DescribeAcls
 
@@ -451,7 +499,9 @@ request_body apis.LeaveGroup = body_of (variant requests.LeaveGroup asked_leave_
 request_body apis.SyncGroup = body_of (variant requests.SyncGroup asked_sync_group (λ x. refl) sync_group-asked sync_group_request)
 request_body apis.InitProducerId = body_of (variant requests.InitProducerId asked_init_producer_id (λ x. refl) init_producer_id-asked init_producer_id_request)
 request_body apis.AddPartitionsToTxn = body_of (variant requests.AddPartitionsToTxn asked_add_partitions_to_txn (λ x. refl) add_partitions_to_txn-asked add_partitions_to_txn_request)
+request_body apis.AddOffsetsToTxn = body_of (variant requests.AddOffsetsToTxn asked_add_offsets_to_txn (λ x. refl) add_offsets_to_txn-asked add_offsets_to_txn_request)
 request_body apis.EndTxn = body_of (variant requests.EndTxn asked_end_txn (λ x. refl) end_txn-asked end_txn_request)
+request_body apis.TxnOffsetCommit = body_of (variant requests.TxnOffsetCommit asked_txn_offset_commit (λ x. refl) txn_offset_commit-asked txn_offset_commit_request)
 request_body apis.DescribeAcls = body_of (variant requests.DescribeAcls asked_describe_acls (λ x. refl) describe_acls-asked describe_acls_request)
 request_body apis.CreateAcls = body_of (variant requests.CreateAcls asked_create_acls (λ x. refl) create_acls-asked create_acls_request)
 request_body apis.DeleteAcls = body_of (variant requests.DeleteAcls asked_delete_acls (λ x. refl) delete_acls-asked delete_acls_request)
@@ -470,7 +520,9 @@ reply_body apis.LeaveGroup = variant replies.LeaveGroup answered_leave_group (λ
 reply_body apis.SyncGroup = variant replies.SyncGroup answered_sync_group (λ x. refl) sync_group-answered sync_group_reply
 reply_body apis.InitProducerId = variant replies.InitProducerId answered_init_producer_id (λ x. refl) init_producer_id-answered init_producer_id_reply
 reply_body apis.AddPartitionsToTxn = variant replies.AddPartitionsToTxn answered_add_partitions_to_txn (λ x. refl) add_partitions_to_txn-answered add_partitions_to_txn_reply
+reply_body apis.AddOffsetsToTxn = variant replies.AddOffsetsToTxn answered_add_offsets_to_txn (λ x. refl) add_offsets_to_txn-answered add_offsets_to_txn_reply
 reply_body apis.EndTxn = variant replies.EndTxn answered_end_txn (λ x. refl) end_txn-answered end_txn_reply
+reply_body apis.TxnOffsetCommit = variant replies.TxnOffsetCommit answered_txn_offset_commit (λ x. refl) txn_offset_commit-answered txn_offset_commit_reply
 reply_body apis.DescribeAcls = variant replies.DescribeAcls answered_describe_acls (λ x. refl) describe_acls-answered describe_acls_reply
 reply_body apis.CreateAcls = variant replies.CreateAcls answered_create_acls (λ x. refl) create_acls-answered create_acls_reply
 reply_body apis.DeleteAcls = variant replies.DeleteAcls answered_delete_acls (λ x. refl) delete_acls-answered delete_acls_reply

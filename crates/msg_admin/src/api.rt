@@ -21,7 +21,9 @@ pub enum Api {
     SyncGroup = 14,
     InitProducerId = 22,
     AddPartitionsToTxn = 24,
+    AddOffsetsToTxn = 25,
     EndTxn = 26,
+    TxnOffsetCommit = 28,
     DescribeAcls = 29,
     CreateAcls = 30,
     DeleteAcls = 31,
@@ -29,7 +31,7 @@ pub enum Api {
 
 impl Api {
     /// Every api, in rising order of keys.
-    pub const ALL: [Api; 17] = [
+    pub const ALL: [Api; 19] = [
         Api::Produce,
         Api::Fetch,
         Api::ListOffsets,
@@ -43,7 +45,9 @@ impl Api {
         Api::SyncGroup,
         Api::InitProducerId,
         Api::AddPartitionsToTxn,
+        Api::AddOffsetsToTxn,
         Api::EndTxn,
+        Api::TxnOffsetCommit,
         Api::DescribeAcls,
         Api::CreateAcls,
         Api::DeleteAcls,
@@ -76,7 +80,9 @@ impl Api {
             Api::SyncGroup => 1,
             Api::InitProducerId => 0,
             Api::AddPartitionsToTxn => 0,
+            Api::AddOffsetsToTxn => 0,
             Api::EndTxn => 0,
+            Api::TxnOffsetCommit => 3,
             Api::DescribeAcls => 1,
             Api::CreateAcls => 1,
             Api::DeleteAcls => 1,
@@ -93,7 +99,9 @@ impl Api {
             Api::OffsetFetch => true,
             Api::OffsetCommit | Api::FindCoordinator | Api::JoinGroup => false,
             Api::Heartbeat | Api::LeaveGroup | Api::SyncGroup => false,
-            Api::InitProducerId | Api::AddPartitionsToTxn | Api::EndTxn => false,
+            Api::InitProducerId | Api::AddPartitionsToTxn => false,
+            Api::AddOffsetsToTxn | Api::EndTxn => false,
+            Api::TxnOffsetCommit => true,
             Api::DescribeAcls | Api::CreateAcls | Api::DeleteAcls => false,
         }
     }

@@ -13,7 +13,10 @@ use msg_group::{
     HeartbeatReply, JoinGroupReply, LeaveGroupReply, OffsetCommitReply, OffsetFetchReply,
     SyncGroupReply,
 };
-use msg_txn::{AddPartitionsToTxnReply, EndTxnReply, FindCoordinatorReply, InitProducerIdReply};
+use msg_txn::{
+    AddOffsetsToTxnReply, AddPartitionsToTxnReply, EndTxnReply, FindCoordinatorReply,
+    InitProducerIdReply, TxnOffsetCommitReply,
+};
 use std::alloc::Global;
 use wire_types::WriteFault;
 
@@ -35,7 +38,9 @@ pub enum Reply {
     SyncGroup(SyncGroupReply),
     InitProducerId(InitProducerIdReply),
     AddPartitionsToTxn(AddPartitionsToTxnReply),
+    AddOffsetsToTxn(AddOffsetsToTxnReply),
     EndTxn(EndTxnReply),
+    TxnOffsetCommit(TxnOffsetCommitReply),
     DescribeAcls(DescribeAclsReply),
     CreateAcls(CreateAclsReply),
     DeleteAcls(DeleteAclsReply),
@@ -119,8 +124,24 @@ fn write_response(alloc: Global, correlation: i32, reply: &Reply) -> Result<Byte
                 answer,
             )
         }
+        Reply::AddOffsetsToTxn(answer) => {
+            write_frame(
+                alloc,
+                Api::AddOffsetsToTxn.is_flexible(),
+                &correlation,
+                answer,
+            )
+        }
         Reply::EndTxn(answer) => {
             write_frame(alloc, Api::EndTxn.is_flexible(), &correlation, answer)
+        }
+        Reply::TxnOffsetCommit(answer) => {
+            write_frame(
+                alloc,
+                Api::TxnOffsetCommit.is_flexible(),
+                &correlation,
+                answer,
+            )
         }
         Reply::DescribeAcls(answer) => {
             write_frame(alloc, Api::DescribeAcls.is_flexible(), &correlation, answer)

@@ -21,7 +21,8 @@ use msg_group::{
     SyncGroupRequest,
 };
 use msg_txn::{
-    AddPartitionsToTxnRequest, EndTxnRequest, FindCoordinatorRequest, InitProducerIdRequest,
+    AddOffsetsToTxnRequest, AddPartitionsToTxnRequest, EndTxnRequest, FindCoordinatorRequest,
+    InitProducerIdRequest, TxnOffsetCommitRequest,
 };
 use std::alloc::Global;
 use wire_types::{Cursor, Malformed, ReadFault, Wire, WriteFault};
@@ -45,7 +46,9 @@ pub enum Request {
     SyncGroup(SyncGroupRequest),
     InitProducerId(InitProducerIdRequest),
     AddPartitionsToTxn(AddPartitionsToTxnRequest),
+    AddOffsetsToTxn(AddOffsetsToTxnRequest),
     EndTxn(EndTxnRequest),
+    TxnOffsetCommit(TxnOffsetCommitRequest),
     DescribeAcls(DescribeAclsRequest),
     CreateAcls(CreateAclsRequest),
     DeleteAcls(DeleteAclsRequest),
@@ -70,7 +73,9 @@ impl Request {
             Request::SyncGroup(_) => Api::SyncGroup,
             Request::InitProducerId(_) => Api::InitProducerId,
             Request::AddPartitionsToTxn(_) => Api::AddPartitionsToTxn,
+            Request::AddOffsetsToTxn(_) => Api::AddOffsetsToTxn,
             Request::EndTxn(_) => Api::EndTxn,
+            Request::TxnOffsetCommit(_) => Api::TxnOffsetCommit,
             Request::DescribeAcls(_) => Api::DescribeAcls,
             Request::CreateAcls(_) => Api::CreateAcls,
             Request::DeleteAcls(_) => Api::DeleteAcls,
@@ -105,7 +110,9 @@ impl Request {
             Request::SyncGroup(body) => body.room_left(room),
             Request::InitProducerId(body) => body.room_left(room),
             Request::AddPartitionsToTxn(body) => body.room_left(room),
+            Request::AddOffsetsToTxn(body) => body.room_left(room),
             Request::EndTxn(body) => body.room_left(room),
+            Request::TxnOffsetCommit(body) => body.room_left(room),
             Request::DescribeAcls(body) => body.room_left(room),
             Request::CreateAcls(body) => body.room_left(room),
             Request::DeleteAcls(body) => body.room_left(room),
@@ -159,7 +166,15 @@ fn read_body(alloc: Global, api: Api, cursor: &mut Cursor<'_>) -> Result<Request
             let body = AddPartitionsToTxnRequest::read(alloc, cursor)?;
             Ok(Request::AddPartitionsToTxn(body))
         }
+        Api::AddOffsetsToTxn => {
+            let body = AddOffsetsToTxnRequest::read(alloc, cursor)?;
+            Ok(Request::AddOffsetsToTxn(body))
+        }
         Api::EndTxn => Ok(Request::EndTxn(EndTxnRequest::read(alloc, cursor)?)),
+        Api::TxnOffsetCommit => {
+            let body = TxnOffsetCommitRequest::read(alloc, cursor)?;
+            Ok(Request::TxnOffsetCommit(body))
+        }
         Api::DescribeAcls => Ok(Request::DescribeAcls(DescribeAclsRequest::read(alloc, cursor)?)),
         Api::CreateAcls => Ok(Request::CreateAcls(CreateAclsRequest::read(alloc, cursor)?)),
         Api::DeleteAcls => Ok(Request::DeleteAcls(DeleteAclsRequest::read(alloc, cursor)?)),
@@ -233,7 +248,9 @@ pub fn write_request(alloc: Global, header: &Header, request: &Request) -> Resul
         Request::SyncGroup(body) => write_frame(alloc, flexible, header, body),
         Request::InitProducerId(body) => write_frame(alloc, flexible, header, body),
         Request::AddPartitionsToTxn(body) => write_frame(alloc, flexible, header, body),
+        Request::AddOffsetsToTxn(body) => write_frame(alloc, flexible, header, body),
         Request::EndTxn(body) => write_frame(alloc, flexible, header, body),
+        Request::TxnOffsetCommit(body) => write_frame(alloc, flexible, header, body),
         Request::DescribeAcls(body) => write_frame(alloc, flexible, header, body),
         Request::CreateAcls(body) => write_frame(alloc, flexible, header, body),
         Request::DeleteAcls(body) => write_frame(alloc, flexible, header, body),

@@ -240,7 +240,11 @@ fn apis(rt: HostRuntime) {
     assert_eq!(rt; Api::of(3, 0), None);
     assert_eq!(rt; Api::of(1, 3), None);
     assert_eq!(rt; Api::of(1, 4), Some(Api::Fetch));
-    assert_eq!(rt; Api::of(25, 0), None);
+    assert_eq!(rt; Api::of(25, 0), Some(Api::AddOffsetsToTxn));
+    assert_eq!(rt; Api::of(25, 1), None);
+    assert_eq!(rt; Api::of(27, 0), None);
+    assert_eq!(rt; Api::of(28, 2), None);
+    assert_eq!(rt; Api::of(28, 3), Some(Api::TxnOffsetCommit));
     assert_eq!(rt; (Api::Metadata.key(), Api::Metadata.version()), (3, 1));
 }
 

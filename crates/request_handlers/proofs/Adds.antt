@@ -5,6 +5,7 @@ use Rattle.msg_txn.specs.declared.add_partitions.AddPartitionsToTxnRequest.{AddP
 use Rattle.txn_coordinator.specs.Coordinator.{CoordinatorValue}
 use Rattle.txn_coordinator.specs.declared.marker.OwedMarker.{OwedMarker}
 use Rattle.txn_coordinator.specs.Warrants.{next_warrant}
+use Rattle.group_offsets.specs.declared.group.Group.{Group}
 use Rattle.request_handlers.specs.World.{World, TopicValue, rules_of}
 use Rattle.request_handlers.specs.Outcome.{Outcome}
 use Rattle.request_handlers.specs.AddPartitions.{is_cut, cut_outcome, added_outcome, add_partitions_outcome}
@@ -17,9 +18,9 @@ add_keeps of same w caller r = by_cut (is_cut caller r.transactional_id w.topics
   by_cut true = refl
   by_cut false = same w _
 
--- a marker step touches the topics and the coordinator
-pub mark_keeps : {A : Type 0} (of : World → A) → ((w : World) (topics : List TopicValue) (c : CoordinatorValue) → of (record w { topics = topics; coordinator = c }) ≡ of w) → (w : World) → of (mark_outcome w).world ≡ of w
+-- a marker step touches the topics, the groups and the coordinator
+pub mark_keeps : {A : Type 0} (of : World → A) → ((w : World) (topics : List TopicValue) (groups : List Group) (c : CoordinatorValue) → of (record w { topics = topics; groups = groups; coordinator = c }) ≡ of w) → (w : World) → of (mark_outcome w).world ≡ of w
 mark_keeps of same w = by_front (next_warrant w.coordinator) where
   by_front : (o : Option OwedMarker) → of (mark_by w o).world ≡ of w
   by_front None = refl
-  by_front (Some m) = same w _ _
+  by_front (Some m) = same w _ _ _

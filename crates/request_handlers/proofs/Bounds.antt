@@ -10,7 +10,7 @@ use Rattle.wire_types.specs.declared.topic.Topic.{Topic}
 use Rattle.wire_types.specs.Grammar.{Grammar}
 use Rattle.wire_types.specs.Spelling.{many_written, null_behind_written, behind_written, int_written}
 use Rattle.wire_types.specs.Combinators.{◌⨟◌}
-use Rattle.wire_types.specs.Schema.{int16, int32, int64, boolean, string, compact_string, nullable_string, nullable_bytes, array, nullable_array, compact_array, compact_nullable_array, count32, null_count32, compact_count, compact_null_count, tags}
+use Rattle.wire_types.specs.Schema.{int16, int32, int64, boolean, string, compact_string, compact_nullable_string, nullable_string, nullable_bytes, array, nullable_array, compact_array, compact_nullable_array, count32, null_count32, compact_count, compact_null_count, tags}
 use Rattle.wire_types.specs.Topic.{topic_of, flexible_topic_of}
 use Rattle.settings.specs.declared.settings.Settings.{Settings}
 use Rattle.settings.specs.declared.settings.TopicSetting.{TopicSetting}
@@ -30,7 +30,7 @@ use Rattle.acl_binding.specs.Book.{empty_book}
 use Rattle.walk.specs.Rule.{PartRule, refusal_of}
 use Rattle.walk.specs.Walk.{world_after, parts_refused, refusals, parts_weight, topics_weight}
 use Rattle.walk.proofs.Weights.{walk_takes}
-use Rattle.msg_admin.specs.declared.request.Request.TheVariants.{Produce, Fetch, ListOffsets, Metadata, OffsetCommit, OffsetFetch, FindCoordinator, JoinGroup, Heartbeat, LeaveGroup, SyncGroup, InitProducerId, AddPartitionsToTxn, EndTxn, DescribeAcls, CreateAcls, DeleteAcls}
+use Rattle.msg_admin.specs.declared.request.Request.TheVariants.{Produce, Fetch, ListOffsets, Metadata, OffsetCommit, OffsetFetch, FindCoordinator, JoinGroup, Heartbeat, LeaveGroup, SyncGroup, InitProducerId, AddPartitionsToTxn, AddOffsetsToTxn, EndTxn, TxnOffsetCommit, DescribeAcls, CreateAcls, DeleteAcls}
 use Rattle.msg_admin.specs.Request.{Fits}
 use Rattle.msg_admin.specs.Bodies.{request_body}
 use Rattle.audit_trail.specs.declared.event.Event.{Event}
@@ -55,10 +55,15 @@ use Rattle.txn_coordinator.specs.declared.target.Target.{Target}
 use Rattle.txn_coordinator.specs.declared.target.Target.TheVariants.{Partition, Group}
 use Rattle.txn_coordinator.specs.Warrants.{next_warrant}
 use Rattle.request_handlers.specs.EndTxn.{id_question}
+use Rattle.request_handlers.specs.AddOffsets.{add_offsets_questions}
 use Rattle.request_handlers.specs.AddPartitions.{cut_rule, is_cut, cut_outcome, added_outcome}
 use Rattle.request_handlers.specs.Marks.{marker_batch, marked_at, mark_by}
 use Rattle.request_handlers.specs.RoomLaws.{marked_within}
 use Rattle.request_handlers.specs.OffsetCommit.{committing_rule}
+use Rattle.request_handlers.specs.TxnOffsetCommit.{staging_rule}
+use Rattle.msg_txn.specs.declared.txn_offset_commit.TxnOffsetCommitRequest.{TxnOffsetCommitRequest}
+use Rattle.msg_txn.specs.declared.txn_offset_commit.OffsetToStage.{OffsetToStage}
+use Rattle.msg_txn.specs.TxnOffsetCommit.{offset_to_stage, txn_offset_commit_request}
 use Rattle.request_handlers.specs.OffsetFetch.{group_question, offset_rule, offsets_of, fetched_outcome, offset_fetch_by}
 use Rattle.msg_group.specs.declared.offset_commit.OffsetCommitRequest.{OffsetCommitRequest}
 use Rattle.msg_group.specs.declared.offset_commit.OffsetToCommit.{OffsetToCommit}
@@ -183,6 +188,11 @@ index_some z = omega (arith, int32_bytes z)
 commit_some : (p : OffsetToCommit) → 1 ≤ length (offset_to_commit.written p)
 commit_some p = omega (arith, int32_bytes p.index, length-append (int32.written p.index) ((int64 ⨟ nullable_string).written (p.offset, p.metadata)))
 
+stage_some : (p : OffsetToStage) → 1 ≤ length (offset_to_stage.written p)
+stage_some p =
+    let rest = (int64 ⨟ int32 ⨟ compact_nullable_string).written (p.offset, (p.leader_epoch, p.metadata)) in
+    omega (arith, int32_bytes p.index, length-append (int32.written p.index) rest, length-append (int32.written p.index ++ rest) (tags.written tt))
+
 wanted_some : (p : WantedOffset) → 1 ≤ length (wanted_offset.written p)
 wanted_some p = omega (arith, int32_bytes p.index, length-append (int32.written p.index) (int64.written p.timestamp))
 
@@ -240,6 +250,27 @@ fetch_offsets_topics r =
     let last = topics ++ boolean.written r.require_stable in
     omega (arith, length-append topics (boolean.written r.require_stable), length-append (compact_string.written r.group) last, length-append (compact_string.written r.group ++ last) (tags.written tt))
 
+compact_array_bytes : {P : Type 0} (g : Grammar P) (ps : List P) → length (many_written g.written ps) ≤ length ((compact_array g).written ps)
+unfolding behind_written
+compact_array_bytes g ps = omega (arith, length-append (compact_count.written (length ps)) (many_written g.written ps))
+
+stage_topics : (r : TxnOffsetCommitRequest) → length (many_written (flexible_topic_of offset_to_stage).written r.topics) ≤ length (txn_offset_commit_request.written r)
+stage_topics r =
+    let topics = (compact_array (flexible_topic_of offset_to_stage)).written r.topics in
+    let last = compact_string.written r.member ++ (compact_nullable_string.written r.instance ++ topics) in
+    let more = int16.written r.epoch ++ (int32.written r.generation ++ last) in
+    let rest = int64.written r.producer ++ more in
+    let whole = compact_string.written r.transactional_id ++ (compact_string.written r.group ++ rest) in
+    omega (
+      arith,
+      compact_array_bytes (flexible_topic_of offset_to_stage) r.topics,
+      behind_two (compact_string.written r.member) (compact_nullable_string.written r.instance) topics,
+      behind_two (int16.written r.epoch) (int32.written r.generation) last,
+      length-append (int64.written r.producer) more,
+      behind_two (compact_string.written r.transactional_id) (compact_string.written r.group) rest,
+      length-append whole (tags.written tt),
+    )
+
 -- ---- an event
 
 pub few_refusals : (w : World) (e : Event) → EventFits e → length (refusals_of w e) ≤ most_parts
@@ -286,9 +317,14 @@ few_refusals w (Ask caller client (AddPartitionsToTxn r)) fits = by_cut (is_cut 
   by_cut : (b : Bool) → length (cond b (cut_outcome w caller r) (added_outcome w r)).refusals ≤ most_parts
   by_cut true = few
   by_cut false = omega arith
+few_refusals w (Ask caller client (AddOffsetsToTxn r)) fits =
+    let few : length (refusals_of w (Ask caller client (AddOffsetsToTxn r))) ≤ 1 = whole_refusals (part_refusal (rules_of w) (add_offsets_questions caller r.transactional_id r.group)) w _ _ in
+    omega (arith, few)
 few_refusals w (Ask caller client (EndTxn r)) fits =
     let few : length (refusals_of w (Ask caller client (EndTxn r))) ≤ 1 = whole_refusals (part_refusal (rules_of w) (id_question caller r.transactional_id ∷ [])) w _ _ in
     omega (arith, few)
+few_refusals w (Ask caller client (TxnOffsetCommit r)) fits =
+    omega (arith, fits.1, few_walked (staging_rule w caller r) (rules_of w) r.topics, within_flexible offset_to_stage (λ p. 1) stage_some r.topics, stage_topics r)
 few_refusals w (Ask caller client (DescribeAcls r)) fits =
     let few : length (refusals_of w (Ask caller client (DescribeAcls r))) ≤ 1 = whole_refusals (part_refusal (rules_of w) (describe_acls_questions caller)) w _ _ in
     omega (arith, few)
@@ -335,7 +371,9 @@ ends_outcome w (Ask caller client (SyncGroup r)) fits room = same_ends (whole_to
 ends_outcome w (Ask caller client (FindCoordinator r)) fits room = same_ends (whole_topics (part_refusal (rules_of w) (find_questions caller (kind_of r.key_type) r.key)) w _ _ refl)
 ends_outcome w (Ask caller client (InitProducerId r)) fits room = same_ends (whole_topics (part_refusal (rules_of w) (init_question caller r.transactional_id ∷ [])) w _ _ refl)
 ends_outcome w (Ask caller client (AddPartitionsToTxn r)) fits room = same_ends (add_keeps (λ v. v.topics) (λ v c. refl) w caller r)
+ends_outcome w (Ask caller client (AddOffsetsToTxn r)) fits room = same_ends (whole_topics (part_refusal (rules_of w) (add_offsets_questions caller r.transactional_id r.group)) w _ _ refl)
 ends_outcome w (Ask caller client (EndTxn r)) fits room = same_ends (whole_topics (part_refusal (rules_of w) (id_question caller r.transactional_id ∷ [])) w _ _ refl)
+ends_outcome w (Ask caller client (TxnOffsetCommit r)) fits room = omega arith
 ends_outcome w (Ask caller client (DescribeAcls r)) fits room = same_ends (whole_topics (part_refusal (rules_of w) (describe_acls_questions caller)) w _ _ refl)
 ends_outcome w (Ask caller client (CreateAcls r)) fits room = same_ends (whole_topics (part_refusal (rules_of w) (alter_questions caller)) w _ _ refl)
 ends_outcome w (Ask caller client (DeleteAcls r)) fits room = same_ends (whole_topics (part_refusal (rules_of w) (alter_questions caller)) w _ _ refl)
@@ -373,7 +411,9 @@ numbers_outcome w (Ask caller client (SyncGroup r)) fits = whole_next (part_refu
 numbers_outcome w (Ask caller client (FindCoordinator r)) fits = whole_next (part_refusal (rules_of w) (find_questions caller (kind_of r.key_type) r.key)) w _ _ most_parts (omega arith)
 numbers_outcome w (Ask caller client (InitProducerId r)) fits = whole_next (part_refusal (rules_of w) (init_question caller r.transactional_id ∷ [])) w _ _ most_parts (omega arith)
 numbers_outcome w (Ask caller client (AddPartitionsToTxn r)) fits = omega (arith, add_keeps (λ v. v.book.next) (λ v c. refl) w caller r)
+numbers_outcome w (Ask caller client (AddOffsetsToTxn r)) fits = whole_next (part_refusal (rules_of w) (add_offsets_questions caller r.transactional_id r.group)) w _ _ most_parts (omega arith)
 numbers_outcome w (Ask caller client (EndTxn r)) fits = whole_next (part_refusal (rules_of w) (id_question caller r.transactional_id ∷ [])) w _ _ most_parts (omega arith)
+numbers_outcome w (Ask caller client (TxnOffsetCommit r)) fits = omega arith
 numbers_outcome w (Ask caller client (DescribeAcls r)) fits = whole_next (part_refusal (rules_of w) (describe_acls_questions caller)) w _ _ most_parts (omega arith)
 numbers_outcome w (Ask caller client (CreateAcls r)) fits =
     let few : (book_created w.book r.creations).next ≤ w.book.next + most_parts = omega (arith, created_next w.book r.creations, creations_fit r fits) in
@@ -381,7 +421,7 @@ numbers_outcome w (Ask caller client (CreateAcls r)) fits =
 numbers_outcome w (Ask caller client (DeleteAcls r)) fits =
     let few : (book_deleted w.book r.filters).next ≤ w.book.next + most_parts = omega (arith, deleted_next w.book r.filters) in
     whole_next (part_refusal (rules_of w) (alter_questions caller)) w _ _ most_parts few
-numbers_outcome w Mark fits = omega (arith, mark_keeps (λ v. v.book.next) (λ v topics c. refl) w)
+numbers_outcome w Mark fits = omega (arith, mark_keeps (λ v. v.book.next) (λ v topics groups c. refl) w)
 numbers_outcome w (Tick told) fits = omega arith
 
 -- the first logs are empty

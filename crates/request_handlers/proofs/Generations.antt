@@ -17,16 +17,21 @@ use Rattle.msg_group.specs.declared.heartbeat.HeartbeatRequest.{HeartbeatRequest
 use Rattle.msg_group.specs.declared.leave_group.LeaveGroupRequest.{LeaveGroupRequest}
 use Rattle.msg_group.specs.declared.offset_commit.OffsetToCommit.{OffsetToCommit}
 use Rattle.msg_admin.specs.declared.reply.Reply.{Reply}
-use Rattle.msg_admin.specs.declared.request.Request.TheVariants.{Produce, Fetch, ListOffsets, Metadata, OffsetCommit, OffsetFetch, FindCoordinator, JoinGroup, Heartbeat, LeaveGroup, SyncGroup, InitProducerId, AddPartitionsToTxn, EndTxn, DescribeAcls, CreateAcls, DeleteAcls}
+use Rattle.msg_admin.specs.declared.request.Request.TheVariants.{Produce, Fetch, ListOffsets, Metadata, OffsetCommit, OffsetFetch, FindCoordinator, JoinGroup, Heartbeat, LeaveGroup, SyncGroup, InitProducerId, AddPartitionsToTxn, AddOffsetsToTxn, EndTxn, TxnOffsetCommit, DescribeAcls, CreateAcls, DeleteAcls}
 use Rattle.audit_trail.specs.declared.event.Event.{Event}
 use Rattle.audit_trail.specs.declared.event.Event.TheVariants.{Ask, Mark, Tick}
 use Rattle.walk.specs.Steps.{world_by, part_world, parts_world, topics_world}
 use Rattle.walk.proofs.Weaving.{woven}
+use Rattle.msg_txn.specs.declared.txn_offset_commit.OffsetToStage.{OffsetToStage}
+use Rattle.txn_coordinator.specs.declared.target.Target.{Target}
+use Rattle.txn_coordinator.specs.declared.target.Target.TheVariants as targets
+use Rattle.txn_coordinator.specs.declared.marker.OwedMarker.{OwedMarker}
+use Rattle.txn_coordinator.specs.Warrants.{next_warrant}
 use Rattle.group_offsets.specs.declared.event.PartitionOffset.{PartitionOffset}
-use Rattle.group_offsets.specs.declared.event.OffsetEvent.TheVariants.{Put}
+use Rattle.group_offsets.specs.declared.event.OffsetEvent.TheVariants.{Put, Stage, Decide}
 use Rattle.group_offsets.specs.declared.group.Group.{Group}
 use Rattle.group_offsets.specs.Turn.{Turn, Stays, Puts}
-use Rattle.group_offsets.specs.Group.{is_empty, is_member, member_refusal, synced, sync_group, beaten, beat_group, leave_group, is_lapsed, left, expired, commit_refusal, noted, commit_group}
+use Rattle.group_offsets.specs.Group.{is_empty, is_member, member_refusal, synced, sync_group, beaten, beat_group, leave_group, is_lapsed, left, expired, commit_refusal, with_event, noted, commit_group, stage_refusal, stage_group}
 use Rattle.group_offsets.specs.Joining.{session_timeout, chosen, entry_refusal, let_in, join_under, join_within, join_group}
 use Rattle.group_offsets.specs.Groups.{find_group, group_of, put, turned, join, sync, beat, leave, commit}
 use Rattle.request_handlers.specs.World.{World, TopicValue, LogValue, rules_of}
@@ -37,13 +42,16 @@ use Rattle.request_handlers.specs.DescribeAcls.{describe_acls_questions}
 use Rattle.request_handlers.specs.CreateAcls.{alter_questions}
 use Rattle.request_handlers.specs.InitProducerId.{init_question}
 use Rattle.request_handlers.specs.EndTxn.{id_question}
+use Rattle.request_handlers.specs.AddOffsets.{add_offsets_questions}
 use Rattle.request_handlers.specs.Members.{read_question}
 use Rattle.request_handlers.specs.FindCoordinator.{kind_of, find_questions}
 use Rattle.request_handlers.specs.OffsetCommit.{Committing, committing, commit_questions, groups_by, commit_rule, committing_rule}
+use Rattle.request_handlers.specs.TxnOffsetCommit.{Staging, staging, stage_questions, offset_staged, turn_by, staging_refusal, stage_turn, stage_rule, staging_rule}
+use Rattle.request_handlers.specs.Marks.{marked_outcome, decided_at, mark_by, mark_outcome}
 use Rattle.request_handlers.specs.Ticks.{moment_after}
 use Rattle.request_handlers.specs.Step.{outcome}
 use Rattle.request_handlers.specs.Core.{GenerationsWithin}
-use Rattle.request_handlers.proofs.Adds.{add_keeps, mark_keeps}
+use Rattle.request_handlers.proofs.Adds.{add_keeps}
 use Rattle.request_handlers.proofs.Wholes.{offsets_keep}
 
 pub generations_weaker : (m n : ℕ) (gs : List Group) → m ≤ n → GenerationsWithin m gs → GenerationsWithin n gs
@@ -139,6 +147,13 @@ commit_turn n g generation member o is = by_refusal (commit_refusal g generation
   by_refusal (Some code) = tt
   by_refusal None = is
 
+stage_turn_within : (n : ℕ) (g : Group) (producer generation : ℤ) (member : List ℕ) (o : PartitionOffset) → g.generation ≤ℤ pos n → TurnWithin n (stage_group g producer generation member o)
+unfolding TurnWithin
+stage_turn_within n g producer generation member o is = by_refusal (stage_refusal g generation member) where
+  by_refusal : (x : Option ErrorCode) → TurnWithin n (noted x g (Stage producer o))
+  by_refusal (Some code) = tt
+  by_refusal None = is
+
 expired_within : (n moment : ℕ) (gs : List Group) → GenerationsWithin n gs → GenerationsWithin n (map (expired moment) gs)
 expired_within n moment [] all = tt
 expired_within n moment (g ∷ gs) all = (by_lapse (is_lapsed moment g.member), expired_within n moment gs all.1) where
@@ -166,6 +181,42 @@ module _ (rules : Rules) (caller : Caller) (c : Committing) (topics : List Topic
   topics_within : (gs : List Group) (ts : List (Topic OffsetToCommit)) → GenerationsWithin n gs → GenerationsWithin n (topics_world (commit_rule caller c topics) rules gs ts)
   topics_within gs [] all = all
   topics_within gs (t ∷ ts) all = topics_within (parts_world (commit_rule caller c topics) rules gs t.name t.partitions) ts (parts_within gs t.name t.partitions all)
+
+-- ---- a TxnOffsetCommit
+
+module _ (rules : Rules) (caller : Caller) (s : Staging) (refusal : Option ErrorCode) (topics : List TopicValue) (n : ℕ) where
+  staged_turn_within : (gs : List Group) (o : PartitionOffset) (x : Option ErrorCode) (log : Option LogValue) → GenerationsWithin n gs → TurnWithin n (turn_by x s gs o log)
+  unfolding TurnWithin
+  staged_turn_within gs o x None all = tt
+  staged_turn_within gs o (Some code) (Some log) all = tt
+  staged_turn_within gs o None (Some log) all = stage_turn_within n (group_of gs s.group) s.pair.producer s.generation s.member o (found_within n gs s.group all)
+
+  staged_part_within : (gs : List Group) (name : List ℕ) (p : OffsetToStage) → GenerationsWithin n gs → GenerationsWithin n (part_world (stage_rule caller s refusal topics) rules gs name p)
+  staged_part_within gs name p all = by_refusal (part_refusal rules (stage_questions caller s name)) where
+    by_refusal : (r : Option Refusal) → GenerationsWithin n (world_by (stage_rule caller s refusal topics) r gs name p)
+    by_refusal (Some r) = all
+    by_refusal None = turned_within n gs (stage_turn refusal topics s gs name p) all (staged_turn_within gs (offset_staged name p) refusal (log_at topics name p.index) all)
+
+  staged_parts_within : (gs : List Group) (name : List ℕ) (ps : List OffsetToStage) → GenerationsWithin n gs → GenerationsWithin n (parts_world (stage_rule caller s refusal topics) rules gs name ps)
+  staged_parts_within gs name [] all = all
+  staged_parts_within gs name (p ∷ ps) all = staged_parts_within (part_world (stage_rule caller s refusal topics) rules gs name p) name ps (staged_part_within gs name p all)
+
+  staged_topics_within : (gs : List Group) (ts : List (Topic OffsetToStage)) → GenerationsWithin n gs → GenerationsWithin n (topics_world (stage_rule caller s refusal topics) rules gs ts)
+  staged_topics_within gs [] all = all
+  staged_topics_within gs (t ∷ ts) all = staged_topics_within (parts_world (stage_rule caller s refusal topics) rules gs t.name t.partitions) ts (staged_parts_within gs t.name t.partitions all)
+
+-- ---- a marker step
+
+decided_within : (n : ℕ) (gs : List Group) (t : Target) (m : OwedMarker) → GenerationsWithin n gs → GenerationsWithin n (decided_at gs t m)
+unfolding TurnWithin
+decided_within n gs (targets.Partition p) m all = all
+decided_within n gs (targets.Group g) m all = put_within n gs (with_event (Decide m.pair.producer (marked_outcome m.outcome)) (group_of gs g)) all (found_within n gs g all)
+
+mark_within : (w : World) (n : ℕ) → GenerationsWithin n w.groups → GenerationsWithin n (mark_outcome w).world.groups
+mark_within w n all = by_front (next_warrant w.coordinator) where
+  by_front : (o : Option OwedMarker) → GenerationsWithin n (mark_by w o).world.groups
+  by_front None = all
+  by_front (Some m) = decided_within n w.groups m.target m all
 
 -- ---- an event
 
@@ -201,11 +252,14 @@ generations_outcome w e n all = by_event e (generations_weaker n (n + 1) w.group
       (turned_within (n + 1) w.groups (sync w.groups r w.moment) more (sync_turn (n + 1) (group_of w.groups r.group) r w.moment (found_within (n + 1) w.groups r.group more))) more
   by_event (Ask caller client (InitProducerId r)) more = whole_within (part_refusal (rules_of w) (init_question caller r.transactional_id ∷ [])) w _ _ (n + 1) more more
   by_event (Ask caller client (AddPartitionsToTxn r)) more = kept_within (outcome w (Ask caller client (AddPartitionsToTxn r))).world w (n + 1) (add_keeps (λ v. v.groups) (λ v c. refl) w caller r) more
+  by_event (Ask caller client (AddOffsetsToTxn r)) more = whole_within (part_refusal (rules_of w) (add_offsets_questions caller r.transactional_id r.group)) w _ _ (n + 1) more more
   by_event (Ask caller client (EndTxn r)) more = whole_within (part_refusal (rules_of w) (id_question caller r.transactional_id ∷ [])) w _ _ (n + 1) more more
+  by_event (Ask caller client (TxnOffsetCommit r)) more =
+      subst (GenerationsWithin (n + 1)) (woven (staging_rule w caller r) (rules_of w) w.groups r.topics).world (staged_topics_within (rules_of w) caller (staging r) (staging_refusal w.coordinator (staging r)) w.topics (n + 1) w.groups r.topics more)
   by_event (Ask caller client (DescribeAcls r)) more = whole_within (part_refusal (rules_of w) (describe_acls_questions caller)) w _ _ (n + 1) more more
   by_event (Ask caller client (CreateAcls r)) more = whole_within (part_refusal (rules_of w) (alter_questions caller)) w _ _ (n + 1) more more
   by_event (Ask caller client (DeleteAcls r)) more = whole_within (part_refusal (rules_of w) (alter_questions caller)) w _ _ (n + 1) more more
-  by_event Mark more = kept_within (outcome w Mark).world w (n + 1) (mark_keeps (λ v. v.groups) (λ v topics c. refl) w) more
+  by_event Mark more = mark_within w (n + 1) more
   by_event (Tick told) more = expired_within (n + 1) (moment_after w.moment told) w.groups more
 
 pub no_groups : (w : World) (s : Settings) → w ≡ first_world s → GenerationsWithin 0 w.groups

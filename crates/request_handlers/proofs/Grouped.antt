@@ -61,31 +61,31 @@ use Rattle.request_handlers.proofs.BookBounds.{whole_topics}
 
 -- ---- a group that is the same
 
-same_group : (us vs : List Group) (name : List ℕ) → find_group us name ≡ find_group vs name → group_of us name ≡ group_of vs name
+pub same_group : (us vs : List Group) (name : List ℕ) → find_group us name ≡ find_group vs name → group_of us name ≡ group_of vs name
 same_group us vs name same = ap (λ (o : Option Group). unwrap_or o (fresh_group name)) same
 
-own_name : (name : List ℕ) → bytes_eq name name ≡ true
+pub own_name : (name : List ℕ) → bytes_eq name name ≡ true
 own_name name = (bytes_eq-Decides name name).1 refl
 
-other_name : (name other : List ℕ) → (other ≡ name → ⊥) → bytes_eq name other ≡ false
+pub other_name : (name other : List ℕ) → (other ≡ name → ⊥) → bytes_eq name other ≡ false
 other_name name other differ = by_test (bytes_eq name other) refl where
   by_test : (b : Bool) → bytes_eq name other ≡ b → bytes_eq name other ≡ false
   by_test true e = absurd (differ (sym ((bytes_eq-Decides name other).0 e)))
   by_test false e = e
 
 -- a call on another group leaves it as it was
-kept_call : (gs : List Group) (call : Call) (other : List ℕ) → concerns other call ≡ false → find_group (called gs call) other ≡ find_group gs other
+pub kept_call : (gs : List Group) (call : Call) (other : List ℕ) → concerns other call ≡ false → find_group (called gs call) other ≡ find_group gs other
 kept_call gs call other apart =
     groups_are_apart gs gs (call ∷ []) other refl ∙ ap (λ (b : Bool). find_group (all_called gs (cond b (call ∷ []) [])) other) apart
 
 -- where two lists agree on a group, they do so after a call on it
-same_call : (us vs : List Group) (call : Call) (name : List ℕ) → concerns name call ≡ true → find_group us name ≡ find_group vs name → find_group (called us call) name ≡ find_group (called vs call) name
+pub same_call : (us vs : List Group) (call : Call) (name : List ℕ) → concerns name call ≡ true → find_group us name ≡ find_group vs name → find_group (called us call) name ≡ find_group (called vs call) name
 same_call us vs call name about same =
     groups_are_apart us vs (call ∷ []) name same ∙ ap (λ (b : Bool). find_group (all_called vs (cond b (call ∷ []) [])) name) about
 
 -- ---- requests that are one part
 
-whole_same : (o : Option Refusal) (v w : World) (refused : ErrorCode → Reply) (a b : Served) → (o ≡ None → a.reply ≡ b.reply) → SameAnswer (whole_by o v refused a) (whole_by o w refused b)
+pub whole_same : (o : Option Refusal) (v w : World) (refused : ErrorCode → Reply) (a b : Served) → (o ≡ None → a.reply ≡ b.reply) → SameAnswer (whole_by o v refused a) (whole_by o w refused b)
 whole_same None v w refused a b same = record { reply = same refl; refusals = refl }
 whole_same (Some r) v w refused a b same = record { reply = refl; refusals = refl }
 
@@ -300,7 +300,7 @@ commits_kept w caller r = record {
 }
 
 -- where the group may not be read, no part is served
-refused_alone : (x : Option Refusal) (r : Refusal) → first_of x None ≡ Some r → x ≡ Some r
+pub refused_alone : (x : Option Refusal) (r : Refusal) → first_of x None ≡ Some r → x ≡ Some r
 refused_alone None r is = absurd (let clash : None ≡ Some r = is in cc)
 refused_alone (Some q) r is = is
 

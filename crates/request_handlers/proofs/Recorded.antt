@@ -13,7 +13,7 @@ use Rattle.txn_coordinator.specs.declared.turn.Turn.TheVariants.{Stays, Puts}
 use Rattle.txn_coordinator.specs.Words.{is_empty}
 use Rattle.txn_coordinator.specs.Coordinator.{CoordinatorValue, has_id, recorded, put, fresh, turned, turn_code, turn_answer, pair_answer}
 use Rattle.txn_coordinator.specs.InitProducerId.{timeout_within, init_for, init}
-use Rattle.txn_coordinator.specs.Adding.{open_found, open_transaction, grown, with_partitions, add_partitions}
+use Rattle.txn_coordinator.specs.Adding.{open_found, open_transaction, grown, with_partitions, with_group, add_partitions, add_group}
 use Rattle.txn_coordinator.specs.EndTxn.{end_found, end}
 
 -- ---- a record that was put
@@ -58,6 +58,10 @@ pub same_add : (c d : CoordinatorValue) (id : List ℕ) (pair : Pair) (moment : 
 same_add c d id pair moment [] same = refl
 same_add c d id pair moment (p ∷ ps) same =
     ap (λ (o : Option Transaction). grown (with_partitions (p ∷ ps)) (cond (is_empty id) (Err codes.InvalidRequest) (open_found o pair moment))) same.recorded
+
+pub same_add_group : (c d : CoordinatorValue) (id : List ℕ) (pair : Pair) (moment : ℕ) (group : List ℕ) → AreSame c d id → add_group c id pair moment group ≡ add_group d id pair moment group
+same_add_group c d id pair moment group same =
+    ap (λ (o : Option Transaction). grown (with_group group) (cond (is_empty id) (Err codes.InvalidRequest) (open_found o pair moment))) same.recorded
 
 pub same_answer : (c d : CoordinatorValue) (id : List ℕ) (turn : Turn) → AreSame c d id → turn_answer c id turn ≡ turn_answer d id turn
 same_answer c d id (Stays code) same = ap (pair_answer code) same.recorded

@@ -20,7 +20,7 @@ use Rattle.partition_log.specs.Log.{end_of, at_end}
 use Rattle.partition_log.proofs.Accepted.{accepted_none, accepted_push, follows_written}
 use Rattle.msg_data.specs.declared.produce.ProduceRequest.{ProduceRequest}
 use Rattle.msg_data.specs.declared.produce.ProducedRecords.{ProducedRecords}
-use Rattle.msg_admin.specs.declared.request.Request.TheVariants.{Produce, Fetch, ListOffsets, Metadata, OffsetCommit, OffsetFetch, FindCoordinator, JoinGroup, Heartbeat, LeaveGroup, SyncGroup, InitProducerId, AddPartitionsToTxn, EndTxn, DescribeAcls, CreateAcls, DeleteAcls}
+use Rattle.msg_admin.specs.declared.request.Request.TheVariants.{Produce, Fetch, ListOffsets, Metadata, OffsetCommit, OffsetFetch, FindCoordinator, JoinGroup, Heartbeat, LeaveGroup, SyncGroup, InitProducerId, AddPartitionsToTxn, AddOffsetsToTxn, EndTxn, TxnOffsetCommit, DescribeAcls, CreateAcls, DeleteAcls}
 use Rattle.audit_trail.specs.declared.event.Event.{Event}
 use Rattle.audit_trail.specs.declared.event.Event.TheVariants.{Ask, Mark, Tick}
 use Rattle.walk.specs.Steps.{world_by, part_world, parts_world, topics_world}
@@ -43,6 +43,7 @@ use Rattle.txn_coordinator.specs.declared.target.Target.{Target}
 use Rattle.txn_coordinator.specs.declared.target.Target.TheVariants.{Partition, Group}
 use Rattle.txn_coordinator.specs.Warrants.{next_warrant}
 use Rattle.request_handlers.specs.EndTxn.{id_question}
+use Rattle.request_handlers.specs.AddOffsets.{add_offsets_questions}
 use Rattle.request_handlers.specs.Marks.{marker_batch, log_marked, marked_by, marked_at, mark_by}
 use Rattle.request_handlers.proofs.Wholes.{offsets_keep}
 use Rattle.request_handlers.specs.Members.{read_question}
@@ -159,7 +160,9 @@ outcome_all w (Ask caller client (SyncGroup r)) all = subst AllLogs (sym (whole_
 outcome_all w (Ask caller client (FindCoordinator r)) all = subst AllLogs (sym (whole_topics (part_refusal (rules_of w) (find_questions caller (kind_of r.key_type) r.key)) w _ _ refl)) all
 outcome_all w (Ask caller client (InitProducerId r)) all = subst AllLogs (sym (whole_topics (part_refusal (rules_of w) (init_question caller r.transactional_id ∷ [])) w _ _ refl)) all
 outcome_all w (Ask caller client (AddPartitionsToTxn r)) all = subst AllLogs (sym (add_keeps (λ v. v.topics) (λ v c. refl) w caller r)) all
+outcome_all w (Ask caller client (AddOffsetsToTxn r)) all = subst AllLogs (sym (whole_topics (part_refusal (rules_of w) (add_offsets_questions caller r.transactional_id r.group)) w _ _ refl)) all
 outcome_all w (Ask caller client (EndTxn r)) all = subst AllLogs (sym (whole_topics (part_refusal (rules_of w) (id_question caller r.transactional_id ∷ [])) w _ _ refl)) all
+outcome_all w (Ask caller client (TxnOffsetCommit r)) all = all
 outcome_all w (Ask caller client (DescribeAcls r)) all = subst AllLogs (sym (whole_topics (part_refusal (rules_of w) (describe_acls_questions caller)) w _ _ refl)) all
 outcome_all w (Ask caller client (CreateAcls r)) all = subst AllLogs (sym (whole_topics (part_refusal (rules_of w) (alter_questions caller)) w _ _ refl)) all
 outcome_all w (Ask caller client (DeleteAcls r)) all = subst AllLogs (sym (whole_topics (part_refusal (rules_of w) (alter_questions caller)) w _ _ refl)) all

@@ -43,7 +43,7 @@ use Rattle.txn_coordinator.specs.Words.{is_empty}
 use Rattle.txn_coordinator.specs.Preparing.{pair_refusal}
 use Rattle.txn_coordinator.specs.Coordinator.{CoordinatorValue, has_id, recorded, put, fresh, turned, turn_code}
 use Rattle.txn_coordinator.specs.InitProducerId.{timeout_within, init_in, init_for, init}
-use Rattle.txn_coordinator.specs.Adding.{open_in, open_by, open_found, open_transaction, grown, with_partitions, add_partitions}
+use Rattle.txn_coordinator.specs.Adding.{open_in, open_by, open_found, open_transaction, grown, with_partitions, with_group, add_partitions, add_group}
 use Rattle.txn_coordinator.specs.EndTxn.{end_in, end_by, end_found, end}
 use Rattle.txn_coordinator.proofs.Table.{recorded_id}
 use Rattle.request_handlers.specs.World.{World, TopicValue, LogValue, rules_of, find_topic}
@@ -61,6 +61,7 @@ use Rattle.request_handlers.proofs.Recorded.{AreSame, recorded_put, same_end, sa
 use Rattle.request_handlers.proofs.Initials.{yes_alone, same_refusal}
 use Rattle.request_handlers.proofs.DataGrants.{same_topic, same_log, rest_of, yes_of}
 use Rattle.request_handlers.proofs.Adds.{add_keeps}
+use Rattle.request_handlers.proofs.Grouped.{refused_alone}
 use Rattle.request_handlers.proofs.BookBounds.{whole_topics}
 
 -- ---- nothing refused, and nothing missing
@@ -125,7 +126,7 @@ adds_all_or_none w caller r = by_cut (is_cut caller r.transactional_id w.topics 
 
 -- ---- a call puts the record of its id, or none
 
-OfId : List ℕ → Turn → Type 0
+pub OfId : List ℕ → Turn → Type 0
 OfId id (Stays code) = Unit {0}
 OfId id (Puts code t given owed) = t.id ≡ id
 
@@ -178,33 +179,40 @@ end_id c id pair o = by_empty (is_empty id) where
   by_empty true = tt
   by_empty false = by_found (recorded c.transactions id) refl
 
-opened_id : (p : Phase) (t : Transaction) (moment : ℕ) (ps : List TopicPartition) (id : List ℕ) → t.id ≡ id → OfId id (grown (with_partitions ps) (open_in p t moment))
+opened_id : (grow : Transaction → Transaction) → ((t : Transaction) → (grow t).id ≡ t.id) → (p : Phase) (t : Transaction) (moment : ℕ) (id : List ℕ) → t.id ≡ id → OfId id (grown grow (open_in p t moment))
 unfolding OfId
-opened_id Ongoing t moment ps id own = own
-opened_id Empty t moment ps id own = own
-opened_id CompleteCommit t moment ps id own = own
-opened_id CompleteAbort t moment ps id own = own
-opened_id PrepareCommit t moment ps id own = tt
-opened_id PrepareAbort t moment ps id own = tt
+opened_id grow keeps Ongoing t moment id own = keeps _ ∙ own
+opened_id grow keeps Empty t moment id own = keeps _ ∙ own
+opened_id grow keeps CompleteCommit t moment id own = keeps _ ∙ own
+opened_id grow keeps CompleteAbort t moment id own = keeps _ ∙ own
+opened_id grow keeps PrepareCommit t moment id own = tt
+opened_id grow keeps PrepareAbort t moment id own = tt
+
+grown_id : (grow : Transaction → Transaction) → ((t : Transaction) → (grow t).id ≡ t.id) → (c : CoordinatorValue) (id : List ℕ) (pair : Pair) (moment : ℕ) → OfId id (grown grow (open_transaction c id pair moment))
+unfolding OfId
+grown_id grow keeps c id pair moment = by_empty (is_empty id) where
+  by_refusal : (x : Option ErrorCode) (t : Transaction) → t.id ≡ id → OfId id (grown grow (open_by x t moment))
+  by_refusal (Some code) t own = tt
+  by_refusal None t own = opened_id grow keeps t.phase t moment id own
+
+  by_found : (found : Option Transaction) → recorded c.transactions id ≡ found → OfId id (grown grow (open_found found pair moment))
+  by_found None is = tt
+  by_found (Some t) is = by_refusal (pair_refusal codes.InvalidProducerEpoch t pair) t (recorded_id c.transactions id t is)
+
+  by_empty : (b : Bool) → OfId id (grown grow (cond b (Err codes.InvalidRequest) (open_found (recorded c.transactions id) pair moment)))
+  by_empty true = tt
+  by_empty false = by_found (recorded c.transactions id) refl
 
 add_id : (c : CoordinatorValue) (id : List ℕ) (pair : Pair) (moment : ℕ) (ps : List TopicPartition) → OfId id (add_partitions c id pair moment ps)
 unfolding OfId
 add_id c id pair moment [] = tt
-add_id c id pair moment (p ∷ ps) = by_empty (is_empty id) where
-  by_refusal : (x : Option ErrorCode) (t : Transaction) → t.id ≡ id → OfId id (grown (with_partitions (p ∷ ps)) (open_by x t moment))
-  by_refusal (Some code) t own = tt
-  by_refusal None t own = opened_id t.phase t moment (p ∷ ps) id own
+add_id c id pair moment (p ∷ ps) = grown_id (with_partitions (p ∷ ps)) (λ t. refl) c id pair moment
 
-  by_found : (found : Option Transaction) → recorded c.transactions id ≡ found → OfId id (grown (with_partitions (p ∷ ps)) (open_found found pair moment))
-  by_found None is = tt
-  by_found (Some t) is = by_refusal (pair_refusal codes.InvalidProducerEpoch t pair) t (recorded_id c.transactions id t is)
-
-  by_empty : (b : Bool) → OfId id (grown (with_partitions (p ∷ ps)) (cond b (Err codes.InvalidRequest) (open_found (recorded c.transactions id) pair moment)))
-  by_empty true = tt
-  by_empty false = by_found (recorded c.transactions id) refl
+pub add_group_id : (c : CoordinatorValue) (id : List ℕ) (pair : Pair) (moment : ℕ) (group : List ℕ) → OfId id (add_group c id pair moment group)
+add_group_id c id pair moment group = grown_id (with_group group) (λ t. refl) c id pair moment
 
 -- another id keeps its record
-other_kept : (c : CoordinatorValue) (id other : List ℕ) (turn : Turn) → OfId id turn → (other ≡ id → ⊥) → recorded (turned c turn).transactions other ≡ recorded c.transactions other
+pub other_kept : (c : CoordinatorValue) (id other : List ℕ) (turn : Turn) → OfId id turn → (other ≡ id → ⊥) → recorded (turned c turn).transactions other ≡ recorded c.transactions other
 unfolding OfId
 other_kept c id other (Stays code) own differ = refl
 other_kept c id other (Puts code t given owed) own differ = recorded_put c.transactions t other ∙ by_same (bytes_eq t.id other) refl where
@@ -213,7 +221,7 @@ other_kept c id other (Puts code t given owed) own differ = recorded_put c.trans
   by_same false e = refl
 
 -- a request that is one part: where it is refused nothing changes
-whole_kept : (o : Option Refusal) (w : World) (refused : ErrorCode → Reply) (served : Served) (other : List ℕ)
+pub whole_kept : (o : Option Refusal) (w : World) (refused : ErrorCode → Reply) (served : Served) (other : List ℕ)
     → recorded served.world.coordinator.transactions other ≡ recorded w.coordinator.transactions other → recorded (whole_by o w refused served).world.coordinator.transactions other ≡ recorded w.coordinator.transactions other
 whole_kept None w refused served other same = same
 whole_kept (Some r) w refused served other same = refl
@@ -232,10 +240,6 @@ id_granted w caller id ts some none =
     first_is_granted (cut_rule caller id w.topics) (rules_of w) (id_question caller id) ts (λ name index. (asked caller operations.Write kinds.Topic name ∷ [], refl)) some none
 
 -- ---- where writing with the id is refused
-
-refused_alone : (x : Option Refusal) (r : Refusal) → first_of x None ≡ Some r → x ≡ Some r
-refused_alone None r is = absurd (let clash : None ≡ Some r = is in cc)
-refused_alone (Some q) r is = is
 
 module _ (w : World) (caller : Caller) (id : List ℕ) (r : Refusal) (refused : question_refusal (rules_of w) (id_question caller id) ≡ Some r) where
   part_is_refused : (name : List ℕ) → part_refusal (rules_of w) (add_questions caller id name) ≡ Some r

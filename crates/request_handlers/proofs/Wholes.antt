@@ -8,7 +8,7 @@ use Rattle.wire_types.specs.declared.error_code.ErrorCode.{ErrorCode}
 use Rattle.msg_acl.specs.declared.describe_acls.DescribeAclsRequest.{DescribeAclsRequest}
 use Rattle.msg_admin.specs.declared.reply.Reply.{Reply}
 use Rattle.msg_admin.specs.declared.request.Request.{Request}
-use Rattle.msg_admin.specs.declared.request.Request.TheVariants.{Produce, Fetch, ListOffsets, Metadata, OffsetCommit, OffsetFetch, FindCoordinator, JoinGroup, Heartbeat, LeaveGroup, SyncGroup, InitProducerId, AddPartitionsToTxn, EndTxn, DescribeAcls, CreateAcls, DeleteAcls}
+use Rattle.msg_admin.specs.declared.request.Request.TheVariants.{Produce, Fetch, ListOffsets, Metadata, OffsetCommit, OffsetFetch, FindCoordinator, JoinGroup, Heartbeat, LeaveGroup, SyncGroup, InitProducerId, AddPartitionsToTxn, AddOffsetsToTxn, EndTxn, TxnOffsetCommit, DescribeAcls, CreateAcls, DeleteAcls}
 use Rattle.audit_trail.specs.declared.event.Event.{Event}
 use Rattle.audit_trail.specs.declared.event.Event.TheVariants.{Ask, Mark, Tick}
 use Rattle.walk.specs.Codes.{refusal_code}
@@ -85,7 +85,9 @@ reading_keeps w (Ask caller client (OffsetFetch r)) reads = offsets_keep w calle
 reading_keeps w (Ask caller client (FindCoordinator r)) reads = find_keeps w caller r
 reading_keeps w (Ask caller client (InitProducerId r)) reads = absurd (let clash : false ≡ true = reads in cc)
 reading_keeps w (Ask caller client (AddPartitionsToTxn r)) reads = absurd (let clash : false ≡ true = reads in cc)
+reading_keeps w (Ask caller client (AddOffsetsToTxn r)) reads = absurd (let clash : false ≡ true = reads in cc)
 reading_keeps w (Ask caller client (EndTxn r)) reads = absurd (let clash : false ≡ true = reads in cc)
+reading_keeps w (Ask caller client (TxnOffsetCommit r)) reads = absurd (let clash : false ≡ true = reads in cc)
 reading_keeps w (Ask caller client (DescribeAcls r)) reads = describe_keeps w caller r
 reading_keeps w (Ask caller client (CreateAcls r)) reads = absurd (let clash : false ≡ true = reads in cc)
 reading_keeps w (Ask caller client (DeleteAcls r)) reads = absurd (let clash : false ≡ true = reads in cc)

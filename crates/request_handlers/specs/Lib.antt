@@ -19,9 +19,11 @@ pub mod InitProducerId
 pub mod EndTxn
 pub mod AddPartitions
 pub mod Members
+pub mod AddOffsets
 pub mod FindCoordinator
 pub mod OffsetCommit
 pub mod OffsetFetch
+pub mod TxnOffsetCommit
 pub mod Marks
 pub mod Ticks
 pub mod Step
@@ -35,4 +37,5 @@ pub mod AclLaws
 pub mod ProducerLaws
 pub mod TxnLaws
 pub mod GroupLaws
+pub mod StagingLaws
 pub mod DescribeLaws

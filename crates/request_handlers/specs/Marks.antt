@@ -13,6 +13,8 @@ use Rattle.txn_coordinator.specs.declared.marker.OwedMarker.{OwedMarker}
 use Rattle.txn_coordinator.specs.declared.target.Target.{Target}
 use Rattle.txn_coordinator.specs.declared.target.Target.TheVariants.{Partition, Group}
 use Rattle.txn_coordinator.specs.Warrants.{next_warrant, written}
+use Rattle.group_offsets.specs.declared.group.Group.{Group as GroupValue}
+use Rattle.group_offsets.specs.Groups.{turned, decide}
 use Rattle.request_handlers.specs.World.{World, TopicValue, LogValue}
 use Rattle.request_handlers.specs.Outcome.{Outcome}
 use Rattle.request_handlers.specs.Logs.{log_at, logs_with, with_log}
@@ -40,15 +42,24 @@ marked_by topics name index b (Some log) = with_log topics name index (log_marke
 abbrev pub topics_marked : List TopicValue → List ℕ → ℤ → BatchData → List TopicValue
 topics_marked topics name index b = marked_by topics name index b (log_at topics name index)
 
--- groups have nothing staged yet
+-- what a marker writes: to a partition, its control batch
 abbrev pub marked_at : List TopicValue → Target → BatchData → List TopicValue
 marked_at topics (Partition p) b = topics_marked topics p.topic p.index b
 marked_at topics (Group g) b = topics
 
+-- to a group, its producer's decision, which is that group's alone (KIP-98, 'GroupCoordinator')
+abbrev pub decided_at : List GroupValue → Target → OwedMarker → List GroupValue
+decided_at gs (Partition p) m = gs
+decided_at gs (Group g) m = turned gs (decide gs g m.pair.producer (marked_outcome m.outcome))
+
 abbrev pub mark_by : World → Option OwedMarker → Outcome
 mark_by w None = record { world = w; reply = replies.Idle; refusals = [] }
 mark_by w (Some m) = record {
-  world = record w { topics = marked_at w.topics m.target (marker_batch m w.moment); coordinator = written w.coordinator };
+  world = record w {
+    topics = marked_at w.topics m.target (marker_batch m w.moment);
+    groups = decided_at w.groups m.target m;
+    coordinator = written w.coordinator;
+  };
   reply = replies.Marked (length (written w.coordinator).warrants);
   refusals = [];
 }

@@ -15,7 +15,9 @@ use Rattle.request_handlers.specs.Fetch.{fetch_outcome}
 use Rattle.request_handlers.specs.ListOffsets.{list_offsets_outcome}
 use Rattle.request_handlers.specs.InitProducerId.{init_producer_id_outcome}
 use Rattle.request_handlers.specs.AddPartitions.{add_partitions_outcome}
+use Rattle.request_handlers.specs.AddOffsets.{add_offsets_outcome}
 use Rattle.request_handlers.specs.EndTxn.{end_txn_outcome}
+use Rattle.request_handlers.specs.TxnOffsetCommit.{txn_offset_commit_outcome}
 use Rattle.request_handlers.specs.Marks.{mark_outcome}
 use Rattle.request_handlers.specs.Ticks.{tick_outcome}
 use Rattle.request_handlers.specs.Members.{join_group_outcome, sync_group_outcome, heartbeat_outcome, leave_group_outcome}
@@ -41,7 +43,9 @@ request_outcome w caller (requests.LeaveGroup r) = leave_group_outcome w caller 
 request_outcome w caller (requests.SyncGroup r) = sync_group_outcome w caller r
 request_outcome w caller (requests.InitProducerId r) = init_producer_id_outcome w caller r
 request_outcome w caller (requests.AddPartitionsToTxn r) = add_partitions_outcome w caller r
+request_outcome w caller (requests.AddOffsetsToTxn r) = add_offsets_outcome w caller r
 request_outcome w caller (requests.EndTxn r) = end_txn_outcome w caller r
+request_outcome w caller (requests.TxnOffsetCommit r) = txn_offset_commit_outcome w caller r
 request_outcome w caller (requests.DescribeAcls r) = describe_acls_outcome w caller r
 request_outcome w caller (requests.CreateAcls r) = create_acls_outcome w caller r
 request_outcome w caller (requests.DeleteAcls r) = delete_acls_outcome w caller r
@@ -85,7 +89,9 @@ is_reading_request (requests.LeaveGroup r) = false
 is_reading_request (requests.SyncGroup r) = false
 is_reading_request (requests.InitProducerId r) = false
 is_reading_request (requests.AddPartitionsToTxn r) = false
+is_reading_request (requests.AddOffsetsToTxn r) = false
 is_reading_request (requests.EndTxn r) = false
+is_reading_request (requests.TxnOffsetCommit r) = false
 is_reading_request (requests.DescribeAcls r) = true
 is_reading_request (requests.CreateAcls r) = false
 is_reading_request (requests.DeleteAcls r) = false

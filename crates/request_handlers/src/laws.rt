@@ -8,6 +8,7 @@ ghost use Rattle.request_handlers.specs.ReadLaws.{ReadsCommitted, FetchesCommitt
 ghost use Rattle.request_handlers.specs.ProducerLaws.{HoldsOnce, InitsOnce, InitDependsOnGrants};
 ghost use Rattle.request_handlers.specs.TxnLaws.{AddsAllOrNone, TransactionsDependOnGrants, TransactionsKeepTheRest};
 ghost use Rattle.request_handlers.specs.GroupLaws.{GroupsDependOnGrants, GroupsKeepTheRest};
+ghost use Rattle.request_handlers.specs.StagingLaws.{StagingDependsOnGrants, StagingKeepsTheRest};
 ghost use Rattle.request_handlers.specs.AclLaws.{CreatesEach, DeletesEach, RefusedEditNothing, AclsDependOnTheBook, AclsKeepTopics};
 ghost use Rattle.request_handlers.specs.DescribeLaws.{DescribesEach};
 ghost use Rattle.request_handlers.specs.DataTenants.{ProduceKeepsTheRest, ProduceKeepsOtherPartitions, ProduceDependsOnGrants, FetchDependsOnGrants, ListOffsetsDependsOnGrants};
@@ -154,4 +155,16 @@ pub fn groups_depend_on_grants()
 /// reading the group isn't granted, the group too.
 pub fn groups_keep_the_rest()
     ensures { GroupsKeepTheRest }
+{}
+
+/// AddOffsetsToTxn and TxnOffsetCommit are answered by what their questions were granted and by the producer ids given
+/// out.
+pub fn staged_offsets_depend_on_grants()
+    ensures { StagingDependsOnGrants }
+{}
+
+/// To add a group to a transaction changes one transactional id alone, and to stage offsets one group alone; and where the
+/// id may not be written or the group not be read, neither.
+pub fn staged_offsets_keep_the_rest()
+    ensures { StagingKeepsTheRest }
 {}

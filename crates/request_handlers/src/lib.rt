@@ -2,6 +2,7 @@
 //! keeps what it answered and refused in a trail.
 #![tactic(auto)]
 
+mod add_offsets;
 mod add_partitions;
 mod create_acls;
 mod delete_acls;
@@ -33,6 +34,7 @@ mod stop;
 mod tests;
 mod tick;
 mod topics;
+mod txn_offset_commit;
 mod whole;
 
 pub use laws::{
@@ -42,7 +44,8 @@ pub use laws::{
     list_offsets_depends_on_grants, lists_ends, metadata_answers_each_topic,
     metadata_depends_on_grants, metadata_refuses_each_topic, produce_depends_on_grants,
     produce_keeps_other_partitions, produce_keeps_the_rest, produces_as_answered, reads_committed,
-    refused_edit_nothing, transactions_depend_on_grants, transactions_keep_the_rest, whole_runs,
+    refused_edit_nothing, staged_offsets_depend_on_grants, staged_offsets_keep_the_rest,
+    transactions_depend_on_grants, transactions_keep_the_rest, whole_runs,
 };
 pub use logs::Logs;
 pub use machine::Core;

@@ -3,13 +3,14 @@
 ghost use Rattle.std.specs.Prelude.{◌≡◌, ◌<◌, IfOk, OnOk, OnErr};
 ghost use Rattle.request_handlers.specs.Logs.{most_end};
 ghost use Rattle.request_handlers.specs.Ticks.{last_moment};
-ghost use Rattle.request_handlers.specs.Marks.{marked_outcome, marker_batch, marked_at, mark_outcome};
+ghost use Rattle.request_handlers.specs.Marks.{marked_outcome, marker_batch, marked_at, decided_at, mark_outcome};
 
 use crate::moment::Moment;
 use crate::outcome::Outcome;
 use crate::state::State;
 use crate::topics::Topics;
 use crate::whole::served_whole;
+use group_offsets::Groups;
 use msg_admin::Reply;
 use record_batch::Outcome as MarkedOutcome;
 use std::alloc::{AllocError, Global};
@@ -25,27 +26,30 @@ fn marked_outcome(ending: Ending) -> MarkedOutcome
     }
 }
 
-/// Writes a marker where it is owed.
+/// Writes a marker where it is owed: to a partition's log, or as a decision to a group.
 fn write_marker(
     alloc: Global,
     topics: &mut Topics,
+    groups: &mut Groups,
     marker: &OwedMarker,
     moment: &Moment,
 ) -> Result<(), AllocError>
     requires { most_end topics.old < 9223372036854775807 }
-    ensures ok { OnOk result (topics.new ≡ marked_at topics.old marker.now.target (marker_batch marker.now moment.now)) }
-    ensures err { OnErr result (topics.new ≡ topics.old) }
+    ensures topics { OnOk result (topics.new ≡ marked_at topics.old marker.now.target (marker_batch marker.now moment.now)) }
+    ensures groups { OnOk result (groups.new ≡ decided_at groups.old marker.now.target marker.now) }
+    ensures err { OnErr result ((topics.new ≡ topics.old) × (groups.new ≡ groups.old)) }
 {
+    let outcome = marked_outcome(marker.outcome);
     match &marker.target {
         Target::Partition(partition) => topics.append_marker(
             alloc,
             &partition.topic,
             partition.index,
-            marked_outcome(marker.outcome),
+            outcome,
             marker.pair,
             moment.milliseconds() as i64,
         ),
-        Target::Group(_) => Ok(()),
+        Target::Group(group) => groups.decide(alloc, group, marker.pair.producer, outcome),
     }
 }
 
@@ -61,7 +65,8 @@ impl State {
         let Some(warrant) = self.coordinator.next_warrant()? else {
             return Ok(served_whole(alloc, Reply::Idle));
         };
-        match write_marker(alloc, &mut self.topics, warrant.marker(), &self.moment) {
+        let (topics, groups) = (&mut self.topics, &mut self.groups);
+        match write_marker(alloc, topics, groups, warrant.marker(), &self.moment) {
             Ok(()) => {
                 self.coordinator.written(warrant);
                 let left = self.coordinator.owed() as u64;

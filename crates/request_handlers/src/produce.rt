@@ -272,7 +272,7 @@ fn held_code(
     }
 }
 
-fn refused_by(code: ErrorCode) -> Option<ErrorCode>
+pub(crate) fn refused_by(code: ErrorCode) -> Option<ErrorCode>
     ensures { result ≡ refused_by code }
 {
     match code {

@@ -140,7 +140,9 @@ impl State {
             Request::SyncGroup(request) => self.sync_group(alloc, caller, request),
             Request::InitProducerId(request) => self.init_producer_id(alloc, caller, request),
             Request::AddPartitionsToTxn(request) => self.add_partitions(alloc, caller, request),
+            Request::AddOffsetsToTxn(request) => self.add_offsets(alloc, caller, request),
             Request::EndTxn(request) => self.end_txn(alloc, caller, request),
+            Request::TxnOffsetCommit(request) => self.txn_offset_commit(alloc, caller, request),
             Request::Metadata(request) => {
                 let (reply, refusals) = self.metadata(alloc, caller, request)?;
                 Ok(Outcome {
