@@ -7,7 +7,7 @@ use Rattle.acl_binding.specs.declared.question.Question.{Question}
 use Rattle.wire_types.specs.declared.topic.Topic.{Topic}
 use Rattle.msg_data.specs.declared.metadata.MetadataRequest.{MetadataRequest}
 use Rattle.msg_admin.specs.declared.request.Request.{Request}
-use Rattle.msg_admin.specs.declared.request.Request.TheVariants.{Produce, Fetch, ListOffsets, Metadata, OffsetCommit, OffsetFetch, FindCoordinator, JoinGroup, Heartbeat, LeaveGroup, SyncGroup, InitProducerId, AddPartitionsToTxn, EndTxn, DescribeAcls, CreateAcls, DeleteAcls}
+use Rattle.msg_admin.specs.declared.request.Request.TheVariants.{Produce, Fetch, ListOffsets, Metadata, OffsetCommit, OffsetFetch, FindCoordinator, JoinGroup, Heartbeat, LeaveGroup, SyncGroup, InitProducerId, AddPartitionsToTxn, AddOffsetsToTxn, EndTxn, TxnOffsetCommit, DescribeAcls, CreateAcls, DeleteAcls}
 use Rattle.msg_admin.specs.declared.reply.Reply.TheVariants as replies
 use Rattle.audit_trail.specs.declared.event.Event.TheVariants.{Ask}
 use Rattle.walk.specs.Alike.{AllTopics}
@@ -16,6 +16,7 @@ use Rattle.request_handlers.specs.Metadata.{topic_part, metadata_outcome}
 use Rattle.request_handlers.specs.Produce.{produce_questions}
 use Rattle.request_handlers.specs.OffsetCommit.{commit_questions}
 use Rattle.request_handlers.specs.AddPartitions.{add_questions}
+use Rattle.request_handlers.specs.TxnOffsetCommit.{staging, stage_questions}
 use Rattle.request_handlers.specs.Step.{request_outcome}
 use Rattle.request_handlers.specs.Tenants.{SameBase, SameGranted, SameForMetadata, topic_questions}
 use Rattle.request_handlers.specs.DataTenants.{SameAnswer}
@@ -25,6 +26,7 @@ use Rattle.request_handlers.proofs.DataGrants.{fetch_depends, list_offsets_depen
 use Rattle.request_handlers.proofs.Grouped.{groups_depend}
 use Rattle.request_handlers.proofs.Initials.{init_depends}
 use Rattle.request_handlers.proofs.Together.{transactions_depend}
+use Rattle.request_handlers.proofs.Staged.{staging_depends}
 use Rattle.request_handlers.proofs.AclEdits.{acls_depend}
 use Rattle.tenant_laws.specs.Questions.{fetch_questions, partition_parts, topic_parts, parts_of}
 use Rattle.tenant_laws.specs.Laws.{SameForRequest, AnswersDependOnGrants, ReceiptsDependOnGrants}
@@ -75,7 +77,9 @@ module _ (v w : World) (caller : Caller) where
   answered (SyncGroup r) same = groups_depend.syncs v w caller r same.base (each (SyncGroup r) same).0
   answered (InitProducerId r) same = init_depends.same v w caller r same.base (each (InitProducerId r) same).0
   answered (AddPartitionsToTxn r) same = transactions_depend.adds v w caller r same.base (by_partitions (add_questions caller r.transactional_id) r.topics (each (AddPartitionsToTxn r) same))
+  answered (AddOffsetsToTxn r) same = staging_depends.adds v w caller r same.base (each (AddOffsetsToTxn r) same).0
   answered (EndTxn r) same = transactions_depend.ends v w caller r same.base (each (EndTxn r) same).0
+  answered (TxnOffsetCommit r) same = staging_depends.stages v w caller r same.base (by_partitions (stage_questions caller (staging r)) r.topics (each (TxnOffsetCommit r) same))
   answered (DescribeAcls r) same = (acls_depend.describe v w caller r same.base).answer
   answered (CreateAcls r) same = (acls_depend.create v w caller r same.base).answer
   answered (DeleteAcls r) same = (acls_depend.delete v w caller r same.base).answer

@@ -10,7 +10,7 @@ use Rattle.authorizer.specs.declared.answer.Refusal.{Refusal}
 use Rattle.authorizer.specs.Asking.{part_refusal}
 use Rattle.wire_types.specs.declared.error_code.ErrorCode.{ErrorCode}
 use Rattle.msg_admin.specs.declared.request.Request.{Request}
-use Rattle.msg_admin.specs.declared.request.Request.TheVariants.{Produce, Fetch, ListOffsets, Metadata, OffsetCommit, OffsetFetch, FindCoordinator, JoinGroup, Heartbeat, LeaveGroup, SyncGroup, InitProducerId, AddPartitionsToTxn, EndTxn, DescribeAcls, CreateAcls, DeleteAcls}
+use Rattle.msg_admin.specs.declared.request.Request.TheVariants.{Produce, Fetch, ListOffsets, Metadata, OffsetCommit, OffsetFetch, FindCoordinator, JoinGroup, Heartbeat, LeaveGroup, SyncGroup, InitProducerId, AddPartitionsToTxn, AddOffsetsToTxn, EndTxn, TxnOffsetCommit, DescribeAcls, CreateAcls, DeleteAcls}
 use Rattle.msg_admin.specs.declared.reply.Reply.{Reply}
 use Rattle.audit_trail.specs.declared.event.Event.{Event}
 use Rattle.audit_trail.specs.declared.event.Event.TheVariants.{Ask, Mark, Tick}
@@ -18,6 +18,7 @@ use Rattle.request_handlers.specs.World.{World, rules_of}
 use Rattle.request_handlers.specs.Whole.{Served, whole_by}
 use Rattle.request_handlers.specs.Members.{read_question, join_group_outcome, sync_group_outcome, heartbeat_outcome, leave_group_outcome, joined, synced, heard, left}
 use Rattle.request_handlers.specs.InitProducerId.{init_question, initialized}
+use Rattle.request_handlers.specs.AddOffsets.{add_offsets_questions, offsets_added}
 use Rattle.request_handlers.specs.EndTxn.{id_question, ended}
 use Rattle.request_handlers.specs.CreateAcls.{alter_questions, book_created}
 use Rattle.request_handlers.specs.DeleteAcls.{book_deleted}
@@ -32,8 +33,8 @@ use Rattle.tenant_laws.specs.Laws.{NoPartIsGranted, NoQuestionIsGranted, AreUngr
 use Rattle.tenant_laws.proofs.Parts.{no_part_granted}
 use Rattle.tenant_laws.proofs.Settled.{whole_keeps, settings_kept}
 use Rattle.tenant_laws.proofs.Resources.{same_self, same_in, same_counted, same_then, whole_same, one_refused, member_kept}
-use Rattle.tenant_laws.proofs.Walked.{produce_kept, commit_kept}
-use Rattle.tenant_laws.proofs.Transactions.{init_kept, end_kept, add_kept, SameOwed, whole_owed, init_owed, end_owed, add_owed}
+use Rattle.tenant_laws.proofs.Walked.{produce_kept, commit_kept, stage_kept}
+use Rattle.tenant_laws.proofs.Transactions.{init_kept, end_kept, add_kept, SameOwed, whole_owed, init_owed, end_owed, add_owed, add_group_kept, add_group_owed}
 
 -- ---- edits of the book
 
@@ -60,7 +61,9 @@ module _ (w : World) (caller : Caller) where
   kept (SyncGroup r) kind name none = member_kept w caller r.group (sync_group_outcome w caller r) (groups_keep.syncs w caller r) (λ refusal is. (groups_keep.refused_sync w caller r refusal is).world) kind name none
   kept (InitProducerId r) kind name none = init_kept w caller r kind name none
   kept (AddPartitionsToTxn r) kind name none = add_kept w caller r kind name none
+  kept (AddOffsetsToTxn r) kind name none = add_group_kept w caller r kind name none
   kept (EndTxn r) kind name none = end_kept w caller r kind name none
+  kept (TxnOffsetCommit r) kind name none = stage_kept w caller r kind name none
   kept (DescribeAcls r) kind name none = same_in w (request_outcome w caller (DescribeAcls r)).world kind name (describe_keeps w caller r)
   kept (CreateAcls r) kind name none = whole_same (part_refusal (rules_of w) (alter_questions caller)) w _ _ kind name (with_book w (book_created w.book r.creations) kind name)
   kept (DeleteAcls r) kind name none = whole_same (part_refusal (rules_of w) (alter_questions caller)) w _ _ kind name (with_book w (book_deleted w.book r.filters) kind name)
@@ -80,7 +83,9 @@ module _ (w : World) (caller : Caller) where
   owed_kept (SyncGroup r) id none = whole_owed w caller id (read_question caller r.group ∷ []) _ (synced w r) refl
   owed_kept (InitProducerId r) id none = init_owed w caller id r none
   owed_kept (AddPartitionsToTxn r) id none = add_owed w caller id r none
+  owed_kept (AddOffsetsToTxn r) id none = add_group_owed w caller id r none
   owed_kept (EndTxn r) id none = end_owed w caller id r none
+  owed_kept (TxnOffsetCommit r) id none = refl
   owed_kept (DescribeAcls r) id none = ap (λ (u : World). owed_by id u.coordinator.warrants) (describe_keeps w caller r)
   owed_kept (CreateAcls r) id none = whole_owed w caller id (alter_questions caller) _ _ refl
   owed_kept (DeleteAcls r) id none = whole_owed w caller id (alter_questions caller) _ _ refl
@@ -106,7 +111,9 @@ module _ (w : World) (caller : Caller) where
   book_kept (SyncGroup r) none = asked_whole (read_question caller r.group ∷ []) _ (synced w r) refl
   book_kept (InitProducerId r) none = asked_whole (init_question caller r.transactional_id ∷ []) _ (initialized w r) refl
   book_kept (AddPartitionsToTxn r) none = add_keeps (λ (u : World). u.book) (λ u c. refl) w caller r
+  book_kept (AddOffsetsToTxn r) none = asked_whole (add_offsets_questions caller r.transactional_id r.group) _ (offsets_added w r) refl
   book_kept (EndTxn r) none = asked_whole (id_question caller r.transactional_id ∷ []) _ (ended w r) refl
+  book_kept (TxnOffsetCommit r) none = refl
   book_kept (DescribeAcls r) none = ap (λ (u : World). u.book) (describe_keeps w caller r)
   book_kept (CreateAcls r) none = not_altered ((request_outcome w caller (CreateAcls r)).world.book ≡ w.book) (λ refusal is. ap (λ (u : World). u.book) (refused_edit_nothing.create w caller r refusal is).world) none
   book_kept (DeleteAcls r) none = not_altered ((request_outcome w caller (DeleteAcls r)).world.book ≡ w.book) (λ refusal is. ap (λ (u : World). u.book) (refused_edit_nothing.delete w caller r refusal is).world) none

@@ -23,7 +23,7 @@ use Rattle.txn_coordinator.specs.Words.{is_empty, targets}
 use Rattle.txn_coordinator.specs.Preparing.{marker_for, pair_refusal}
 use Rattle.txn_coordinator.specs.Coordinator.{CoordinatorValue, recorded, fresh, turned}
 use Rattle.txn_coordinator.specs.InitProducerId.{timeout_within, init_in, init_for, init}
-use Rattle.txn_coordinator.specs.Adding.{open_transaction, grown, with_partitions, add_partitions}
+use Rattle.txn_coordinator.specs.Adding.{open_transaction, grown, with_partitions, with_group, add_partitions, add_group}
 use Rattle.txn_coordinator.specs.EndTxn.{end_in, end_by, end_found, end}
 use Rattle.txn_coordinator.proofs.Table.{recorded_id}
 use Rattle.tenant_laws.specs.Laws.{owed_by}
@@ -116,3 +116,6 @@ pub add_owes : (c : CoordinatorValue) (id : List ℕ) (pair : Pair) (moment : �
 unfolding Owes
 add_owes c id pair moment [] = tt
 add_owes c id pair moment (p ∷ ps) = grown_owes id (with_partitions (p ∷ ps)) (open_transaction c id pair moment)
+
+pub add_group_owes : (c : CoordinatorValue) (id : List ℕ) (pair : Pair) (moment : ℕ) (group : List ℕ) → Owes id (add_group c id pair moment group)
+add_group_owes c id pair moment group = grown_owes id (with_group group) (open_transaction c id pair moment)

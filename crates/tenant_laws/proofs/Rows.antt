@@ -1,5 +1,5 @@
 -- The parts and questions of requests computed on worked cases.
-use Rattle.std.specs.Prelude.{◌≡◌, pos, true, false, [], ◌∷◌, Some, None, refl}
+use Rattle.std.specs.Prelude.{◌≡◌, pos, negsuc, true, false, [], ◌∷◌, Some, None, refl}
 use Rattle.acl_binding.specs.declared.question.Caller.{Caller}
 use Rattle.acl_binding.specs.declared.words.Kind.TheVariants as kinds
 use Rattle.acl_binding.specs.declared.words.Operation.TheVariants as operations
@@ -48,3 +48,9 @@ module _ (caller : Caller) where
 
   initialized : questions_of caller (requests.InitProducerId (record { transactional_id = None; timeout = pos 0 })) ≡ asked caller operations.IdempotentWrite kinds.Cluster (107 ∷ 97 ∷ 102 ∷ 107 ∷ 97 ∷ 45 ∷ 99 ∷ 108 ∷ 117 ∷ 115 ∷ 116 ∷ 101 ∷ 114 ∷ []) ∷ []
   initialized = refl
+
+  -- ---- a TxnOffsetCommit with the id `t` for the group `g`, of partition 0 of `a`
+
+  staged : parts_of caller (requests.TxnOffsetCommit (record { transactional_id = 116 ∷ []; group = 103 ∷ []; producer = pos 0; epoch = pos 0; generation = negsuc 0; member = []; instance = None; topics = record { name = 97 ∷ []; partitions = record { index = pos 0; offset = pos 5; leader_epoch = negsuc 0; metadata = None } ∷ [] } ∷ [] }))
+      ≡ (asked caller operations.Write kinds.TransactionalId (116 ∷ []) ∷ asked caller operations.Read kinds.Group (103 ∷ []) ∷ asked caller operations.Read kinds.Topic (97 ∷ []) ∷ []) ∷ []
+  staged = refl

@@ -11,7 +11,7 @@ use Rattle.wire_types.specs.declared.topic.Topic.{Topic}
 use Rattle.record_batch.specs.Batch.{BatchData}
 use Rattle.msg_data.specs.declared.produce.ProduceRequest.{ProduceRequest}
 use Rattle.msg_admin.specs.declared.request.Request.{Request}
-use Rattle.msg_admin.specs.declared.request.Request.TheVariants.{Produce, Fetch, ListOffsets, Metadata, OffsetCommit, OffsetFetch, FindCoordinator, JoinGroup, Heartbeat, LeaveGroup, SyncGroup, InitProducerId, AddPartitionsToTxn, EndTxn, DescribeAcls, CreateAcls, DeleteAcls}
+use Rattle.msg_admin.specs.declared.request.Request.TheVariants.{Produce, Fetch, ListOffsets, Metadata, OffsetCommit, OffsetFetch, FindCoordinator, JoinGroup, Heartbeat, LeaveGroup, SyncGroup, InitProducerId, AddPartitionsToTxn, AddOffsetsToTxn, EndTxn, TxnOffsetCommit, DescribeAcls, CreateAcls, DeleteAcls}
 use Rattle.msg_admin.specs.declared.reply.Reply.{Reply}
 use Rattle.txn_coordinator.specs.Coordinator.{CoordinatorValue}
 use Rattle.group_offsets.specs.declared.group.Group.{Group}
@@ -25,7 +25,9 @@ use Rattle.request_handlers.specs.Produce.{producing, produce_outcome}
 use Rattle.request_handlers.specs.OffsetCommit.{offset_commit_outcome}
 use Rattle.request_handlers.specs.Members.{read_question, joined, synced, heard, left}
 use Rattle.request_handlers.specs.InitProducerId.{init_question, initialized}
+use Rattle.request_handlers.specs.AddOffsets.{add_offsets_questions, offsets_added}
 use Rattle.request_handlers.specs.EndTxn.{id_question, ended}
+use Rattle.request_handlers.specs.TxnOffsetCommit.{txn_offset_commit_outcome}
 use Rattle.request_handlers.specs.CreateAcls.{alter_questions, book_created}
 use Rattle.request_handlers.specs.DeleteAcls.{book_deleted}
 use Rattle.request_handlers.specs.Step.{request_outcome}
@@ -57,7 +59,9 @@ module _ (X : Type 0) (of : World → X) (same : (w : World) (book : BookValue) 
   settled produced (SyncGroup r) = asked (read_question caller r.group ∷ []) _ (synced w r) (same w w.book w.coordinator (synced w r).world.groups)
   settled produced (InitProducerId r) = asked (init_question caller r.transactional_id ∷ []) _ (initialized w r) (same w w.book (initialized w r).world.coordinator w.groups)
   settled produced (AddPartitionsToTxn r) = add_keeps of (λ u c. same u u.book c u.groups) w caller r
+  settled produced (AddOffsetsToTxn r) = asked (add_offsets_questions caller r.transactional_id r.group) _ (offsets_added w r) (same w w.book (offsets_added w r).world.coordinator w.groups)
   settled produced (EndTxn r) = asked (id_question caller r.transactional_id ∷ []) _ (ended w r) (same w w.book (ended w r).world.coordinator w.groups)
+  settled produced (TxnOffsetCommit r) = same w w.book w.coordinator (txn_offset_commit_outcome w caller r).world.groups
   settled produced (DescribeAcls r) = ap of (describe_keeps w caller r)
   settled produced (CreateAcls r) = asked (alter_questions caller) _ _ (same w (book_created w.book r.creations) w.coordinator w.groups)
   settled produced (DeleteAcls r) = asked (alter_questions caller) _ _ (same w (book_deleted w.book r.filters) w.coordinator w.groups)

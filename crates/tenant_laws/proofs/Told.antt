@@ -12,7 +12,7 @@ use Rattle.wire_types.specs.declared.topic.Topic.{Topic}
 use Rattle.msg_group.specs.declared.offset_fetch.OffsetFetchRequest.{OffsetFetchRequest}
 use Rattle.msg_txn.specs.declared.add_partitions.AddPartitionsToTxnRequest.{AddPartitionsToTxnRequest}
 use Rattle.msg_admin.specs.declared.request.Request.{Request}
-use Rattle.msg_admin.specs.declared.request.Request.TheVariants.{Produce, Fetch, ListOffsets, Metadata, OffsetCommit, OffsetFetch, FindCoordinator, JoinGroup, Heartbeat, LeaveGroup, SyncGroup, InitProducerId, AddPartitionsToTxn, EndTxn, DescribeAcls, CreateAcls, DeleteAcls}
+use Rattle.msg_admin.specs.declared.request.Request.TheVariants.{Produce, Fetch, ListOffsets, Metadata, OffsetCommit, OffsetFetch, FindCoordinator, JoinGroup, Heartbeat, LeaveGroup, SyncGroup, InitProducerId, AddPartitionsToTxn, AddOffsetsToTxn, EndTxn, TxnOffsetCommit, DescribeAcls, CreateAcls, DeleteAcls}
 use Rattle.msg_admin.specs.declared.reply.Reply.{Reply}
 use Rattle.walk.specs.Rule.{PartRule}
 use Rattle.walk.specs.Walk.{parts_refused, refusals}
@@ -28,7 +28,9 @@ use Rattle.request_handlers.specs.OffsetFetch.{group_question, offset_rule, offs
 use Rattle.request_handlers.specs.FindCoordinator.{kind_of, find_questions}
 use Rattle.request_handlers.specs.Members.{read_question, joined, synced, heard, left}
 use Rattle.request_handlers.specs.InitProducerId.{init_question, initialized}
+use Rattle.request_handlers.specs.AddOffsets.{add_offsets_questions, offsets_added}
 use Rattle.request_handlers.specs.EndTxn.{id_question, ended}
+use Rattle.request_handlers.specs.TxnOffsetCommit.{staging, stage_questions, staging_rule}
 use Rattle.request_handlers.specs.AddPartitions.{add_questions, cut_rule, is_missing, is_cut, cut_outcome, added_outcome, add_partitions_outcome}
 use Rattle.request_handlers.specs.DescribeAcls.{describe_acls_questions}
 use Rattle.request_handlers.specs.CreateAcls.{alter_questions}
@@ -112,7 +114,9 @@ module _ (w : World) (caller : Caller) where
   told (InitProducerId r) = asked_told (init_question caller r.transactional_id ∷ []) _ (initialized w r)
   told (AddPartitionsToTxn r) =
       add_told w caller r ∙ walk_told (rules_of w) (add_questions caller r.transactional_id) (cut_rule caller r.transactional_id w.topics) (λ name index. refl) r.topics
+  told (AddOffsetsToTxn r) = asked_told (add_offsets_questions caller r.transactional_id r.group) _ (offsets_added w r)
   told (EndTxn r) = asked_told (id_question caller r.transactional_id ∷ []) _ (ended w r)
+  told (TxnOffsetCommit r) = walk_told (rules_of w) (stage_questions caller (staging r)) (staging_rule w caller r) (λ name p. refl) r.topics
   told (DescribeAcls r) = asked_told (describe_acls_questions caller) _ _
   told (CreateAcls r) = asked_told (alter_questions caller) _ _
   told (DeleteAcls r) = asked_told (alter_questions caller) _ _

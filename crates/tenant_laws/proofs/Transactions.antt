@@ -14,6 +14,7 @@ use Rattle.wire_types.specs.declared.error_code.ErrorCode.{ErrorCode}
 use Rattle.wire_types.specs.declared.topic.Topic.{Topic as TopicParts}
 use Rattle.msg_txn.specs.declared.init_producer_id.InitProducerIdRequest.{InitProducerIdRequest}
 use Rattle.msg_txn.specs.declared.add_partitions.AddPartitionsToTxnRequest.{AddPartitionsToTxnRequest}
+use Rattle.msg_txn.specs.declared.add_offsets.AddOffsetsToTxnRequest.{AddOffsetsToTxnRequest}
 use Rattle.msg_txn.specs.declared.end_txn.EndTxnRequest.{EndTxnRequest}
 use Rattle.msg_admin.specs.declared.reply.Reply.{Reply}
 use Rattle.walk.specs.Walk.{parts_refused, refusals}
@@ -29,14 +30,16 @@ use Rattle.request_handlers.specs.Whole.{Served, whole_by}
 use Rattle.request_handlers.specs.InitProducerId.{init_question, coordinator_for, initialized, init_producer_id_outcome}
 use Rattle.request_handlers.specs.EndTxn.{id_question, ending, end_turn, ended, end_txn_outcome}
 use Rattle.request_handlers.specs.AddPartitions.{add_questions, cut_rule, is_missing, is_cut, add_turn, cut_outcome, added_outcome, add_partitions_outcome, partitions_in, partitions_of}
+use Rattle.request_handlers.specs.AddOffsets.{add_offsets_questions, add_offsets_turn, offsets_added, add_offsets_outcome}
 use Rattle.request_handlers.specs.Tenants.{SameOn}
 use Rattle.request_handlers.proofs.Initials.{inits_once, init_depends}
 use Rattle.request_handlers.proofs.Together.{keep_the_rest, nothing_added}
+use Rattle.request_handlers.proofs.Staged.{staging_keeps}
 use Rattle.request_handlers.proofs.Adds.{add_keeps}
 use Rattle.tenant_laws.specs.Questions.{partition_parts}
 use Rattle.tenant_laws.specs.Laws.{NoPartIsGranted, owed_by}
 use Rattle.tenant_laws.proofs.Parts.{each_partition}
-use Rattle.tenant_laws.proofs.Owed.{other_owed, init_owes, end_owes, add_owes}
+use Rattle.tenant_laws.proofs.Owed.{other_owed, init_owes, end_owes, add_owes, add_group_owes}
 use Rattle.tenant_laws.proofs.Settled.{whole_keeps}
 use Rattle.tenant_laws.proofs.Resources.{same_by, differ, id_kept, one_refused}
 
@@ -111,6 +114,16 @@ module _ (w : World) (caller : Caller) (r : AddPartitionsToTxnRequest) (kind : K
   pub add_kept : NoPartIsGranted w kind name (partition_parts (add_questions caller r.transactional_id) r.topics) → SameOn w (add_partitions_outcome w caller r).world kind name
   add_kept none = id_kept w r.transactional_id (add_partitions_outcome w caller r) (keep_the_rest.adds w caller r) (add_keeps (λ (u : World). u.groups) (λ u c. refl) w caller r) kind name (add_refused none)
 
+-- ---- AddOffsetsToTxn
+
+module _ (w : World) (caller : Caller) (r : AddOffsetsToTxnRequest) (kind : Kind) (name : List ℕ) where
+  group_refused : NoPartIsGranted w kind name (add_offsets_questions caller r.transactional_id r.group ∷ []) → kind ≡ TransactionalId → name ≡ r.transactional_id → (add_offsets_outcome w caller r).world ≡ w
+  group_refused none k named =
+      one_refused w kind name (add_offsets_questions caller r.transactional_id r.group) ((add_offsets_outcome w caller r).world ≡ w) (λ refusal refused. (staging_keeps.refused_add w caller r refusal refused).world) none (inl (sym k, sym named))
+
+  pub add_group_kept : NoPartIsGranted w kind name (add_offsets_questions caller r.transactional_id r.group ∷ []) → SameOn w (add_offsets_outcome w caller r).world kind name
+  add_group_kept none = id_kept w r.transactional_id (add_offsets_outcome w caller r) (staging_keeps.adds w caller r) (staging_keeps.adds_groups w caller r) kind name (group_refused none)
+
 -- ---- what a transactional id owes
 
 module _ (w : World) (caller : Caller) (id : List ℕ) where
@@ -150,3 +163,9 @@ module _ (w : World) (caller : Caller) (id : List ℕ) where
     by_cut : (b : Bool) → (id ≡ r.transactional_id → ⊥) → SameOwed (cond b (cut_outcome w caller r) (added_outcome w r)).world
     by_cut true apart = refl
     by_cut false apart = other_owed w.coordinator r.transactional_id id (add_turn w.coordinator w.moment r) (add_owes w.coordinator r.transactional_id _ w.moment (partitions_of r.topics)) apart
+
+  pub add_group_owed : (r : AddOffsetsToTxnRequest) → NoPartIsGranted w TransactionalId id (add_offsets_questions caller r.transactional_id r.group ∷ []) → SameOwed (add_offsets_outcome w caller r).world
+  add_group_owed r none =
+      owed_after (add_offsets_outcome w caller r).world r.transactional_id (group_refused w caller r TransactionalId id none refl)
+      (λ apart. whole_owed (add_offsets_questions caller r.transactional_id r.group) _ (offsets_added w r)
+      (other_owed w.coordinator r.transactional_id id (add_offsets_turn w.coordinator w.moment r) (add_group_owes w.coordinator r.transactional_id _ w.moment r.group) apart))

@@ -1,4 +1,4 @@
--- What a Produce and an OffsetCommit were not granted is as before.
+-- What a Produce, an OffsetCommit and a TxnOffsetCommit were not granted is as before.
 use Rattle.std.proofs.Common.{◌≡◌, inl, inr, ℕ, ℤ, Bool, true, false, List, Option, Some, None, Result, Ok, Err, refl, sym}
 use Rattle.std.specs.Str.{bytes_eq}
 use Rattle.std.proofs.lemmas.Slice.Eq.{bytes_eq-Decides}
@@ -11,16 +11,19 @@ use Rattle.record_batch.specs.Batch.{BatchData}
 use Rattle.msg_data.specs.declared.produce.ProduceRequest.{ProduceRequest}
 use Rattle.msg_data.specs.declared.produce.ProducedRecords.{ProducedRecords}
 use Rattle.msg_group.specs.declared.offset_commit.OffsetCommitRequest.{OffsetCommitRequest}
+use Rattle.msg_txn.specs.declared.txn_offset_commit.TxnOffsetCommitRequest.{TxnOffsetCommitRequest}
 use Rattle.group_offsets.specs.Groups.{find_group}
 use Rattle.request_handlers.specs.World.{World, TopicValue, LogValue, rules_of, find_topic}
 use Rattle.request_handlers.specs.First.{magnitude}
 use Rattle.request_handlers.specs.Logs.{log_at, log_after, appended_by}
 use Rattle.request_handlers.specs.Judged.{partition_at, judged, topics_produced}
 use Rattle.request_handlers.specs.Produce.{produce_questions, producing, produce_outcome}
+use Rattle.request_handlers.specs.TxnOffsetCommit.{staging, stage_questions, staging_rule, txn_offset_commit_outcome}
 use Rattle.request_handlers.specs.OffsetCommit.{commit_questions, committing_rule, offset_commit_outcome}
 use Rattle.request_handlers.specs.Tenants.{SameOn}
 use Rattle.request_handlers.proofs.DataGrants.{find_other}
 use Rattle.request_handlers.proofs.Grouped.{groups_keep}
+use Rattle.request_handlers.proofs.Staged.{staging_keeps}
 use Rattle.tenant_laws.specs.Questions.{partition_parts}
 use Rattle.tenant_laws.specs.Laws.{AsksAbout, NoPartIsGranted}
 use Rattle.tenant_laws.proofs.Parts.{each_partition}
@@ -67,3 +70,14 @@ module _ (w : World) (caller : Caller) (r : OffsetCommitRequest) (kind : Kind) (
 
   pub commit_kept : NoPartIsGranted w kind name (partition_parts (commit_questions caller r.group) r.topics) → SameOn w (offset_commit_outcome w caller r).world kind name
   commit_kept none = group_kept w r.group (offset_commit_outcome w caller r) (groups_keep.commits w caller r) kind name (λ is named. own_group is named none)
+
+-- ---- TxnOffsetCommit
+
+module _ (w : World) (caller : Caller) (r : TxnOffsetCommitRequest) (kind : Kind) (name : List ℕ) where
+  staged_group : kind ≡ Group → name ≡ r.group → NoPartIsGranted w kind name (partition_parts (stage_questions caller (staging r)) r.topics) → find_group (txn_offset_commit_outcome w caller r).world.groups name ≡ find_group w.groups name
+  staged_group is named none =
+      walk_leaves (staging_rule w caller r) (rules_of w) (λ groups. find_group groups name) w.groups r.topics
+      (each_partition (stage_questions caller (staging r)) _ (Leaves (staging_rule w caller r) (rules_of w) (λ groups. find_group groups name)) (λ topic p refused granted groups. absurd (refused (inr (inl (sym is, sym named))) granted)) r.topics none)
+
+  pub stage_kept : NoPartIsGranted w kind name (partition_parts (stage_questions caller (staging r)) r.topics) → SameOn w (txn_offset_commit_outcome w caller r).world kind name
+  stage_kept none = group_kept w r.group (txn_offset_commit_outcome w caller r) (staging_keeps.stages w caller r) kind name (λ is named. staged_group is named none)

@@ -13,7 +13,9 @@
 --                         the request: to read the group
 --   InitProducerId        the request: to write with the transactional id, or without one to write idempotently to the cluster
 --   AddPartitionsToTxn    each partition: to write with the transactional id; to write the topic
+--   AddOffsetsToTxn       the request: to write with the transactional id; to read the group
 --   EndTxn                the request: to write with the transactional id
+--   TxnOffsetCommit       each partition: to write with the transactional id; to read the group; to read the topic
 --   DescribeAcls          the request: to describe the cluster
 --   CreateAcls, DeleteAcls
 --                         the request: to alter the cluster
@@ -36,6 +38,8 @@ use Rattle.request_handlers.specs.FindCoordinator.{kind_of, find_questions}
 use Rattle.request_handlers.specs.InitProducerId.{init_question}
 use Rattle.request_handlers.specs.EndTxn.{id_question}
 use Rattle.request_handlers.specs.AddPartitions.{add_questions}
+use Rattle.request_handlers.specs.AddOffsets.{add_offsets_questions}
+use Rattle.request_handlers.specs.TxnOffsetCommit.{staging, stage_questions}
 use Rattle.request_handlers.specs.DescribeAcls.{describe_acls_questions}
 use Rattle.request_handlers.specs.CreateAcls.{alter_questions}
 
@@ -71,7 +75,9 @@ parts_of caller (requests.LeaveGroup r) = (read_question caller r.group ∷ []) 
 parts_of caller (requests.SyncGroup r) = (read_question caller r.group ∷ []) ∷ []
 parts_of caller (requests.InitProducerId r) = (init_question caller r.transactional_id ∷ []) ∷ []
 parts_of caller (requests.AddPartitionsToTxn r) = partition_parts (add_questions caller r.transactional_id) r.topics
+parts_of caller (requests.AddOffsetsToTxn r) = add_offsets_questions caller r.transactional_id r.group ∷ []
 parts_of caller (requests.EndTxn r) = (id_question caller r.transactional_id ∷ []) ∷ []
+parts_of caller (requests.TxnOffsetCommit r) = partition_parts (stage_questions caller (staging r)) r.topics
 parts_of caller (requests.DescribeAcls r) = describe_acls_questions caller ∷ []
 parts_of caller (requests.CreateAcls r) = alter_questions caller ∷ []
 parts_of caller (requests.DeleteAcls r) = alter_questions caller ∷ []
