@@ -1,0 +1,12 @@
+pub mod Parts
+pub mod Described
+pub mod Answered
+pub mod Walks
+pub mod Settled
+pub mod Owed
+pub mod Resources
+pub mod Walked
+pub mod Transactions
+pub mod Kept
+pub mod Told
+pub mod Rows

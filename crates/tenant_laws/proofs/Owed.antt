@@ -1,0 +1,121 @@
+-- What a transactional id owes stays as it was where no part that asks about it is granted.
+use Rattle.std.proofs.Common.{◌≡◌, ℕ, ℤ, Bool, true, false, cond, List, [], ◌∷◌, ◌++◌, map, Option, Some, None, Result, Ok, Err, refl, sym, ap, ◌∙◌}
+use Rattle.std.specs.List.{AllByRecursion}
+use Rattle.std.specs.Str.{bytes_eq}
+use Rattle.std.proofs.lemmas.Slice.Eq.{bytes_eq-Decides}
+use Rattle.std.proofs.lemmas.List.{append-nil}
+use Rattle.std.proofs.lemmas.List.Elements.{filter-append}
+use Rattle.wire_types.specs.declared.error_code.ErrorCode.{ErrorCode}
+use Rattle.wire_types.specs.declared.error_code.ErrorCode.TheVariants as codes
+use Rattle.txn_coordinator.specs.declared.pair.Pair.{Pair}
+use Rattle.txn_coordinator.specs.declared.target.Target.{Target}
+use Rattle.txn_coordinator.specs.declared.target.TopicPartition.{TopicPartition}
+use Rattle.txn_coordinator.specs.declared.transaction.Phase.{Phase}
+use Rattle.txn_coordinator.specs.declared.transaction.Phase.TheVariants.{Empty, Ongoing, PrepareCommit, PrepareAbort, CompleteCommit, CompleteAbort}
+use Rattle.txn_coordinator.specs.declared.transaction.Transaction.{Transaction}
+use Rattle.txn_coordinator.specs.declared.marker.Outcome.{Outcome as Ending}
+use Rattle.txn_coordinator.specs.declared.marker.Outcome.TheVariants.{Commit, Abort}
+use Rattle.txn_coordinator.specs.declared.marker.OwedMarker.{OwedMarker}
+use Rattle.txn_coordinator.specs.declared.ending.EndForm.TheVariants.{Plain}
+use Rattle.txn_coordinator.specs.declared.turn.Turn.{Turn}
+use Rattle.txn_coordinator.specs.declared.turn.Turn.TheVariants.{Stays, Puts}
+use Rattle.txn_coordinator.specs.Words.{is_empty, targets}
+use Rattle.txn_coordinator.specs.Preparing.{marker_for, pair_refusal}
+use Rattle.txn_coordinator.specs.Coordinator.{CoordinatorValue, recorded, fresh, turned}
+use Rattle.txn_coordinator.specs.InitProducerId.{timeout_within, init_in, init_for, init}
+use Rattle.txn_coordinator.specs.Adding.{open_transaction, grown, with_partitions, with_group, add_partitions, add_group}
+use Rattle.txn_coordinator.specs.EndTxn.{end_in, end_by, end_found, end}
+use Rattle.txn_coordinator.proofs.Table.{recorded_id}
+use Rattle.tenant_laws.specs.Laws.{owed_by}
+
+-- ---- markers of one id
+
+abbrev pub AreOf : List ℕ → List OwedMarker → Type 0
+AreOf id owed = AllByRecursion (λ (m : OwedMarker). m.id ≡ id) owed
+
+markers_of : (id : List ℕ) (pair : Pair) (o : Ending) (own : List ℕ) → own ≡ id → (ts : List Target) → AreOf id (map (marker_for own pair o) ts)
+markers_of id pair o own is [] = tt
+markers_of id pair o own is (t ∷ ts) = (is, markers_of id pair o own is ts)
+
+none_other : (id other : List ℕ) (owed : List OwedMarker) → AreOf id owed → (other ≡ id → ⊥) → owed_by other owed ≡ []
+none_other id other [] all differ = refl
+none_other id other (m ∷ ms) all differ = by_name (bytes_eq m.id other) refl (none_other id other ms all.1 differ) where
+  by_name : (b : Bool) → bytes_eq m.id other ≡ b → owed_by other ms ≡ [] → cond b (m ∷ owed_by other ms) (owed_by other ms) ≡ []
+  by_name true e rest = absurd (differ (sym ((bytes_eq-Decides m.id other).0 e) ∙ all.0))
+  by_name false e rest = rest
+
+-- ---- a call owes markers of its id alone
+
+pub Owes : List ℕ → Turn → Type 0
+Owes id (Stays code) = Unit {0}
+Owes id (Puts code t given owed) = AreOf id owed
+
+pub other_owed : (c : CoordinatorValue) (id other : List ℕ) (turn : Turn) → Owes id turn → (other ≡ id → ⊥) → owed_by other (turned c turn).warrants ≡ owed_by other c.warrants
+unfolding Owes
+other_owed c id other (Stays code) owes differ = refl
+other_owed c id other (Puts code t given owed) owes differ =
+    filter-append (λ (m : OwedMarker). bytes_eq m.id other) c.warrants owed
+    ∙ ap (λ (ms : List OwedMarker). owed_by other c.warrants ++ ms) (none_other id other owed owes differ) ∙ append-nil (owed_by other c.warrants)
+
+inited : (p : Phase) (t : Transaction) (next : ℤ) (timeout : ℕ) (id : List ℕ) → t.id ≡ id → Owes id (init_in p t next timeout)
+unfolding Owes
+inited Empty t next timeout id own = tt
+inited CompleteCommit t next timeout id own = tt
+inited CompleteAbort t next timeout id own = tt
+inited Ongoing t next timeout id own = markers_of id _ Abort t.id own (targets t)
+inited PrepareCommit t next timeout id own = tt
+inited PrepareAbort t next timeout id own = tt
+
+pub init_owes : (c : CoordinatorValue) (id : List ℕ) (timeout greatest : ℤ) → Owes id (init c id timeout greatest)
+unfolding Owes
+init_owes c id timeout greatest = by_empty (is_empty id) where
+  by_found : (o : Option ℕ) (found : Option Transaction) → recorded c.transactions id ≡ found → Owes id (init_for o found id (fresh c))
+  by_found None found is = tt
+  by_found (Some n) None is = tt
+  by_found (Some n) (Some t) is = inited t.phase t (fresh c) n id (recorded_id c.transactions id t is)
+
+  by_empty : (b : Bool) → Owes id (cond b (Stays codes.InvalidRequest) (init_for (timeout_within timeout greatest) (recorded c.transactions id) id (fresh c)))
+  by_empty true = tt
+  by_empty false = by_found (timeout_within timeout greatest) (recorded c.transactions id) refl
+
+ended_owes : (p : Phase) (t : Transaction) (next : ℤ) (o : Ending) (id : List ℕ) → t.id ≡ id → Owes id (end_in p Plain t next o)
+unfolding Owes
+ended_owes Ongoing t next o id own = markers_of id _ o t.id own (targets t)
+ended_owes PrepareCommit t next Commit id own = tt
+ended_owes PrepareCommit t next Abort id own = tt
+ended_owes PrepareAbort t next Commit id own = tt
+ended_owes PrepareAbort t next Abort id own = tt
+ended_owes Empty t next o id own = tt
+ended_owes CompleteCommit t next Commit id own = tt
+ended_owes CompleteCommit t next Abort id own = tt
+ended_owes CompleteAbort t next Commit id own = tt
+ended_owes CompleteAbort t next Abort id own = tt
+
+pub end_owes : (c : CoordinatorValue) (id : List ℕ) (pair : Pair) (o : Ending) → Owes id (end c Plain id pair o)
+unfolding Owes
+end_owes c id pair o = by_empty (is_empty id) where
+  by_refusal : (x : Option ErrorCode) (t : Transaction) → t.id ≡ id → Owes id (end_by x Plain t (fresh c) o)
+  by_refusal (Some code) t own = tt
+  by_refusal None t own = ended_owes t.phase t (fresh c) o id own
+
+  by_found : (found : Option Transaction) → recorded c.transactions id ≡ found → Owes id (end_found found Plain (fresh c) pair o)
+  by_found None is = tt
+  by_found (Some t) is = by_refusal (pair_refusal codes.InvalidProducerEpoch t pair) t (recorded_id c.transactions id t is)
+
+  by_empty : (b : Bool) → Owes id (cond b (Stays codes.InvalidRequest) (end_found (recorded c.transactions id) Plain (fresh c) pair o))
+  by_empty true = tt
+  by_empty false = by_found (recorded c.transactions id) refl
+
+-- what adds to a transaction owes nothing
+grown_owes : (id : List ℕ) (grow : Transaction → Transaction) (r : Result Transaction ErrorCode) → Owes id (grown grow r)
+unfolding Owes
+grown_owes id grow (Ok t) = tt
+grown_owes id grow (Err code) = tt
+
+pub add_owes : (c : CoordinatorValue) (id : List ℕ) (pair : Pair) (moment : ℕ) (ps : List TopicPartition) → Owes id (add_partitions c id pair moment ps)
+unfolding Owes
+add_owes c id pair moment [] = tt
+add_owes c id pair moment (p ∷ ps) = grown_owes id (with_partitions (p ∷ ps)) (open_transaction c id pair moment)
+
+pub add_group_owes : (c : CoordinatorValue) (id : List ℕ) (pair : Pair) (moment : ℕ) (group : List ℕ) → Owes id (add_group c id pair moment group)
+add_group_owes c id pair moment group = grown_owes id (with_group group) (open_transaction c id pair moment)

@@ -1,0 +1,109 @@
+-- What no request changes, whatever it is granted.
+use Rattle.std.proofs.Common.{◌≡◌, ℕ, ℤ, Bool, true, false, cond, List, [], ◌∷◌, Option, Some, None, Result, Ok, Err, refl, ap}
+use Rattle.std.specs.Str.{bytes_eq}
+use Rattle.acl_binding.specs.declared.question.Caller.{Caller}
+use Rattle.acl_binding.specs.declared.question.Question.{Question}
+use Rattle.acl_binding.specs.Book.{BookValue}
+use Rattle.authorizer.specs.declared.answer.Refusal.{Refusal}
+use Rattle.authorizer.specs.Asking.{part_refusal}
+use Rattle.wire_types.specs.declared.error_code.ErrorCode.{ErrorCode}
+use Rattle.wire_types.specs.declared.topic.Topic.{Topic}
+use Rattle.record_batch.specs.Batch.{BatchData}
+use Rattle.msg_data.specs.declared.produce.ProduceRequest.{ProduceRequest}
+use Rattle.msg_admin.specs.declared.request.Request.{Request}
+use Rattle.msg_admin.specs.declared.request.Request.TheVariants.{Produce, Fetch, ListOffsets, Metadata, OffsetCommit, OffsetFetch, FindCoordinator, JoinGroup, Heartbeat, LeaveGroup, SyncGroup, InitProducerId, AddPartitionsToTxn, AddOffsetsToTxn, EndTxn, TxnOffsetCommit, DescribeAcls, CreateAcls, DeleteAcls}
+use Rattle.msg_admin.specs.declared.reply.Reply.{Reply}
+use Rattle.txn_coordinator.specs.Coordinator.{CoordinatorValue}
+use Rattle.group_offsets.specs.declared.group.Group.{Group}
+use Rattle.walk.specs.Alike.{AllParts, AllTopics}
+use Rattle.request_handlers.specs.World.{World, TopicValue, LogValue, rules_of, topic_names}
+use Rattle.request_handlers.specs.First.{magnitude}
+use Rattle.request_handlers.specs.Logs.{log_at, log_after, logs_with, with_log, appended_by}
+use Rattle.request_handlers.specs.Judged.{partition_at, judged, topics_produced}
+use Rattle.request_handlers.specs.Whole.{Served, whole_by}
+use Rattle.request_handlers.specs.Produce.{producing, produce_outcome}
+use Rattle.request_handlers.specs.OffsetCommit.{offset_commit_outcome}
+use Rattle.request_handlers.specs.Members.{read_question, joined, synced, heard, left}
+use Rattle.request_handlers.specs.InitProducerId.{init_question, initialized}
+use Rattle.request_handlers.specs.AddOffsets.{add_offsets_questions, offsets_added}
+use Rattle.request_handlers.specs.EndTxn.{id_question, ended}
+use Rattle.request_handlers.specs.TxnOffsetCommit.{txn_offset_commit_outcome}
+use Rattle.request_handlers.specs.CreateAcls.{alter_questions, book_created}
+use Rattle.request_handlers.specs.DeleteAcls.{book_deleted}
+use Rattle.request_handlers.specs.Step.{request_outcome}
+use Rattle.request_handlers.proofs.Adds.{add_keeps}
+use Rattle.request_handlers.proofs.Wholes.{describe_keeps, find_keeps, offsets_keep}
+use Rattle.tenant_laws.specs.Laws.{KeepsSettings}
+use Rattle.tenant_laws.proofs.Walks.{Leaves, walk_leaves}
+
+pub whole_keeps : {X : Type 0} (of : World → X) (o : Option Refusal) (w : World) (refused : ErrorCode → Reply) (served : Served) → of served.world ≡ of w → of (whole_by o w refused served).world ≡ of w
+whole_keeps of None w refused served same = same
+whole_keeps of (Some r) w refused served same = refl
+
+-- what depends on neither the book, the coordinator nor the groups, and what a Produce leaves
+module _ (X : Type 0) (of : World → X) (same : (w : World) (book : BookValue) (c : CoordinatorValue) (groups : List Group) → of (record w { book = book; coordinator = c; groups = groups }) ≡ of w) (w : World) (caller : Caller) where
+  asked : (qs : List Question) (refused : ErrorCode → Reply) (served : Served) → of served.world ≡ of w → of (whole_by (part_refusal (rules_of w) qs) w refused served).world ≡ of w
+  asked qs refused served kept = whole_keeps of (part_refusal (rules_of w) qs) w refused served kept
+
+  settled : ((r : ProduceRequest) → of (produce_outcome w caller r).world ≡ of w) → (request : Request) → of (request_outcome w caller request).world ≡ of w
+  settled produced (Produce r) = produced r
+  settled produced (Fetch r) = refl
+  settled produced (ListOffsets r) = refl
+  settled produced (Metadata r) = refl
+  settled produced (OffsetCommit r) = same w w.book w.coordinator (offset_commit_outcome w caller r).world.groups
+  settled produced (OffsetFetch r) = ap of (offsets_keep w caller r)
+  settled produced (FindCoordinator r) = ap of (find_keeps w caller r)
+  settled produced (JoinGroup r) = asked (read_question caller r.group ∷ []) _ (joined w r) (same w w.book w.coordinator (joined w r).world.groups)
+  settled produced (Heartbeat r) = asked (read_question caller r.group ∷ []) _ (heard w r) (same w w.book w.coordinator (heard w r).world.groups)
+  settled produced (LeaveGroup r) = asked (read_question caller r.group ∷ []) _ (left w r) (same w w.book w.coordinator (left w r).world.groups)
+  settled produced (SyncGroup r) = asked (read_question caller r.group ∷ []) _ (synced w r) (same w w.book w.coordinator (synced w r).world.groups)
+  settled produced (InitProducerId r) = asked (init_question caller r.transactional_id ∷ []) _ (initialized w r) (same w w.book (initialized w r).world.coordinator w.groups)
+  settled produced (AddPartitionsToTxn r) = add_keeps of (λ u c. same u u.book c u.groups) w caller r
+  settled produced (AddOffsetsToTxn r) = asked (add_offsets_questions caller r.transactional_id r.group) _ (offsets_added w r) (same w w.book (offsets_added w r).world.coordinator w.groups)
+  settled produced (EndTxn r) = asked (id_question caller r.transactional_id ∷ []) _ (ended w r) (same w w.book (ended w r).world.coordinator w.groups)
+  settled produced (TxnOffsetCommit r) = same w w.book w.coordinator (txn_offset_commit_outcome w caller r).world.groups
+  settled produced (DescribeAcls r) = ap of (describe_keeps w caller r)
+  settled produced (CreateAcls r) = asked (alter_questions caller) _ _ (same w (book_created w.book r.creations) w.coordinator w.groups)
+  settled produced (DeleteAcls r) = asked (alter_questions caller) _ _ (same w (book_deleted w.book r.filters) w.coordinator w.groups)
+
+-- ---- the names of the topics
+
+names_with : (topics : List TopicValue) (name : List ℕ) (index : ℤ) (log : LogValue) → topic_names (with_log topics name index log) ≡ topic_names topics
+names_with [] name index log = refl
+names_with (t ∷ ts) name index log = by_name (bytes_eq t.name name) (names_with ts name index log) where
+  here : TopicValue
+  here = record { name = t.name; partitions = logs_with t.partitions index log }
+
+  by_name : (b : Bool) → topic_names (with_log ts name index log) ≡ topic_names ts → topic_names (cond b (here ∷ ts) (t ∷ with_log ts name index log)) ≡ topic_names (t ∷ ts)
+  by_name true rest = refl
+  by_name false rest = ap (λ (names : List (List ℕ)). t.name ∷ names) rest
+
+names_produced : (batch : Result BatchData ErrorCode) (topics : List TopicValue) (name : List ℕ) (index : ℤ) → topic_names (topics_produced batch topics name index) ≡ topic_names topics
+names_produced (Err code) topics name index = refl
+names_produced (Ok b) topics name index = by_log (log_at topics name index) where
+  by_log : (o : Option LogValue) → topic_names (appended_by topics name index b o) ≡ topic_names topics
+  by_log None = refl
+  by_log (Some log) = names_with topics name index (log_after log b)
+
+-- what holds of each partition
+all_parts : {P : Type 0} (Is : List ℕ → P → Type 0) → ((name : List ℕ) (p : P) → Is name p) → (name : List ℕ) (ps : List P) → AllParts Is name ps
+all_parts Is is name [] = tt
+all_parts Is is name (p ∷ ps) = (is name p, all_parts Is is name ps)
+
+all_topics : {P : Type 0} (Is : List ℕ → P → Type 0) → ((name : List ℕ) (p : P) → Is name p) → (ts : List (Topic P)) → AllTopics Is ts
+all_topics Is is [] = tt
+all_topics Is is (t ∷ ts) = (all_parts Is is t.name t.partitions, all_topics Is is ts)
+
+module _ (w : World) (caller : Caller) where
+  names_after : (r : ProduceRequest) → topic_names (produce_outcome w caller r).world.topics ≡ topic_names w.topics
+  names_after r =
+      walk_leaves (producing w caller r) (rules_of w) topic_names w.topics r.topics
+      (all_topics (Leaves (producing w caller r) (rules_of w) topic_names) (λ name p granted topics. names_produced (judged (magnitude w.node.max_batch) w.coordinator r.transactional_id r.acks (partition_at name p.index) p.records) topics name p.index) r.topics)
+
+  pub settings_kept : (request : Request) → KeepsSettings w (request_outcome w caller request).world
+  settings_kept request = record {
+    node = settled _ (λ (u : World). u.node) (λ u book c groups. refl) w caller (λ r. refl) request;
+    supers = settled _ (λ (u : World). u.supers) (λ u book c groups. refl) w caller (λ r. refl) request;
+    moment = settled _ (λ (u : World). u.moment) (λ u book c groups. refl) w caller (λ r. refl) request;
+    names = settled _ (λ (u : World). topic_names u.topics) (λ u book c groups. refl) w caller names_after request;
+  }

@@ -1,0 +1,171 @@
+-- What a request for a transactional id was not granted is as before: its record, and what it owes.
+use Rattle.std.proofs.Common.{◌≡◌, ◌⊎◌, inl, inr, ℕ, ℤ, Bool, true, false, cond, List, [], ◌∷◌, ◌++◌, Option, Some, None, refl, sym, ap, ◌∙◌}
+use Rattle.std.specs.Prelude.{◌||◌}
+use Rattle.std.specs.List.{cons_option}
+use Rattle.std.specs.Str.{bytes_eq}
+use Rattle.std.proofs.lemmas.Slice.Eq.{bytes_eq-Decides}
+use Rattle.acl_binding.specs.declared.question.Caller.{Caller}
+use Rattle.acl_binding.specs.declared.question.Question.{Question}
+use Rattle.acl_binding.specs.declared.words.Kind.{Kind}
+use Rattle.acl_binding.specs.declared.words.Kind.TheVariants.{TransactionalId}
+use Rattle.authorizer.specs.declared.answer.Refusal.{Refusal}
+use Rattle.authorizer.specs.Asking.{part_refusal}
+use Rattle.wire_types.specs.declared.error_code.ErrorCode.{ErrorCode}
+use Rattle.wire_types.specs.declared.topic.Topic.{Topic as TopicParts}
+use Rattle.msg_txn.specs.declared.init_producer_id.InitProducerIdRequest.{InitProducerIdRequest}
+use Rattle.msg_txn.specs.declared.add_partitions.AddPartitionsToTxnRequest.{AddPartitionsToTxnRequest}
+use Rattle.msg_txn.specs.declared.add_offsets.AddOffsetsToTxnRequest.{AddOffsetsToTxnRequest}
+use Rattle.msg_txn.specs.declared.end_txn.EndTxnRequest.{EndTxnRequest}
+use Rattle.msg_admin.specs.declared.reply.Reply.{Reply}
+use Rattle.walk.specs.Walk.{parts_refused, refusals}
+use Rattle.walk.specs.Woven.{has_any}
+use Rattle.walk.specs.Alike.{AllParts, AllTopics}
+use Rattle.txn_coordinator.specs.declared.marker.OwedMarker.{OwedMarker}
+use Rattle.txn_coordinator.specs.Coordinator.{recorded}
+use Rattle.txn_coordinator.specs.InitProducerId.{init}
+use Rattle.group_offsets.specs.declared.group.Group.{Group as GroupValue}
+use Rattle.group_offsets.specs.Groups.{find_group}
+use Rattle.request_handlers.specs.World.{World, TopicValue, rules_of, find_topic}
+use Rattle.request_handlers.specs.Whole.{Served, whole_by}
+use Rattle.request_handlers.specs.InitProducerId.{init_question, coordinator_for, initialized, init_producer_id_outcome}
+use Rattle.request_handlers.specs.EndTxn.{id_question, ending, end_turn, ended, end_txn_outcome}
+use Rattle.request_handlers.specs.AddPartitions.{add_questions, cut_rule, is_missing, is_cut, add_turn, cut_outcome, added_outcome, add_partitions_outcome, partitions_in, partitions_of}
+use Rattle.request_handlers.specs.AddOffsets.{add_offsets_questions, add_offsets_turn, offsets_added, add_offsets_outcome}
+use Rattle.request_handlers.specs.Tenants.{SameOn}
+use Rattle.request_handlers.proofs.Initials.{inits_once, init_depends}
+use Rattle.request_handlers.proofs.Together.{keep_the_rest, nothing_added}
+use Rattle.request_handlers.proofs.Staged.{staging_keeps}
+use Rattle.request_handlers.proofs.Adds.{add_keeps}
+use Rattle.tenant_laws.specs.Questions.{partition_parts}
+use Rattle.tenant_laws.specs.Laws.{NoPartIsGranted, owed_by}
+use Rattle.tenant_laws.proofs.Parts.{each_partition}
+use Rattle.tenant_laws.proofs.Owed.{other_owed, init_owes, end_owes, add_owes, add_group_owes}
+use Rattle.tenant_laws.proofs.Settled.{whole_keeps}
+use Rattle.tenant_laws.proofs.Resources.{same_by, differ, id_kept, one_refused}
+
+-- ---- InitProducerId
+
+module _ (w : World) (caller : Caller) (r : InitProducerIdRequest) (kind : Kind) (name : List ℕ) where
+  init_groups : (init_producer_id_outcome w caller r).world.groups ≡ w.groups
+  init_groups = whole_keeps (λ (u : World). u.groups) (part_refusal (rules_of w) (init_question caller r.transactional_id ∷ [])) w _ (initialized w r) refl
+
+  init_refused : (id : List ℕ) → r.transactional_id ≡ Some id → NoPartIsGranted w kind name ((init_question caller r.transactional_id ∷ []) ∷ []) → kind ≡ TransactionalId → name ≡ id → (init_producer_id_outcome w caller r).world ≡ w
+  init_refused id is none k named =
+      one_refused w kind name (init_question caller r.transactional_id ∷ []) ((init_producer_id_outcome w caller r).world ≡ w) (λ refusal refused. (inits_once.refused w caller r refusal refused).world) none
+      (inl (ap (λ (x : Option (List ℕ)). (init_question caller x).kind) is ∙ sym k, ap (λ (x : Option (List ℕ)). (init_question caller x).name) is ∙ sym named))
+
+  pub init_kept : NoPartIsGranted w kind name ((init_question caller r.transactional_id ∷ []) ∷ []) → SameOn w (init_producer_id_outcome w caller r).world kind name
+  init_kept none = by_id r.transactional_id refl where
+    by_id : (id : Option (List ℕ)) → r.transactional_id ≡ id → SameOn w (init_producer_id_outcome w caller r).world kind name
+    by_id None is =
+        same_by w (init_producer_id_outcome w caller r).world kind name (λ k. ap (λ (ts : List TopicValue). find_topic ts name) (init_depends.topics w caller r)) (λ k. ap (λ (gs : List GroupValue). find_group gs name) init_groups)
+        (λ k. whole_keeps (λ (u : World). recorded u.coordinator.transactions name) (part_refusal (rules_of w) (init_question caller r.transactional_id ∷ [])) w _ (initialized w r)
+        (ap (λ (id : Option (List ℕ)). recorded (coordinator_for id w.coordinator w.node.max_txn_timeout r.timeout).transactions name) is))
+    by_id (Some id) is = id_kept w id (init_producer_id_outcome w caller r) (keep_the_rest.inits w caller r id is) init_groups kind name (λ k named. init_refused id is none k named)
+
+-- ---- EndTxn
+
+module _ (w : World) (caller : Caller) (r : EndTxnRequest) (kind : Kind) (name : List ℕ) where
+  end_refused : NoPartIsGranted w kind name ((id_question caller r.transactional_id ∷ []) ∷ []) → kind ≡ TransactionalId → name ≡ r.transactional_id → (end_txn_outcome w caller r).world ≡ w
+  end_refused none k named = one_refused w kind name (id_question caller r.transactional_id ∷ []) ((end_txn_outcome w caller r).world ≡ w) (λ refusal refused. (keep_the_rest.refused_end w caller r refusal refused).world) none (inl (sym k, sym named))
+
+  pub end_kept : NoPartIsGranted w kind name ((id_question caller r.transactional_id ∷ []) ∷ []) → SameOn w (end_txn_outcome w caller r).world kind name
+  end_kept none =
+      id_kept w r.transactional_id (end_txn_outcome w caller r) (keep_the_rest.ends w caller r) (whole_keeps (λ (u : World). u.groups) (part_refusal (rules_of w) (id_question caller r.transactional_id ∷ [])) w _ (ended w r) refl) kind name (end_refused none)
+
+-- ---- AddPartitionsToTxn
+
+module _ (w : World) (caller : Caller) (id : List ℕ) where
+  abbrev IsRefused : List ℕ → ℤ → Type 0
+  IsRefused name index = part_refusal (rules_of w) (add_questions caller id name) ≡ None → ⊥
+
+  -- where each part is refused, one is, or there is none
+  refused_or_none : (ts : List (TopicParts ℤ)) → AllTopics IsRefused ts → (has_any (refusals (cut_rule caller id w.topics) (rules_of w) ts) ≡ true) ⊎ (partitions_of ts ≡ [])
+  refused_or_none [] all = inr refl
+  refused_or_none (t ∷ ts) all = by_parts t.name t.partitions all.0 (refused_or_none ts all.1) where
+    later : List Refusal
+    later = refusals (cut_rule caller id w.topics) (rules_of w) ts
+
+    by_refusal : (name : List ℕ) (indices : List ℤ) (o : Option Refusal) → part_refusal (rules_of w) (add_questions caller id name) ≡ o → (o ≡ None → ⊥)
+        → has_any (cons_option o (parts_refused (cut_rule caller id w.topics) (rules_of w) name indices) ++ later) ≡ true
+    by_refusal name indices None is none = absurd (none refl)
+    by_refusal name indices (Some r) is none = refl
+
+    by_parts : (name : List ℕ) (indices : List ℤ) → AllParts IsRefused name indices → (has_any later ≡ true) ⊎ (partitions_of ts ≡ []) → (has_any (parts_refused (cut_rule caller id w.topics) (rules_of w) name indices ++ later) ≡ true) ⊎ (partitions_in name indices ++ partitions_of ts ≡ [])
+    by_parts name [] here rest = rest
+    by_parts name (index ∷ indices) here rest = inl (by_refusal name indices (part_refusal (rules_of w) (add_questions caller id name)) refl here.0)
+
+nothing_granted : (w : World) (caller : Caller) (r : AddPartitionsToTxnRequest) → AllTopics (IsRefused w caller r.transactional_id) r.topics → (add_partitions_outcome w caller r).world ≡ w
+nothing_granted w caller r all = by_case (refused_or_none w caller r.transactional_id r.topics all) where
+  by_cut : (b : Bool) → partitions_of r.topics ≡ [] → (cond b (cut_outcome w caller r) (added_outcome w r)).world ≡ w
+  by_cut true none = refl
+  by_cut false none = nothing_added w r none
+
+  by_case : (has_any (refusals (cut_rule caller r.transactional_id w.topics) (rules_of w) r.topics) ≡ true) ⊎ (partitions_of r.topics ≡ []) → (add_partitions_outcome w caller r).world ≡ w
+  by_case (inl some) = ap (λ (b : Bool). (cond (b || is_missing w.topics r.topics) (cut_outcome w caller r) (added_outcome w r)).world) some
+  by_case (inr none) = by_cut (is_cut caller r.transactional_id w.topics (rules_of w) r.topics) none
+
+module _ (w : World) (caller : Caller) (r : AddPartitionsToTxnRequest) (kind : Kind) (name : List ℕ) where
+  add_refused : NoPartIsGranted w kind name (partition_parts (add_questions caller r.transactional_id) r.topics) → kind ≡ TransactionalId → name ≡ r.transactional_id → (add_partitions_outcome w caller r).world ≡ w
+  add_refused none k named =
+      nothing_granted w caller r
+      (each_partition (add_questions caller r.transactional_id) _ (IsRefused w caller r.transactional_id) (λ topic index refused granted. refused (inl (sym k, sym named)) granted) r.topics none)
+
+  pub add_kept : NoPartIsGranted w kind name (partition_parts (add_questions caller r.transactional_id) r.topics) → SameOn w (add_partitions_outcome w caller r).world kind name
+  add_kept none = id_kept w r.transactional_id (add_partitions_outcome w caller r) (keep_the_rest.adds w caller r) (add_keeps (λ (u : World). u.groups) (λ u c. refl) w caller r) kind name (add_refused none)
+
+-- ---- AddOffsetsToTxn
+
+module _ (w : World) (caller : Caller) (r : AddOffsetsToTxnRequest) (kind : Kind) (name : List ℕ) where
+  group_refused : NoPartIsGranted w kind name (add_offsets_questions caller r.transactional_id r.group ∷ []) → kind ≡ TransactionalId → name ≡ r.transactional_id → (add_offsets_outcome w caller r).world ≡ w
+  group_refused none k named =
+      one_refused w kind name (add_offsets_questions caller r.transactional_id r.group) ((add_offsets_outcome w caller r).world ≡ w) (λ refusal refused. (staging_keeps.refused_add w caller r refusal refused).world) none (inl (sym k, sym named))
+
+  pub add_group_kept : NoPartIsGranted w kind name (add_offsets_questions caller r.transactional_id r.group ∷ []) → SameOn w (add_offsets_outcome w caller r).world kind name
+  add_group_kept none = id_kept w r.transactional_id (add_offsets_outcome w caller r) (staging_keeps.adds w caller r) (staging_keeps.adds_groups w caller r) kind name (group_refused none)
+
+-- ---- what a transactional id owes
+
+module _ (w : World) (caller : Caller) (id : List ℕ) where
+  abbrev pub SameOwed : World → Type 0
+  SameOwed u = owed_by id u.coordinator.warrants ≡ owed_by id w.coordinator.warrants
+
+  -- of a call for this id or for another one
+  owed_after : (u : World) (own : List ℕ) → (id ≡ own → u ≡ w) → ((id ≡ own → ⊥) → SameOwed u) → SameOwed u
+  owed_after u own refused other = by_name (bytes_eq id own) refl where
+    by_name : (b : Bool) → bytes_eq id own ≡ b → SameOwed u
+    by_name true e = ap (λ (x : World). owed_by id x.coordinator.warrants) (refused ((bytes_eq-Decides id own).0 e))
+    by_name false e = other (differ id own e)
+
+  pub whole_owed : (qs : List Question) (refused : ErrorCode → Reply) (served : Served) → SameOwed served.world → SameOwed (whole_by (part_refusal (rules_of w) qs) w refused served).world
+  whole_owed qs refused served same = whole_keeps (λ (u : World). owed_by id u.coordinator.warrants) (part_refusal (rules_of w) qs) w refused served same
+
+  pub init_owed : (r : InitProducerIdRequest) → NoPartIsGranted w TransactionalId id ((init_question caller r.transactional_id ∷ []) ∷ []) → SameOwed (init_producer_id_outcome w caller r).world
+  init_owed r none = by_id r.transactional_id refl where
+    owed_for : Option (List ℕ) → List OwedMarker
+    owed_for x = owed_by id (coordinator_for x w.coordinator w.node.max_txn_timeout r.timeout).warrants
+
+    by_id : (x : Option (List ℕ)) → r.transactional_id ≡ x → SameOwed (init_producer_id_outcome w caller r).world
+    by_id None is = whole_owed (init_question caller r.transactional_id ∷ []) _ (initialized w r) (ap owed_for is)
+    by_id (Some own) is =
+        owed_after (init_producer_id_outcome w caller r).world own (λ named. init_refused w caller r TransactionalId id own is none refl named)
+        (λ apart. whole_owed (init_question caller r.transactional_id ∷ []) _ (initialized w r)
+        (ap owed_for is ∙ other_owed w.coordinator own id (init w.coordinator own r.timeout w.node.max_txn_timeout) (init_owes w.coordinator own r.timeout w.node.max_txn_timeout) apart))
+
+  pub end_owed : (r : EndTxnRequest) → NoPartIsGranted w TransactionalId id ((id_question caller r.transactional_id ∷ []) ∷ []) → SameOwed (end_txn_outcome w caller r).world
+  end_owed r none =
+      owed_after (end_txn_outcome w caller r).world r.transactional_id (end_refused w caller r TransactionalId id none refl)
+      (λ apart. whole_owed (id_question caller r.transactional_id ∷ []) _ (ended w r)
+      (other_owed w.coordinator r.transactional_id id (end_turn w.coordinator r) (end_owes w.coordinator r.transactional_id _ (ending r.committed)) apart))
+
+  pub add_owed : (r : AddPartitionsToTxnRequest) → NoPartIsGranted w TransactionalId id (partition_parts (add_questions caller r.transactional_id) r.topics) → SameOwed (add_partitions_outcome w caller r).world
+  add_owed r none = owed_after (add_partitions_outcome w caller r).world r.transactional_id (add_refused w caller r TransactionalId id none refl) (by_cut (is_cut caller r.transactional_id w.topics (rules_of w) r.topics)) where
+    by_cut : (b : Bool) → (id ≡ r.transactional_id → ⊥) → SameOwed (cond b (cut_outcome w caller r) (added_outcome w r)).world
+    by_cut true apart = refl
+    by_cut false apart = other_owed w.coordinator r.transactional_id id (add_turn w.coordinator w.moment r) (add_owes w.coordinator r.transactional_id _ w.moment (partitions_of r.topics)) apart
+
+  pub add_group_owed : (r : AddOffsetsToTxnRequest) → NoPartIsGranted w TransactionalId id (add_offsets_questions caller r.transactional_id r.group ∷ []) → SameOwed (add_offsets_outcome w caller r).world
+  add_group_owed r none =
+      owed_after (add_offsets_outcome w caller r).world r.transactional_id (group_refused w caller r TransactionalId id none refl)
+      (λ apart. whole_owed (add_offsets_questions caller r.transactional_id r.group) _ (offsets_added w r)
+      (other_owed w.coordinator r.transactional_id id (add_offsets_turn w.coordinator w.moment r) (add_group_owes w.coordinator r.transactional_id _ w.moment r.group) apart))

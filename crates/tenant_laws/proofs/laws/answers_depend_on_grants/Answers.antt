@@ -1,0 +1,8 @@
+use Rattle.tenant_laws.proofs.Answered.{answers_depend, receipts_depend}
+use Rattle.tenant_laws.proofs.laws.answers_depend_on_grants.Goals as goal
+
+pub returns-clause-worlds : goal.returns-clause-worlds
+returns-clause-worlds c = answers_depend
+
+pub returns-clause-cores : goal.returns-clause-cores
+returns-clause-cores c = receipts_depend

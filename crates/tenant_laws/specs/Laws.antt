@@ -1,0 +1,133 @@
+-- Tenants are apart: whatever a request is, its answer depends on nothing but what its questions were granted, what they
+-- were not granted it leaves as it was, and it is refused for each part that isn't granted, and for nothing else.
+use Rattle.std.specs.Prelude.{◌≡◌, ◌⊎◌, ℕ, true, false, List, [], ◌∷◌, Option, Some, None}
+use Rattle.std.specs.List.{AllByRecursion, filter, filter_map}
+use Rattle.std.specs.Str.{bytes_eq}
+use Rattle.acl_binding.specs.declared.question.Caller.{Caller}
+use Rattle.acl_binding.specs.declared.question.Question.{Question}
+use Rattle.acl_binding.specs.declared.question.Verdict.TheVariants.{Yes}
+use Rattle.acl_binding.specs.declared.words.Kind.{Kind}
+use Rattle.acl_binding.specs.declared.words.Kind.TheVariants.{Cluster, TransactionalId}
+use Rattle.acl_binding.specs.Creatable.{cluster_name}
+use Rattle.authorizer.specs.Policy.{verdict}
+use Rattle.authorizer.specs.declared.answer.Refusal.{Refusal}
+use Rattle.authorizer.specs.Asking.{Rules, part_refusal}
+use Rattle.msg_admin.specs.declared.request.Request.{Request}
+use Rattle.msg_admin.specs.declared.request.Request.TheVariants.{OffsetFetch}
+use Rattle.audit_trail.specs.declared.event.Event.{Event}
+use Rattle.audit_trail.specs.declared.event.Event.TheVariants.{Ask, Mark, Tick}
+use Rattle.txn_coordinator.specs.declared.marker.OwedMarker.{OwedMarker}
+use Rattle.request_handlers.specs.World.{World, rules_of, topic_names}
+use Rattle.request_handlers.specs.Step.{step, reply_to, refusals_of, reached}
+use Rattle.request_handlers.specs.OffsetFetch.{group_question}
+use Rattle.request_handlers.specs.Core.{CoreValue, IsCore, entry_of, receipt_of}
+use Rattle.request_handlers.specs.Tenants.{SameBase, SameOn, SameGranted}
+use Rattle.request_handlers.specs.GroupLaws.{described_slots}
+use Rattle.tenant_laws.specs.Questions.{offset_parts, parts_of, questions_of, wants_all}
+
+-- ---- what answers depend on
+
+-- the worlds agree on all that the request is granted
+pub record SameForRequest (v w : World) (caller : Caller) (request : Request) : Type 0 where
+  -- in the settings but for topics, the book, the moment, the number of events and the producer ids given out
+  pub base : SameBase v w
+  -- on each topic, group and transactional id on which a question is granted: whether it is there, and all that it holds
+  pub granted : SameGranted v w (questions_of caller request)
+  -- and where the list of topics is null, on the topics that may be described, in order
+  pub described : wants_all request ≡ true → described_slots (rules_of v) caller v.topics ≡ described_slots (rules_of w) caller w.topics
+
+-- the event is answered the same, and refused the same
+pub record SameTold (v w : World) (e : Event) : Type 0 where
+  pub reply : reply_to v e ≡ reply_to w e
+  pub refusals : refusals_of v e ≡ refusals_of w e
+
+abbrev pub AnswersDependOnGrants : Type 0
+AnswersDependOnGrants = (v w : World) (caller : Caller) (client : Option (List ℕ)) (request : Request)
+    → SameForRequest v w caller request → SameTold v w (Ask caller client request)
+
+-- cores that are up give the same receipt for it, and keep the same entry of it
+pub record SameReceipt (a b : CoreValue) (e : Event) : Type 0 where
+  pub receipt : receipt_of a e ≡ receipt_of b e
+  pub entry : entry_of a.world e ≡ entry_of b.world e
+
+abbrev pub ReceiptsDependOnGrants : Type 0
+ReceiptsDependOnGrants = (a b : CoreValue) (caller : Caller) (client : Option (List ℕ)) (request : Request) → IsCore a → IsCore b → a.down ≡ false → b.down ≡ false
+    → SameForRequest a.world b.world caller request → SameReceipt a b (Ask caller client request)
+
+-- ---- what stays as it was
+
+abbrev pub IsAbout : Kind → List ℕ → Question → Type 0
+IsAbout kind name q = (q.kind ≡ kind) × (q.name ≡ name)
+
+-- some question of the part is about the resource
+abbrev pub AsksAbout : Kind → List ℕ → List Question → Type 0
+AsksAbout kind name [] = ⊥
+AsksAbout kind name (q ∷ qs) = IsAbout kind name q ⊎ AsksAbout kind name qs
+
+-- no part that asks about the resource is granted
+abbrev pub NoPartIsGranted : World → Kind → List ℕ → List (List Question) → Type 0
+NoPartIsGranted w kind name parts = AllByRecursion (λ part. AsksAbout kind name part → part_refusal (rules_of w) part ≡ None → ⊥) parts
+
+-- no question about the resource is granted
+abbrev pub NoQuestionIsGranted : World → Kind → List ℕ → List Question → Type 0
+NoQuestionIsGranted w kind name questions = AllByRecursion (λ q. IsAbout kind name q → verdict w.book w.supers q ≡ Yes → ⊥) questions
+
+-- the event is a request, of which no question about the resource is granted
+abbrev pub IsUngranted : World → Kind → List ℕ → Event → Type 0
+IsUngranted w kind name (Ask caller client request) = NoQuestionIsGranted w kind name (questions_of caller request)
+IsUngranted w kind name Mark = ⊥
+IsUngranted w kind name (Tick told) = ⊥
+
+-- so is each of the events, by the book that is then in force
+abbrev pub AreUngranted : World → Kind → List ℕ → List Event → Type 0
+AreUngranted w kind name [] = Unit {0}
+AreUngranted w kind name (e ∷ es) = IsUngranted w kind name e × AreUngranted (step w e) kind name es
+
+-- the markers that the transactional id owes, in order
+abbrev pub owed_by : List ℕ → List OwedMarker → List OwedMarker
+owed_by id warrants = filter (λ (m : OwedMarker). bytes_eq m.id id) warrants
+
+-- what no request changes: the node, the super users, the moment, and which topics there are, in order
+pub record KeepsSettings (w new : World) : Type 0 where
+  pub node : new.node ≡ w.node
+  pub supers : new.supers ≡ w.supers
+  pub moment : new.moment ≡ w.moment
+  pub names : topic_names new.topics ≡ topic_names w.topics
+
+-- What a request leaves as it was: by its parts, and so by its questions.
+pub record UngrantedStays : Type 0 where
+  -- a topic with its logs, a group, a transactional id
+  pub by_parts : (w : World) (caller : Caller) (client : Option (List ℕ)) (request : Request) (kind : Kind) (name : List ℕ)
+      → NoPartIsGranted w kind name (parts_of caller request) → SameOn w (step w (Ask caller client request)) kind name
+  pub by_questions : (w : World) (caller : Caller) (client : Option (List ℕ)) (request : Request) (kind : Kind) (name : List ℕ)
+      → NoQuestionIsGranted w kind name (questions_of caller request) → SameOn w (step w (Ask caller client request)) kind name
+  pub over_events : (w : World) (kind : Kind) (name : List ℕ) (events : List Event) → AreUngranted w kind name events → SameOn w (reached w events) kind name
+  -- what a transactional id owes
+  pub owed : (w : World) (caller : Caller) (client : Option (List ℕ)) (request : Request) (id : List ℕ)
+      → NoPartIsGranted w TransactionalId id (parts_of caller request) → owed_by id (step w (Ask caller client request)).coordinator.warrants ≡ owed_by id w.coordinator.warrants
+  -- the book of bindings, which is the cluster's
+  pub book : (w : World) (caller : Caller) (client : Option (List ℕ)) (request : Request)
+      → NoQuestionIsGranted w Cluster cluster_name (questions_of caller request) → (step w (Ask caller client request)).book ≡ w.book
+  -- and whatever was granted
+  pub settings : (w : World) (caller : Caller) (client : Option (List ℕ)) (request : Request) → KeepsSettings w (step w (Ask caller client request))
+
+-- ---- what is refused
+
+-- the refusals of these parts, in order
+abbrev pub refusals_in : Rules → List (List Question) → List Refusal
+refusals_in rules parts = filter_map (part_refusal rules) parts
+
+-- where the part that stands for the request is refused, it comes to no other
+abbrev pub told_alone : Option Refusal → List Refusal → List Refusal
+told_alone (Some r) rest = r ∷ []
+told_alone None rest = rest
+
+-- the refusals of a request: those of its parts
+abbrev pub request_refusals : Rules → Caller → Request → List Refusal
+request_refusals rules caller (OffsetFetch r) = told_alone (part_refusal rules (group_question caller r.group ∷ [])) (refusals_in rules (offset_parts caller r.topics))
+request_refusals rules caller request = refusals_in rules (parts_of caller request)
+
+-- so the parts and questions above are those that are asked, whatever the book is
+abbrev pub RefusalsAreOfParts : Type 0
+RefusalsAreOfParts = (w : World) (caller : Caller) (client : Option (List ℕ)) (request : Request)
+    → refusals_of w (Ask caller client request) ≡ request_refusals (rules_of w) caller request

@@ -1,0 +1,93 @@
+-- All that a request asks to be allowed, part by part and in order (Kafka documentation, 'Authorization and ACLs':
+-- 'Operations and Resources on Protocols'). A part is granted where each of its questions is, and else refused at the
+-- first that isn't.
+--
+--   Produce               each partition: to write with the transactional id, if one is given; to write the topic
+--   Fetch                 each partition: to read the topic
+--   ListOffsets           each partition: to describe the topic
+--   Metadata              each named topic: to describe it
+--   OffsetCommit          each partition: to read the group; to read the topic
+--   OffsetFetch           first the request: to describe the group; then each named partition: to describe the topic
+--   FindCoordinator       the request: to describe the group or the transactional id; nothing for another type of key
+--   JoinGroup, SyncGroup, Heartbeat, LeaveGroup
+--                         the request: to read the group
+--   InitProducerId        the request: to write with the transactional id, or without one to write idempotently to the cluster
+--   AddPartitionsToTxn    each partition: to write with the transactional id; to write the topic
+--   AddOffsetsToTxn       the request: to write with the transactional id; to read the group
+--   EndTxn                the request: to write with the transactional id
+--   TxnOffsetCommit       each partition: to write with the transactional id; to read the group; to read the topic
+--   DescribeAcls          the request: to describe the cluster
+--   CreateAcls, DeleteAcls
+--                         the request: to alter the cluster
+use Rattle.std.specs.Prelude.{ℕ, ℤ, Bool, false, List, [], ◌∷◌, map, Option, Some, None, is_none}
+use Rattle.std.specs.List.{flat_map}
+use Rattle.acl_binding.specs.declared.question.Caller.{Caller}
+use Rattle.acl_binding.specs.declared.question.Question.{Question}
+use Rattle.acl_binding.specs.declared.words.Kind.TheVariants as kinds
+use Rattle.acl_binding.specs.declared.words.Operation.TheVariants as operations
+use Rattle.acl_binding.specs.Verdict.{asked}
+use Rattle.wire_types.specs.declared.topic.Topic.{Topic}
+use Rattle.msg_admin.specs.declared.request.Request.{Request}
+use Rattle.msg_admin.specs.declared.request.Request.TheVariants as requests
+use Rattle.request_handlers.specs.Metadata.{topic_part}
+use Rattle.request_handlers.specs.Produce.{produce_questions}
+use Rattle.request_handlers.specs.Members.{read_question}
+use Rattle.request_handlers.specs.OffsetCommit.{commit_questions}
+use Rattle.request_handlers.specs.OffsetFetch.{group_question}
+use Rattle.request_handlers.specs.FindCoordinator.{kind_of, find_questions}
+use Rattle.request_handlers.specs.InitProducerId.{init_question}
+use Rattle.request_handlers.specs.EndTxn.{id_question}
+use Rattle.request_handlers.specs.AddPartitions.{add_questions}
+use Rattle.request_handlers.specs.AddOffsets.{add_offsets_questions}
+use Rattle.request_handlers.specs.TxnOffsetCommit.{staging, stage_questions}
+use Rattle.request_handlers.specs.DescribeAcls.{describe_acls_questions}
+use Rattle.request_handlers.specs.CreateAcls.{alter_questions}
+
+-- to read the topic
+abbrev pub fetch_questions : Caller → List ℕ → List Question
+fetch_questions caller name = asked caller operations.Read kinds.Topic name ∷ []
+
+-- each partition is a part, and asks by its topic
+abbrev pub partition_parts : {P : Type 0} → (List ℕ → List Question) → List (Topic P) → List (List Question)
+partition_parts {P} asks ts = flat_map (λ (t : Topic P). map (λ (p : P). asks t.name) t.partitions) ts
+
+-- each topic is a part; a null list has none
+abbrev pub topic_parts : Caller → Option (List (List ℕ)) → List (List Question)
+topic_parts caller None = []
+topic_parts caller (Some names) = map (topic_part caller) names
+
+abbrev pub offset_parts : Caller → Option (List (Topic ℤ)) → List (List Question)
+offset_parts caller None = []
+offset_parts caller (Some ts) = partition_parts (topic_part caller) ts
+
+-- what each part of the request asks, in order
+abbrev pub parts_of : Caller → Request → List (List Question)
+parts_of caller (requests.Produce r) = partition_parts (produce_questions caller r.transactional_id) r.topics
+parts_of caller (requests.Fetch r) = partition_parts (fetch_questions caller) r.topics
+parts_of caller (requests.ListOffsets r) = partition_parts (topic_part caller) r.topics
+parts_of caller (requests.Metadata r) = topic_parts caller r.topics
+parts_of caller (requests.OffsetCommit r) = partition_parts (commit_questions caller r.group) r.topics
+parts_of caller (requests.OffsetFetch r) = (group_question caller r.group ∷ []) ∷ offset_parts caller r.topics
+parts_of caller (requests.FindCoordinator r) = find_questions caller (kind_of r.key_type) r.key ∷ []
+parts_of caller (requests.JoinGroup r) = (read_question caller r.group ∷ []) ∷ []
+parts_of caller (requests.Heartbeat r) = (read_question caller r.group ∷ []) ∷ []
+parts_of caller (requests.LeaveGroup r) = (read_question caller r.group ∷ []) ∷ []
+parts_of caller (requests.SyncGroup r) = (read_question caller r.group ∷ []) ∷ []
+parts_of caller (requests.InitProducerId r) = (init_question caller r.transactional_id ∷ []) ∷ []
+parts_of caller (requests.AddPartitionsToTxn r) = partition_parts (add_questions caller r.transactional_id) r.topics
+parts_of caller (requests.AddOffsetsToTxn r) = add_offsets_questions caller r.transactional_id r.group ∷ []
+parts_of caller (requests.EndTxn r) = (id_question caller r.transactional_id ∷ []) ∷ []
+parts_of caller (requests.TxnOffsetCommit r) = partition_parts (stage_questions caller (staging r)) r.topics
+parts_of caller (requests.DescribeAcls r) = describe_acls_questions caller ∷ []
+parts_of caller (requests.CreateAcls r) = alter_questions caller ∷ []
+parts_of caller (requests.DeleteAcls r) = alter_questions caller ∷ []
+
+-- all questions of all parts
+abbrev pub questions_of : Caller → Request → List Question
+questions_of caller request = flat_map (λ part. part) (parts_of caller request)
+
+-- its list of topics is null: it wants all that may be described
+abbrev pub wants_all : Request → Bool
+wants_all (requests.Metadata r) = is_none r.topics
+wants_all (requests.OffsetFetch r) = is_none r.topics
+wants_all request = false

@@ -1,0 +1,21 @@
+//! The laws, each the contract of a function with nothing to do. They hold of every world, and so of each that events
+//! reach.
+
+ghost use Rattle.tenant_laws.specs.Laws.{AnswersDependOnGrants, ReceiptsDependOnGrants};
+ghost use Rattle.tenant_laws.specs.Laws.{RefusalsAreOfParts, UngrantedStays};
+
+/// Two worlds that agree on what a request is granted give it the same reply and the same refusals.
+pub fn answers_depend_on_grants()
+    ensures worlds { AnswersDependOnGrants }
+    ensures cores { ReceiptsDependOnGrants }
+{}
+
+/// A topic, a group or a transactional id on which no question of a request is granted is as before.
+pub fn ungranted_stays()
+    ensures { UngrantedStays }
+{}
+
+/// The refusals of a request are those of its parts, in order.
+pub fn refusals_are_of_parts()
+    ensures { RefusalsAreOfParts }
+{}

@@ -1,0 +1,7 @@
+//! The tenants' laws over all apis: a request is answered by what its questions were granted alone, leaves the rest as
+//! it was, and is refused part by part.
+#![tactic(auto)]
+
+mod laws;
+
+pub use laws::{answers_depend_on_grants, refusals_are_of_parts, ungranted_stays};
