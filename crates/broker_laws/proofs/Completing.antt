@@ -3,7 +3,7 @@ use Rattle.std.proofs.Common.{◌≡◌, ℕ, ◌≤◌, ℤ, List, [], ◌∷�
 use Rattle.std.specs.Str.{bytes_eq}
 use Rattle.authorizer.specs.declared.answer.Refusal.{Refusal}
 use Rattle.authorizer.specs.Asking.{part_refusal}
-use Rattle.msg_admin.specs.declared.request.Request.TheVariants.{Produce, Fetch, ListOffsets, Metadata, OffsetCommit, OffsetFetch, FindCoordinator, JoinGroup, Heartbeat, LeaveGroup, SyncGroup, InitProducerId, AddPartitionsToTxn, EndTxn, DescribeAcls, CreateAcls, DeleteAcls}
+use Rattle.msg_admin.specs.declared.request.Request.TheVariants.{Produce, Fetch, ListOffsets, Metadata, OffsetCommit, OffsetFetch, FindCoordinator, JoinGroup, Heartbeat, LeaveGroup, SyncGroup, InitProducerId, AddPartitionsToTxn, AddOffsetsToTxn, EndTxn, TxnOffsetCommit, DescribeAcls, CreateAcls, DeleteAcls}
 use Rattle.audit_trail.specs.declared.event.Event.{Event}
 use Rattle.audit_trail.specs.declared.event.Event.TheVariants.{Ask, Mark, Tick}
 use Rattle.txn_coordinator.specs.declared.transaction.Phase.TheVariants.{Ongoing, PrepareAbort}
@@ -12,26 +12,29 @@ use Rattle.txn_coordinator.specs.declared.marker.Outcome.{Outcome as Ending}
 use Rattle.txn_coordinator.specs.declared.marker.Outcome.TheVariants.{Commit, Abort}
 use Rattle.txn_coordinator.specs.declared.marker.OwedMarker.{OwedMarker}
 use Rattle.txn_coordinator.specs.Words.{prepared, targets}
-use Rattle.txn_coordinator.specs.Coordinator.{has_id, recorded}
+use Rattle.txn_coordinator.specs.Coordinator.{CoordinatorValue, has_id, recorded}
 use Rattle.txn_coordinator.specs.Preparing.{fenced}
 use Rattle.txn_coordinator.specs.Expiry.{is_due, expired}
 use Rattle.txn_laws.specs.Small.{World as SmallWorld, Move, moved_all, marks as small_marks}
 use Rattle.txn_laws.specs.Small.Move.{AddPartitions}
 use Rattle.txn_laws.specs.Sound.{Each, IsSound}
-use Rattle.txn_laws.specs.Laws.{IsEnded, IsDone, up_to_last}
+use Rattle.txn_laws.specs.Laws.{IsEnded, IsDone, ticked, up_to_last}
+use Rattle.txn_laws.specs.Kept.{kept_pair}
+use Rattle.txn_laws.proofs.Base.{each_weaker}
 use Rattle.txn_laws.proofs.Complete.{ongoing_waits, waiting_law}
 use Rattle.txn_laws.proofs.Prepared.{prepared_law}
-use Rattle.txn_laws.proofs.Ticks.{tick_law}
+use Rattle.txn_laws.proofs.Ticks.{one_by_one, tick_law}
 use Rattle.request_handlers.specs.World.{World, rules_of}
 use Rattle.request_handlers.specs.InitProducerId.{init_question}
 use Rattle.request_handlers.specs.AddPartitions.{is_cut, partitions_of}
+use Rattle.request_handlers.specs.AddOffsets.{add_offsets_questions}
 use Rattle.request_handlers.specs.EndTxn.{id_question}
 use Rattle.request_handlers.specs.Ticks.{moment_after}
-use Rattle.request_handlers.specs.Step.{step}
-use Rattle.broker_laws.specs.Entries.{entries_in, small}
+use Rattle.request_handlers.specs.Step.{step, reached}
+use Rattle.broker_laws.specs.Entries.{entries_in}
 use Rattle.broker_laws.specs.Moves.{unless_refused, initializing, moves_of, moves_of_all, marks}
-use Rattle.broker_laws.specs.Laws.{InReached, CompletesPrepared, CompletesWaiting}
-use Rattle.broker_laws.proofs.Reached.{IsGood, good_moved, good_step, good, reached_moved, all_marks}
+use Rattle.broker_laws.specs.Laws.{InReached, IsPreparedBy, CompletesPrepared, CompletesWaiting}
+use Rattle.broker_laws.proofs.Reached.{full, IsGood, good_step, good_moved, good_reached, ended_kept, done_kept, good, reached_moved, all_marks}
 
 -- ---- the statements, over the world that an event leaves
 
@@ -90,7 +93,8 @@ abort_is : (o : Ending) → PrepareAbort ≡ prepared o → Abort ≡ o
 abort_is Abort h = refl
 abort_is Commit h = absurd cc
 
-tick_prepared : (w : World) (told : ℕ) → IsGood w → (id : List ℕ) (t u : Transaction) (o : Ending) → recorded w.coordinator.transactions id ≡ Some t → t.phase ≡ Ongoing → u.phase ≡ prepared o → (ms : List Move) → Completes (small w) (small (step w (Tick told))) id t u o ms
+tick_prepared : (w : World) (told : ℕ) (good : IsGood w) (id : List ℕ) (t u : Transaction) (o : Ending) → recorded w.coordinator.transactions id ≡ Some t → t.phase ≡ Ongoing → u.phase ≡ prepared o → (ms : List Move)
+    → Completes (full w good.entries) (ticked (full w good.entries) (moment_after w.moment told)) id t u o ms
 tick_prepared w told good id t u o before ongoing waits ms after enough = by_due (is_due moment t) refl refl where
   moment : ℕ
   moment = moment_after w.moment told
@@ -101,22 +105,33 @@ tick_prepared w told good id t u o before ongoing waits ms after enough = by_due
       let same : expired moment t ≡ u = cc in
       ap (λ (y : Transaction). y.phase) same ∙ waits
 
-  by_due : (b : Bool) → is_due moment t ≡ b → expired moment t ≡ cond b (fenced t) t → Each (λ target. IsDone t.pair.producer o (entries_in w target) ((moved_all (small (step w (Tick told))) ms).entries target)) (targets t)
-  by_due true due is = subst (λ end. Each (λ target. IsDone t.pair.producer end (entries_in w target) ((moved_all (small (step w (Tick told))) ms).entries target)) (targets t)) (abort_is o (ap (λ (y : Transaction). y.phase) (sym is) ∙ phase)) (tick_law (small w) good.sound moment id t ms before due enough)
+  by_due : (b : Bool) → is_due moment t ≡ b → expired moment t ≡ cond b (fenced t) t → Each (λ target. IsDone t.pair.producer o (good.entries target) ((moved_all (ticked (full w good.entries) moment) ms).entries target)) (targets t)
+  by_due true due is =
+      subst (λ end. Each (λ target. IsDone t.pair.producer end (good.entries target) ((moved_all (ticked (full w good.entries) moment) ms).entries target)) (targets t)) (abort_is o (ap (λ (y : Transaction). y.phase) (sym is) ∙ phase))
+      (tick_law (full w good.entries) good.sound moment id t ms before due enough)
   by_due false due is = absurd (ongoing_waits o (sym ongoing ∙ ap (λ (y : Transaction). y.phase) (sym is) ∙ phase))
 
 -- ---- any event
 
-few_prepared : (w : World) (e : Event) → IsOneAtMost (moves_of w e) → IsGood w → (id : List ℕ) (t u : Transaction) (o : Ending) → recorded w.coordinator.transactions id ≡ Some t → t.phase ≡ Ongoing → u.phase ≡ prepared o → (ms : List Move) → Completes (small w) (small (step w e)) id t u o ms
-few_prepared w e one good id t u o before ongoing waits ms =
-    subst (λ v. Completes (small w) v id t u o ms) (sym (good_moved w e good)) (one_prepared (small w) (moves_of w e) one good.sound id t u o before ongoing waits ms)
+-- so many marks complete, from the world behind the event on, what it prepares
+abbrev CompletesBehind : (w : World) → Event → IsGood w → List ℕ → Transaction → Transaction → Ending → List Move → Type 0
+CompletesBehind w e good id t u o ms = Completes (full w good.entries) (full (step w e) (good_step w e good).entries) id t u o ms
 
-event_prepared : (w : World) (e : Event) → IsGood w → (id : List ℕ) (t u : Transaction) (o : Ending) → recorded w.coordinator.transactions id ≡ Some t → t.phase ≡ Ongoing → u.phase ≡ prepared o → (ms : List Move) → Completes (small w) (small (step w e)) id t u o ms
-event_prepared w (Ask caller client (Produce r)) good id t u o before ongoing waits ms = λ after enough. absurd (still w.coordinator.transactions id t u o before ongoing after waits)
+few_prepared : (w : World) (e : Event) → IsOneAtMost (moves_of w e) → (good : IsGood w) (id : List ℕ) (t u : Transaction) (o : Ending) → recorded w.coordinator.transactions id ≡ Some t → t.phase ≡ Ongoing → u.phase ≡ prepared o → (ms : List Move) → CompletesBehind w e good id t u o ms
+few_prepared w e one good id t u o before ongoing waits ms =
+    subst (λ v. Completes (full w good.entries) v id t u o ms) (sym (good_moved w e good)) (one_prepared (full w good.entries) (moves_of w e) one good.sound id t u o before ongoing waits ms)
+
+-- an event that leaves the coordinator as it is
+unchanged_prepared : (w : World) (e : Event) → (step w e).coordinator ≡ w.coordinator → (good : IsGood w) (id : List ℕ) (t u : Transaction) (o : Ending) → recorded w.coordinator.transactions id ≡ Some t → t.phase ≡ Ongoing → u.phase ≡ prepared o → (ms : List Move) → CompletesBehind w e good id t u o ms
+unchanged_prepared w e same good id t u o before ongoing waits ms after enough =
+    absurd (still w.coordinator.transactions id t u o before ongoing (ap (λ (c : CoordinatorValue). recorded c.transactions id) (sym same) ∙ after) waits)
+
+event_prepared : (w : World) (e : Event) (good : IsGood w) (id : List ℕ) (t u : Transaction) (o : Ending) → recorded w.coordinator.transactions id ≡ Some t → t.phase ≡ Ongoing → u.phase ≡ prepared o → (ms : List Move) → CompletesBehind w e good id t u o ms
+event_prepared w (Ask caller client (Produce r)) good id t u o before ongoing waits ms = unchanged_prepared w (Ask caller client (Produce r)) refl good id t u o before ongoing waits ms
 event_prepared w (Ask caller client (Fetch r)) good id t u o before ongoing waits ms = few_prepared w (Ask caller client (Fetch r)) tt good id t u o before ongoing waits ms
 event_prepared w (Ask caller client (ListOffsets r)) good id t u o before ongoing waits ms = few_prepared w (Ask caller client (ListOffsets r)) tt good id t u o before ongoing waits ms
 event_prepared w (Ask caller client (Metadata r)) good id t u o before ongoing waits ms = few_prepared w (Ask caller client (Metadata r)) tt good id t u o before ongoing waits ms
-event_prepared w (Ask caller client (OffsetCommit r)) good id t u o before ongoing waits ms = few_prepared w (Ask caller client (OffsetCommit r)) tt good id t u o before ongoing waits ms
+event_prepared w (Ask caller client (OffsetCommit r)) good id t u o before ongoing waits ms = unchanged_prepared w (Ask caller client (OffsetCommit r)) refl good id t u o before ongoing waits ms
 event_prepared w (Ask caller client (OffsetFetch r)) good id t u o before ongoing waits ms = few_prepared w (Ask caller client (OffsetFetch r)) tt good id t u o before ongoing waits ms
 event_prepared w (Ask caller client (FindCoordinator r)) good id t u o before ongoing waits ms = few_prepared w (Ask caller client (FindCoordinator r)) tt good id t u o before ongoing waits ms
 event_prepared w (Ask caller client (JoinGroup r)) good id t u o before ongoing waits ms = few_prepared w (Ask caller client (JoinGroup r)) tt good id t u o before ongoing waits ms
@@ -130,34 +145,52 @@ event_prepared w (Ask caller client (AddPartitionsToTxn r)) good id t u o before
       by_cut : (b : Bool) → IsOneAtMost (cond b [] (AddPartitions r.transactional_id (record { producer = r.producer; epoch = r.epoch }) (partitions_of r.topics) ∷ []))
       by_cut true = tt
       by_cut false = tt
+event_prepared w (Ask caller client (AddOffsetsToTxn r)) good id t u o before ongoing waits ms =
+    few_prepared w (Ask caller client (AddOffsetsToTxn r)) (one_refusal (part_refusal (rules_of w) (add_offsets_questions caller r.transactional_id r.group)) _ tt) good id t u o before ongoing waits ms
 event_prepared w (Ask caller client (EndTxn r)) good id t u o before ongoing waits ms =
     few_prepared w (Ask caller client (EndTxn r)) (one_refusal (part_refusal (rules_of w) (id_question caller r.transactional_id ∷ [])) _ tt) good id t u o before ongoing waits ms
+event_prepared w (Ask caller client (TxnOffsetCommit r)) good id t u o before ongoing waits ms = unchanged_prepared w (Ask caller client (TxnOffsetCommit r)) refl good id t u o before ongoing waits ms
 event_prepared w (Ask caller client (DescribeAcls r)) good id t u o before ongoing waits ms = few_prepared w (Ask caller client (DescribeAcls r)) tt good id t u o before ongoing waits ms
 event_prepared w (Ask caller client (CreateAcls r)) good id t u o before ongoing waits ms = few_prepared w (Ask caller client (CreateAcls r)) tt good id t u o before ongoing waits ms
 event_prepared w (Ask caller client (DeleteAcls r)) good id t u o before ongoing waits ms = few_prepared w (Ask caller client (DeleteAcls r)) tt good id t u o before ongoing waits ms
 event_prepared w Mark good id t u o before ongoing waits ms = few_prepared w Mark tt good id t u o before ongoing waits ms
-event_prepared w (Tick told) good id t u o before ongoing waits ms = tick_prepared w told good id t u o before ongoing waits ms
+event_prepared w (Tick told) good id t u o before ongoing waits ms =
+    let s = full w good.entries in
+    subst (λ v. Completes s v id t u o ms) (sym (good_moved w (Tick told) good ∙ one_by_one s good.sound.own_ids (moment_after w.moment told))) (tick_prepared w told good id t u o before ongoing waits ms)
 
 -- ---- the laws
 
 enough_marks : (v : World) (after : List Event) (n : ℕ) → n ≤ marks after → n ≤ small_marks (moves_of_all v after)
 enough_marks v after n h = omega (arith, h, all_marks v after)
 
-prepared_completes : (w : World) → IsGood w → CompletesPrepared w
-prepared_completes w good e id t o after by enough =
+prepared_full : (w : World) (good : IsGood w) (e : Event) (id : List ℕ) (t : Transaction) (o : Ending) (after : List Event) → IsPreparedBy w e id t o → up_to_last (step w e).coordinator.warrants id ≤ marks after
+    → Each (λ target. IsDone t.pair.producer o (good.entries target) ((good_reached (step w e) after (good_step w e good)).entries target)) (targets t)
+prepared_full w good e id t o after by enough =
     let v = step w e in
-    let lead = reached_moved v after (good_step w e good) in
+    let next = good_step w e good in
     let done = event_prepared w e good id t by.transaction o by.before by.ongoing by.waits (moves_of_all v after) by.after (enough_marks v after (up_to_last v.coordinator.warrants id) enough) in
-    subst (λ (s : SmallWorld). Each (λ target. IsDone t.pair.producer o (entries_in w target) (s.entries target)) (targets t)) (sym lead) done
+    subst (λ (s : SmallWorld). Each (λ target. IsDone t.pair.producer o (good.entries target) (s.entries target)) (targets t)) (sym (reached_moved v after next)) done
+
+pub prepared_completes : (w : World) → IsGood w → CompletesPrepared w
+prepared_completes w good e id t o after by enough =
+    let v = reached (step w e) after in
+    each_weaker (λ target. IsDone t.pair.producer o (good.entries target) ((good_reached (step w e) after (good_step w e good)).entries target)) (λ target. IsDone t.pair.producer o (entries_in w target) (entries_in v target))
+    (λ target h. done_kept w v good (good_reached (step w e) after (good_step w e good)) t.pair.producer o target h) (targets t) (prepared_full w good e id t o after by enough)
 
 pub completes_prepared : InReached CompletesPrepared
 completes_prepared s es = prepared_completes _ (good s es)
 
-waiting_completes : (w : World) → IsGood w → CompletesWaiting w
+waiting_full : (w : World) (good : IsGood w) (id : List ℕ) (t : Transaction) (o : Ending) (after : List Event) → recorded w.coordinator.transactions id ≡ Some t → t.phase ≡ prepared o → up_to_last w.coordinator.warrants id ≤ marks after
+    → Each (λ (x : OwedMarker). x.id ≡ id → IsEnded x.pair o (good.entries x.target) ((good_reached w after good).entries x.target)) w.coordinator.warrants
+waiting_full w good id t o after found waits enough =
+    let done = waiting_law (full w good.entries) good.sound id t o (moves_of_all w after) found waits (enough_marks w after (up_to_last w.coordinator.warrants id) enough) in
+    subst (λ (s : SmallWorld). Each (λ (x : OwedMarker). x.id ≡ id → IsEnded x.pair o (good.entries x.target) (s.entries x.target)) w.coordinator.warrants) (sym (reached_moved w after good)) done
+
+pub waiting_completes : (w : World) → IsGood w → CompletesWaiting w
 waiting_completes w good id t o after found waits enough =
-    let lead = reached_moved w after good in
-    let done = waiting_law (small w) good.sound id t o (moves_of_all w after) found waits (enough_marks w after (up_to_last w.coordinator.warrants id) enough) in
-    subst (λ (s : SmallWorld). Each (λ (x : OwedMarker). x.id ≡ id → IsEnded x.pair o (entries_in w x.target) (s.entries x.target)) w.coordinator.warrants) (sym lead) done
+    let v = reached w after in
+    each_weaker (λ (x : OwedMarker). x.id ≡ id → IsEnded x.pair o (good.entries x.target) ((good_reached w after good).entries x.target)) (λ (x : OwedMarker). x.id ≡ id → IsEnded (kept_pair x.target x.pair) o (entries_in w x.target) (entries_in v x.target))
+    (λ x h own. ended_kept w v good (good_reached w after good) x.target x.pair o (h own)) w.coordinator.warrants (waiting_full w good id t o after found waits enough)
 
 pub completes_waiting : InReached CompletesWaiting
 completes_waiting s es = waiting_completes _ (good s es)

@@ -15,10 +15,9 @@ use Rattle.txn_laws.proofs.Moves.{move_sound}
 use Rattle.txn_laws.proofs.Completed.{StillWaits, move_waits, mark_waits, some_owed, one_more}
 use Rattle.request_handlers.specs.World.{World}
 use Rattle.request_handlers.specs.Step.{step}
-use Rattle.broker_laws.specs.Entries.{small}
 use Rattle.broker_laws.specs.Moves.{moves_of, mark_count, marks}
 use Rattle.broker_laws.specs.Laws.{InReached, IsCompletedBy, EndsComplete}
-use Rattle.broker_laws.proofs.Reached.{IsGood, good_moved, good_step, good, event_marks}
+use Rattle.broker_laws.proofs.Reached.{full, IsGood, good_step, good_moved, good, event_marks}
 
 -- ---- moves without a mark
 
@@ -36,9 +35,11 @@ abbrev WaitsOrEnds : SmallWorld → ℕ → SmallWorld → List ℕ → Transact
 WaitsOrEnds s written v id t o = ((recorded v.coordinator.transactions id ≡ Some t) × (written + up_to_last v.coordinator.warrants id ≡ up_to_last s.coordinator.warrants id))
     ⊎ ((u : Transaction) × (recorded v.coordinator.transactions id ≡ Some u) × (u.phase ≡ complete o))
 
-quiet_event : (w : World) (e : Event) → IsGood w → mark_count e ≡ 0 → (id : List ℕ) (t : Transaction) (o : Ending) → recorded w.coordinator.transactions id ≡ Some t → t.phase ≡ prepared o → WaitsOrEnds (small w) 0 (small (step w e)) id t o
+quiet_event : (w : World) (e : Event) (good : IsGood w) → mark_count e ≡ 0 → (id : List ℕ) (t : Transaction) (o : Ending) → recorded w.coordinator.transactions id ≡ Some t → t.phase ≡ prepared o
+    → WaitsOrEnds (full w good.entries) 0 (full (step w e) (good_step w e good).entries) id t o
 quiet_event w e good none id t o found waits =
-    let still = subst (λ v. StillWaits (small w) v id t) (sym (good_moved w e good)) (quiet_waits (small w) (moves_of w e) good.sound (event_marks w e ∙ none) id t o found waits) in
+    let s = full w good.entries in
+    let still = subst (λ v. StillWaits s v id t) (sym (good_moved w e good)) (quiet_waits s (moves_of w e) good.sound (event_marks w e ∙ none) id t o found waits) in
     let last = still.last in
     inl (still.found, omega (arith, last))
 
@@ -55,11 +56,13 @@ front_written s (x ∷ xs) sound at id t o found waits = by_mark (mark_waits s x
       inl (h.0, ap (λ ws. 1 + up_to_last ws id) h.1 ∙ sym (ap (λ ws. up_to_last ws id) at ∙ one_more x xs id some))
   by_mark (inr h) = inr h
 
-one_event : (w : World) (e : Event) → IsGood w → (id : List ℕ) (t : Transaction) (o : Ending) → recorded w.coordinator.transactions id ≡ Some t → t.phase ≡ prepared o → WaitsOrEnds (small w) (mark_count e) (small (step w e)) id t o
+one_event : (w : World) (e : Event) (good : IsGood w) (id : List ℕ) (t : Transaction) (o : Ending) → recorded w.coordinator.transactions id ≡ Some t → t.phase ≡ prepared o
+    → WaitsOrEnds (full w good.entries) (mark_count e) (full (step w e) (good_step w e good).entries) id t o
 one_event w (Ask caller client request) good id t o found waits = quiet_event w (Ask caller client request) good refl id t o found waits
 one_event w (Tick told) good id t o found waits = quiet_event w (Tick told) good refl id t o found waits
 one_event w Mark good id t o found waits =
-    subst (λ v. WaitsOrEnds (small w) 1 v id t o) (sym (good_moved w Mark good)) (front_written (small w) w.coordinator.warrants good.sound refl id t o found waits)
+    let s = full w good.entries in
+    subst (λ v. WaitsOrEnds s 1 v id t o) (sym (good_moved w Mark good)) (front_written s w.coordinator.warrants good.sound refl id t o found waits)
 
 -- ---- events
 
@@ -70,7 +73,7 @@ ends : (es : List Event) (w : World) → IsGood w → (id : List ℕ) (t : Trans
 ends [] w good id t o found waits enough = let some = some_owed w.coordinator.warrants id (good.sound.owing id t o found waits) in absurd (omega (arith, some, enough))
 ends (e ∷ es) w good id t o found waits enough = by_event (ends es (step w e) (good_step w e good) id t o) (one_event w e good id t o found waits) where
   by_event : (recorded (step w e).coordinator.transactions id ≡ Some t → t.phase ≡ prepared o → up_to_last (step w e).coordinator.warrants id ≤ marks es → IsCompletedBy (step w e) es id o)
-      → WaitsOrEnds (small w) (mark_count e) (small (step w e)) id t o → IsCompletedBy w (e ∷ es) id o
+      → WaitsOrEnds (full w good.entries) (mark_count e) (full (step w e) (good_step w e good).entries) id t o → IsCompletedBy w (e ∷ es) id o
   by_event rest (inl h) = let left = h.1 in later w e es id o (rest h.0 waits (omega (arith, left, enough)))
   by_event rest (inr h) = record { first = e ∷ []; rest = es; parts = refl; transaction = h.0; found = h.1; is_complete = h.2 }
 

@@ -10,16 +10,17 @@ use Rattle.record_batch.specs.BatchHeader.{is_transactional}
 use Rattle.txn_coordinator.specs.declared.pair.Pair.{Pair}
 use Rattle.txn_coordinator.specs.declared.target.TopicPartition.{TopicPartition}
 use Rattle.txn_coordinator.specs.declared.target.Target.{Target}
+use Rattle.txn_coordinator.specs.declared.target.Target.TheVariants.{Partition, Group}
 use Rattle.txn_coordinator.specs.declared.transaction.Transaction.{Transaction}
 use Rattle.txn_coordinator.specs.declared.marker.Outcome.{Outcome as Ending}
 use Rattle.txn_coordinator.specs.declared.ending.EndForm.TheVariants.{Plain}
 use Rattle.txn_coordinator.specs.declared.turn.Turn.TheVariants.{Stays}
 use Rattle.txn_coordinator.specs.Words.{last_epoch, is_empty, raised}
 use Rattle.txn_coordinator.specs.Coordinator.{CoordinatorValue, recorded, owner, given_by, fresh, turn_code}
-use Rattle.txn_coordinator.specs.Adding.{with_partitions, open_by, open_found, grown, add_partitions}
+use Rattle.txn_coordinator.specs.Adding.{with_partitions, with_group, open_by, open_found, open_transaction, grown, add_partitions, add_group}
 use Rattle.txn_coordinator.specs.EndTxn.{end_by, end_found, end}
 use Rattle.txn_laws.specs.Small.{World as SmallWorld, Move, moved_all}
-use Rattle.txn_laws.specs.Sound.{IsSound, IsFenced}
+use Rattle.txn_laws.specs.Sound.{IsFenced, IsOrdered, IsSound}
 use Rattle.txn_laws.specs.Laws.{IsSilent, HasPair as HadPair, Refuses}
 use Rattle.txn_laws.proofs.Targets.{same_number}
 use Rattle.txn_laws.proofs.Moves.{held, free_is, one_owner, moves_sound, moves_fence}
@@ -27,12 +28,14 @@ use Rattle.txn_laws.proofs.Fences.{gone_past, fencing_law, refusal_law}
 use Rattle.producer_state.proofs.Numbers.{lt_is}
 use Rattle.request_handlers.specs.World.{World}
 use Rattle.request_handlers.specs.Judged.{pair_of, held_code, given_code, producer_code}
+use Rattle.request_handlers.specs.TxnOffsetCommit.{Staging, staging, staging_refusal}
 use Rattle.request_handlers.specs.Step.{reached}
-use Rattle.broker_laws.specs.Entries.{small}
+use Rattle.broker_laws.specs.Entries.{entries_in}
 use Rattle.broker_laws.specs.Moves.{moves_of_all}
 use Rattle.broker_laws.specs.Laws.{InReached, TurnsAway, FencedWriteNothing, NoDataBehindAGreaterMarker}
 use Rattle.broker_laws.proofs.Passing.{held_holds, owner_free}
-use Rattle.broker_laws.proofs.Reached.{IsGood, good_reached, good, reached_moved}
+use Rattle.broker_laws.proofs.Noted.{stages_nothing}
+use Rattle.broker_laws.proofs.Reached.{full, IsGood, good_reached, good, reached_moved}
 
 -- ---- no check lets it in
 
@@ -83,22 +86,26 @@ batch_refused s id pair sound f own target h same none =
 abbrev told : Bool → Bool → Bool → ErrorCode → Option ErrorCode
 told a b l other = cond a (cond (b && l) None (Some other)) (Some codes.InvalidProducerIdMapping)
 
-addition_refused : (s : SmallWorld) (id : List ℕ) (pair : Pair) → IsSound s → IsFenced s.coordinator id (raised pair) → (own : List ℕ) (moment : ℕ) (p : TopicPartition) (ps : List TopicPartition) → turn_code (add_partitions s.coordinator own pair moment (p ∷ ps)) ≡ codes.None → ⊥
-addition_refused s id pair sound f own moment p ps none = by_empty (is_empty own) none where
-  by_tests : (t : Transaction) (a b l : Bool) → (a ≡ true → b ≡ true → ⊥) → turn_code (grown (with_partitions (p ∷ ps)) (open_by (told a b l codes.InvalidProducerEpoch) t moment)) ≡ codes.None → ⊥
+-- what opens no transaction grows none
+not_opened : (s : SmallWorld) (id : List ℕ) (pair : Pair) → IsSound s → IsFenced s.coordinator id (raised pair) → (own : List ℕ) (moment : ℕ) (grow : Transaction → Transaction) → turn_code (grown grow (open_transaction s.coordinator own pair moment)) ≡ codes.None → ⊥
+not_opened s id pair sound f own moment grow none = by_empty (is_empty own) none where
+  by_tests : (t : Transaction) (a b l : Bool) → (a ≡ true → b ≡ true → ⊥) → turn_code (grown grow (open_by (told a b l codes.InvalidProducerEpoch) t moment)) ≡ codes.None → ⊥
   by_tests t true true l differ none = differ refl refl
   by_tests t true false l differ none = let clash : codes.InvalidProducerEpoch ≡ codes.None = none in cc
   by_tests t false b l differ none = let clash : codes.InvalidProducerIdMapping ≡ codes.None = none in cc
 
-  by_found : (found : Option Transaction) → recorded s.coordinator.transactions own ≡ found → turn_code (grown (with_partitions (p ∷ ps)) (open_found found pair moment)) ≡ codes.None → ⊥
+  by_found : (found : Option Transaction) → recorded s.coordinator.transactions own ≡ found → turn_code (grown grow (open_found found pair moment)) ≡ codes.None → ⊥
   by_found None e none = let clash : codes.InvalidProducerIdMapping ≡ codes.None = none in cc
   by_found (Some t) e none =
       by_tests t (int_eq t.pair.producer pair.producer) (int_eq t.pair.epoch pair.epoch) (int_lt pair.epoch last_epoch)
       (λ producer epoch. not_own s id own pair t sound f e (same_number t.pair.producer pair.producer producer) (same_number t.pair.epoch pair.epoch epoch)) none
 
-  by_empty : (b : Bool) → turn_code (grown (with_partitions (p ∷ ps)) (cond b (Err codes.InvalidRequest) (open_found (recorded s.coordinator.transactions own) pair moment))) ≡ codes.None → ⊥
+  by_empty : (b : Bool) → turn_code (grown grow (cond b (Err codes.InvalidRequest) (open_found (recorded s.coordinator.transactions own) pair moment))) ≡ codes.None → ⊥
   by_empty true none = let clash : codes.InvalidRequest ≡ codes.None = none in cc
   by_empty false none = by_found (recorded s.coordinator.transactions own) refl none
+
+addition_refused : (s : SmallWorld) (id : List ℕ) (pair : Pair) → IsSound s → IsFenced s.coordinator id (raised pair) → (own : List ℕ) (moment : ℕ) (p : TopicPartition) (ps : List TopicPartition) → turn_code (add_partitions s.coordinator own pair moment (p ∷ ps)) ≡ codes.None → ⊥
+addition_refused s id pair sound f own moment p ps none = not_opened s id pair sound f own moment (with_partitions (p ∷ ps)) none
 
 ending_refused : (s : SmallWorld) (id : List ℕ) (pair : Pair) → IsSound s → IsFenced s.coordinator id (raised pair) → (own : List ℕ) (o : Ending) → turn_code (end s.coordinator Plain own pair o) ≡ codes.None → ⊥
 ending_refused s id pair sound f own o none = by_empty (is_empty own) none where
@@ -117,10 +124,19 @@ ending_refused s id pair sound f own o none = by_empty (is_empty own) none where
   by_empty true none = let clash : codes.InvalidRequest ≡ codes.None = none in cc
   by_empty false none = by_found (recorded s.coordinator.transactions own) refl none
 
+group_addition_refused : (s : SmallWorld) (id : List ℕ) (pair : Pair) → IsSound s → IsFenced s.coordinator id (raised pair) → (own : List ℕ) (moment : ℕ) (group : List ℕ) → turn_code (add_group s.coordinator own pair moment group) ≡ codes.None → ⊥
+group_addition_refused s id pair sound f own moment group none = not_opened s id pair sound f own moment (with_group group) none
+
+staging_refused : (s : SmallWorld) (id : List ℕ) (pair : Pair) → IsSound s → IsFenced s.coordinator id (raised pair) → (offsets : Staging) → offsets.pair ≡ pair → staging_refusal s.coordinator offsets ≡ None → ⊥
+staging_refused s id pair sound f offsets same none =
+    not_stored s id offsets.pair sound (subst (λ p. IsFenced s.coordinator id (raised p)) (sym same) f) (Some offsets.id) (Group offsets.group) none
+
 turns_away : (s : SmallWorld) (id : List ℕ) (pair : Pair) → IsSound s → IsFenced s.coordinator id (raised pair) → TurnsAway s.coordinator pair
 turns_away s id pair sound f = record {
   batches = batch_refused s id pair sound f;
   additions = addition_refused s id pair sound f;
+  group_additions = group_addition_refused s id pair sound f;
+  stagings = staging_refused s id pair sound f;
   endings = ending_refused s id pair sound f;
 }
 
@@ -142,19 +158,30 @@ shut_out s ms ns id pair sound had left =
       turned_away = turns_away (moved_all (moved_all s ms) ns) id pair (moves_sound (moved_all s ms) ns later) (moves_fence (moved_all s ms) ns later id (raised pair) past);
     }
 
+-- a log keeps all
+silent_kept : (w v : World) (pair : Pair) (before : IsGood w) (after : IsGood v) (p : TopicPartition) → IsSilent pair (before.entries (Partition p)) (after.entries (Partition p)) → IsSilent pair (entries_in w (Partition p)) (entries_in v (Partition p))
+silent_kept w v pair before after p h =
+    subst (λ old. IsSilent pair old (entries_in v (Partition p))) (before.keeps (Partition p)) (subst (IsSilent pair (before.entries (Partition p))) (after.keeps (Partition p)) h)
+
 fenced : (w : World) → IsGood w → FencedWriteNothing w
 fenced w good more after id pair had left =
     let v = reached w more in
-    let first = reached_moved w more good in
-    let second = reached_moved v after (good_reached w more good) in
-    let not_had : HadPair (small v) id pair → ⊥ = left in
+    let there = good_reached w more good in
+    let end = reached v after in
+    let last = good_reached v after there in
+    let not_had : HadPair (full v there.entries) id pair → ⊥ = left in
     let moves = moves_of_all v after in
-    let out = subst (λ (s : SmallWorld). (HadPair s id pair → ⊥) → IsOut pair s (moved_all s moves)) (sym first) (shut_out (small w) (moves_of_all w more) moves id pair good.sound had) not_had in
-    let both = subst (IsOut pair (small v)) (sym second) out in
-    record { silent = both.silent; refused = both.refused; turned_away = both.turned_away }
+    let out = subst (λ (s : SmallWorld). (HadPair s id pair → ⊥) → IsOut pair s (moved_all s moves)) (sym (reached_moved w more good)) (shut_out (full w good.entries) (moves_of_all w more) moves id pair good.sound had) not_had in
+    let both = subst (IsOut pair (full v there.entries)) (sym (reached_moved v after there)) out in
+    record {
+      silent = λ p. silent_kept v end pair there last p (both.silent (Partition p));
+      stages_nothing = λ caller client r same. stages_nothing end caller client r (both.turned_away.stagings (staging r) same);
+      refused = record { in_transaction = both.refused.in_transaction; without_id = both.refused.without_id };
+      turned_away = both.turned_away;
+    }
 
 pub fenced_write_nothing : InReached FencedWriteNothing
 fenced_write_nothing s es = fenced _ (good s es)
 
 pub no_data_behind_a_greater_marker : InReached NoDataBehindAGreaterMarker
-no_data_behind_a_greater_marker s es = (good s es).sound.ordered
+no_data_behind_a_greater_marker s es p = let is = good s es in subst IsOrdered (is.keeps (Partition p)) (is.sound.ordered (Partition p))

@@ -1,11 +1,16 @@
 pub mod Reading
 pub mod Logs
+pub mod Offsets
+pub mod Walks
 pub mod Passing
 pub mod Produced
+pub mod Noted
+pub mod Growing
 pub mod Turns
 pub mod Steps
 pub mod Reached
 pub mod Completing
+pub mod Deciding
 pub mod Fencing
 pub mod Ending
 pub mod Cores

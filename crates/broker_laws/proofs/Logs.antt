@@ -8,6 +8,7 @@ use Rattle.std.proofs.lemmas.Bool.Decides.{Decides-int_eq}
 use Rattle.std.proofs.lemmas.Slice.Eq.{bytes_eq-Decides}
 use Rattle.txn_coordinator.specs.declared.target.Target.{Target}
 use Rattle.txn_coordinator.specs.declared.target.Target.TheVariants.{Partition, Group}
+use Rattle.group_offsets.specs.declared.group.Group.{Group as GroupValue}
 use Rattle.txn_laws.specs.Small.{Entry, with_entry}
 use Rattle.request_handlers.specs.World.{TopicValue, LogValue, find_topic}
 use Rattle.request_handlers.specs.Logs.{log_in, log_of, log_at, logs_with, with_log}
@@ -85,10 +86,10 @@ there_is : (o : Option LogValue) (log : LogValue) → o ≡ Some log → is_some
 there_is o log e = ap is_some e
 
 -- a log with one entry more, put in its partition's place
-pub entries_with : (topics : List TopicValue) (name : List ℕ) (i : ℤ) (old new : LogValue) (entry : Entry) → log_at topics name i ≡ Some old → map entry_of new ≡ map entry_of old ++ entry ∷ []
-    → (target : Target) → entries_at (with_log topics name i new) target ≡ with_entry (entries_at topics) (partition_at name i) entry target
-entries_with topics name i old new entry there goes_on (Group g) = refl
-entries_with topics name i old new entry there goes_on (Partition q) = ap log_entries (at_with topics name i new (there_is (log_at topics name i) old there) q.topic q.index) ∙ by_same (bytes_eq name q.topic && int_eq i q.index) refl where
+pub entries_with : (topics : List TopicValue) (gs : List GroupValue) (name : List ℕ) (i : ℤ) (old new : LogValue) (entry : Entry) → log_at topics name i ≡ Some old → map entry_of new ≡ map entry_of old ++ entry ∷ []
+    → (target : Target) → entries_at (with_log topics name i new) gs target ≡ with_entry (entries_at topics gs) (partition_at name i) entry target
+entries_with topics gs name i old new entry there goes_on (Group g) = refl
+entries_with topics gs name i old new entry there goes_on (Partition q) = ap log_entries (at_with topics name i new (there_is (log_at topics name i) old there) q.topic q.index) ∙ by_same (bytes_eq name q.topic && int_eq i q.index) refl where
   by_same : (b : Bool) → (bytes_eq name q.topic && int_eq i q.index) ≡ b → log_entries (cond b (Some new) (log_at topics q.topic q.index)) ≡ cond b (log_entries (log_at topics q.topic q.index) ++ entry ∷ []) (log_entries (log_at topics q.topic q.index))
   by_same true e =
       let same = same_partition name q.topic i q.index e in
@@ -97,9 +98,9 @@ entries_with topics name i old new entry there goes_on (Partition q) = ap log_en
   by_same false e = refl
 
 -- the same log put in its partition's place
-pub entries_kept : (topics : List TopicValue) (name : List ℕ) (i : ℤ) (log : LogValue) → log_at topics name i ≡ Some log → (target : Target) → entries_at (with_log topics name i log) target ≡ entries_at topics target
-entries_kept topics name i log there (Group g) = refl
-entries_kept topics name i log there (Partition q) = ap log_entries (at_with topics name i log (there_is (log_at topics name i) log there) q.topic q.index) ∙ by_same (bytes_eq name q.topic && int_eq i q.index) refl where
+pub entries_kept : (topics : List TopicValue) (gs : List GroupValue) (name : List ℕ) (i : ℤ) (log : LogValue) → log_at topics name i ≡ Some log → (target : Target) → entries_at (with_log topics name i log) gs target ≡ entries_at topics gs target
+entries_kept topics gs name i log there (Group g) = refl
+entries_kept topics gs name i log there (Partition q) = ap log_entries (at_with topics name i log (there_is (log_at topics name i) log there) q.topic q.index) ∙ by_same (bytes_eq name q.topic && int_eq i q.index) refl where
   by_same : (b : Bool) → (bytes_eq name q.topic && int_eq i q.index) ≡ b → log_entries (cond b (Some log) (log_at topics q.topic q.index)) ≡ log_entries (log_at topics q.topic q.index)
   by_same true e =
       let same = same_partition name q.topic i q.index e in

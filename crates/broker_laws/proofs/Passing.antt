@@ -2,6 +2,8 @@
 use Rattle.std.proofs.Common.{◌≡◌, ℕ, ℤ, pos, negsuc, List, length, eqb, Option, Some, None, Result, Ok, Err, Bool, true, false, cond, refl, sym, subst, ◌∙◌}
 use Rattle.std.specs.Prelude.{◌&&◌, not, int_lt}
 use Rattle.std.specs.Ordering.{int_eq}
+use Rattle.acl_binding.specs.declared.words.Kind.{Kind}
+use Rattle.acl_binding.specs.declared.words.Kind.TheVariants as kinds
 use Rattle.wire_types.specs.declared.error_code.ErrorCode.{ErrorCode}
 use Rattle.wire_types.specs.declared.error_code.ErrorCode.TheVariants as codes
 use Rattle.record_batch.specs.declared.header.BatchHeader.{BatchHeader}
@@ -16,6 +18,7 @@ use Rattle.txn_coordinator.specs.declared.transaction.Transaction.{Transaction}
 use Rattle.txn_coordinator.specs.Words.{has_target, is_ongoing}
 use Rattle.txn_coordinator.specs.Coordinator.{CoordinatorValue, recorded, owner, given_by}
 use Rattle.txn_coordinator.specs.Holding.{is_usable, holds_found, holds}
+use Rattle.walk.specs.Codes.{permission_code}
 use Rattle.txn_laws.specs.Small.{is_no_error, is_free}
 use Rattle.request_handlers.specs.Sent.{sent_by, sent}
 use Rattle.request_handlers.specs.SentLaws.{sent_is}
@@ -97,3 +100,23 @@ given_free (Some (Some id)) h = absurd (let clash : Some codes.InvalidTxnState �
 
 pub owner_free : (c : CoordinatorValue) (producer : ℤ) → given_code (given_by (owner c producer)) ≡ None → is_free (owner c producer) ≡ true
 owner_free c producer h = given_free (owner c producer) h
+
+-- ---- what is refused is told an error
+
+pub never_none : (k : Kind) → permission_code k ≡ codes.None → ⊥
+never_none kinds.Topic h = cc
+never_none kinds.Group h = cc
+never_none kinds.Cluster h = cc
+never_none kinds.TransactionalId h = cc
+
+found_error : (found : Option Transaction) (pair : Pair) (target : Target) → refused_by (holds_found found pair target) ≡ Some codes.None → ⊥
+found_error None pair target h = let clash : Some codes.InvalidProducerIdMapping ≡ Some codes.None = h in cc
+found_error (Some t) pair target h = by_tests (int_eq t.pair.producer pair.producer) (int_eq t.pair.epoch pair.epoch && is_usable target pair.epoch) (is_ongoing t.phase && has_target t target) h where
+  by_tests : (a b d : Bool) → refused_by (cond a (cond b (cond d codes.None codes.InvalidTxnState) codes.InvalidProducerEpoch) codes.InvalidProducerIdMapping) ≡ Some codes.None → ⊥
+  by_tests true true true h = let clash : None ≡ Some codes.None = h in cc
+  by_tests true true false h = let clash : Some codes.InvalidTxnState ≡ Some codes.None = h in cc
+  by_tests true false d h = let clash : Some codes.InvalidProducerEpoch ≡ Some codes.None = h in cc
+  by_tests false b d h = let clash : Some codes.InvalidProducerIdMapping ≡ Some codes.None = h in cc
+
+pub held_error : (c : CoordinatorValue) (id : List ℕ) (pair : Pair) (target : Target) → refused_by (holds c id pair target) ≡ Some codes.None → ⊥
+held_error c id pair target h = found_error (recorded c.transactions id) pair target h

@@ -43,16 +43,11 @@ use Rattle.request_handlers.specs.EndTxn.{id_question, ending, end_reply, end_tu
 use Rattle.request_handlers.specs.Ticks.{moment_after}
 use Rattle.request_handlers.specs.Step.{step}
 use Rattle.broker_laws.specs.Laws.{InReached, Prepares, HasPair, Fences}
+use Rattle.broker_laws.proofs.Passing.{never_none}
 use Rattle.broker_laws.proofs.Completing.{recorded_expired}
 use Rattle.broker_laws.proofs.Reached.{IsGood, good}
 
 -- ---- codes of refusals
-
-never_none : (k : Kind) → permission_code k ≡ codes.None → ⊥
-never_none kinds.Topic h = cc
-never_none kinds.Group h = cc
-never_none kinds.Cluster h = cc
-never_none kinds.TransactionalId h = cc
 
 never_again : (k : Kind) → permission_code k ≡ codes.ConcurrentTransactions → ⊥
 never_again kinds.Topic h = cc

@@ -1,13 +1,11 @@
 -- Events lead where their moves lead, from the first world on.
-use Rattle.std.proofs.Common.{◌≡◌, ℕ, zero, suc, ◌+◌, ℤ, pos, negsuc, List, [], ◌∷◌, ◌++◌, Option, Some, None, Result, Ok, Err, Bool, true, false, cond, refl, sym, ap, subst, ◌∙◌, arith}
+use Rattle.std.proofs.Common.{◌≡◌, ℕ, zero, suc, ℤ, pos, negsuc, List, [], ◌∷◌, ◌++◌, Option, Some, None, Result, Ok, Err, Bool, true, false, cond, refl, sym, ap, subst, ◌∙◌, arith}
 use Rattle.std.specs.Prelude.{slice_get, int_lt}
 use Rattle.std.specs.Option.{option_and_then}
 use Rattle.std.specs.Str.{bytes_eq}
 use Rattle.acl_binding.specs.declared.question.Caller.{Caller}
-use Rattle.authorizer.specs.declared.answer.Refusal.{Refusal}
 use Rattle.authorizer.specs.Asking.{part_refusal}
 use Rattle.wire_types.specs.declared.error_code.ErrorCode.{ErrorCode}
-use Rattle.wire_types.specs.declared.topic.Topic.{Topic}
 use Rattle.settings.specs.declared.settings.Settings.{Settings}
 use Rattle.settings.specs.declared.settings.TopicSetting.{TopicSetting}
 use Rattle.record_batch.specs.declared.header.BatchHeader.{BatchHeader}
@@ -18,19 +16,20 @@ use Rattle.producer_state.specs.declared.judgment.Judgment.TheVariants.{Next, Re
 use Rattle.producer_state.specs.Sequences.{judged as judged_by_log}
 use Rattle.msg_data.specs.declared.produce.ProduceRequest.{ProduceRequest}
 use Rattle.msg_data.specs.declared.produce.ProducedRecords.{ProducedRecords}
-use Rattle.msg_admin.specs.declared.request.Request.TheVariants.{Produce, Fetch, ListOffsets, Metadata, OffsetCommit, OffsetFetch, FindCoordinator, JoinGroup, Heartbeat, LeaveGroup, SyncGroup, InitProducerId, AddPartitionsToTxn, EndTxn, DescribeAcls, CreateAcls, DeleteAcls}
+use Rattle.msg_admin.specs.declared.request.Request.TheVariants.{Produce, Fetch, ListOffsets, Metadata, OffsetCommit, OffsetFetch, FindCoordinator, JoinGroup, Heartbeat, LeaveGroup, SyncGroup, InitProducerId, AddPartitionsToTxn, AddOffsetsToTxn, EndTxn, TxnOffsetCommit, DescribeAcls, CreateAcls, DeleteAcls}
 use Rattle.audit_trail.specs.declared.event.Event.{Event}
 use Rattle.audit_trail.specs.declared.event.Event.TheVariants.{Ask, Mark, Tick}
-use Rattle.walk.specs.Rule.{refusal_of}
-use Rattle.walk.specs.Steps.{part_world, parts_world}
+use Rattle.txn_coordinator.specs.declared.pair.Pair.{Pair}
+use Rattle.txn_coordinator.specs.declared.marker.Outcome.{Outcome as Ending}
 use Rattle.txn_coordinator.specs.declared.target.Target.{Target}
 use Rattle.txn_coordinator.specs.declared.target.Target.TheVariants.{Partition, Group}
 use Rattle.txn_coordinator.specs.declared.transaction.Transaction.{Transaction}
-use Rattle.txn_coordinator.specs.Coordinator.{no_transactions}
-use Rattle.txn_laws.specs.Small.{Move, first_world as first_small_world, moved_all, marks as small_marks}
+use Rattle.txn_laws.specs.Small.{World as SmallWorld, Entry, Move, first_world as first_small_world, moved, moved_all, marks as small_marks}
 use Rattle.txn_laws.specs.Small.Move.{AddPartitions, Send, Plain}
 use Rattle.txn_laws.specs.Sound.{IsSound}
-use Rattle.txn_laws.specs.Laws.{expiries}
+use Rattle.txn_laws.specs.Laws.{IsEnded, IsDone, expiries}
+use Rattle.txn_laws.specs.Kept.{kept_pair, kept_entries, kept_world, kept_moved_all}
+use Rattle.txn_laws.proofs.GroupsKeep.{kept_law, kept_end_law}
 use Rattle.txn_laws.proofs.Moves.{moves_sound, first_sound}
 use Rattle.request_handlers.specs.World.{World, TopicValue, LogValue, rules_of, find_topic}
 use Rattle.request_handlers.specs.First.{magnitude, empty_logs, first_topic, first_topics, first_world}
@@ -39,33 +38,76 @@ use Rattle.request_handlers.specs.Judged.{pair_of, partition_at, judged}
 use Rattle.request_handlers.specs.Produce.{producing}
 use Rattle.request_handlers.specs.InitProducerId.{init_question}
 use Rattle.request_handlers.specs.AddPartitions.{is_cut, partitions_of}
+use Rattle.request_handlers.specs.AddOffsets.{add_offsets_questions}
 use Rattle.request_handlers.specs.EndTxn.{id_question}
 use Rattle.request_handlers.specs.Step.{step, reached}
-use Rattle.broker_laws.specs.Entries.{log_entries, entries_at, small}
-use Rattle.broker_laws.specs.Moves.{unless_refused, storing, appending, moves_by, batch_moves, part_moves, parts_moves, topics_moves, initializing, moves_of, moves_of_all, mark_count, marks}
+use Rattle.broker_laws.specs.Entries.{log_entries, entries_in, small}
+use Rattle.broker_laws.specs.Moves.{topics_moves, storing, appending, moves_by, batch_moves, produced_moves, initializing, moves_of, moves_of_all, mark_count, marks}
 use Rattle.broker_laws.specs.Targets.{HasTargets}
 use Rattle.broker_laws.specs.Laws.{InReached, IsMoved}
-use Rattle.broker_laws.proofs.Produced.{moved_append}
+use Rattle.broker_laws.proofs.Walks.{marks_append, unmarked_refusal, unmarked_walk}
+use Rattle.broker_laws.proofs.Noted.{unmarked_commits, unmarked_stages}
 use Rattle.broker_laws.proofs.Steps.{step_moved, step_targets}
 
 -- ---- what holds of every world
 
+-- the world with all of the entries' epochs
+abbrev pub full : World → (Target → List Entry) → SmallWorld
+full w entries = record { coordinator = w.coordinator; entries = entries; moment = w.moment }
+
+-- the broker keeps of a sound small world what groups keep of it
 pub record IsGood (w : World) : Type 0 where
-  pub sound : IsSound (small w)
+  pub entries : Target → List Entry
+  pub sound : IsSound (full w entries)
+  pub keeps : (target : Target) → kept_entries target (entries target) ≡ entries_in w target
   pub all_exist : HasTargets w
 
-pub good_moved : (w : World) (e : Event) → IsGood w → small (step w e) ≡ moved_all (small w) (moves_of w e)
-good_moved w e good = step_moved w e good.all_exist good.sound.own_ids
+kept_full : (w : World) (good : IsGood w) → kept_world (full w good.entries) ≡ small w
+kept_full w good = λ k. record { coordinator = w.coordinator; entries = λ target. good.keeps target k; moment = w.moment }
+
+event_moved : (w : World) (e : Event) → IsGood w → small (step w e) ≡ kept_moved_all (small w) (moves_of w e)
+event_moved w e good = step_moved w e good.all_exist good.sound.own_ids
+
+kept_step : (w : World) (e : Event) (good : IsGood w) → kept_world (moved_all (full w good.entries) (moves_of w e)) ≡ small (step w e)
+kept_step w e good =
+    kept_law.next (full w good.entries) (moves_of w e)
+    ∙ ap (λ s. kept_moved_all s (moves_of w e)) (kept_full w good)
+    ∙ sym (event_moved w e good)
+
+-- the moves lead to the event's world, with entries that have their epochs
+moved_full : (w : World) (e : Event) (good : IsGood w) → moved_all (full w good.entries) (moves_of w e) ≡ full (step w e) (moved_all (full w good.entries) (moves_of w e)).entries
+moved_full w e good =
+    let kept = kept_step w e good in
+    λ k. record { coordinator = (kept k).coordinator; entries = (moved_all (full w good.entries) (moves_of w e)).entries; moment = (kept k).moment }
 
 pub good_step : (w : World) (e : Event) → IsGood w → IsGood (step w e)
 good_step w e good = record {
-  sound = subst IsSound (sym (good_moved w e good)) (moves_sound (small w) (moves_of w e) good.sound);
+  entries = (moved_all (full w good.entries) (moves_of w e)).entries;
+  sound = subst IsSound (moved_full w e good) (moves_sound (full w good.entries) (moves_of w e) good.sound);
+  keeps = λ target. ap (λ (s : SmallWorld). s.entries target) (kept_step w e good);
   all_exist = step_targets w e good.all_exist;
 }
+
+pub good_moved : (w : World) (e : Event) (good : IsGood w) → full (step w e) (good_step w e good).entries ≡ moved_all (full w good.entries) (moves_of w e)
+unfolding good_step
+good_moved w e good = sym (moved_full w e good)
 
 pub good_reached : (w : World) (es : List Event) → IsGood w → IsGood (reached w es)
 good_reached w [] good = good
 good_reached w (e ∷ es) good = good_reached (step w e) es (good_step w e good)
+
+-- an end is seen in what is kept
+pub ended_kept : (w v : World) (before : IsGood w) (after : IsGood v) (target : Target) (pair : Pair) (o : Ending) → IsEnded pair o (before.entries target) (after.entries target) → IsEnded (kept_pair target pair) o (entries_in w target) (entries_in v target)
+ended_kept w v before after target pair o h =
+    subst (λ old. IsEnded (kept_pair target pair) o old (entries_in v target)) (before.keeps target)
+    (subst (λ new. IsEnded (kept_pair target pair) o (kept_entries target (before.entries target)) new) (after.keeps target)
+    (kept_end_law target pair o (before.entries target) (after.entries target) h))
+
+pub done_kept : (w v : World) (before : IsGood w) (after : IsGood v) (producer : ℤ) (o : Ending) (target : Target) → IsDone producer o (before.entries target) (after.entries target) → IsDone producer o (entries_in w target) (entries_in v target)
+done_kept w v before after producer o target (pair, is, h) = (kept_pair target pair, same_producer target ∙ is, ended_kept w v before after target pair o h) where
+  same_producer : (t : Target) → (kept_pair t pair).producer ≡ pair.producer
+  same_producer (Partition p) = refl
+  same_producer (Group g) = refl
 
 -- ---- the first world
 
@@ -85,43 +127,36 @@ none_of (t ∷ ts) name i = by_name (bytes_eq t.name name) (none_of ts name i) w
   by_name true rest = none_at (magnitude t.partitions) i
   by_name false rest = rest
 
-first_entries : (ts : List TopicSetting) (target : Target) → entries_at (first_topics ts) target ≡ []
-first_entries ts (Partition p) = none_of ts p.topic p.index
-first_entries ts (Group g) = refl
-
-first_small : (s : Settings) → small (first_world s) ≡ first_small_world
-first_small s = λ k. record { coordinator = no_transactions; entries = λ target. first_entries s.topics target k; moment = 0 }
+first_kept : (s : Settings) (target : Target) → kept_entries target [] ≡ entries_in (first_world s) target
+first_kept s (Partition p) = sym (none_of s.topics p.topic p.index)
+first_kept s (Group g) = refl
 
 first_good : (s : Settings) → IsGood (first_world s)
-first_good s = record {
-  sound = subst IsSound (sym (first_small s)) first_sound;
-  all_exist = record { added = tt; owed = tt };
-}
+first_good s = record { entries = λ target. []; sound = first_sound; keeps = first_kept s; all_exist = record { added = tt; owed = tt } }
 
 pub good : (s : Settings) (es : List Event) → IsGood (reached (first_world s) es)
 good s es = good_reached (first_world s) es (first_good s)
 
 -- ---- many events
 
-pub reached_moved : (w : World) (es : List Event) → IsGood w → small (reached w es) ≡ moved_all (small w) (moves_of_all w es)
+moved_append : (s : SmallWorld) (ms ns : List Move) → moved_all s (ms ++ ns) ≡ moved_all (moved_all s ms) ns
+moved_append s [] ns = refl
+moved_append s (m ∷ ms) ns = moved_append (moved s m) ms ns
+
+pub reached_moved : (w : World) (es : List Event) (good : IsGood w) → full (reached w es) (good_reached w es good).entries ≡ moved_all (full w good.entries) (moves_of_all w es)
+unfolding good_reached
 reached_moved w [] good = refl
 reached_moved w (e ∷ es) good =
     reached_moved (step w e) es (good_step w e good)
     ∙ ap (λ s. moved_all s (moves_of_all (step w e) es)) (good_moved w e good)
-    ∙ sym (moved_append (small w) (moves_of w e) (moves_of_all (step w e) es))
+    ∙ sym (moved_append (full w good.entries) (moves_of w e) (moves_of_all (step w e) es))
 
-pub first_moved : (s : Settings) (es : List Event) → small (reached (first_world s) es) ≡ moved_all first_small_world (moves_of_all (first_world s) es)
-first_moved s es = reached_moved (first_world s) es (first_good s) ∙ ap (λ v. moved_all v (moves_of_all (first_world s) es)) (first_small s)
+pub first_moved : (s : Settings) (es : List Event) → small (reached (first_world s) es) ≡ kept_world (moved_all first_small_world (moves_of_all (first_world s) es))
+unfolding good first_good
+first_moved s es =
+    sym (kept_full (reached (first_world s) es) (good s es)) ∙ ap kept_world (reached_moved (first_world s) es (first_good s))
 
 -- ---- marker steps are the marks
-
-marks_append : (ms ns : List Move) → small_marks (ms ++ ns) ≡ small_marks ms + small_marks ns
-marks_append [] ns = omega arith
-marks_append (m ∷ ms) ns = omega (arith, marks_append ms ns)
-
-unmarked_refusal : (o : Option Refusal) (ms : List Move) → small_marks ms ≡ 0 → small_marks (unless_refused o ms) ≡ 0
-unmarked_refusal None ms h = h
-unmarked_refusal (Some x) ms h = refl
 
 unmarked_batch : (id : Option (List ℕ)) (target : Target) (h : BatchHeader) → small_marks (appending id target h) ≡ 0
 unmarked_batch id target h = by_kind (is_transactional h) (int_lt h.producer_id (pos 0)) id where
@@ -141,24 +176,12 @@ unmarked_log id target (Err code) o = refl
 unmarked_log id target (Ok b) None = refl
 unmarked_log id target (Ok b) (Some log) = unmarked_judged (judged_by_log log b) (appending id target b.header) (unmarked_batch id target b.header)
 
-module _ (w : World) (caller : Caller) (r : ProduceRequest) where
-  unmarked_part : (topics : List TopicValue) (name : List ℕ) (p : ProducedRecords) → small_marks (part_moves w caller r topics name p) ≡ 0
-  unmarked_part topics name p =
+unmarked_produce : (w : World) (caller : Caller) (r : ProduceRequest) → small_marks (topics_moves (producing w caller r) (rules_of w) (produced_moves w r) w.topics r.topics) ≡ 0
+unmarked_produce w caller r = unmarked_walk (producing w caller r) (rules_of w) (produced_moves w r) part w.topics r.topics where
+  part : (topics : List TopicValue) (name : List ℕ) (p : ProducedRecords) → small_marks (produced_moves w r topics name p) ≡ 0
+  part topics name p =
       let target = partition_at name p.index in
-      let batch = judged (magnitude w.node.max_batch) w.coordinator r.transactional_id r.acks target p.records in
-      unmarked_refusal (refusal_of (producing w caller r) (rules_of w) name p) _ (unmarked_log r.transactional_id target batch (log_at topics name p.index))
-
-  unmarked_parts : (topics : List TopicValue) (name : List ℕ) (ps : List ProducedRecords) → small_marks (parts_moves w caller r topics name ps) ≡ 0
-  unmarked_parts topics name [] = refl
-  unmarked_parts topics name (p ∷ ps) =
-      let next = part_world (producing w caller r) (rules_of w) topics name p in
-      omega (arith, marks_append (part_moves w caller r topics name p) (parts_moves w caller r next name ps), unmarked_part topics name p, unmarked_parts next name ps)
-
-  unmarked_topics : (topics : List TopicValue) (ts : List (Topic ProducedRecords)) → small_marks (topics_moves w caller r topics ts) ≡ 0
-  unmarked_topics topics [] = refl
-  unmarked_topics topics (t ∷ ts) =
-      let next = parts_world (producing w caller r) (rules_of w) topics t.name t.partitions in
-      omega (arith, marks_append (parts_moves w caller r topics t.name t.partitions) (topics_moves w caller r next ts), unmarked_parts topics t.name t.partitions, unmarked_topics next ts)
+      unmarked_log r.transactional_id target (judged (magnitude w.node.max_batch) w.coordinator r.transactional_id r.acks target p.records) (log_at topics name p.index)
 
 unmarked_init : (id : Option (List ℕ)) (timeout greatest : ℤ) → small_marks (initializing id timeout greatest) ≡ 0
 unmarked_init None timeout greatest = refl
@@ -169,11 +192,11 @@ unmarked_expiries [] = refl
 unmarked_expiries (t ∷ ts) = omega (arith, unmarked_expiries ts)
 
 pub event_marks : (w : World) (e : Event) → small_marks (moves_of w e) ≡ mark_count e
-event_marks w (Ask caller client (Produce r)) = unmarked_topics w caller r w.topics r.topics
+event_marks w (Ask caller client (Produce r)) = unmarked_produce w caller r
 event_marks w (Ask caller client (Fetch r)) = refl
 event_marks w (Ask caller client (ListOffsets r)) = refl
 event_marks w (Ask caller client (Metadata r)) = refl
-event_marks w (Ask caller client (OffsetCommit r)) = refl
+event_marks w (Ask caller client (OffsetCommit r)) = unmarked_commits w caller r
 event_marks w (Ask caller client (OffsetFetch r)) = refl
 event_marks w (Ask caller client (FindCoordinator r)) = refl
 event_marks w (Ask caller client (JoinGroup r)) = refl
@@ -186,7 +209,9 @@ event_marks w (Ask caller client (AddPartitionsToTxn r)) = by_cut (is_cut caller
   by_cut : (b : Bool) → small_marks (cond b [] (AddPartitions r.transactional_id (record { producer = r.producer; epoch = r.epoch }) (partitions_of r.topics) ∷ [])) ≡ 0
   by_cut true = refl
   by_cut false = refl
+event_marks w (Ask caller client (AddOffsetsToTxn r)) = unmarked_refusal (part_refusal (rules_of w) (add_offsets_questions caller r.transactional_id r.group)) _ refl
 event_marks w (Ask caller client (EndTxn r)) = unmarked_refusal (part_refusal (rules_of w) (id_question caller r.transactional_id ∷ [])) _ refl
+event_marks w (Ask caller client (TxnOffsetCommit r)) = unmarked_stages w caller r
 event_marks w (Ask caller client (DescribeAcls r)) = refl
 event_marks w (Ask caller client (CreateAcls r)) = refl
 event_marks w (Ask caller client (DeleteAcls r)) = refl
@@ -200,7 +225,7 @@ all_marks w (e ∷ es) = omega (arith, marks_append (moves_of w e) (moves_of_all
 -- ---- the laws
 
 pub is_moved : InReached IsMoved
-is_moved s es e = good_moved (reached (first_world s) es) e (good s es)
+is_moved s es e = event_moved (reached (first_world s) es) e (good s es)
 
 pub targets_exist : InReached HasTargets
 targets_exist s es = (good s es).all_exist

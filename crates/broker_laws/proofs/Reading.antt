@@ -1,16 +1,21 @@
 -- What the definitions tell as they read.
-use Rattle.std.proofs.Common.{◌≡◌, [], Option, Some, None, refl, ap}
+use Rattle.std.proofs.Common.{◌≡◌, [], map, Option, Some, None, refl, ap}
+use Rattle.std.specs.Prelude.{unwrap_or}
 use Rattle.txn_coordinator.specs.declared.marker.OwedMarker.{OwedMarker}
 use Rattle.txn_coordinator.specs.Warrants.{next_warrant}
+use Rattle.group_offsets.specs.declared.group.Group.{Group as GroupValue}
+use Rattle.group_offsets.specs.Group.{fresh_group}
 use Rattle.request_handlers.specs.World.{World}
 use Rattle.request_handlers.specs.Marks.{mark_by}
-use Rattle.broker_laws.specs.Entries.{log_entries}
+use Rattle.broker_laws.specs.Entries.{event_entry, log_entries}
 use Rattle.broker_laws.specs.Laws.{EntriesAreTheLog, MarksAreNotRefused}
 
 pub entries_are_the_log : EntriesAreTheLog
 entries_are_the_log = record {
   there = λ w p log e. ap log_entries e;
   missing = λ w p e. ap log_entries e;
+  begun = λ w name g e. ap (λ (o : Option GroupValue). map event_entry (unwrap_or o (fresh_group name)).offsets) e;
+  fresh = λ w name e. ap (λ (o : Option GroupValue). map event_entry (unwrap_or o (fresh_group name)).offsets) e;
 }
 
 by_front : (w : World) (o : Option OwedMarker) → (mark_by w o).refusals ≡ []

@@ -12,7 +12,7 @@ use Rattle.partition_log.specs.Log.{at_end}
 use Rattle.msg_data.specs.declared.produce.ProduceRequest.{ProduceRequest}
 use Rattle.msg_data.specs.declared.produce.ProducedRecords.{ProducedRecords}
 use Rattle.msg_admin.specs.declared.reply.Reply.{Reply}
-use Rattle.msg_admin.specs.declared.request.Request.TheVariants.{Produce, Fetch, ListOffsets, Metadata, OffsetCommit, OffsetFetch, FindCoordinator, JoinGroup, Heartbeat, LeaveGroup, SyncGroup, InitProducerId, AddPartitionsToTxn, EndTxn, DescribeAcls, CreateAcls, DeleteAcls}
+use Rattle.msg_admin.specs.declared.request.Request.TheVariants.{Produce, Fetch, ListOffsets, Metadata, OffsetCommit, OffsetFetch, FindCoordinator, JoinGroup, Heartbeat, LeaveGroup, SyncGroup, InitProducerId, AddPartitionsToTxn, AddOffsetsToTxn, EndTxn, TxnOffsetCommit, DescribeAcls, CreateAcls, DeleteAcls}
 use Rattle.audit_trail.specs.declared.event.Event.{Event}
 use Rattle.audit_trail.specs.declared.event.Event.TheVariants.{Ask, Mark, Tick}
 use Rattle.walk.specs.Rule.{refusal_of}
@@ -26,14 +26,19 @@ use Rattle.txn_coordinator.specs.declared.marker.Outcome.{Outcome as Ending}
 use Rattle.txn_coordinator.specs.declared.marker.Outcome.TheVariants.{Commit, Abort}
 use Rattle.txn_coordinator.specs.declared.marker.OwedMarker.{OwedMarker}
 use Rattle.txn_coordinator.specs.Coordinator.{CoordinatorValue}
+use Rattle.txn_coordinator.specs.Expiry.{expire}
 use Rattle.txn_coordinator.specs.Warrants.{written_by}
-use Rattle.txn_laws.specs.Small.{Move, marked as marked_small, with_entry, moved_all}
+use Rattle.txn_laws.specs.Small.{Move, with_entry}
 use Rattle.txn_laws.specs.Small.Entry.{Marker}
 use Rattle.txn_laws.specs.Small.Move.{AddPartitions}
 use Rattle.txn_laws.specs.Sound.{Each, HaveOwnIds}
 use Rattle.txn_laws.proofs.Base.{each_weaker, each_append}
-use Rattle.txn_laws.proofs.Ticks.{one_by_one}
-use Rattle.request_handlers.specs.Members.{read_question}
+use Rattle.txn_laws.specs.Kept.{kept_entry, kept_marked, kept_moved_all}
+use Rattle.txn_laws.proofs.GroupsKeep.{kept_tick}
+use Rattle.group_offsets.specs.declared.event.OffsetEvent.TheVariants.{Decide}
+use Rattle.group_offsets.specs.declared.group.Group.{Group as GroupValue}
+use Rattle.group_offsets.specs.Group.{expired}
+use Rattle.request_handlers.specs.Members.{read_question, joined, synced, heard, left}
 use Rattle.request_handlers.specs.FindCoordinator.{kind_of, find_questions}
 use Rattle.request_handlers.proofs.Wholes.{offsets_keep}
 use Rattle.request_handlers.specs.World.{World, TopicValue, LogValue, rules_of}
@@ -44,18 +49,23 @@ use Rattle.request_handlers.specs.Produce.{producing}
 use Rattle.request_handlers.specs.Whole.{Served, whole_by}
 use Rattle.request_handlers.specs.InitProducerId.{init_question, coordinator_for, initialized}
 use Rattle.request_handlers.specs.AddPartitions.{cut_rule, is_missing_in, is_missing, is_cut, partitions_in, partitions_of, cut_outcome, added_outcome, add_turn}
+use Rattle.request_handlers.specs.AddOffsets.{add_offsets_questions, add_offsets_turn, offsets_added}
 use Rattle.request_handlers.specs.EndTxn.{id_question, ended, ending, end_turn}
+use Rattle.request_handlers.specs.OffsetCommit.{committing_rule}
+use Rattle.request_handlers.specs.TxnOffsetCommit.{staging_rule}
 use Rattle.request_handlers.specs.DescribeAcls.{describe_acls_questions}
 use Rattle.request_handlers.specs.CreateAcls.{alter_questions}
-use Rattle.request_handlers.specs.Marks.{marked_outcome, marker_batch, log_marked, marked_by, marked_at, mark_by}
+use Rattle.request_handlers.specs.Marks.{marked_outcome, marker_batch, log_marked, marked_by, marked_at, decided_at, mark_by}
 use Rattle.request_handlers.specs.Ticks.{moment_after}
 use Rattle.request_handlers.specs.Step.{step}
-use Rattle.broker_laws.specs.Entries.{ending_of, entry_of, entries_at, small}
+use Rattle.broker_laws.specs.Entries.{ending_of, entry_of, in_group, entries_at, small}
 use Rattle.broker_laws.specs.Moves.{unless_refused, initializing, moves_of}
 use Rattle.broker_laws.specs.Targets.{is_there, IsThere, TakesInExisting, IsOwedToExisting, AllExist, HasTargets}
 use Rattle.broker_laws.proofs.Logs.{entries_with, places_kept}
 use Rattle.broker_laws.proofs.Produced.{produce_moved}
-use Rattle.broker_laws.proofs.Turns.{turned_exist, init_exists, add_exists, end_exists, written_exist, expire_exist}
+use Rattle.broker_laws.proofs.Offsets.{noted_entries, SameOffsets, same_entries, join_keeps, sync_keeps, beat_keeps, leave_keeps, expiry_keeps}
+use Rattle.broker_laws.proofs.Noted.{commits_moved, stages_moved}
+use Rattle.broker_laws.proofs.Turns.{turned_exist, init_exists, add_exists, add_group_exists, end_exists, written_exist, expire_exist}
 
 -- ---- a marker step
 
@@ -72,66 +82,88 @@ log_found : (o : Option LogValue) → is_some o ≡ true → (log : LogValue) ×
 log_found None h = absurd (let clash : false ≡ true = h in cc)
 log_found (Some log) h = (log, refl)
 
-marker_entries : (topics : List TopicValue) (m : OwedMarker) (moment : ℕ) (target : Target) → IsThere topics target → (t : Target) → entries_at (marked_at topics target (marker_batch m moment)) t ≡ with_entry (entries_at topics) target (Marker m.pair m.outcome) t
-marker_entries topics m moment (Group g) there t = absurd (let clash : false ≡ true = there in cc)
-marker_entries topics m moment (Partition p) there t =
+-- to a log comes the marker, and to a group the decision
+marker_entries : (topics : List TopicValue) (gs : List GroupValue) (m : OwedMarker) (moment : ℕ) (target : Target) → IsThere topics target → (t : Target)
+    → entries_at (marked_at topics target (marker_batch m moment)) (decided_at gs target m) t ≡ with_entry (entries_at topics gs) target (kept_entry target (Marker m.pair m.outcome)) t
+marker_entries topics gs m moment (Group g) there t =
+    noted_entries topics gs g (Decide m.pair.producer (marked_outcome m.outcome)) t
+    ∙ ap (λ o. with_entry (entries_at topics gs) (Group g) (Marker (in_group m.pair.producer) o) t) (ending_again m.outcome)
+marker_entries topics gs m moment (Partition p) there t =
     let found = log_found (log_at topics p.topic p.index) there in
-    ap (λ o. entries_at (marked_by topics p.topic p.index (marker_batch m moment) o) t) found.1
-    ∙ entries_with topics p.topic p.index found.0 (log_marked found.0 (marker_batch m moment)) (Marker m.pair m.outcome) found.1 (marker_log found.0 m moment) t
+    ap (λ o. entries_at (marked_by topics p.topic p.index (marker_batch m moment) o) gs t) found.1
+    ∙ entries_with topics gs p.topic p.index found.0 (log_marked found.0 (marker_batch m moment)) (Marker m.pair m.outcome) found.1 (marker_log found.0 m moment) t
 
-marked_moved : (w : World) (ws : List OwedMarker) → w.coordinator.warrants ≡ ws → Each (IsOwedToExisting w.topics) ws → small (mark_by w (slice_get ws 0)).world ≡ marked_small ws (small w)
+marked_moved : (w : World) (ws : List OwedMarker) → w.coordinator.warrants ≡ ws → Each (IsOwedToExisting w.topics) ws → small (mark_by w (slice_get ws 0)).world ≡ kept_marked ws (small w)
 marked_moved w [] e owed = refl
 marked_moved w (m ∷ rest) e owed = λ k. record {
   coordinator = written_by w.coordinator (e k);
-  entries = λ t. marker_entries w.topics m w.moment m.target owed.0 t k;
+  entries = λ t. marker_entries w.topics w.groups m w.moment m.target owed.0 t k;
   moment = w.moment;
 }
 
-mark_moved : (w : World) → HasTargets w → small (step w Mark) ≡ marked_small w.coordinator.warrants (small w)
+mark_moved : (w : World) → HasTargets w → small (step w Mark) ≡ kept_marked w.coordinator.warrants (small w)
 mark_moved w all = marked_moved w w.coordinator.warrants refl all.owed
 
 -- ---- the calls
 
-init_moved : (w : World) (id : Option (List ℕ)) (timeout greatest : ℤ) → small (record w { coordinator = coordinator_for id w.coordinator greatest timeout }) ≡ moved_all (small w) (initializing id timeout greatest)
+init_moved : (w : World) (id : Option (List ℕ)) (timeout greatest : ℤ) → small (record w { coordinator = coordinator_for id w.coordinator greatest timeout }) ≡ kept_moved_all (small w) (initializing id timeout greatest)
 init_moved w None timeout greatest = refl
 init_moved w (Some id) timeout greatest = refl
 
-granted_moved : (o : Option Refusal) (w : World) (refused : ErrorCode → Reply) (served : Served) (ms : List Move) → small served.world ≡ moved_all (small w) ms → small (whole_by o w refused served).world ≡ moved_all (small w) (unless_refused o ms)
+granted_moved : (o : Option Refusal) (w : World) (refused : ErrorCode → Reply) (served : Served) (ms : List Move) → small served.world ≡ kept_moved_all (small w) ms → small (whole_by o w refused served).world ≡ kept_moved_all (small w) (unless_refused o ms)
 granted_moved None w refused served ms same = same
 granted_moved (Some x) w refused served ms same = refl
 
-kept_moved : (o : Option Refusal) (w : World) (refused : ErrorCode → Reply) (served : Served) → small served.world ≡ small w → small (whole_by o w refused served).world ≡ small w
-kept_moved None w refused served same = same
-kept_moved (Some x) w refused served same = refl
+unmoved : (o : Option Refusal) (w : World) (refused : ErrorCode → Reply) (served : Served) → small served.world ≡ small w → small (whole_by o w refused served).world ≡ small w
+unmoved None w refused served same = same
+unmoved (Some x) w refused served same = refl
+
+-- groups of which each has the offsets that it had
+grouped : (w : World) (gs : List GroupValue) → SameOffsets w.groups gs → small (record w { groups = gs }) ≡ small w
+grouped w gs same = λ k. record { coordinator = w.coordinator; entries = λ t. same_entries w.topics w.groups gs same t k; moment = w.moment }
 
 -- ---- an event
 
-pub step_moved : (w : World) (e : Event) → HasTargets w → HaveOwnIds w.coordinator.transactions → small (step w e) ≡ moved_all (small w) (moves_of w e)
+pub step_moved : (w : World) (e : Event) → HasTargets w → HaveOwnIds w.coordinator.transactions → small (step w e) ≡ kept_moved_all (small w) (moves_of w e)
 step_moved w (Ask caller client (Produce r)) all own =
     ap (λ topics. small (record w { topics = topics })) (sym (woven (producing w caller r) (rules_of w) w.topics r.topics).world)
     ∙ produce_moved w caller r
 step_moved w (Ask caller client (Fetch r)) all own = refl
 step_moved w (Ask caller client (ListOffsets r)) all own = refl
 step_moved w (Ask caller client (Metadata r)) all own = refl
-step_moved w (Ask caller client (OffsetCommit r)) all own = refl
+step_moved w (Ask caller client (OffsetCommit r)) all own =
+    ap (λ gs. small (record w { groups = gs })) (sym (woven (committing_rule w caller r) (rules_of w) w.groups r.topics).world)
+    ∙ commits_moved w caller r
 step_moved w (Ask caller client (OffsetFetch r)) all own = ap small (offsets_keep w caller r)
-step_moved w (Ask caller client (FindCoordinator r)) all own = kept_moved (part_refusal (rules_of w) (find_questions caller (kind_of r.key_type) r.key)) w _ _ refl
-step_moved w (Ask caller client (JoinGroup r)) all own = kept_moved (part_refusal (rules_of w) (read_question caller r.group ∷ [])) w _ _ refl
-step_moved w (Ask caller client (Heartbeat r)) all own = kept_moved (part_refusal (rules_of w) (read_question caller r.group ∷ [])) w _ _ refl
-step_moved w (Ask caller client (LeaveGroup r)) all own = kept_moved (part_refusal (rules_of w) (read_question caller r.group ∷ [])) w _ _ refl
-step_moved w (Ask caller client (SyncGroup r)) all own = kept_moved (part_refusal (rules_of w) (read_question caller r.group ∷ [])) w _ _ refl
+step_moved w (Ask caller client (FindCoordinator r)) all own = unmoved (part_refusal (rules_of w) (find_questions caller (kind_of r.key_type) r.key)) w _ _ refl
+step_moved w (Ask caller client (JoinGroup r)) all own =
+    unmoved (part_refusal (rules_of w) (read_question caller r.group ∷ [])) w _ (joined w r) (grouped w (joined w r).world.groups (join_keeps w.groups r w.events w.moment))
+step_moved w (Ask caller client (Heartbeat r)) all own =
+    unmoved (part_refusal (rules_of w) (read_question caller r.group ∷ [])) w _ (heard w r) (grouped w (heard w r).world.groups (beat_keeps w.groups r w.moment))
+step_moved w (Ask caller client (LeaveGroup r)) all own =
+    unmoved (part_refusal (rules_of w) (read_question caller r.group ∷ [])) w _ (left w r) (grouped w (left w r).world.groups (leave_keeps w.groups r))
+step_moved w (Ask caller client (SyncGroup r)) all own =
+    unmoved (part_refusal (rules_of w) (read_question caller r.group ∷ [])) w _ (synced w r) (grouped w (synced w r).world.groups (sync_keeps w.groups r w.moment))
 step_moved w (Ask caller client (InitProducerId r)) all own =
     granted_moved (part_refusal (rules_of w) (init_question caller r.transactional_id ∷ [])) w _ (initialized w r) (initializing r.transactional_id r.timeout w.node.max_txn_timeout) (init_moved w r.transactional_id r.timeout w.node.max_txn_timeout)
 step_moved w (Ask caller client (AddPartitionsToTxn r)) all own = by_cut (is_cut caller r.transactional_id w.topics (rules_of w) r.topics) where
-  by_cut : (b : Bool) → small (cond b (cut_outcome w caller r) (added_outcome w r)).world ≡ moved_all (small w) (cond b [] (AddPartitions r.transactional_id (record { producer = r.producer; epoch = r.epoch }) (partitions_of r.topics) ∷ []))
+  by_cut : (b : Bool) → small (cond b (cut_outcome w caller r) (added_outcome w r)).world ≡ kept_moved_all (small w) (cond b [] (AddPartitions r.transactional_id (record { producer = r.producer; epoch = r.epoch }) (partitions_of r.topics) ∷ []))
   by_cut true = refl
   by_cut false = refl
+step_moved w (Ask caller client (AddOffsetsToTxn r)) all own =
+    granted_moved (part_refusal (rules_of w) (add_offsets_questions caller r.transactional_id r.group)) w _ (offsets_added w r) _ refl
 step_moved w (Ask caller client (EndTxn r)) all own = granted_moved (part_refusal (rules_of w) (id_question caller r.transactional_id ∷ [])) w _ (ended w r) _ refl
-step_moved w (Ask caller client (DescribeAcls r)) all own = kept_moved (part_refusal (rules_of w) (describe_acls_questions caller)) w _ _ refl
-step_moved w (Ask caller client (CreateAcls r)) all own = kept_moved (part_refusal (rules_of w) (alter_questions caller)) w _ _ refl
-step_moved w (Ask caller client (DeleteAcls r)) all own = kept_moved (part_refusal (rules_of w) (alter_questions caller)) w _ _ refl
+step_moved w (Ask caller client (TxnOffsetCommit r)) all own =
+    ap (λ gs. small (record w { groups = gs })) (sym (woven (staging_rule w caller r) (rules_of w) w.groups r.topics).world)
+    ∙ stages_moved w caller r
+step_moved w (Ask caller client (DescribeAcls r)) all own = unmoved (part_refusal (rules_of w) (describe_acls_questions caller)) w _ _ refl
+step_moved w (Ask caller client (CreateAcls r)) all own = unmoved (part_refusal (rules_of w) (alter_questions caller)) w _ _ refl
+step_moved w (Ask caller client (DeleteAcls r)) all own = unmoved (part_refusal (rules_of w) (alter_questions caller)) w _ _ refl
 step_moved w Mark all own = mark_moved w all
-step_moved w (Tick told) all own = sym (one_by_one (small w) own (moment_after w.moment told))
+step_moved w (Tick told) all own =
+    let moment = moment_after w.moment told in
+    (λ k. record { coordinator = expire w.coordinator moment; entries = λ t. same_entries w.topics w.groups (map (expired moment) w.groups) (expiry_keeps w.groups moment) t k; moment = moment })
+    ∙ sym (kept_tick (small w) moment own)
 
 -- ---- what transactions take in exists
 
@@ -227,9 +259,13 @@ step_targets w (Ask caller client (AddPartitionsToTxn r)) all = by_cut (is_cut c
   by_cut false e =
       let parts = or_false (has_any (refusals (cut_rule caller r.transactional_id w.topics) (rules_of w) r.topics)) (is_missing w.topics r.topics) e in
       turned_exist w.topics w.coordinator (add_turn w.coordinator w.moment r) all (add_exists w.topics w.coordinator r.transactional_id _ w.moment (partitions_of r.topics) all (named_there w.topics r.topics parts.1))
+step_targets w (Ask caller client (AddOffsetsToTxn r)) all =
+    granted_all (part_refusal (rules_of w) (add_offsets_questions caller r.transactional_id r.group)) w _ (offsets_added w r) all
+    (turned_exist w.topics w.coordinator (add_offsets_turn w.coordinator w.moment r) all (add_group_exists w.topics w.coordinator r.transactional_id _ w.moment r.group all))
 step_targets w (Ask caller client (EndTxn r)) all =
     granted_all (part_refusal (rules_of w) (id_question caller r.transactional_id ∷ [])) w _ (ended w r) all
     (turned_exist w.topics w.coordinator (end_turn w.coordinator r) all (end_exists w.topics w.coordinator r.transactional_id _ (ending r.committed) all))
+step_targets w (Ask caller client (TxnOffsetCommit r)) all = all
 step_targets w (Ask caller client (DescribeAcls r)) all = granted_all (part_refusal (rules_of w) (describe_acls_questions caller)) w _ _ all all
 step_targets w (Ask caller client (CreateAcls r)) all = granted_all (part_refusal (rules_of w) (alter_questions caller)) w _ _ all all
 step_targets w (Ask caller client (DeleteAcls r)) all = granted_all (part_refusal (rules_of w) (alter_questions caller)) w _ _ all all

@@ -20,7 +20,7 @@ use Rattle.txn_coordinator.specs.Words.{is_empty, has_partition, targets}
 use Rattle.txn_coordinator.specs.Coordinator.{CoordinatorValue, has_id, recorded, put, fresh, turned}
 use Rattle.txn_coordinator.specs.Preparing.{marker_for, markers, fenced, fence_markers, pair_refusal}
 use Rattle.txn_coordinator.specs.InitProducerId.{timeout_within, init_in, init_for, init}
-use Rattle.txn_coordinator.specs.Adding.{partition_added, partitions_added, with_partitions, open_in, open_by, open_found, open_transaction, grown, add_partitions}
+use Rattle.txn_coordinator.specs.Adding.{partition_added, partitions_added, with_partitions, group_added, with_group, open_in, open_by, open_found, open_transaction, grown, add_partitions, add_group}
 use Rattle.txn_coordinator.specs.EndTxn.{other_epoch, end_in, end_by, end_found, end}
 use Rattle.txn_coordinator.specs.Expiry.{is_due, expired, expiry_markers, expire}
 use Rattle.txn_coordinator.specs.Warrants.{owes, completed, with_completed, written_by}
@@ -139,6 +139,24 @@ module _ (topics : List TopicValue) where
   pub add_exists : (c : CoordinatorValue) (id : List ℕ) (pair : Pair) (moment : ℕ) (ps : List TopicPartition) → AllExist topics c → Each (λ p. IsThere topics (Partition p)) ps → TurnExists (add_partitions c id pair moment ps)
   add_exists c id pair moment [] all there = tt
   add_exists c id pair moment (p ∷ ps) all there = grown_exists (p ∷ ps) (open_transaction c id pair moment) there (opened (open_transaction c id pair moment) (open_exists c id pair moment all))
+
+  -- ---- AddOffsetsToTxn
+
+  -- each group exists
+  groups_exist : (groups : List (List ℕ)) → Each (IsThere topics) (map (λ g. Group g) groups)
+  groups_exist [] = tt
+  groups_exist (g ∷ gs) = (refl, groups_exist gs)
+
+  other_groups : (ps : List TopicPartition) (old new : List (List ℕ)) → Each (IsThere topics) (map (λ p. Partition p) ps ++ map (λ g. Group g) old) → Each (IsThere topics) (map (λ p. Partition p) ps ++ map (λ g. Group g) new)
+  other_groups [] old new h = groups_exist new
+  other_groups (p ∷ ps) old new h = (h.0, other_groups ps old new h.1)
+
+  grown_group : (group : List ℕ) (r : Result Transaction ErrorCode) → ((t : Transaction) → r ≡ Ok t → TakesInExisting topics t) → TurnExists (grown (with_group group) r)
+  grown_group group (Ok t) h = (other_groups t.partitions t.groups (group_added t.groups group) (h t refl), tt)
+  grown_group group (Err code) h = tt
+
+  pub add_group_exists : (c : CoordinatorValue) (id : List ℕ) (pair : Pair) (moment : ℕ) (group : List ℕ) → AllExist topics c → TurnExists (add_group c id pair moment group)
+  add_group_exists c id pair moment group all = grown_group group (open_transaction c id pair moment) (opened (open_transaction c id pair moment) (open_exists c id pair moment all))
 
   -- ---- EndTxn
 

@@ -1,6 +1,6 @@
 -- What the laws of transactions see of the broker's world: the coordinator, the moment, and of each batch and marker of
--- a log whose it is.
-use Rattle.std.specs.Prelude.{pos, int_lt, List, [], map, Option, Some, None, if◌then◌else◌}
+-- a log, and of each offset and decision of a group, whose it is.
+use Rattle.std.specs.Prelude.{ℤ, pos, int_lt, List, [], map, Option, Some, None, if◌then◌else◌}
 use Rattle.record_batch.specs.declared.outcome.Outcome.{Outcome as MarkedOutcome}
 use Rattle.record_batch.specs.declared.outcome.Outcome.TheVariants as marked
 use Rattle.record_batch.specs.Batch.{BatchData}
@@ -9,6 +9,10 @@ use Rattle.txn_coordinator.specs.declared.target.Target.{Target}
 use Rattle.txn_coordinator.specs.declared.target.Target.TheVariants.{Partition, Group}
 use Rattle.txn_coordinator.specs.declared.marker.Outcome.{Outcome as Ending}
 use Rattle.txn_coordinator.specs.declared.marker.Outcome.TheVariants.{Commit, Abort}
+use Rattle.group_offsets.specs.declared.event.OffsetEvent.{OffsetEvent}
+use Rattle.group_offsets.specs.declared.event.OffsetEvent.TheVariants.{Put, Stage, Decide}
+use Rattle.group_offsets.specs.declared.group.Group.{Group as GroupValue}
+use Rattle.group_offsets.specs.Groups.{group_of}
 use Rattle.txn_laws.specs.Small.{Entry, World as SmallWorld}
 use Rattle.txn_laws.specs.Small.Entry.{Data, Marker, Other}
 use Rattle.request_handlers.specs.World.{World, TopicValue, LogValue}
@@ -40,15 +44,27 @@ abbrev pub log_entries : Option LogValue → List Entry
 log_entries None = []
 log_entries (Some log) = map entry_of log
 
--- groups hold nothing yet
-abbrev pub entries_at : List TopicValue → Target → List Entry
-entries_at topics (Partition p) = log_entries (log_at topics p.topic p.index)
-entries_at topics (Group g) = []
+-- ---- a group
 
-abbrev pub entries_in : World → Target → List Entry
-entries_in w target = entries_at w.topics target
+-- a group keeps of a producer its id alone: the epoch 0 stands for each
+abbrev pub in_group : ℤ → Pair
+in_group producer = record { producer = producer; epoch = pos 0 }
+
+-- an offset of no transaction, an offset of a transaction, and a transaction's end
+abbrev pub event_entry : OffsetEvent → Entry
+event_entry (Put o) = Other
+event_entry (Stage producer o) = Data (in_group producer)
+event_entry (Decide producer outcome) = Marker (in_group producer) (ending_of outcome)
 
 -- ---- the world
+
+-- a group that hasn't begun has none
+abbrev pub entries_at : List TopicValue → List GroupValue → Target → List Entry
+entries_at topics groups (Partition p) = log_entries (log_at topics p.topic p.index)
+entries_at topics groups (Group g) = map event_entry (group_of groups g).offsets
+
+abbrev pub entries_in : World → Target → List Entry
+entries_in w target = entries_at w.topics w.groups target
 
 abbrev pub small : World → SmallWorld
 small w = record { coordinator = w.coordinator; entries = λ target. entries_in w target; moment = w.moment }

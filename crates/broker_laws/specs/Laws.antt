@@ -1,44 +1,62 @@
 -- What holds in each world that the broker's events reach: each transaction that is prepared is completed, and what is
 -- fenced stays out, whatever is asked, granted and refused meanwhile (KIP-98, 'Transaction Coordinator', 'Fencing').
-use Rattle.std.specs.Prelude.{◌≡◌, true, false, ℕ, ◌≤◌, List, [], ◌∷◌, ◌++◌, map, Option, Some, None}
+use Rattle.std.specs.Prelude.{◌≡◌, true, false, ℕ, ℤ, ◌≤◌, List, [], ◌∷◌, ◌++◌, map, Option, Some, None}
+use Rattle.std.specs.Option.{option_map}
 use Rattle.wire_types.specs.declared.error_code.ErrorCode.TheVariants as codes
+use Rattle.wire_types.specs.declared.topic.Topic.{Topic}
 use Rattle.acl_binding.specs.declared.question.Caller.{Caller}
 use Rattle.settings.specs.declared.settings.Settings.{Settings}
+use Rattle.record_batch.specs.declared.outcome.Outcome.{Outcome as MarkedOutcome}
 use Rattle.record_batch.specs.declared.header.BatchHeader.{BatchHeader}
+use Rattle.msg_group.specs.declared.offset_commit.OffsetCommitRequest.{OffsetCommitRequest}
 use Rattle.msg_txn.specs.declared.init_producer_id.InitProducerIdRequest.{InitProducerIdRequest}
 use Rattle.msg_txn.specs.declared.end_txn.EndTxnRequest.{EndTxnRequest}
-use Rattle.msg_admin.specs.declared.request.Request.TheVariants.{InitProducerId, EndTxn}
+use Rattle.msg_txn.specs.declared.txn_offset_commit.TxnOffsetCommitRequest.{TxnOffsetCommitRequest}
+use Rattle.msg_txn.specs.declared.txn_offset_commit.TxnOffsetCommitReply.{TxnOffsetCommitReply}
+use Rattle.msg_txn.specs.declared.txn_offset_commit.StagedOffset.{StagedOffset}
+use Rattle.msg_admin.specs.declared.request.Request.TheVariants.{OffsetCommit, InitProducerId, EndTxn, TxnOffsetCommit}
 use Rattle.msg_admin.specs.declared.reply.Reply.TheVariants as replies
 use Rattle.audit_trail.specs.declared.event.Event.{Event}
 use Rattle.audit_trail.specs.declared.event.Event.TheVariants.{Ask, Mark, Tick}
 use Rattle.txn_coordinator.specs.declared.pair.Pair.{Pair}
 use Rattle.txn_coordinator.specs.declared.target.TopicPartition.{TopicPartition}
 use Rattle.txn_coordinator.specs.declared.target.Target.{Target}
-use Rattle.txn_coordinator.specs.declared.target.Target.TheVariants.{Partition}
+use Rattle.txn_coordinator.specs.declared.target.Target.TheVariants.{Partition, Group}
 use Rattle.txn_coordinator.specs.declared.transaction.Transaction.{Transaction}
 use Rattle.txn_coordinator.specs.declared.transaction.Phase.TheVariants.{Ongoing}
 use Rattle.txn_coordinator.specs.declared.marker.Outcome.{Outcome as Ending}
-use Rattle.txn_coordinator.specs.declared.marker.Outcome.TheVariants.{Abort}
+use Rattle.txn_coordinator.specs.declared.marker.Outcome.TheVariants.{Commit, Abort}
 use Rattle.txn_coordinator.specs.declared.marker.OwedMarker.{OwedMarker}
 use Rattle.txn_coordinator.specs.declared.ending.EndForm.TheVariants.{Plain}
 use Rattle.txn_coordinator.specs.Words.{prepared, complete, targets}
 use Rattle.txn_coordinator.specs.Coordinator.{CoordinatorValue, recorded, turn_code}
-use Rattle.txn_coordinator.specs.Adding.{add_partitions}
+use Rattle.txn_coordinator.specs.Adding.{add_partitions, add_group}
 use Rattle.txn_coordinator.specs.EndTxn.{end}
 use Rattle.txn_coordinator.specs.Expiry.{is_due}
+use Rattle.txn_coordinator.specs.Warrants.{next_warrant}
+use Rattle.group_offsets.specs.declared.event.PartitionOffset.{PartitionOffset}
+use Rattle.group_offsets.specs.declared.event.OffsetEvent.{OffsetEvent}
+use Rattle.group_offsets.specs.declared.event.OffsetEvent.TheVariants.{Put, Stage, Decide}
+use Rattle.group_offsets.specs.declared.group.Group.{Group as GroupValue}
+use Rattle.group_offsets.specs.Offsets.{first_decision, offset_of}
+use Rattle.group_offsets.specs.Groups.{find_group, group_of}
+use Rattle.group_offsets.specs.Laws.{or_else, pending}
 use Rattle.txn_laws.specs.Small.{first_world as first_small_world, moved_all}
 use Rattle.txn_laws.specs.Sound.{Each, IsOrdered}
 use Rattle.txn_laws.specs.Laws.{IsEnded, IsDone, IsSilent, Refuses, up_to_last}
+use Rattle.txn_laws.specs.Kept.{kept_pair, kept_world, kept_moved_all}
 use Rattle.request_handlers.specs.World.{World, LogValue}
 use Rattle.request_handlers.specs.First.{first_world}
 use Rattle.request_handlers.specs.Logs.{log_at}
 use Rattle.request_handlers.specs.Judged.{pair_of, producer_code}
 use Rattle.request_handlers.specs.InitProducerId.{init_answered, init_error}
 use Rattle.request_handlers.specs.EndTxn.{ending, end_reply}
+use Rattle.request_handlers.specs.TxnOffsetCommit.{Staging, staging, staging_refusal}
+use Rattle.request_handlers.specs.Marks.{marked_outcome}
 use Rattle.request_handlers.specs.Ticks.{moment_after}
 use Rattle.request_handlers.specs.Step.{step, reply_to, reached, refusals_of}
 use Rattle.request_handlers.specs.Core.{CoreValue, IsCore}
-use Rattle.broker_laws.specs.Entries.{entry_of, entries_in, small}
+use Rattle.broker_laws.specs.Entries.{entry_of, event_entry, entries_in, small}
 use Rattle.broker_laws.specs.Moves.{moves_of, moves_of_all, marks}
 
 -- in each world that events reach from any settings
@@ -51,18 +69,21 @@ InCores Law = (core : CoreValue) → IsCore core → core.down ≡ false → Law
 
 -- ---- entries and moves
 
--- what the laws see of a partition is its log, batch by batch, and nothing of one that isn't there
+-- what the laws see of a partition is its log, batch by batch, and nothing of one that isn't there; of a group they see
+-- its offset events, and nothing of one that hasn't begun
 pub record EntriesAreTheLog : Type 0 where
   pub there : (w : World) (p : TopicPartition) (log : LogValue) → log_at w.topics p.topic p.index ≡ Some log → entries_in w (Partition p) ≡ map entry_of log
   pub missing : (w : World) (p : TopicPartition) → log_at w.topics p.topic p.index ≡ None → entries_in w (Partition p) ≡ []
+  pub begun : (w : World) (name : List ℕ) (g : GroupValue) → find_group w.groups name ≡ Some g → entries_in w (Group name) ≡ map event_entry g.offsets
+  pub fresh : (w : World) (name : List ℕ) → find_group w.groups name ≡ None → entries_in w (Group name) ≡ []
 
--- an event changes the coordinator, the moment and the entries as its moves do
+-- an event changes the coordinator, the moment and the entries as its moves do, but for the epochs that groups don't keep
 abbrev pub IsMoved : World → Type 0
-IsMoved w = (e : Event) → small (step w e) ≡ moved_all (small w) (moves_of w e)
+IsMoved w = (e : Event) → small (step w e) ≡ kept_moved_all (small w) (moves_of w e)
 
--- so events lead where their moves lead from the beginning
+-- so events lead where their moves lead from the beginning: what is kept of that is there
 abbrev pub EventsAreMoves : Type 0
-EventsAreMoves = (s : Settings) (es : List Event) → small (reached (first_world s) es) ≡ moved_all first_small_world (moves_of_all (first_world s) es)
+EventsAreMoves = (s : Settings) (es : List Event) → small (reached (first_world s) es) ≡ kept_world (moved_all first_small_world (moves_of_all (first_world s) es))
 
 -- ---- completion
 
@@ -86,18 +107,111 @@ pub record Prepares (w : World) : Type 0 where
   pub timed_out : (told : ℕ) (id : List ℕ) (t : Transaction) → recorded w.coordinator.transactions id ≡ Some t → is_due (moment_after w.moment told) t ≡ true → IsPreparedBy w (Tick told) id t Abort
 
 -- Where an event prepares a transaction, as many marker steps as markers then stand up to and including its last one
--- write the outcome to each partition that was added, behind all that the transaction's producer wrote there, whatever
--- other events come between them.
+-- write the outcome to each partition and group that was added, behind all that the transaction's producer wrote there,
+-- whatever other events come between them.
 abbrev pub CompletesPrepared : World → Type 0
 CompletesPrepared w = (e : Event) (id : List ℕ) (t : Transaction) (outcome : Ending) (after : List Event)
     → IsPreparedBy w e id t outcome → up_to_last (step w e).coordinator.warrants id ≤ marks after
     → Each (λ target. IsDone t.pair.producer outcome (entries_in w target) (entries_in (reached (step w e) after) target)) (targets t)
 
--- where a transaction waits, so many marker steps write its outcome to each partition for which it still owes a marker
+-- where a transaction waits, so many marker steps write its outcome to each partition and group for which it still owes a
+-- marker: to a partition with the marker's epoch, to a group without, since it keeps of a producer its id alone
 abbrev pub CompletesWaiting : World → Type 0
 CompletesWaiting w = (id : List ℕ) (t : Transaction) (outcome : Ending) (after : List Event)
     → recorded w.coordinator.transactions id ≡ Some t → t.phase ≡ prepared outcome → up_to_last w.coordinator.warrants id ≤ marks after
-    → Each (λ (x : OwedMarker). x.id ≡ id → IsEnded x.pair outcome (entries_in w x.target) (entries_in (reached w after) x.target)) w.coordinator.warrants
+    → Each (λ (x : OwedMarker). x.id ≡ id → IsEnded (kept_pair x.target x.pair) outcome (entries_in w x.target) (entries_in (reached w after) x.target)) w.coordinator.warrants
+
+-- ---- completion, in the words of a group
+
+-- neither an offset that the producer staged nor its decision
+abbrev pub IsNotBy : ℤ → OffsetEvent → Type 0
+IsNotBy producer (Put o) = Unit {0}
+IsNotBy producer (Stage p o) = p ≡ producer → ⊥
+IsNotBy producer (Decide p outcome) = p ≡ producer → ⊥
+
+-- among new events, an offset that the producer staged between these has that outcome as its first decision
+pub record IsDecidedAs (producer : ℤ) (outcome : Ending) (new before behind : List OffsetEvent) (o : PartitionOffset) : Type 0 where
+  pub more : List OffsetEvent
+  pub events : new ≡ before ++ Stage producer o ∷ (behind ++ more)
+  pub first : option_map (λ d. d.outcome) (first_decision producer 0 (behind ++ more)) ≡ Some (marked_outcome outcome)
+
+-- the committed offset behind a decision, given the offset that waited for it and the committed one before it
+abbrev pub shown_by : Ending → Option PartitionOffset → Option PartitionOffset → Option PartitionOffset
+shown_by Commit waiting committed = or_else waiting committed
+shown_by Abort waiting committed = committed
+
+-- a group's events went on so that what the producer had staged is decided
+pub record IsDecided (producer : ℤ) (outcome : Ending) (old new : List OffsetEvent) : Type 0 where
+  -- behind what stood there before, the first event of the producer is its decision of that outcome
+  pub between : List OffsetEvent
+  pub after : List OffsetEvent
+  pub events : new ≡ (old ++ between) ++ Decide producer (marked_outcome outcome) ∷ after
+  pub nothing : Each (IsNotBy producer) between
+  -- so each offset that the producer had staged and that waited is decided so
+  pub staged : (before behind : List OffsetEvent) (o : PartitionOffset) → old ≡ before ++ Stage producer o ∷ behind → first_decision producer 0 behind ≡ None → IsDecidedAs producer outcome new before behind o
+  -- and the decision shows of each partition the offset that had waited, if it is a commit, and nothing else
+  pub shown : (topic : List ℕ) (index : ℤ) → offset_of ((old ++ between) ++ Decide producer (marked_outcome outcome) ∷ []) topic index ≡ shown_by outcome (pending old producer topic index) (offset_of (old ++ between) topic index)
+  -- and leaves nothing of the producer waiting
+  pub settled : (topic : List ℕ) (index : ℤ) → pending ((old ++ between) ++ Decide producer (marked_outcome outcome) ∷ []) producer topic index ≡ None
+
+-- Where an event prepares a transaction, so many marker steps decide what its producer had staged in each group that was
+-- added.
+abbrev pub DecidesPrepared : World → Type 0
+DecidesPrepared w = (e : Event) (id : List ℕ) (t : Transaction) (outcome : Ending) (after : List Event)
+    → IsPreparedBy w e id t outcome → up_to_last (step w e).coordinator.warrants id ≤ marks after
+    → Each (λ g. IsDecided t.pair.producer outcome (group_of w.groups g).offsets (group_of (reached (step w e) after).groups g).offsets) t.groups
+
+-- where a transaction waits, so many decide it in each group for which it still owes a marker
+abbrev pub DecidesWaiting : World → Type 0
+DecidesWaiting w = (id : List ℕ) (t : Transaction) (outcome : Ending) (after : List Event)
+    → recorded w.coordinator.transactions id ≡ Some t → t.phase ≡ prepared outcome → up_to_last w.coordinator.warrants id ≤ marks after
+    → Each (λ (x : OwedMarker). x.id ≡ id → (g : List ℕ) → x.target ≡ Group g → IsDecided x.pair.producer outcome (group_of w.groups g).offsets (group_of (reached w after).groups g).offsets) w.coordinator.warrants
+
+-- ---- what comes into a group
+
+-- an OffsetCommit for the group
+pub record IsCommitFor (e : Event) (g : List ℕ) : Type 0 where
+  pub caller : Caller
+  pub client : Option (List ℕ)
+  pub request : OffsetCommitRequest
+  pub event : e ≡ Ask caller client (OffsetCommit request)
+  pub group : request.group ≡ g
+
+-- a TxnOffsetCommit of the producer for the group, whose transaction takes the group in
+pub record IsStagingFor (w : World) (e : Event) (g : List ℕ) (producer : ℤ) : Type 0 where
+  pub caller : Caller
+  pub client : Option (List ℕ)
+  pub request : TxnOffsetCommitRequest
+  pub event : e ≡ Ask caller client (TxnOffsetCommit request)
+  pub group : request.group ≡ g
+  pub by : request.producer ≡ producer
+  pub held : staging_refusal w.coordinator (staging request) ≡ None
+
+-- a marker step, where the front marker is owed to the group for the producer's transaction of that outcome
+pub record IsDecisionFor (w : World) (e : Event) (g : List ℕ) (producer : ℤ) (outcome : MarkedOutcome) : Type 0 where
+  pub event : e ≡ Mark
+  pub marker : OwedMarker
+  pub front : next_warrant w.coordinator ≡ Some marker
+  pub target : marker.target ≡ Group g
+  pub by : marker.pair.producer ≡ producer
+  pub ends : marked_outcome marker.outcome ≡ outcome
+
+-- the ways in which an offset event comes into a group
+abbrev pub ComesBy : World → Event → List ℕ → OffsetEvent → Type 0
+ComesBy w e g (Put o) = IsCommitFor e g
+ComesBy w e g (Stage producer o) = IsStagingFor w e g producer
+ComesBy w e g (Decide producer outcome) = IsDecisionFor w e g producer outcome
+
+-- what a group holds stays, and behind it comes what comes in such a way
+pub record GoesOn (w : World) (e : Event) (g : List ℕ) : Type 0 where
+  pub more : List OffsetEvent
+  pub events : (group_of (step w e).groups g).offsets ≡ (group_of w.groups g).offsets ++ more
+  pub ways : Each (ComesBy w e g) more
+
+abbrev pub GroupsGoOn : World → Type 0
+GroupsGoOn w = (e : Event) (g : List ℕ) → GoesOn w e g
+
+-- ---- the end of a transaction
 
 -- events of which the first ones complete the transaction of the id
 pub record IsCompletedBy (w : World) (events : List Event) (id : List ℕ) (outcome : Ending) : Type 0 where
@@ -134,15 +248,26 @@ pub record Fences (w : World) : Type 0 where
       → reply_to w (Ask caller client (InitProducerId r)) ≡ replies.InitProducerId (init_error codes.ConcurrentTransactions) → HasPair (step w (Ask caller client (InitProducerId r))) id t.pair → ⊥
   pub timed_out : (told : ℕ) (id : List ℕ) (t : Transaction) → recorded w.coordinator.transactions id ≡ Some t → is_due (moment_after w.moment told) t ≡ true → HasPair (step w (Tick told)) id t.pair → ⊥
 
--- no batch of the pair passes Produce's check, and no call that comes with the pair is told that there is no error
+-- no batch of the pair passes Produce's check, no offset of it that of TxnOffsetCommit, and no call that comes with the
+-- pair is told that there is no error
 pub record TurnsAway (c : CoordinatorValue) (pair : Pair) : Type 0 where
   pub batches : (id : Option (List ℕ)) (target : Target) (h : BatchHeader) → pair_of h ≡ pair → producer_code c id target h ≡ None → ⊥
   pub additions : (id : List ℕ) (moment : ℕ) (p : TopicPartition) (ps : List TopicPartition) → turn_code (add_partitions c id pair moment (p ∷ ps)) ≡ codes.None → ⊥
+  pub group_additions : (id : List ℕ) (moment : ℕ) (group : List ℕ) → turn_code (add_group c id pair moment group) ≡ codes.None → ⊥
+  pub stagings : (s : Staging) → s.pair ≡ pair → staging_refusal c s ≡ None → ⊥
   pub endings : (id : List ℕ) (outcome : Ending) → turn_code (end c Plain id pair outcome) ≡ codes.None → ⊥
 
--- no log gets data of the pair, and it is refused for each partition and each group, and by each request
+-- a TxnOffsetCommit leaves each group as it is, and is answered an error for each partition
+pub record StagesNothing (w : World) (e : Event) : Type 0 where
+  pub groups : (step w e).groups ≡ w.groups
+  pub fails : (reply : TxnOffsetCommitReply) → reply_to w e ≡ replies.TxnOffsetCommit reply → Each (λ (t : Topic StagedOffset). Each (λ (p : StagedOffset). p.error ≡ codes.None → ⊥) t.partitions) reply.topics
+
+-- no log gets data of the pair and no group an offset, and it is refused for each partition and each group, and by each
+-- request
 pub record IsShutOut (pair : Pair) (w later : World) : Type 0 where
-  pub silent : (target : Target) → IsSilent pair (entries_in w target) (entries_in later target)
+  pub silent : (p : TopicPartition) → IsSilent pair (entries_in w (Partition p)) (entries_in later (Partition p))
+  -- a group doesn't keep the epoch, so this is said of the requests that come with the pair
+  pub stages_nothing : (caller : Caller) (client : Option (List ℕ)) (r : TxnOffsetCommitRequest) → (staging r).pair ≡ pair → StagesNothing later (Ask caller client (TxnOffsetCommit r))
   pub refused : Refuses (small later) pair
   pub turned_away : TurnsAway later.coordinator pair
 
@@ -151,6 +276,6 @@ abbrev pub FencedWriteNothing : World → Type 0
 FencedWriteNothing w = (more after : List Event) (id : List ℕ) (pair : Pair)
     → HasPair w id pair → (HasPair (reached w more) id pair → ⊥) → IsShutOut pair (reached w more) (reached (reached w more) after)
 
--- no data stands behind a marker of its producer id with a greater epoch
+-- no data stands in a log behind a marker of its producer id with a greater epoch
 abbrev pub NoDataBehindAGreaterMarker : World → Type 0
-NoDataBehindAGreaterMarker w = (target : Target) → IsOrdered (entries_in w target)
+NoDataBehindAGreaterMarker w = (p : TopicPartition) → IsOrdered (entries_in w (Partition p))

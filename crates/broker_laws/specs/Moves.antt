@@ -1,8 +1,9 @@
--- The moves that an event is made of: what it changes of the coordinator, of the moment and of the logs.
+-- The moves that an event is made of: what it changes of the coordinator, of the moment, of the logs and of what groups
+-- hold of offsets.
 use Rattle.std.specs.Prelude.{ℕ, ◌+◌, ℤ, pos, int_lt, List, [], ◌∷◌, ◌++◌, Option, Some, None, Result, Ok, Err, if◌then◌else◌}
 use Rattle.acl_binding.specs.declared.question.Caller.{Caller}
 use Rattle.authorizer.specs.declared.answer.Refusal.{Refusal}
-use Rattle.authorizer.specs.Asking.{part_refusal}
+use Rattle.authorizer.specs.Asking.{Rules, part_refusal}
 use Rattle.wire_types.specs.declared.error_code.ErrorCode.{ErrorCode}
 use Rattle.wire_types.specs.declared.topic.Topic.{Topic}
 use Rattle.record_batch.specs.declared.header.BatchHeader.{BatchHeader}
@@ -15,16 +16,25 @@ use Rattle.msg_data.specs.declared.produce.ProduceRequest.{ProduceRequest}
 use Rattle.msg_data.specs.declared.produce.ProducedRecords.{ProducedRecords}
 use Rattle.msg_txn.specs.declared.init_producer_id.InitProducerIdRequest.{InitProducerIdRequest}
 use Rattle.msg_txn.specs.declared.add_partitions.AddPartitionsToTxnRequest.{AddPartitionsToTxnRequest}
+use Rattle.msg_txn.specs.declared.add_offsets.AddOffsetsToTxnRequest.{AddOffsetsToTxnRequest}
 use Rattle.msg_txn.specs.declared.end_txn.EndTxnRequest.{EndTxnRequest}
+use Rattle.msg_txn.specs.declared.txn_offset_commit.TxnOffsetCommitRequest.{TxnOffsetCommitRequest}
+use Rattle.msg_txn.specs.declared.txn_offset_commit.OffsetToStage.{OffsetToStage}
+use Rattle.msg_group.specs.declared.offset_commit.OffsetCommitRequest.{OffsetCommitRequest}
+use Rattle.msg_group.specs.declared.offset_commit.OffsetToCommit.{OffsetToCommit}
 use Rattle.msg_admin.specs.declared.request.Request.{Request}
 use Rattle.msg_admin.specs.declared.request.Request.TheVariants as requests
 use Rattle.audit_trail.specs.declared.event.Event.{Event}
 use Rattle.audit_trail.specs.declared.event.Event.TheVariants as events
-use Rattle.walk.specs.Rule.{refusal_of}
+use Rattle.walk.specs.Rule.{PartRule, refusal_of}
 use Rattle.walk.specs.Steps.{part_world, parts_world}
 use Rattle.txn_coordinator.specs.declared.pair.Pair.{Pair}
 use Rattle.txn_coordinator.specs.declared.target.Target.{Target}
+use Rattle.txn_coordinator.specs.declared.target.Target.TheVariants.{Group}
 use Rattle.txn_coordinator.specs.declared.ending.EndForm.TheVariants as forms
+use Rattle.group_offsets.specs.declared.group.Group.{Group as GroupValue}
+use Rattle.group_offsets.specs.Turn.{Turn, Stays, Puts}
+use Rattle.group_offsets.specs.Groups.{commit}
 use Rattle.txn_laws.specs.Small.{Move, Move as moves}
 use Rattle.txn_laws.specs.Laws.{expiries}
 use Rattle.request_handlers.specs.World.{World, TopicValue, LogValue, rules_of}
@@ -34,7 +44,10 @@ use Rattle.request_handlers.specs.Judged.{pair_of, partition_at, judged}
 use Rattle.request_handlers.specs.Produce.{producing}
 use Rattle.request_handlers.specs.InitProducerId.{init_question}
 use Rattle.request_handlers.specs.AddPartitions.{is_cut, partitions_of}
+use Rattle.request_handlers.specs.AddOffsets.{add_offsets_questions}
 use Rattle.request_handlers.specs.EndTxn.{id_question, ending}
+use Rattle.request_handlers.specs.OffsetCommit.{Committing, committing, offset_of, committing_rule}
+use Rattle.request_handlers.specs.TxnOffsetCommit.{staging, staging_refusal, stage_turn, staging_rule}
 use Rattle.request_handlers.specs.Ticks.{moment_after}
 use Rattle.request_handlers.specs.Step.{step}
 
@@ -42,6 +55,19 @@ use Rattle.request_handlers.specs.Step.{step}
 abbrev pub unless_refused : Option Refusal → List Move → List Move
 unless_refused None ms = ms
 unless_refused (Some r) ms = []
+
+-- ---- a walk: the moves of each part that is allowed, in what the parts before it leave
+
+abbrev pub part_moves : {P A W : Type 0} → PartRule P A W → Rules → (W → List ℕ → P → List Move) → W → List ℕ → P → List Move
+part_moves api rules made w name p = unless_refused (refusal_of api rules name p) (made w name p)
+
+abbrev pub parts_moves : {P A W : Type 0} → PartRule P A W → Rules → (W → List ℕ → P → List Move) → W → List ℕ → List P → List Move
+parts_moves api rules made w name [] = []
+parts_moves api rules made w name (p ∷ ps) = part_moves api rules made w name p ++ parts_moves api rules made (part_world api rules w name p) name ps
+
+abbrev pub topics_moves : {P A W : Type 0} → PartRule P A W → Rules → (W → List ℕ → P → List Move) → W → List (Topic P) → List Move
+topics_moves api rules made w [] = []
+topics_moves api rules made w (t ∷ ts) = parts_moves api rules made w t.name t.partitions ++ topics_moves api rules made (parts_world api rules w t.name t.partitions) ts
 
 -- ---- Produce: a move for each batch that is appended
 
@@ -70,21 +96,27 @@ abbrev pub batch_moves : Option (List ℕ) → Target → Result BatchData Error
 batch_moves id target (Err code) log = []
 batch_moves id target (Ok b) log = log_moves id target b log
 
--- a partition that is allowed, in the topics as they then are
+-- for a partition, in the topics as they then are
 abbrev pub produced_moves : World → ProduceRequest → List TopicValue → List ℕ → ProducedRecords → List Move
 produced_moves w r topics name p =
     batch_moves r.transactional_id (partition_at name p.index) (judged (magnitude w.node.max_batch) w.coordinator r.transactional_id r.acks (partition_at name p.index) p.records) (log_at topics name p.index)
 
-abbrev pub part_moves : World → Caller → ProduceRequest → List TopicValue → List ℕ → ProducedRecords → List Move
-part_moves w caller r topics name p = unless_refused (refusal_of (producing w caller r) (rules_of w) name p) (produced_moves w r topics name p)
+-- ---- OffsetCommit and TxnOffsetCommit: a move for each offset that is committed or staged
 
-abbrev pub parts_moves : World → Caller → ProduceRequest → List TopicValue → List ℕ → List ProducedRecords → List Move
-parts_moves w caller r topics name [] = []
-parts_moves w caller r topics name (p ∷ ps) = part_moves w caller r topics name p ++ parts_moves w caller r (part_world (producing w caller r) (rules_of w) topics name p) name ps
+abbrev pub turn_moves : {A : Type 0} → Turn A → List Move → List Move
+turn_moves (Stays code) ms = []
+turn_moves (Puts answer g) ms = ms
 
-abbrev pub topics_moves : World → Caller → ProduceRequest → List TopicValue → List (Topic ProducedRecords) → List Move
-topics_moves w caller r topics [] = []
-topics_moves w caller r topics (t ∷ ts) = parts_moves w caller r topics t.name t.partitions ++ topics_moves w caller r (parts_world (producing w caller r) (rules_of w) topics t.name t.partitions) ts
+abbrev pub commit_moves : Committing → List GroupValue → List ℕ → OffsetToCommit → Option LogValue → List Move
+commit_moves c gs name p None = []
+commit_moves c gs name p (Some log) = turn_moves (commit gs c.group c.generation c.member (offset_of name p)) (moves.Plain (Group c.group) ∷ [])
+
+-- for a partition, in the groups as they then are
+abbrev pub committed_moves : World → OffsetCommitRequest → List GroupValue → List ℕ → OffsetToCommit → List Move
+committed_moves w r gs name p = commit_moves (committing r) gs name p (log_at w.topics name p.index)
+
+abbrev pub staged_moves : World → TxnOffsetCommitRequest → List GroupValue → List ℕ → OffsetToStage → List Move
+staged_moves w r gs name p = turn_moves (stage_turn (staging_refusal w.coordinator (staging r)) w.topics (staging r) gs name p) (moves.Store r.transactional_id (staging r).pair (Group r.group) ∷ [])
 
 -- ---- the calls of the coordinator
 
@@ -100,6 +132,11 @@ add_moves w caller r =
     if is_cut caller r.transactional_id w.topics (rules_of w) r.topics then []
     else moves.AddPartitions r.transactional_id (record { producer = r.producer; epoch = r.epoch }) (partitions_of r.topics) ∷ []
 
+abbrev pub add_group_moves : World → Caller → AddOffsetsToTxnRequest → List Move
+add_group_moves w caller r =
+    unless_refused (part_refusal (rules_of w) (add_offsets_questions caller r.transactional_id r.group))
+    (moves.AddGroup r.transactional_id (record { producer = r.producer; epoch = r.epoch }) r.group ∷ [])
+
 abbrev pub end_moves : World → Caller → EndTxnRequest → List Move
 end_moves w caller r =
     unless_refused (part_refusal (rules_of w) (id_question caller r.transactional_id ∷ []))
@@ -108,11 +145,11 @@ end_moves w caller r =
 -- ---- an event
 
 abbrev pub request_moves : World → Caller → Request → List Move
-request_moves w caller (requests.Produce r) = topics_moves w caller r w.topics r.topics
+request_moves w caller (requests.Produce r) = topics_moves (producing w caller r) (rules_of w) (produced_moves w r) w.topics r.topics
 request_moves w caller (requests.Fetch r) = []
 request_moves w caller (requests.ListOffsets r) = []
 request_moves w caller (requests.Metadata r) = []
-request_moves w caller (requests.OffsetCommit r) = []
+request_moves w caller (requests.OffsetCommit r) = topics_moves (committing_rule w caller r) (rules_of w) (committed_moves w r) w.groups r.topics
 request_moves w caller (requests.OffsetFetch r) = []
 request_moves w caller (requests.FindCoordinator r) = []
 request_moves w caller (requests.JoinGroup r) = []
@@ -121,7 +158,9 @@ request_moves w caller (requests.LeaveGroup r) = []
 request_moves w caller (requests.SyncGroup r) = []
 request_moves w caller (requests.InitProducerId r) = init_moves w caller r
 request_moves w caller (requests.AddPartitionsToTxn r) = add_moves w caller r
+request_moves w caller (requests.AddOffsetsToTxn r) = add_group_moves w caller r
 request_moves w caller (requests.EndTxn r) = end_moves w caller r
+request_moves w caller (requests.TxnOffsetCommit r) = topics_moves (staging_rule w caller r) (rules_of w) (staged_moves w r) w.groups r.topics
 request_moves w caller (requests.DescribeAcls r) = []
 request_moves w caller (requests.CreateAcls r) = []
 request_moves w caller (requests.DeleteAcls r) = []

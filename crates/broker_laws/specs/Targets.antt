@@ -1,5 +1,5 @@
--- What transactions take in exists: so each marker that is owed has a log to be written to.
-use Rattle.std.specs.Prelude.{◌≡◌, Bool, true, false, List, is_some}
+-- What transactions take in exists: so each marker that is owed has a log or a group to be written to.
+use Rattle.std.specs.Prelude.{◌≡◌, Bool, true, List, is_some}
 use Rattle.txn_coordinator.specs.declared.target.Target.{Target}
 use Rattle.txn_coordinator.specs.declared.target.Target.TheVariants.{Partition, Group}
 use Rattle.txn_coordinator.specs.declared.transaction.Transaction.{Transaction}
@@ -10,10 +10,10 @@ use Rattle.txn_laws.specs.Sound.{Each}
 use Rattle.request_handlers.specs.World.{World, TopicValue}
 use Rattle.request_handlers.specs.Logs.{log_at}
 
--- the target is a partition that is there; groups are taken in by no transaction yet
+-- the target is a partition that is there, or any group: a group begins with the first call that changes it
 abbrev pub is_there : List TopicValue → Target → Bool
 is_there topics (Partition p) = is_some (log_at topics p.topic p.index)
-is_there topics (Group g) = false
+is_there topics (Group g) = true
 
 abbrev pub IsThere : List TopicValue → Target → Type 0
 IsThere topics target = is_there topics target ≡ true

@@ -6,14 +6,15 @@ ghost use Rattle.broker_laws.specs.Targets.{HasTargets};
 ghost use Rattle.broker_laws.specs.Laws.{InReached, InCores};
 ghost use Rattle.broker_laws.specs.Laws.{EntriesAreTheLog, IsMoved, EventsAreMoves};
 ghost use Rattle.broker_laws.specs.Laws.{Prepares, CompletesPrepared, CompletesWaiting, EndsComplete, MarksAreNotRefused};
+ghost use Rattle.broker_laws.specs.Laws.{DecidesPrepared, DecidesWaiting, GroupsGoOn};
 ghost use Rattle.broker_laws.specs.Laws.{Fences, FencedWriteNothing, NoDataBehindAGreaterMarker};
 
-/// What the laws see of a partition is its log, batch by batch.
+/// What the laws see of a partition is its log, batch by batch, and of a group its offset events.
 pub fn entries_are_the_log()
     ensures { EntriesAreTheLog }
 {}
 
-/// An event changes the coordinator, the moment and the logs as the moves do that it is made of.
+/// An event changes the coordinator, the moment, the logs and the offsets of groups as the moves do that it is made of.
 pub fn events_are_moves()
     ensures each { InReached IsMoved }
     ensures all { EventsAreMoves }
@@ -31,18 +32,33 @@ pub fn prepares()
     ensures { (w : World) → Prepares w }
 {}
 
-/// A transaction that an event prepares is completed at each partition that was added, by as many marker steps as
-/// markers stand up to and including its last one, whatever other events come between them: also where its owner's
+/// A transaction that an event prepares is completed at each partition and group that was added, by as many marker steps
+/// as markers stand up to and including its last one, whatever other events come between them: also where its owner's
 /// permissions are taken meanwhile.
 pub fn completes_prepared()
     ensures reached { InReached CompletesPrepared }
     ensures cores { InCores CompletesPrepared }
 {}
 
-/// A transaction that waits for its markers is completed at each partition for which it still owes one.
+/// A transaction that waits for its markers is completed at each partition and group for which it still owes one.
 pub fn completes_waiting()
     ensures reached { InReached CompletesWaiting }
     ensures cores { InCores CompletesWaiting }
+{}
+
+/// In each group that a transaction takes in, so many marker steps decide all that its producer had staged there: a commit
+/// shows it, and an abort doesn't.
+pub fn decides_groups()
+    ensures prepared_reached { InReached DecidesPrepared }
+    ensures prepared_cores { InCores DecidesPrepared }
+    ensures waiting_reached { InReached DecidesWaiting }
+    ensures waiting_cores { InCores DecidesWaiting }
+{}
+
+/// A group's offset events stay, and what comes behind them comes by an OffsetCommit for the group, by a TxnOffsetCommit
+/// for it of a transaction that takes it in, or by a marker that is owed to it.
+pub fn groups_go_on()
+    ensures { (w : World) → GroupsGoOn w }
 {}
 
 /// The record of a transaction that waits is complete once its last marker is written.
@@ -63,7 +79,8 @@ pub fn fences()
     ensures cores { InCores Fences }
 {}
 
-/// A producer whose transactional id has gone on to another producer id or epoch writes nothing more, and is refused.
+/// A producer whose transactional id has gone on to another producer id or epoch writes nothing more to any log or group,
+/// and is refused.
 pub fn fenced_write_nothing()
     ensures reached { InReached FencedWriteNothing }
     ensures cores { InCores FencedWriteNothing }

@@ -1,11 +1,11 @@
 //! The laws of transactions over the whole broker: whatever the events are, each transaction that is prepared is
-//! completed at each of its partitions, and a producer that is fenced writes nothing more.
+//! completed at each of its partitions and groups, and a producer that is fenced writes nothing more.
 #![tactic(auto)]
 
 mod laws;
 
 pub use laws::{
-    completes_prepared, completes_waiting, ends_complete, entries_are_the_log, events_are_moves,
-    fenced_write_nothing, fences, marks_are_not_refused, no_data_behind_a_greater_marker, prepares,
-    targets_exist,
+    completes_prepared, completes_waiting, decides_groups, ends_complete, entries_are_the_log,
+    events_are_moves, fenced_write_nothing, fences, groups_go_on, marks_are_not_refused,
+    no_data_behind_a_greater_marker, prepares, targets_exist,
 };
