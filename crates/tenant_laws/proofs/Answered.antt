@@ -34,10 +34,10 @@ use Rattle.tenant_laws.proofs.Parts.{granted_each, each_partition}
 use Rattle.tenant_laws.proofs.Described.{same_listed}
 
 module _ (v w : World) (caller : Caller) where
-  each : (request : Request) → SameForRequest v w caller request → AllByRecursion (SameGranted v w) (parts_of caller request)
+  pub each : (request : Request) → SameForRequest v w caller request → AllByRecursion (SameGranted v w) (parts_of caller request)
   each request same = granted_each v w (parts_of caller request) same.granted
 
-  by_partitions : {P : Type 0} (asks : List ℕ → List Question) (ts : List (Topic P)) → AllByRecursion (SameGranted v w) (partition_parts asks ts) → AllTopics (λ name p. SameGranted v w (asks name)) ts
+  pub by_partitions : {P : Type 0} (asks : List ℕ → List Question) (ts : List (Topic P)) → AllByRecursion (SameGranted v w) (partition_parts asks ts) → AllTopics (λ name p. SameGranted v w (asks name)) ts
   by_partitions asks ts all = each_partition asks (SameGranted v w) (λ name p. SameGranted v w (asks name)) (λ name p is. is) ts all
 
   -- ---- Metadata

@@ -9,4 +9,9 @@ pub mod Walked
 pub mod Transactions
 pub mod Kept
 pub mod Told
+pub mod Agreeing
+pub mod AgreedLogs
+pub mod AgreedGroups
+pub mod AgreedIds
+pub mod Agreed
 pub mod Rows

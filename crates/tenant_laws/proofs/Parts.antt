@@ -62,3 +62,11 @@ each_partition {P = P} asks Is Has to (t ∷ ts) all =
       by_parts : (ps : List P) → AllByRecursion Is (map (λ (p : P). asks t.name) ps) → AllParts Has t.name ps
       by_parts [] all = tt
       by_parts (p ∷ ps) all = (to t.name p all.0, by_parts ps all.1)
+
+-- what holds of each partition, and what follows of it
+pub more_topics : {P : Type 0} (Is Has : List ℕ → P → Type 0) → ((name : List ℕ) (p : P) → Is name p → Has name p) → (ts : List (Topic P)) → AllTopics Is ts → AllTopics Has ts
+more_topics Is Has to [] all = tt
+more_topics {P = P} Is Has to (t ∷ ts) all = (by_parts t.partitions all.0, more_topics Is Has to ts all.1) where
+  by_parts : (ps : List P) → AllParts Is t.name ps → AllParts Has t.name ps
+  by_parts [] all = tt
+  by_parts (p ∷ ps) all = (to t.name p all.0, by_parts ps all.1)

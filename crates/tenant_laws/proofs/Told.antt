@@ -47,7 +47,7 @@ module _ (rules : Rules) (asks : List ℕ → List Question) where
       ap (λ (qs : List Question). cons_option (part_refusal rules qs) (parts_refused api rules name ps)) (same name p)
       ∙ ap (cons_option (part_refusal rules (asks name))) (parts_told api same name ps)
 
-  walk_told : {P A W : Type 0} (api : PartRule P A W) → ((name : List ℕ) (p : P) → api.questions name p ≡ asks name) → (ts : List (Topic P)) → refusals api rules ts ≡ refusals_in rules (partition_parts asks ts)
+  pub walk_told : {P A W : Type 0} (api : PartRule P A W) → ((name : List ℕ) (p : P) → api.questions name p ≡ asks name) → (ts : List (Topic P)) → refusals api rules ts ≡ refusals_in rules (partition_parts asks ts)
   walk_told api same [] = refl
   walk_told {P = P} api same (t ∷ ts) =
       ap (λ (rs : List Refusal). rs ++ refusals api rules ts) (parts_told api same t.name t.partitions)

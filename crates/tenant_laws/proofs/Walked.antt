@@ -32,7 +32,7 @@ use Rattle.tenant_laws.proofs.Resources.{same_by, group_kept}
 
 -- ---- Produce
 
-other_topic : (batch : Result BatchData ErrorCode) (topics : List TopicValue) (name other : List ℕ) (index : ℤ) → bytes_eq name other ≡ false → find_topic (topics_produced batch topics name index) other ≡ find_topic topics other
+pub other_topic : (batch : Result BatchData ErrorCode) (topics : List TopicValue) (name other : List ℕ) (index : ℤ) → bytes_eq name other ≡ false → find_topic (topics_produced batch topics name index) other ≡ find_topic topics other
 other_topic (Err code) topics name other index apart = refl
 other_topic (Ok b) topics name other index apart = by_log (log_at topics name index) where
   by_log : (o : Option LogValue) → find_topic (appended_by topics name index b o) other ≡ find_topic topics other

@@ -1,6 +1,6 @@
 -- Tenants are apart: whatever a request is, its answer depends on nothing but what its questions were granted, what they
 -- were not granted it leaves as it was, and it is refused for each part that isn't granted, and for nothing else.
-use Rattle.std.specs.Prelude.{◌≡◌, ◌⊎◌, ℕ, true, false, List, [], ◌∷◌, Option, Some, None}
+use Rattle.std.specs.Prelude.{◌≡◌, ◌⊎◌, ℕ, Bool, true, false, List, [], ◌∷◌, Option, Some, None}
 use Rattle.std.specs.List.{AllByRecursion, filter, filter_map}
 use Rattle.std.specs.Str.{bytes_eq}
 use Rattle.acl_binding.specs.declared.question.Caller.{Caller}
@@ -20,7 +20,7 @@ use Rattle.txn_coordinator.specs.declared.marker.OwedMarker.{OwedMarker}
 use Rattle.request_handlers.specs.World.{World, rules_of, topic_names}
 use Rattle.request_handlers.specs.Step.{step, reply_to, refusals_of, reached}
 use Rattle.request_handlers.specs.OffsetFetch.{group_question}
-use Rattle.request_handlers.specs.Core.{CoreValue, IsCore, entry_of, receipt_of}
+use Rattle.request_handlers.specs.Core.{CoreValue, IsCore, entry_of, history, receipt_of}
 use Rattle.request_handlers.specs.Tenants.{SameBase, SameOn, SameGranted}
 use Rattle.request_handlers.specs.GroupLaws.{described_slots}
 use Rattle.tenant_laws.specs.Questions.{offset_parts, parts_of, questions_of, wants_all}
@@ -53,6 +53,38 @@ pub record SameReceipt (a b : CoreValue) (e : Event) : Type 0 where
 abbrev pub ReceiptsDependOnGrants : Type 0
 ReceiptsDependOnGrants = (a b : CoreValue) (caller : Caller) (client : Option (List ℕ)) (request : Request) → IsCore a → IsCore b → a.down ≡ false → b.down ≡ false
     → SameForRequest a.world b.world caller request → SameReceipt a b (Ask caller client request)
+
+-- ---- what goes on
+
+-- after the event the worlds agree in what they agreed before it: their base, and each resource
+pub record GoOnAgreeing (v w : World) (e : Event) : Type 0 where
+  pub base : SameBase (step v e) (step w e)
+  pub resources : (kind : Kind) (name : List ℕ) → SameOn v w kind name → SameOn (step v e) (step w e) kind name
+
+abbrev pub AgreementGoesOn : Type 0
+AgreementGoesOn = (v w : World) (caller : Caller) (client : Option (List ℕ)) (request : Request)
+    → SameForRequest v w caller request → GoOnAgreeing v w (Ask caller client request)
+
+-- the worlds agree in their base, and on each of these resources
+pub record AgreeAmong (among : Kind → List ℕ → Bool) (v w : World) : Type 0 where
+  pub base : SameBase v w
+  pub resources : (kind : Kind) (name : List ℕ) → among kind name ≡ true → SameOn v w kind name
+
+-- the event is a request that names its topics, and what is granted of it is among the resources
+abbrev pub IsAmong : (Kind → List ℕ → Bool) → World → Event → Type 0
+IsAmong among w (Ask caller client request) = (wants_all request ≡ false) × AllByRecursion (λ (q : Question). verdict w.book w.supers q ≡ Yes → among q.kind q.name ≡ true) (questions_of caller request)
+IsAmong among w Mark = ⊥
+IsAmong among w (Tick told) = ⊥
+
+-- so is each of the events, by the book that is then in force
+abbrev pub AreAmong : (Kind → List ℕ → Bool) → World → List Event → Type 0
+AreAmong among w [] = Unit {0}
+AreAmong among w (e ∷ es) = IsAmong among w e × AreAmong among (step w e) es
+
+-- such requests leave the same history in both worlds: each has its reply and its refusals
+abbrev pub HistoriesDependOnGrants : Type 0
+HistoriesDependOnGrants = (among : Kind → List ℕ → Bool) (v w : World) (events : List Event)
+    → AgreeAmong among v w → AreAmong among w events → history v events ≡ history w events
 
 -- ---- what stays as it was
 

@@ -2,12 +2,18 @@
 //! reach.
 
 ghost use Rattle.tenant_laws.specs.Laws.{AnswersDependOnGrants, ReceiptsDependOnGrants};
-ghost use Rattle.tenant_laws.specs.Laws.{RefusalsAreOfParts, UngrantedStays};
+ghost use Rattle.tenant_laws.specs.Laws.{AgreementGoesOn, HistoriesDependOnGrants, RefusalsAreOfParts, UngrantedStays};
 
 /// Two worlds that agree on what a request is granted give it the same reply and the same refusals.
 pub fn answers_depend_on_grants()
     ensures worlds { AnswersDependOnGrants }
     ensures cores { ReceiptsDependOnGrants }
+{}
+
+/// Worlds that agree on what a request is granted go on agreeing, and so lists of requests leave the same history.
+pub fn agreement_goes_on()
+    ensures events { AgreementGoesOn }
+    ensures histories { HistoriesDependOnGrants }
 {}
 
 /// A topic, a group or a transactional id on which no question of a request is granted is as before.

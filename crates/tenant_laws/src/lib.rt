@@ -4,4 +4,6 @@
 
 mod laws;
 
-pub use laws::{answers_depend_on_grants, refusals_are_of_parts, ungranted_stays};
+pub use laws::{
+    agreement_goes_on, answers_depend_on_grants, refusals_are_of_parts, ungranted_stays,
+};
