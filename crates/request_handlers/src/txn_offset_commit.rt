@@ -67,7 +67,7 @@ impl<'a> PartApi<OffsetToStage, StagedOffset, Groups> for Staging<'a> {
                 first.spend(policy);
                 third.spend(policy);
                 let log = self.topics.log(name, part.index);
-                let answer = self.stage(alloc, policy, second, groups, log, part, offset)?;
+                let answer = self.stage(alloc, policy, second, groups, log, name, part, offset)?;
                 Ok(Part::served(answer))
             }
             Err(refusal) => {
@@ -87,12 +87,14 @@ impl<'a> Staging<'a> {
         permit: Permit,
         groups: &mut Groups,
         log: Option<&Log>,
+        name: &Text,
         part: &OffsetToStage,
         offset: PartitionOffset,
     ) -> Result<StagedOffset, AllocError>
         requires permit { MayUse policy.now operations.Read self.now.group.now permit }
-        ensures groups { OnOk result (groups.new ≡ turned groups.old (turn_by self.now.refusal (record { id = self.now.id.now; pair = self.now.pair; group = self.now.group.now; generation = self.now.generation; member = self.now.member.now }) groups.old offset (option_copied log.entry))) }
-        ensures answer { IfOk result (λ answer. answer ≡ staged_code (code_in (answered (turn_by self.now.refusal (record { id = self.now.id.now; pair = self.now.pair; group = self.now.group.now; generation = self.now.generation; member = self.now.member.now }) groups.old offset (option_copied log.entry)))) part.now) }
+        requires offset { offset ≡ offset_staged name.now part.now }
+        ensures groups { OnOk result (groups.new ≡ turned groups.old (turn_by self.now.refusal (record { id = self.now.id.now; pair = self.now.pair; group = self.now.group.now; generation = self.now.generation; member = self.now.member.now }) groups.old (offset_staged name.now part.now) (option_copied log.entry))) }
+        ensures answer { IfOk result (λ answer. answer ≡ staged_code (code_in (answered (turn_by self.now.refusal (record { id = self.now.id.now; pair = self.now.pair; group = self.now.group.now; generation = self.now.generation; member = self.now.member.now }) groups.old (offset_staged name.now part.now) (option_copied log.entry)))) part.now) }
     {
         if log.is_none() {
             permit.spend(policy);
