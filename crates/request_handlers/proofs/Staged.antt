@@ -20,6 +20,7 @@ use Rattle.walk.specs.Alike.{AllParts, AllTopics, AreAlike}
 use Rattle.walk.specs.Steps.{world_by, part_world, parts_world, topics_world}
 use Rattle.walk.proofs.Alikeness.{answer_alike}
 use Rattle.walk.proofs.Weaving.{woven}
+use Rattle.txn_coordinator.specs.declared.pair.Pair.{Pair}
 use Rattle.txn_coordinator.specs.declared.target.Target.TheVariants as targets
 use Rattle.txn_coordinator.specs.declared.transaction.Transaction.{Transaction}
 use Rattle.txn_coordinator.specs.declared.turn.Turn.{Turn as CoordinatorTurn}
@@ -58,7 +59,7 @@ adds : (v w : World) (caller : Caller) (r : AddOffsetsToTxnRequest) → SameBase
 adds v w caller r base same =
     let first = id_question caller r.transactional_id in
     let qs = add_offsets_questions caller r.transactional_id r.group in
-    let pair = record { producer = r.producer; epoch = r.epoch } in
+    let pair : Pair = record { producer = r.producer; epoch = r.epoch } in
     subst (λ (o : Option Refusal). SameAnswer (whole_by o v (λ code. replies.AddOffsetsToTxn (add_offsets_reply code)) (offsets_added v r)) (add_offsets_outcome w caller r)) (ap (λ (rules : Rules). part_refusal rules qs) (sym base.rules))
     (whole_same (part_refusal (rules_of w) qs) v w _ (offsets_added v r) (offsets_added w r) (λ none.
     let agree : AreSame v.coordinator w.coordinator r.transactional_id = record { given = base.given; recorded = same.0 (yes_of (verdict w.book w.supers first) first (part_refusal (rules_of w) (read_question caller r.group ∷ [])) none) } in
@@ -180,7 +181,7 @@ whole_groups (Some refusal) w r = refl
 adds_kept : (w : World) (caller : Caller) (r : AddOffsetsToTxnRequest) → KeepsOtherIds w r.transactional_id (add_offsets_outcome w caller r)
 adds_kept w caller r =
     let o = part_refusal (rules_of w) (add_offsets_questions caller r.transactional_id r.group) in
-    let pair = record { producer = r.producer; epoch = r.epoch } in
+    let pair : Pair = record { producer = r.producer; epoch = r.epoch } in
     record {
       others = λ other differ. whole_kept o w _ (offsets_added w r) other (other_kept w.coordinator r.transactional_id other (add_offsets_turn w.coordinator w.moment r) (add_group_id w.coordinator r.transactional_id pair w.moment r.group) differ);
       topics = whole_topics o w _ _ refl;
