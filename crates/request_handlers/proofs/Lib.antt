@@ -25,5 +25,6 @@ pub mod Initials
 pub mod Together
 pub mod Sequenced
 pub mod Grouped
+pub mod StagedParts
 pub mod Staged
 pub mod Rows

@@ -6,7 +6,9 @@ ghost use Rattle.acl_binding.specs.declared.words.Operation.TheVariants as opera
 ghost use Rattle.group_offsets.specs.Groups.{MayUse, turned};
 ghost use Rattle.group_offsets.specs.Turn.{answered};
 ghost use Rattle.request_handlers.specs.Members.{code_in};
-ghost use Rattle.request_handlers.specs.TxnOffsetCommit.{staging, offset_staged, staged_code, staging_refusal, turn_by, txn_offset_commit_outcome};
+ghost use Rattle.authorizer.specs.Asking.{policy_rules};
+ghost use Rattle.walk.specs.Walk.{world_after, answers, refusals};
+ghost use Rattle.request_handlers.specs.TxnOffsetCommit.{staging, offset_staged, staged_code, staging_refusal, turn_by, stage_rule, txn_offset_commit_outcome};
 
 use crate::end_txn::id_question;
 use crate::members::{code_in, read_question};
@@ -22,7 +24,7 @@ use msg_txn::{OffsetToStage, StagedOffset, TxnOffsetCommitReply, TxnOffsetCommit
 use partition_log::Log;
 use std::alloc::{AllocError, Global};
 use txn_coordinator::{Coordinator, Pair, Target};
-use walk::{Part, PartApi, refusal_code, walk};
+use walk::{Part, PartApi, Walked, refusal_code, walk};
 use wire_types::{ErrorCode, Text};
 
 /// Whose transaction commits for which group, and what partitions there are.
@@ -138,18 +140,42 @@ fn staging_refusal(
 ) -> Result<Option<ErrorCode>, AllocError>
     ensures { IfOk result (λ refusal. refusal ≡ staging_refusal coordinator.now (staging request.now)) }
 {
-    let pair = pair_of(request);
+    let pair = Pair {
+        producer: request.producer,
+        epoch: request.epoch,
+    };
     let group = Target::Group(request.group.clone()?);
     Ok(refused_by(coordinator.holds(&request.transactional_id, pair, &group)))
 }
 
-fn pair_of(request: &TxnOffsetCommitRequest) -> Pair
-    ensures { result ≡ (staging request.now).pair }
+/// Walks the parts of a request whose transaction can commit for its group, or can't by this code.
+fn stage_all(
+    alloc: Global,
+    policy: &Policy,
+    groups: &mut Groups,
+    topics: &Topics,
+    caller: &Caller,
+    request: &TxnOffsetCommitRequest,
+    refusal: Option<ErrorCode>,
+) -> Result<Walked<StagedOffset>, AllocError>
+    ensures groups { OnOk result (groups.new ≡ world_after (stage_rule caller.now (staging request.now) refusal topics.now) (policy_rules policy.now) groups.old request.now.topics) }
+    ensures answers { IfOk result (λ walked. walked.topics ≡ answers (stage_rule caller.now (staging request.now) refusal topics.now) (policy_rules policy.now) groups.old request.now.topics) }
+    ensures refusals { IfOk result (λ walked. walked.refusals ≡ refusals (stage_rule caller.now (staging request.now) refusal topics.now) (policy_rules policy.now) request.now.topics) }
 {
-    Pair {
-        producer: request.producer,
-        epoch: request.epoch,
-    }
+    let api = Staging {
+        caller,
+        id: &request.transactional_id,
+        pair: Pair {
+            producer: request.producer,
+            epoch: request.epoch,
+        },
+        group: &request.group,
+        generation: request.generation,
+        member: &request.member,
+        refusal,
+        topics,
+    };
+    walk(alloc, &api, policy, groups, request.topics.as_slice())
 }
 
 impl State {
@@ -165,18 +191,16 @@ impl State {
         ensures refusals { IfOk result (λ o. o.refusals ≡ (txn_offset_commit_outcome self.old caller.now request.now).refusals) }
     {
         let refusal = staging_refusal(&self.coordinator, request)?;
-        let api = Staging {
+        let (policy, groups) = (&self.policy, &mut self.groups);
+        let walked = stage_all(
+            alloc,
+            policy,
+            groups,
+            &self.topics,
             caller,
-            id: &request.transactional_id,
-            pair: pair_of(request),
-            group: &request.group,
-            generation: request.generation,
-            member: &request.member,
+            request,
             refusal,
-            topics: &self.topics,
-        };
-        let topics = request.topics.as_slice();
-        let walked = walk(alloc, &api, &self.policy, &mut self.groups, topics)?;
+        )?;
         Ok(Outcome {
             reply: Reply::TxnOffsetCommit(TxnOffsetCommitReply {
                 throttle: 0,

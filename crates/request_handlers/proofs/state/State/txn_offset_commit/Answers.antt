@@ -1,6 +1,21 @@
-use Rattle.std.proofs.Common.{rules}
-use Rattle.walk.proofs.Weights.{weightless}
+use Rattle.std.proofs.Common.{rules, ap, ◌∙◌}
+use Rattle.request_handlers.specs.contracts.state.State.{the_view}
+use Rattle.request_handlers.specs.World.{World}
+use Rattle.request_handlers.specs.TxnOffsetCommit.{txn_offset_commit_outcome}
+use Rattle.request_handlers.proofs.StagedParts.{staged_groups, staged_reply}
 use Rattle.request_handlers.proofs.state.State.txn_offset_commit.Goals as goal
 
-pub walk-requires : goal.walk-requires
-walk-requires c = search (rules, weightless)
+pub returns-clause-world : goal.returns-clause-world
+returns-clause-world c =
+    staged_groups (the_view c.self.inside) c.args.caller.now c.args.request.now c.in_ok-refusal.refusal c.in_ok-refusal.ensures c.stage_all.new.groups c.in_ok-walked.ensures.groups
+    ∙ ap (λ (w : World). (txn_offset_commit_outcome w c.args.caller.now c.args.request.now).world) c.self.view_is
+
+pub returns-clause-reply : goal.returns-clause-reply
+returns-clause-reply c =
+    staged_reply (the_view c.self.inside) c.args.caller.now c.args.request.now c.in_ok-refusal.refusal c.in_ok-refusal.ensures c.in_ok-walked.walked.topics c.in_ok-walked.ensures.answers
+    ∙ ap (λ (w : World). (txn_offset_commit_outcome w c.args.caller.now c.args.request.now).reply) c.self.view_is
+
+pub returns-clause-refusals : goal.returns-clause-refusals
+returns-clause-refusals c =
+    let told = rw c.in_ok-refusal.ensures at c.in_ok-walked.ensures.refusals in
+    search (rules, told)
