@@ -2,8 +2,8 @@
 """Runs `kbroker replay` over a transactional id that uses up the epochs of its producer id.
 
 Each InitProducerId gives the next epoch, 0 to 32,766, and the one behind them epoch 0 of the next producer id. Where the
-time of a transaction of epoch 32,766 is over, the marker that aborts it carries 32,767, which no producer has; the next
-InitProducerId gives a new producer id too.
+time of a transaction of epoch 32,766 is over, the marker that aborts it carries 32,767, which no producer has: who adds a
+group or stages an offset with it is told so, and the next InitProducerId gives a new producer id too.
 """
 
 import struct
@@ -26,13 +26,14 @@ EPOCHS = 32_767
 TIMEOUT = 1_000
 
 
-def request(api, version, body):
-    """A line for a request of root, without a client's name."""
-    frame = struct.pack(">hhih", api, version, 1, -1) + body
+def request(api, version, body, tags=b""):
+    """A line for a request of root, without a client's name; a flexible one has tags in its header."""
+    frame = struct.pack(">hhih", api, version, 1, -1) + tags + body
     return f"req root h {struct.pack('>i', len(frame)).hex()}{frame.hex()}\n"
 
 
-# InitProducerId 0 of the id `t`; AddPartitionsToTxn 0 of partition 0 of `b`, by the last epoch; Fetch 4 from its start
+# InitProducerId 0 of the id `t`; AddPartitionsToTxn 0 of partition 0 of `b`, by the last epoch; Fetch 4 from its start;
+# AddOffsetsToTxn 0 of the group `g` and TxnOffsetCommit 3 of offset 5 of that partition, by the epoch behind the last
 INIT = request(22, 0, b"\0\1t" + struct.pack(">i", TIMEOUT))
 ADD = request(
     24, 0, b"\0\1t" + struct.pack(">qhi", 0, EPOCHS - 1, 1) + b"\0\1b" + struct.pack(">ii", 1, 0)
@@ -44,11 +45,23 @@ FETCH = request(
     + b"\0\1b"
     + struct.pack(">iiqi", 1, 0, 0, 1000),
 )
+ADD_GROUP = request(25, 0, b"\0\1t" + struct.pack(">qh", 0, EPOCHS) + b"\0\1g")
+STAGE = request(
+    28,
+    3,
+    b"\2t\2g"
+    + struct.pack(">qhi", 0, EPOCHS, -1)
+    + b"\1\0\2\2b\2"
+    + struct.pack(">iqi", 0, 5, -1)
+    + b"\0\0\0\0",
+    tags=b"\0",
+)
+INVALID_PRODUCER_EPOCH = 47
 
 
-def response(body):
+def response(body, tags=b""):
     """The line of a response that isn't delayed, to what `request` makes."""
-    frame = struct.pack(">ii", 1, 0) + body
+    frame = struct.pack(">i", 1) + tags + struct.pack(">i", 0) + body
     return struct.pack(">i", len(frame)).hex() + frame.hex()
 
 
@@ -78,12 +91,18 @@ def wear_out():
 
 def expire_last():
     """A transaction of the last epoch that is given is aborted when its time is over."""
-    script = INIT * EPOCHS + ADD + f"tick {TIMEOUT + 1}\nmark\n" + FETCH + INIT
-    added, ticked, marked, fetched, again = replay(script)[EPOCHS:]
+    behind = f"tick {TIMEOUT + 1}\n" + ADD_GROUP + STAGE + "mark\n" + FETCH + INIT
+    script = INIT * EPOCHS + ADD + behind
+    added, ticked, grouped, staged, marked, fetched, again = replay(script)[EPOCHS:]
     if added != response(struct.pack(">i", 1) + b"\0\1b" + struct.pack(">iih", 1, 0, 0)):
         sys.exit("worn epochs: the partition was not added")
     if (ticked, marked) != ("-", "-"):
         sys.exit("worn epochs: a line that sends nothing has sent something")
+    if grouped != response(struct.pack(">h", INVALID_PRODUCER_EPOCH)):
+        sys.exit("worn epochs: a group was added by an epoch that no producer has")
+    refused = b"\2\2b\2" + struct.pack(">ih", 0, INVALID_PRODUCER_EPOCH) + b"\0\0\0"
+    if staged != response(refused, tags=b"\0"):
+        sys.exit("worn epochs: an offset was staged by an epoch that no producer has")
     # a control batch of 78 bytes stands at the end: its attributes, and its producer's id and epoch
     batch = bytes.fromhex(fetched)[-78:]
     if struct.unpack(">h20xqh", batch[21:53]) != (48, 0, EPOCHS):
