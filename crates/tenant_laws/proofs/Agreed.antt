@@ -89,7 +89,7 @@ module _ (among : Kind → List ℕ → Bool) where
   granted_among v w agree [] within = tt
   granted_among v w agree (q ∷ qs) within = (λ yes. agree q.kind q.name (within.0 yes), granted_among v w agree qs within.1)
 
-  for_request : (v w : World) (caller : Caller) (client : Option (List ℕ)) (request : Request) → AgreeAmong among v w → IsAmong among w (Ask caller client request) → SameForRequest v w caller request
+  pub for_request : (v w : World) (caller : Caller) (client : Option (List ℕ)) (request : Request) → AgreeAmong among v w → IsAmong among w (Ask caller client request) → SameForRequest v w caller request
   for_request v w caller client request agree within = record {
     base = agree.base;
     granted = granted_among v w agree.resources (questions_of caller request) within.1;

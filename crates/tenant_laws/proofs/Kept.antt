@@ -121,7 +121,7 @@ module _ (w : World) (caller : Caller) where
 settings_counted : (w : World) (caller : Caller) (request : Request) → KeepsSettings w (counted (request_outcome w caller request).world)
 settings_counted w caller request = let kept = settings_kept w caller request in record { node = kept.node; supers = kept.supers; moment = kept.moment; names = kept.names }
 
-by_questions : (w : World) (caller : Caller) (client : Option (List ℕ)) (request : Request) (kind : Kind) (name : List ℕ) → NoQuestionIsGranted w kind name (questions_of caller request) → SameOn w (step w (Ask caller client request)) kind name
+pub by_questions : (w : World) (caller : Caller) (client : Option (List ℕ)) (request : Request) (kind : Kind) (name : List ℕ) → NoQuestionIsGranted w kind name (questions_of caller request) → SameOn w (step w (Ask caller client request)) kind name
 by_questions w caller client request kind name none = same_counted w (request_outcome w caller request).world kind name (kept w caller request kind name (no_part_granted w kind name (parts_of caller request) none))
 
 over_events : (w : World) (kind : Kind) (name : List ℕ) (events : List Event) → AreUngranted w kind name events → SameOn w (reached w events) kind name

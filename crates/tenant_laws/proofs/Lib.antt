@@ -14,4 +14,5 @@ pub mod AgreedLogs
 pub mod AgreedGroups
 pub mod AgreedIds
 pub mod Agreed
+pub mod Unseen
 pub mod Rows

@@ -47,6 +47,12 @@ same_counted w u Group name same = same
 same_counted w u Cluster name same = same
 same_counted w u TransactionalId name same = same
 
+pub same_back : (u v : World) (kind : Kind) (name : List ℕ) → SameOn u v kind name → SameOn v u kind name
+same_back u v Topic name same = sym same
+same_back u v Group name same = sym same
+same_back u v Cluster name same = tt
+same_back u v TransactionalId name same = sym same
+
 pub same_then : (u v w : World) (kind : Kind) (name : List ℕ) → SameOn u v kind name → SameOn v w kind name → SameOn u w kind name
 same_then u v w Topic name first second = first ∙ second
 same_then u v w Group name first second = first ∙ second

@@ -3,6 +3,7 @@
 
 ghost use Rattle.tenant_laws.specs.Laws.{AnswersDependOnGrants, ReceiptsDependOnGrants};
 ghost use Rattle.tenant_laws.specs.Laws.{AgreementGoesOn, HistoriesDependOnGrants, RefusalsAreOfParts, UngrantedStays};
+ghost use Rattle.tenant_laws.specs.Runs.{OthersAreUnseen};
 
 /// Two worlds that agree on what a request is granted give it the same reply and the same refusals.
 pub fn answers_depend_on_grants()
@@ -14,6 +15,12 @@ pub fn answers_depend_on_grants()
 pub fn agreement_goes_on()
     ensures events { AgreementGoesOn }
     ensures histories { HistoriesDependOnGrants }
+{}
+
+/// A tenant is told the same in two runs in which others, who are granted nothing of what is the tenant's, ask what they
+/// like.
+pub fn others_are_unseen()
+    ensures { OthersAreUnseen }
 {}
 
 /// A topic, a group or a transactional id on which no question of a request is granted is as before.

@@ -5,5 +5,6 @@
 mod laws;
 
 pub use laws::{
-    agreement_goes_on, answers_depend_on_grants, refusals_are_of_parts, ungranted_stays,
+    agreement_goes_on, answers_depend_on_grants, others_are_unseen, refusals_are_of_parts,
+    ungranted_stays,
 };
