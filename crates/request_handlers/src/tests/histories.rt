@@ -9,8 +9,10 @@ use crate::Core;
 use crate::tests::draws::{Draws, Line, event_of};
 use crate::tests::fixtures::settings;
 use crate::tests::plain::Seen;
-use audit_trail::{Entry, Event, Receipt, line};
+use acl_binding::Caller;
+use audit_trail::{Entry, Event, Receipt, Trail, line};
 use authorizer::Refusal;
+use msg_admin::Request;
 use settings::{Settings, TopicSetting};
 use std::alloc::{AllocError, Global};
 use std::test::Fail;
@@ -34,9 +36,10 @@ fn settings_of_two(alloc: Global) -> Result<Settings, AllocError> {
     })
 }
 
-fn taken(alloc: Global, core: &mut Core, line: &Line) -> Result<Receipt, Fail> {
-    let event = event_of(alloc, line).ok_or("a line that is no event")?;
-    Ok(core.step(event)?)
+fn event_in(alloc: Global, line: &Line) -> Result<Event, Fail>
+    ensures { IfOk result EventFits }
+{
+    Ok(event_of(alloc, line).ok_or("a line that is no event")?)
 }
 
 fn events_of(alloc: Global, lines: &[Line]) -> Result<Vec<Event>, Fail>
@@ -44,35 +47,34 @@ fn events_of(alloc: Global, lines: &[Line]) -> Result<Vec<Event>, Fail>
 {
     let mut events = Vec::new(alloc);
     for line in lines {
-        let event = event_of(alloc, line).ok_or("a line that is no event")?;
+        let event = event_in(alloc, line)?;
         events.push(event)?;
     }
     Ok(events)
 }
 
 fn is_same_event(one: &Event, other: &Event) -> bool {
-    match (one, other) {
-        (
-            Event::Ask {
-                caller,
-                client,
-                request,
-            },
-            Event::Ask {
-                caller: other_caller,
-                client: other_client,
-                request: other_request,
-            },
-        ) => {
-            caller.who == other_caller.who
-                && caller.host == other_caller.host
-                && client == other_client
-                && request == other_request
-        }
-        (Event::Mark, Event::Mark) => true,
-        (Event::Tick(moment), Event::Tick(other_moment)) => moment == other_moment,
-        _ => false,
+    match one {
+        Event::Ask {
+            caller,
+            client,
+            request,
+        } => is_asked(other, caller, client, request),
+        Event::Mark => matches!(other, Event::Mark),
+        Event::Tick(moment) => matches!(other, Event::Tick(told) if told == moment),
     }
+}
+
+fn is_asked(event: &Event, who: &Caller, name: &Option<Text>, asked: &Request) -> bool {
+    let Event::Ask {
+        caller,
+        client,
+        request,
+    } = event
+    else {
+        return false;
+    };
+    caller.who == who.who && caller.host == who.host && client == name && request == asked
 }
 
 fn are_same_refusals(
@@ -96,36 +98,78 @@ fn is_same_entry(alloc: Global, one: &Entry, other: &Entry) -> Result<bool, Allo
     )
 }
 
+fn taken(alloc: Global, core: &mut Core, line: &Line) -> Result<Receipt, Fail> {
+    let event = event_in(alloc, line)?;
+    Ok(core.step(event)?)
+}
+
+/// Takes a line, and tells whether its answer is right.
+fn take_one(
+    alloc: Global,
+    core: &mut Core,
+    draws: &mut Draws,
+    seen: &mut Seen,
+    line: &Line,
+) -> Result<bool, Fail> {
+    let receipt = taken(alloc, core, line)?;
+    draws.learn(&receipt);
+    seen.see(alloc, core, receipt.event.value(), receipt.reply.value())
+}
+
+/// Draws a thousand lines and takes each, and tells which has an answer that is not right.
+fn take_all(
+    alloc: Global,
+    core: &mut Core,
+    seen: &mut Seen,
+    lines: &mut Vec<Line>,
+) -> Result<Option<u64>, Fail> {
+    let mut draws = Draws::new(SEED);
+    for place in 0..1000 {
+        let line = draws.line(alloc, core)?;
+        if !take_one(alloc, core, &mut draws, seen, &line)? {
+            return Ok(Some(place));
+        }
+        lines.push(line)?;
+    }
+    Ok(None)
+}
+
+/// Whether the trails have the same entries, so many of them.
+fn are_same_trails(alloc: Global, one: &Trail, other: &Trail, len: usize) -> Result<bool, Fail> {
+    for place in 0..len {
+        let entry = one.entry(place).ok_or("no entry")?;
+        let other_entry = other.entry(place).ok_or("no entry")?;
+        if !is_same_entry(alloc, entry, other_entry)? {
+            return Ok(false);
+        }
+    }
+    Ok(one.len() == len && other.len() == len)
+}
+
+/// Runs the events of the lines as one list, and tells whether each was taken.
+fn run_all(alloc: Global, core: &mut Core, lines: &[Line]) -> Result<bool, Fail> {
+    let (receipts, stop) = core.run(events_of(alloc, lines)?);
+    Ok(receipts.len() == lines.len() && stop.is_none())
+}
+
+/// Whether a core that runs the lines as one list has the same trail as one that took them one by one.
+fn is_same_run(alloc: Global, stepped: &Core, lines: &[Line]) -> Result<bool, Fail> {
+    let mut core = Core::open(alloc, settings_of_two(alloc)?)?;
+    Ok(
+        run_all(alloc, &mut core, lines)?
+            && are_same_trails(alloc, stepped.trail(), core.trail(), 1000)?,
+    )
+}
+
 #[test]
 fn a_thousand_events(rt: HostRuntime) -> Result<(), Fail> {
     let alloc = rt.alloc();
-    let mut stepped = Core::open(alloc, settings_of_two(alloc)?)?;
-    let mut draws = Draws::new(SEED);
+    let mut core = Core::open(alloc, settings_of_two(alloc)?)?;
     let mut seen = Seen::nothing();
     let mut lines = Vec::new(alloc);
-    for place in 0..1000 {
-        let line = draws.line(alloc, &stepped)?;
-        let receipt = taken(alloc, &mut stepped, &line)?;
-        let is_right = seen.see(
-            alloc,
-            &stepped,
-            receipt.event.value(),
-            receipt.reply.value(),
-        )?;
-        assert!(rt; is_right, "the fetch of event {place}");
-        draws.learn(&receipt);
-        lines.push(line)?;
-    }
-    assert!(rt; stepped.trail().refusals() >= 100);
-    assert!(rt; seen.is_enough(), "{seen:?}");
-    let mut ran = Core::open(alloc, settings_of_two(alloc)?)?;
-    let (receipts, stop) = ran.run(events_of(alloc, &lines)?);
-    assert_eq!(rt; (receipts.len(), stop), (1000, None));
-    assert_eq!(rt; (stepped.trail().len(), ran.trail().len()), (1000, 1000));
-    for place in 0..1000 {
-        let one = stepped.trail().entry(place).ok_or("no entry")?;
-        let other = ran.trail().entry(place).ok_or("no entry")?;
-        assert!(rt; is_same_entry(alloc, one, other)?, "event {place}");
-    }
+    let wrong = take_all(alloc, &mut core, &mut seen, &mut lines)?;
+    assert_eq!(rt; wrong, None);
+    assert!(rt; core.trail().refusals() >= 100 && seen.is_enough());
+    assert!(rt; is_same_run(alloc, &core, &lines)?);
     Ok(())
 }
