@@ -2,5 +2,8 @@
 
 mod cores;
 mod data;
+mod draws;
 mod fixtures;
 mod frames;
+mod histories;
+mod plain;

@@ -61,7 +61,7 @@ pub(crate) fn core(alloc: Global, trail_limit: i64) -> Result<Core, OpenFault> {
     }
 }
 
-fn caller(alloc: Global, who: &str, host: &str) -> Result<Caller, AllocError> {
+pub(crate) fn caller(alloc: Global, who: &str, host: &str) -> Result<Caller, AllocError> {
     Ok(Caller {
         who: Text::of(alloc, who)?,
         host: Text::of(alloc, host)?,
@@ -69,7 +69,7 @@ fn caller(alloc: Global, who: &str, host: &str) -> Result<Caller, AllocError> {
 }
 
 /// The correlation id of a frame, which is given without its size field, and the event that it asks for.
-fn asked(alloc: Global, caller: Caller, frame: &Bytes) -> Option<(i32, Event)>
+pub(crate) fn asked(alloc: Global, caller: Caller, frame: &Bytes) -> Option<(i32, Event)>
     ensures { IfSome result (λ asked. EventFits asked.1) }
 {
     let (header, request) = read_request(alloc, frame).ok()?;
