@@ -1,6 +1,6 @@
 //! Events that are drawn from a seed: each is a line, from which the same event is made as often as it is needed.
 
-ghost use Rattle.std.specs.Prelude.{◌≡◌, ◌<◌, ◌≤◌, IfOk, IfSome};
+ghost use Rattle.std.specs.Prelude.{◌<◌, IfSome};
 ghost use Rattle.request_handlers.specs.Core.{EventFits};
 
 use crate::Core;
