@@ -3,34 +3,22 @@
 ghost use Rattle.std.specs.Prelude.{IfSome};
 ghost use Rattle.request_handlers.specs.Core.{EventFits};
 
-use crate::tests::fixtures::{core, settings};
+use crate::tests::fixtures::{asking, caller, core, settings};
 use crate::{Core, Stop};
-use acl_binding::Caller;
 use audit_trail::Event;
 use msg_admin::Request;
 use msg_data::MetadataRequest;
 use settings::OpenFault;
 use std::alloc::Global;
 use std::test::Fail;
-use wire_types::Text;
 
 /// A request for all topics.
 fn asks_for_all(alloc: Global, who: &str) -> Option<Event>
     ensures { IfSome result EventFits }
 {
-    let request = Request::Metadata(MetadataRequest { topics: None });
-    if !request.fits() {
-        return None;
-    }
-    let caller = Caller {
-        who: Text::of(alloc, who).ok()?,
-        host: Text::of(alloc, "10.0.0.5").ok()?,
-    };
-    Some(Event::Ask {
-        caller,
-        client: None,
-        request,
-    })
+    let caller = caller(alloc, who, "10.0.0.5").ok()?;
+    let all = MetadataRequest { topics: None };
+    asking(caller, Request::Metadata(all))
 }
 
 /// The place of the event's receipt.

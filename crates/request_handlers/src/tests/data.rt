@@ -1,9 +1,9 @@
 //! Produce, Fetch and ListOffsets through the core.
 
 use crate::Core;
-use crate::tests::fixtures::{answer, core, is};
+use crate::tests::fixtures::{answer, asking, caller, core, is};
 use acl_binding::Caller;
-use audit_trail::{Event, Receipt};
+use audit_trail::Receipt;
 use bytes::Bytes;
 use msg_admin::{Reply, Request};
 use msg_data::{
@@ -40,19 +40,8 @@ const ONE: [u8; 69] = [
 ];
 
 /// What the core answers to a request.
-fn ask(alloc: Global, core: &mut Core, who: &str, request: Request) -> Option<Receipt> {
-    if !request.fits() {
-        return None;
-    }
-    let caller = Caller {
-        who: Text::of(alloc, who).ok()?,
-        host: Text::of(alloc, "10.0.0.5").ok()?,
-    };
-    let event = Event::Ask {
-        caller,
-        client: None,
-        request,
-    };
+fn ask(core: &mut Core, caller: Caller, request: Request) -> Option<Receipt> {
+    let event = asking(caller, request)?;
     core.step(event).ok()
 }
 
@@ -80,13 +69,14 @@ fn produced(
         index: 0,
         records: Some(Bytes::from_static(records)),
     };
+    let root = caller(alloc, "User:root", "10.0.0.5").ok()?;
     let request = Request::Produce(ProduceRequest {
         transactional_id: None,
         acks,
         timeout: 0,
         topics: only(alloc, name, part).ok()?,
     });
-    let receipt = ask(alloc, core, "User:root", request)?;
+    let receipt = ask(core, root, request)?;
     let Reply::Produce(reply) = receipt.reply.value() else {
         return None;
     };
@@ -106,6 +96,7 @@ fn fetched(
         offset,
         max_bytes,
     };
+    let root = caller(alloc, "User:root", "10.0.0.5").ok()?;
     let request = Request::Fetch(FetchRequest {
         replica: -1,
         max_wait: 0,
@@ -114,7 +105,7 @@ fn fetched(
         isolation: Isolation::ReadUncommitted,
         topics: only(alloc, "b", part).ok()?,
     });
-    let receipt = ask(alloc, core, "User:root", request)?;
+    let receipt = ask(core, root, request)?;
     let Reply::Fetch(reply) = receipt.reply.value() else {
         return None;
     };

@@ -7,7 +7,7 @@ use crate::Core;
 use acl_binding::{Binding, Caller, Kind, Operation, Pattern, Permission};
 use audit_trail::Event;
 use bytes::Bytes;
-use msg_admin::{read_request, write_reply};
+use msg_admin::{Request, read_request, write_reply};
 use settings::{OpenFault, Settings, TopicSetting};
 use std::alloc::{AllocError, Global};
 use wire_types::{Items, Text};
@@ -65,6 +65,20 @@ pub(crate) fn caller(alloc: Global, who: &str, host: &str) -> Result<Caller, All
     Ok(Caller {
         who: Text::of(alloc, who)?,
         host: Text::of(alloc, host)?,
+    })
+}
+
+/// The event by which a caller asks, if the request fits a frame.
+pub(crate) fn asking(caller: Caller, request: Request) -> Option<Event>
+    ensures { IfSome result EventFits }
+{
+    if !request.fits() {
+        return None;
+    }
+    Some(Event::Ask {
+        caller,
+        client: None,
+        request,
     })
 }
 
