@@ -4,6 +4,7 @@ mod acls;
 mod committed;
 mod devices;
 mod groups;
+mod offset_codes;
 mod offsets;
 mod producers;
 mod scripts;
