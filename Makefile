@@ -7,5 +7,6 @@ run:
 test:
 	rt ci
 	scripts/build.sh
+	scripts/examples.py
 	scripts/refused_memory.py
 	scripts/worn_epochs.py

@@ -5,14 +5,12 @@ use Rattle.std.specs.Option.{option_map}
 use Rattle.std.specs.Ordering.{int_eq}
 use Rattle.std.proofs.lemmas.Bool.Decides.{Decides-int_eq}
 use Rattle.std.proofs.lemmas.List.{map-append}
-use Rattle.record_batch.specs.declared.outcome.Outcome.{Outcome as MarkedOutcome}
-use Rattle.record_batch.specs.declared.outcome.Outcome.TheVariants as marked
 use Rattle.txn_coordinator.specs.declared.pair.Pair.{Pair}
 use Rattle.txn_coordinator.specs.declared.target.TopicPartition.{TopicPartition}
 use Rattle.txn_coordinator.specs.declared.target.Target.{Target}
 use Rattle.txn_coordinator.specs.declared.target.Target.TheVariants.{Partition, Group}
-use Rattle.txn_coordinator.specs.declared.marker.Outcome.{Outcome as Ending}
-use Rattle.txn_coordinator.specs.declared.marker.Outcome.TheVariants.{Commit, Abort}
+use Rattle.record_batch.specs.declared.outcome.Outcome.{Outcome as Ending}
+use Rattle.record_batch.specs.declared.outcome.Outcome.TheVariants.{Commit, Abort}
 use Rattle.txn_coordinator.specs.declared.marker.OwedMarker.{OwedMarker}
 use Rattle.group_offsets.specs.declared.event.OffsetEvent.{OffsetEvent}
 use Rattle.group_offsets.specs.declared.event.OffsetEvent.TheVariants.{Put, Stage, Decide}
@@ -28,9 +26,8 @@ use Rattle.txn_laws.specs.Laws.{IsNotOf, IsEnded, IsDone}
 use Rattle.txn_laws.specs.Kept.{kept_pair}
 use Rattle.txn_laws.proofs.Base.{each_weaker}
 use Rattle.request_handlers.specs.World.{World}
-use Rattle.request_handlers.specs.Marks.{marked_outcome}
 use Rattle.request_handlers.specs.Step.{step, reached}
-use Rattle.broker_laws.specs.Entries.{ending_of, in_group, event_entry, entries_in}
+use Rattle.broker_laws.specs.Entries.{in_group, event_entry, entries_in}
 use Rattle.broker_laws.specs.Laws.{InReached, IsNotBy, shown_by, IsDecided, DecidesPrepared, DecidesWaiting}
 use Rattle.broker_laws.proofs.Noted.{Follows, GoOn}
 use Rattle.broker_laws.proofs.Growing.{Anything, reached_goes}
@@ -47,20 +44,16 @@ cancelled (x ∷ xs) ys zs e = let rest : xs ++ ys ≡ xs ++ zs = cc in cancelle
 record IsSplit (producer : ℤ) (o : Ending) (es : List OffsetEvent) : Type 0 where
   between : List OffsetEvent
   after : List OffsetEvent
-  events : es ≡ between ++ Decide producer (marked_outcome o) ∷ after
+  events : es ≡ between ++ Decide producer o ∷ after
   nothing : Each (IsNotBy producer) between
 
-told_again : (d : MarkedOutcome) → marked_outcome (ending_of d) ≡ d
-told_again marked.Commit = refl
-told_again marked.Abort = refl
-
-decision_is : (e : OffsetEvent) (pair : Pair) (o : Ending) → event_entry e ≡ Marker pair o → e ≡ Decide pair.producer (marked_outcome o)
+decision_is : (e : OffsetEvent) (pair : Pair) (o : Ending) → event_entry e ≡ Marker pair o → e ≡ Decide pair.producer o
 decision_is (Put x) pair o is = absurd (let clash : Other ≡ Marker pair o = is in cc)
 decision_is (Stage p x) pair o is = absurd (let clash : Data (in_group p) ≡ Marker pair o = is in cc)
 decision_is (Decide p d) pair o is =
     let same : in_group p ≡ pair = cc in
-    let told : ending_of d ≡ o = cc in
-    ap (λ (q : Pair). Decide q.producer d) same ∙ ap (λ x. Decide pair.producer x) (sym (told_again d) ∙ ap marked_outcome told)
+    let told : d ≡ o = cc in
+    ap (λ (q : Pair). Decide q.producer d) same ∙ ap (λ x. Decide pair.producer x) told
 
 not_by : (producer : ℤ) (e : OffsetEvent) → IsNotOf producer (event_entry e) → IsNotBy producer e
 not_by producer (Put x) h = tt
@@ -117,7 +110,7 @@ undecided p k (Put o ∷ es) h = undecided p (k + 1) es h.1
 undecided p k (Stage q o ∷ es) h = undecided p (k + 1) es h.1
 undecided p k (Decide q d ∷ es) h = ap (λ b. cond b (Some (record { place = k; outcome = d })) (first_decision p (k + 1) es)) (other_number q p h.0) ∙ undecided p (k + 1) es h.1
 
-first_is : (p : ℤ) (d : MarkedOutcome) (behind between after : List OffsetEvent) → first_decision p 0 behind ≡ None → Each (IsNotBy p) between
+first_is : (p : ℤ) (d : Ending) (behind between after : List OffsetEvent) → first_decision p 0 behind ≡ None → Each (IsNotBy p) between
     → option_map (λ x. x.outcome) (first_decision p 0 (behind ++ (between ++ Decide p d ∷ after))) ≡ Some d
 first_is p d behind between after none nothing =
     let rest = Decide p d ∷ after in
@@ -142,12 +135,12 @@ still_waits p topic index old (e ∷ es) h =
       one (Decide q d) not = pending_goes_on.decide old q d p topic index ∙ ap (λ b. cond b None (pending old p topic index)) (other_number q p not)
 
 shows : (p : ℤ) (o : Ending) (topic : List ℕ) (index : ℤ) (old between : List OffsetEvent) → Each (IsNotBy p) between
-    → offset_of ((old ++ between) ++ Decide p (marked_outcome o) ∷ []) topic index ≡ shown_by o (pending old p topic index) (offset_of (old ++ between) topic index)
+    → offset_of ((old ++ between) ++ Decide p o ∷ []) topic index ≡ shown_by o (pending old p topic index) (offset_of (old ++ between) topic index)
 shows p Commit topic index old between h =
     committed_goes_on.commit (old ++ between) p topic index ∙ ap (λ x. or_else x (offset_of (old ++ between) topic index)) (still_waits p topic index old between h)
 shows p Abort topic index old between h = committed_goes_on.abort (old ++ between) p topic index
 
-settles : (p : ℤ) (d : MarkedOutcome) (topic : List ℕ) (index : ℤ) (es : List OffsetEvent) → pending (es ++ Decide p d ∷ []) p topic index ≡ None
+settles : (p : ℤ) (d : Ending) (topic : List ℕ) (index : ℤ) (es : List OffsetEvent) → pending (es ++ Decide p d ∷ []) p topic index ≡ None
 settles p d topic index es = pending_goes_on.decide es p d p topic index ∙ ap (λ b. cond b None (pending es p topic index)) (own_number p)
 
 -- ---- a group
@@ -157,20 +150,20 @@ decided old new pair o more ended =
     let p = pair.producer in
     let entries = cancelled (map event_entry old) (map event_entry more.more) (ended.between ++ Marker pair o ∷ ended.after) (sym (map-append event_entry old more.more) ∙ ap (map event_entry) (sym more.events) ∙ ended.log) in
     let is = split more.more ended.between ended.after pair o entries ended.nothing in
-    let behind = is.between ++ Decide p (marked_outcome o) ∷ is.after in
+    let behind = is.between ++ Decide p o ∷ is.after in
     let goes_on : new ≡ old ++ behind = more.events ∙ ap (λ l. old ++ l) is.events in
     record {
       between = is.between;
       after = is.after;
-      events = goes_on ∙ sym (append_assoc old is.between (Decide p (marked_outcome o) ∷ is.after));
+      events = goes_on ∙ sym (append_assoc old is.between (Decide p o ∷ is.after));
       nothing = is.nothing;
       staged = λ before after offset parts none. record {
         more = behind;
         events = goes_on ∙ ap (λ l. l ++ behind) parts ∙ append_assoc before (Stage p offset ∷ after) behind;
-        first = first_is p (marked_outcome o) after is.between is.after none is.nothing;
+        first = first_is p o after is.between is.after none is.nothing;
       };
       shown = λ topic index. shows p o topic index old is.between is.nothing;
-      settled = λ topic index. settles p (marked_outcome o) topic index (old ++ is.between);
+      settled = λ topic index. settles p o topic index (old ++ is.between);
     }
 
 -- ---- the laws

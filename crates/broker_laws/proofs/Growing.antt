@@ -28,7 +28,7 @@ use Rattle.request_handlers.specs.OffsetCommit.{committing_rule}
 use Rattle.request_handlers.specs.TxnOffsetCommit.{staging_rule}
 use Rattle.request_handlers.specs.DescribeAcls.{describe_acls_questions}
 use Rattle.request_handlers.specs.CreateAcls.{alter_questions}
-use Rattle.request_handlers.specs.Marks.{marked_outcome, decided_at, mark_by}
+use Rattle.request_handlers.specs.Marks.{decided_at, mark_by}
 use Rattle.request_handlers.specs.Ticks.{moment_after}
 use Rattle.request_handlers.specs.Step.{step, reached}
 use Rattle.request_handlers.proofs.Wholes.{offsets_keep}
@@ -52,7 +52,7 @@ unless_refused (Some x) w e refused served h = unchanged w e
 decides : (w : World) (target : Target) (m : OwedMarker) → m.target ≡ target → slice_get w.coordinator.warrants 0 ≡ Some m → GoOn (ComesBy w Mark) w.groups (decided_at w.groups target m)
 decides w (Partition p) m at front = unchanged w Mark
 decides w (Group g) m at front =
-    go_noted (ComesBy w Mark) w.groups g (Decide m.pair.producer (marked_outcome m.outcome)) None
+    go_noted (ComesBy w Mark) w.groups g (Decide m.pair.producer m.outcome) None
     (record { event = refl; marker = m; front = front; target = at; by = refl; ends = refl })
 
 mark_goes : (w : World) (front : Option OwedMarker) → slice_get w.coordinator.warrants 0 ≡ front → GoOn (ComesBy w Mark) w.groups (mark_by w front).world.groups

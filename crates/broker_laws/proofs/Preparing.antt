@@ -23,7 +23,7 @@ use Rattle.txn_coordinator.specs.declared.pair.Pair.{Pair}
 use Rattle.txn_coordinator.specs.declared.transaction.Phase.{Phase}
 use Rattle.txn_coordinator.specs.declared.transaction.Phase.TheVariants.{Empty, Ongoing, PrepareCommit, PrepareAbort, CompleteCommit, CompleteAbort}
 use Rattle.txn_coordinator.specs.declared.transaction.Transaction.{Transaction}
-use Rattle.txn_coordinator.specs.declared.marker.Outcome.{Outcome as Ending}
+use Rattle.record_batch.specs.declared.outcome.Outcome.{Outcome as Ending}
 use Rattle.txn_coordinator.specs.declared.ending.EndForm.TheVariants.{Plain}
 use Rattle.txn_coordinator.specs.declared.turn.Turn.{Turn}
 use Rattle.txn_coordinator.specs.declared.turn.Turn.TheVariants.{Stays}

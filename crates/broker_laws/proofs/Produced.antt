@@ -5,7 +5,7 @@ use Rattle.std.proofs.lemmas.List.{map-append}
 use Rattle.acl_binding.specs.declared.question.Caller.{Caller}
 use Rattle.wire_types.specs.declared.error_code.ErrorCode.{ErrorCode}
 use Rattle.wire_types.specs.declared.error_code.ErrorCode.TheVariants as codes
-use Rattle.record_batch.specs.declared.outcome.Outcome.{Outcome as MarkedOutcome}
+use Rattle.record_batch.specs.declared.outcome.Outcome.{Outcome}
 use Rattle.record_batch.specs.BatchHeader.{is_transactional}
 use Rattle.record_batch.specs.Batch.{BatchData}
 use Rattle.producer_state.specs.declared.judgment.Judgment.{Judgment}
@@ -43,12 +43,12 @@ at w topics = small (record w { topics = topics })
 -- the batch of a producer id
 pair_entry : (b : BatchData) → b.marker ≡ None → int_lt b.header.producer_id (pos 0) ≡ false → entry_of b ≡ Data (pair_of b.header)
 pair_entry b unmarked low =
-    ap (λ (m : Option MarkedOutcome). entry_by m (pair_of b.header)) unmarked
+    ap (λ (m : Option Outcome). entry_by m (pair_of b.header)) unmarked
     ∙ ap (λ s. cond s Other (Data (pair_of b.header))) low
 
 other_entry : (b : BatchData) → b.marker ≡ None → int_lt b.header.producer_id (pos 0) ≡ true → entry_of b ≡ Other
 other_entry b unmarked low =
-    ap (λ (m : Option MarkedOutcome). entry_by m (pair_of b.header)) unmarked
+    ap (λ (m : Option Outcome). entry_by m (pair_of b.header)) unmarked
     ∙ ap (λ s. cond s Other (Data (pair_of b.header))) low
 
 stored_moved : (s : SmallWorld) (id : Option (List ℕ)) (pair : Pair) (p : TopicPartition) → held_code s.coordinator id pair (Partition p) ≡ None → appended s (Partition p) (Data pair) ≡ kept_moved_all s (storing id pair (Partition p))

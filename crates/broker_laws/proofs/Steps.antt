@@ -22,8 +22,6 @@ use Rattle.walk.specs.Steps.{world_by, part_world, parts_world, topics_world}
 use Rattle.walk.proofs.Weaving.{woven}
 use Rattle.txn_coordinator.specs.declared.target.Target.{Target}
 use Rattle.txn_coordinator.specs.declared.target.Target.TheVariants.{Partition, Group}
-use Rattle.txn_coordinator.specs.declared.marker.Outcome.{Outcome as Ending}
-use Rattle.txn_coordinator.specs.declared.marker.Outcome.TheVariants.{Commit, Abort}
 use Rattle.txn_coordinator.specs.declared.marker.OwedMarker.{OwedMarker}
 use Rattle.txn_coordinator.specs.Coordinator.{CoordinatorValue}
 use Rattle.txn_coordinator.specs.Expiry.{expire}
@@ -55,10 +53,10 @@ use Rattle.request_handlers.specs.OffsetCommit.{committing_rule}
 use Rattle.request_handlers.specs.TxnOffsetCommit.{staging_rule}
 use Rattle.request_handlers.specs.DescribeAcls.{describe_acls_questions}
 use Rattle.request_handlers.specs.CreateAcls.{alter_questions}
-use Rattle.request_handlers.specs.Marks.{marked_outcome, marker_batch, log_marked, marked_by, marked_at, decided_at, mark_by}
+use Rattle.request_handlers.specs.Marks.{marker_batch, log_marked, marked_by, marked_at, decided_at, mark_by}
 use Rattle.request_handlers.specs.Ticks.{moment_after}
 use Rattle.request_handlers.specs.Step.{step}
-use Rattle.broker_laws.specs.Entries.{ending_of, entry_of, in_group, entries_at, small}
+use Rattle.broker_laws.specs.Entries.{entry_of, in_group, entries_at, small}
 use Rattle.broker_laws.specs.Moves.{unless_refused, initializing, moves_of}
 use Rattle.broker_laws.specs.Targets.{is_there, IsThere, TakesInExisting, IsOwedToExisting, AllExist, HasTargets}
 use Rattle.broker_laws.proofs.Logs.{entries_with, places_kept}
@@ -69,14 +67,9 @@ use Rattle.broker_laws.proofs.Turns.{turned_exist, init_exists, add_exists, add_
 
 -- ---- a marker step
 
-ending_again : (o : Ending) → ending_of (marked_outcome o) ≡ o
-ending_again Commit = refl
-ending_again Abort = refl
-
 marker_log : (log : LogValue) (m : OwedMarker) (moment : ℕ) → map entry_of (log_marked log (marker_batch m moment)) ≡ map entry_of log ++ Marker m.pair m.outcome ∷ []
 marker_log log m moment =
     map-append entry_of log (at_end log (marker_batch m moment) ∷ [])
-    ∙ ap (λ o. map entry_of log ++ Marker m.pair o ∷ []) (ending_again m.outcome)
 
 log_found : (o : Option LogValue) → is_some o ≡ true → (log : LogValue) × (o ≡ Some log)
 log_found None h = absurd (let clash : false ≡ true = h in cc)
@@ -86,8 +79,7 @@ log_found (Some log) h = (log, refl)
 marker_entries : (topics : List TopicValue) (gs : List GroupValue) (m : OwedMarker) (moment : ℕ) (target : Target) → IsThere topics target → (t : Target)
     → entries_at (marked_at topics target (marker_batch m moment)) (decided_at gs target m) t ≡ with_entry (entries_at topics gs) target (kept_entry target (Marker m.pair m.outcome)) t
 marker_entries topics gs m moment (Group g) there t =
-    noted_entries topics gs g (Decide m.pair.producer (marked_outcome m.outcome)) t
-    ∙ ap (λ o. with_entry (entries_at topics gs) (Group g) (Marker (in_group m.pair.producer) o) t) (ending_again m.outcome)
+    noted_entries topics gs g (Decide m.pair.producer m.outcome) t
 marker_entries topics gs m moment (Partition p) there t =
     let found = log_found (log_at topics p.topic p.index) there in
     ap (λ o. entries_at (marked_by topics p.topic p.index (marker_batch m moment) o) gs t) found.1

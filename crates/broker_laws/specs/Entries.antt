@@ -1,14 +1,11 @@
 -- What the laws of transactions see of the broker's world: the coordinator, the moment, and of each batch and marker of
 -- a log, and of each offset and decision of a group, whose it is.
 use Rattle.std.specs.Prelude.{ℤ, pos, int_lt, List, [], map, Option, Some, None, if◌then◌else◌}
-use Rattle.record_batch.specs.declared.outcome.Outcome.{Outcome as MarkedOutcome}
-use Rattle.record_batch.specs.declared.outcome.Outcome.TheVariants as marked
 use Rattle.record_batch.specs.Batch.{BatchData}
 use Rattle.txn_coordinator.specs.declared.pair.Pair.{Pair}
 use Rattle.txn_coordinator.specs.declared.target.Target.{Target}
 use Rattle.txn_coordinator.specs.declared.target.Target.TheVariants.{Partition, Group}
-use Rattle.txn_coordinator.specs.declared.marker.Outcome.{Outcome as Ending}
-use Rattle.txn_coordinator.specs.declared.marker.Outcome.TheVariants.{Commit, Abort}
+use Rattle.record_batch.specs.declared.outcome.Outcome.{Outcome}
 use Rattle.group_offsets.specs.declared.event.OffsetEvent.{OffsetEvent}
 use Rattle.group_offsets.specs.declared.event.OffsetEvent.TheVariants.{Put, Stage, Decide}
 use Rattle.group_offsets.specs.declared.group.Group.{Group as GroupValue}
@@ -21,18 +18,13 @@ use Rattle.request_handlers.specs.Judged.{pair_of}
 
 -- ---- a batch
 
--- the ending that a marker tells
-abbrev pub ending_of : MarkedOutcome → Ending
-ending_of marked.Commit = Commit
-ending_of marked.Abort = Abort
-
 -- records are of a producer where they bear a producer id, which is one from 0 on
 abbrev pub data_of : Pair → Entry
 data_of pair = if int_lt pair.producer (pos 0) then Other else Data pair
 
-abbrev pub entry_by : Option MarkedOutcome → Pair → Entry
+abbrev pub entry_by : Option Outcome → Pair → Entry
 entry_by None pair = data_of pair
-entry_by (Some outcome) pair = Marker pair (ending_of outcome)
+entry_by (Some outcome) pair = Marker pair outcome
 
 abbrev pub entry_of : BatchData → Entry
 entry_of b = entry_by b.marker (pair_of b.header)
@@ -54,7 +46,7 @@ in_group producer = record { producer = producer; epoch = pos 0 }
 abbrev pub event_entry : OffsetEvent → Entry
 event_entry (Put o) = Other
 event_entry (Stage producer o) = Data (in_group producer)
-event_entry (Decide producer outcome) = Marker (in_group producer) (ending_of outcome)
+event_entry (Decide producer outcome) = Marker (in_group producer) outcome
 
 -- ---- the world
 

@@ -6,7 +6,6 @@ use Rattle.wire_types.specs.declared.error_code.ErrorCode.TheVariants as codes
 use Rattle.wire_types.specs.declared.topic.Topic.{Topic}
 use Rattle.acl_binding.specs.declared.question.Caller.{Caller}
 use Rattle.settings.specs.declared.settings.Settings.{Settings}
-use Rattle.record_batch.specs.declared.outcome.Outcome.{Outcome as MarkedOutcome}
 use Rattle.record_batch.specs.declared.header.BatchHeader.{BatchHeader}
 use Rattle.msg_group.specs.declared.offset_commit.OffsetCommitRequest.{OffsetCommitRequest}
 use Rattle.msg_txn.specs.declared.init_producer_id.InitProducerIdRequest.{InitProducerIdRequest}
@@ -24,8 +23,8 @@ use Rattle.txn_coordinator.specs.declared.target.Target.{Target}
 use Rattle.txn_coordinator.specs.declared.target.Target.TheVariants.{Partition, Group}
 use Rattle.txn_coordinator.specs.declared.transaction.Transaction.{Transaction}
 use Rattle.txn_coordinator.specs.declared.transaction.Phase.TheVariants.{Ongoing}
-use Rattle.txn_coordinator.specs.declared.marker.Outcome.{Outcome as Ending}
-use Rattle.txn_coordinator.specs.declared.marker.Outcome.TheVariants.{Commit, Abort}
+use Rattle.record_batch.specs.declared.outcome.Outcome.{Outcome as Ending}
+use Rattle.record_batch.specs.declared.outcome.Outcome.TheVariants.{Commit, Abort}
 use Rattle.txn_coordinator.specs.declared.marker.OwedMarker.{OwedMarker}
 use Rattle.txn_coordinator.specs.declared.ending.EndForm.TheVariants.{Plain}
 use Rattle.txn_coordinator.specs.Words.{prepared, complete, targets}
@@ -52,7 +51,6 @@ use Rattle.request_handlers.specs.Judged.{pair_of, producer_code}
 use Rattle.request_handlers.specs.InitProducerId.{init_answered, init_error}
 use Rattle.request_handlers.specs.EndTxn.{ending, end_reply}
 use Rattle.request_handlers.specs.TxnOffsetCommit.{Staging, staging, staging_refusal}
-use Rattle.request_handlers.specs.Marks.{marked_outcome}
 use Rattle.request_handlers.specs.Ticks.{moment_after}
 use Rattle.request_handlers.specs.Step.{step, reply_to, reached, refusals_of}
 use Rattle.request_handlers.specs.Core.{CoreValue, IsCore}
@@ -133,7 +131,7 @@ IsNotBy producer (Decide p outcome) = p ≡ producer → ⊥
 pub record IsDecidedAs (producer : ℤ) (outcome : Ending) (new before behind : List OffsetEvent) (o : PartitionOffset) : Type 0 where
   pub more : List OffsetEvent
   pub events : new ≡ before ++ Stage producer o ∷ (behind ++ more)
-  pub first : option_map (λ d. d.outcome) (first_decision producer 0 (behind ++ more)) ≡ Some (marked_outcome outcome)
+  pub first : option_map (λ d. d.outcome) (first_decision producer 0 (behind ++ more)) ≡ Some outcome
 
 -- the committed offset behind a decision, given the offset that waited for it and the committed one before it
 abbrev pub shown_by : Ending → Option PartitionOffset → Option PartitionOffset → Option PartitionOffset
@@ -145,14 +143,14 @@ pub record IsDecided (producer : ℤ) (outcome : Ending) (old new : List OffsetE
   -- behind what stood there before, the first event of the producer is its decision of that outcome
   pub between : List OffsetEvent
   pub after : List OffsetEvent
-  pub events : new ≡ (old ++ between) ++ Decide producer (marked_outcome outcome) ∷ after
+  pub events : new ≡ (old ++ between) ++ Decide producer outcome ∷ after
   pub nothing : Each (IsNotBy producer) between
   -- so each offset that the producer had staged and that waited is decided so
   pub staged : (before behind : List OffsetEvent) (o : PartitionOffset) → old ≡ before ++ Stage producer o ∷ behind → first_decision producer 0 behind ≡ None → IsDecidedAs producer outcome new before behind o
   -- and the decision shows of each partition the offset that had waited, if it is a commit, and nothing else
-  pub shown : (topic : List ℕ) (index : ℤ) → offset_of ((old ++ between) ++ Decide producer (marked_outcome outcome) ∷ []) topic index ≡ shown_by outcome (pending old producer topic index) (offset_of (old ++ between) topic index)
+  pub shown : (topic : List ℕ) (index : ℤ) → offset_of ((old ++ between) ++ Decide producer outcome ∷ []) topic index ≡ shown_by outcome (pending old producer topic index) (offset_of (old ++ between) topic index)
   -- and leaves nothing of the producer waiting
-  pub settled : (topic : List ℕ) (index : ℤ) → pending ((old ++ between) ++ Decide producer (marked_outcome outcome) ∷ []) producer topic index ≡ None
+  pub settled : (topic : List ℕ) (index : ℤ) → pending ((old ++ between) ++ Decide producer outcome ∷ []) producer topic index ≡ None
 
 -- Where an event prepares a transaction, so many marker steps decide what its producer had staged in each group that was
 -- added.
@@ -188,13 +186,13 @@ pub record IsStagingFor (w : World) (e : Event) (g : List ℕ) (producer : ℤ) 
   pub held : staging_refusal w.coordinator (staging request) ≡ None
 
 -- a marker step, where the front marker is owed to the group for the producer's transaction of that outcome
-pub record IsDecisionFor (w : World) (e : Event) (g : List ℕ) (producer : ℤ) (outcome : MarkedOutcome) : Type 0 where
+pub record IsDecisionFor (w : World) (e : Event) (g : List ℕ) (producer : ℤ) (outcome : Ending) : Type 0 where
   pub event : e ≡ Mark
   pub marker : OwedMarker
   pub front : next_warrant w.coordinator ≡ Some marker
   pub target : marker.target ≡ Group g
   pub by : marker.pair.producer ≡ producer
-  pub ends : marked_outcome marker.outcome ≡ outcome
+  pub ends : marker.outcome ≡ outcome
 
 -- the ways in which an offset event comes into a group
 abbrev pub ComesBy : World → Event → List ℕ → OffsetEvent → Type 0

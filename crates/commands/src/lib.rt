@@ -6,8 +6,6 @@ mod command;
 mod lines;
 mod order;
 mod run;
-#[cfg(test)]
-mod tests;
 mod text;
 mod turn;
 

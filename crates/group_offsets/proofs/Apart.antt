@@ -1,5 +1,5 @@
 -- A group and the calls on others.
-use Rattle.std.proofs.Common.{◌≡◌, ℕ, ℤ, List, [], ◌∷◌, map, Option, Some, None, Bool, true, false, cond, refl, sym, ap, ◌∙◌}
+use Rattle.std.proofs.Common.{◌≡◌, ℕ, List, [], ◌∷◌, map, Option, Some, None, Bool, true, false, cond, refl, sym, ap, ◌∙◌}
 use Rattle.std.specs.Prelude.{not, unwrap_or}
 use Rattle.std.specs.Option.{option_map}
 use Rattle.std.specs.Str.{bytes_eq}
@@ -12,14 +12,13 @@ use Rattle.msg_group.specs.declared.sync_group.SyncGroupRequest.{SyncGroupReques
 use Rattle.msg_group.specs.declared.heartbeat.HeartbeatRequest.{HeartbeatRequest}
 use Rattle.msg_group.specs.declared.leave_group.LeaveGroupRequest.{LeaveGroupRequest}
 use Rattle.group_offsets.specs.declared.event.OffsetEvent.{OffsetEvent}
-use Rattle.group_offsets.specs.declared.event.PartitionOffset.{PartitionOffset}
 use Rattle.group_offsets.specs.declared.event.OffsetEvent.TheVariants.{Put, Stage, Decide}
 use Rattle.group_offsets.specs.declared.group.Group.{Group}
 use Rattle.group_offsets.specs.Turn.{Turn, Stays, Puts, answered, group_after}
 use Rattle.group_offsets.specs.Group.{fresh_group, is_empty, is_member, member_refusal, synced, sync_group, beaten, beat_group, leave_group, left, is_lapsed, expired, commit_refusal, stage_refusal, noted, with_event, commit_group, stage_group}
 use Rattle.group_offsets.specs.Joining.{session_timeout, chosen, entry_refusal, let_in, join_under, join_within, join_group}
 use Rattle.group_offsets.specs.Groups.{find_group, group_of, put, turned, join, sync, beat, leave, commit, stage, decide}
-use Rattle.group_offsets.specs.Laws.{Call, Join, Sync, Beat, Leave, Commits, Stages, Decides, Tick, called, concerns, all_called, concerning, GroupsAreApart, Answer, IsJoined, IsAssigned, IsDone, answer_to, AnswersAreApart}
+use Rattle.group_offsets.specs.Laws.{Call, Join, Sync, Beat, Leave, Commits, Stages, Decides, Tick, called, concerns, all_called, concerning, GroupsAreApart, IsJoined, IsAssigned, IsDone, answer_to, AnswersAreApart}
 use Rattle.group_offsets.proofs.Places.{found_name}
 
 same_text : (a b : List ℕ) → bytes_eq a b ≡ true → a ≡ b

@@ -1,16 +1,12 @@
 -- Small histories whose answers are known from outside.
-use Rattle.std.proofs.Common.{◌≡◌, ℕ, ℤ, pos, negsuc, List, [], ◌∷◌, ◌++◌, map, Option, Some, None, Bool, true, false, refl}
-use Rattle.std.specs.Prelude.{Result, Ok, Err, codes, decimal}
-use Rattle.std.specs.Option.{option_map}
+use Rattle.std.proofs.Common.{◌≡◌, ℕ, ℤ, pos, negsuc, List, [], ◌∷◌, ◌++◌, map, Some, None, true, false, refl}
+use Rattle.std.specs.Prelude.{Ok, Err, codes, decimal}
 use Rattle.record_batch.specs.declared.outcome.Outcome.TheVariants.{Abort, Commit}
 use Rattle.wire_types.specs.declared.error_code.ErrorCode.TheVariants.{GroupMaxSizeReached, RebalanceInProgress, IllegalGeneration, InvalidSessionTimeout, UnknownMemberId, UnstableOffsetCommit}
 use Rattle.msg_group.specs.declared.join_group.JoinGroupRequest.{JoinGroupRequest}
 use Rattle.msg_group.specs.declared.join_group.OfferedProtocol.{OfferedProtocol}
 use Rattle.msg_group.specs.declared.sync_group.SyncGroupRequest.{SyncGroupRequest}
-use Rattle.msg_group.specs.declared.heartbeat.HeartbeatRequest.{HeartbeatRequest}
 use Rattle.group_offsets.specs.declared.event.PartitionOffset.{PartitionOffset}
-use Rattle.group_offsets.specs.declared.event.OffsetEvent.{OffsetEvent}
-use Rattle.group_offsets.specs.declared.event.OffsetEvent.TheVariants.{Put, Stage, Decide}
 use Rattle.group_offsets.specs.declared.group.Group.{Group}
 use Rattle.group_offsets.specs.Turn.{answered}
 use Rattle.group_offsets.specs.Group.{expired}

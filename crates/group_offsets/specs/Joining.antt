@@ -1,6 +1,6 @@
 -- What joining a group answers, and what that leaves (Kafka protocol guide, JoinGroup; KIP-389 for the limit of a group's
 -- size, which is one here).
-use Rattle.std.specs.Prelude.{ℕ, ℤ, pos, negsuc, ◌+ℤ◌, ◌&&◌, not, List, [], ◌∷◌, ◌++◌, nat_le, if◌then◌else◌, Option, Some, None, is_some, slice_get, codes, decimal}
+use Rattle.std.specs.Prelude.{ℕ, ℤ, pos, negsuc, ◌+ℤ◌, ◌&&◌, List, ◌++◌, nat_le, if◌then◌else◌, Option, Some, None, is_some, slice_get, codes, decimal}
 use Rattle.wire_types.specs.declared.error_code.ErrorCode.{ErrorCode}
 use Rattle.wire_types.specs.declared.error_code.ErrorCode.TheVariants.{InvalidGroupId, InvalidSessionTimeout, InconsistentGroupProtocol, UnknownMemberId, GroupMaxSizeReached}
 use Rattle.msg_group.specs.declared.join_group.JoinGroupRequest.{JoinGroupRequest}

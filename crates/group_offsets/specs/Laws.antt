@@ -1,5 +1,5 @@
 -- Laws of groups and of their offsets.
-use Rattle.std.specs.Prelude.{◌≡◌, ℕ, ℤ, ◌+◌, Bool, true, false, ◌&&◌, ◌||◌, List, [], ◌∷◌, ◌++◌, map, if◌then◌else◌, Option, Some, None, is_none, is_some, Result, Ok}
+use Rattle.std.specs.Prelude.{◌≡◌, ℕ, ℤ, Bool, true, ◌&&◌, List, [], ◌∷◌, ◌++◌, map, if◌then◌else◌, Option, Some, None, is_none, is_some, Result, Ok}
 use Rattle.std.specs.Ordering.{int_eq}
 use Rattle.std.specs.Str.{bytes_eq}
 use Rattle.record_batch.specs.declared.outcome.Outcome.{Outcome}
@@ -14,10 +14,10 @@ use Rattle.group_offsets.specs.declared.event.OffsetEvent.{OffsetEvent}
 use Rattle.group_offsets.specs.declared.event.OffsetEvent.TheVariants as events
 use Rattle.group_offsets.specs.declared.member.Joined.{Joined}
 use Rattle.group_offsets.specs.declared.group.Group.{Group}
-use Rattle.group_offsets.specs.Turn.{Turn, answered}
+use Rattle.group_offsets.specs.Turn.{answered}
 use Rattle.group_offsets.specs.Offsets.{is_of, first_decision, offset_of, is_staged}
 use Rattle.group_offsets.specs.Group.{expired}
-use Rattle.group_offsets.specs.Groups.{find_group, group_of, turned, join, sync, beat, leave, commit, stage, decide}
+use Rattle.group_offsets.specs.Groups.{find_group, turned, join, sync, beat, leave, commit, stage, decide}
 
 -- ---- offsets, event by event
 

@@ -19,7 +19,7 @@ use Rattle.walk.specs.Headline.{at}
 use Rattle.request_handlers.specs.declared.stop.Stop.{Stop}
 use Rattle.request_handlers.specs.World.{World, rules_of}
 use Rattle.request_handlers.specs.First.{first_world}
-use Rattle.request_handlers.specs.ReadLaws.{ShowsCommitted}
+use Rattle.api_laws.specs.ReadLaws.{ShowsCommitted}
 use Rattle.request_handlers.specs.Step.{reply_to, refusals_of, reached}
 use Rattle.request_handlers.specs.Core.{CoreValue, IsCore, entry_of, events_of, advanced, receipt_of, Ran}
 use Rattle.tenant_laws.specs.Laws.{request_refusals}

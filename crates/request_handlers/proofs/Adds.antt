@@ -1,5 +1,5 @@
 -- What an AddPartitionsToTxn and a marker step leave.
-use Rattle.std.proofs.Common.{◌≡◌, ℕ, ℤ, Bool, true, false, cond, List, [], ◌∷◌, ◌≤◌, length, Option, Some, None, refl}
+use Rattle.std.proofs.Common.{◌≡◌, Bool, true, false, cond, List, Option, Some, None, refl}
 use Rattle.acl_binding.specs.declared.question.Caller.{Caller}
 use Rattle.msg_txn.specs.declared.add_partitions.AddPartitionsToTxnRequest.{AddPartitionsToTxnRequest}
 use Rattle.txn_coordinator.specs.Coordinator.{CoordinatorValue}
@@ -7,7 +7,6 @@ use Rattle.txn_coordinator.specs.declared.marker.OwedMarker.{OwedMarker}
 use Rattle.txn_coordinator.specs.Warrants.{next_warrant}
 use Rattle.group_offsets.specs.declared.group.Group.{Group}
 use Rattle.request_handlers.specs.World.{World, TopicValue, rules_of}
-use Rattle.request_handlers.specs.Outcome.{Outcome}
 use Rattle.request_handlers.specs.AddPartitions.{is_cut, cut_outcome, added_outcome, add_partitions_outcome}
 use Rattle.request_handlers.specs.Marks.{mark_by, mark_outcome}
 

@@ -1,10 +1,10 @@
 -- Creation numbers: the settings give out at most one for each binding, and a request at most one for each entry.
-use Rattle.std.proofs.Common.{◌≡◌, ℕ, ◌+◌, ◌≤◌, Bool, true, false, cond, is_some, List, [], ◌∷◌, ◌++◌, length, Option, Some, None, refl, ◌∙◌, arith}
+use Rattle.std.proofs.Common.{◌≡◌, ℕ, ◌+◌, ◌≤◌, Bool, true, false, cond, is_some, List, [], ◌∷◌, length, Option, Some, None, refl, ◌∙◌, arith}
 use Rattle.std.proofs.lemmas.List.{length-append}
 use Rattle.wire_types.specs.declared.error_code.ErrorCode.{ErrorCode}
 use Rattle.wire_types.specs.Spelling.{many_written, behind_written, int_written}
 use Rattle.wire_types.specs.Combinators.{◌⨟◌}
-use Rattle.wire_types.specs.Schema.{int8, string, array, count32}
+use Rattle.wire_types.specs.Schema.{int8, string, count32}
 use Rattle.msg_acl.specs.declared.entries.BindingEntry.{BindingEntry}
 use Rattle.msg_acl.specs.declared.entries.FilterEntry.{FilterEntry}
 use Rattle.msg_acl.specs.declared.create_acls.CreateAclsRequest.{CreateAclsRequest}

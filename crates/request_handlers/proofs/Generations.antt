@@ -1,6 +1,6 @@
 -- An event begins one generation of a group at most.
 use Rattle.std.proofs.Common.{◌≡◌, ℕ, ℤ, pos, ◌+◌, ◌≤◌, Bool, true, false, cond, List, [], ◌∷◌, map, Option, Some, None, refl, sym, subst, ap, arith}
-use Rattle.std.specs.Prelude.{◌≤ℤ◌, ◌+ℤ◌, unwrap_or, is_some, not}
+use Rattle.std.specs.Prelude.{◌≤ℤ◌, unwrap_or, not}
 use Rattle.std.specs.Str.{bytes_eq}
 use Rattle.std.proofs.lemmas.Int.{ints}
 use Rattle.acl_binding.specs.declared.question.Caller.{Caller}
@@ -47,7 +47,7 @@ use Rattle.request_handlers.specs.Members.{read_question}
 use Rattle.request_handlers.specs.FindCoordinator.{kind_of, find_questions}
 use Rattle.request_handlers.specs.OffsetCommit.{Committing, committing, commit_questions, groups_by, commit_rule, committing_rule}
 use Rattle.request_handlers.specs.TxnOffsetCommit.{Staging, staging, stage_questions, offset_staged, turn_by, staging_refusal, stage_turn, stage_rule, staging_rule}
-use Rattle.request_handlers.specs.Marks.{marked_outcome, decided_at, mark_by, mark_outcome}
+use Rattle.request_handlers.specs.Marks.{decided_at, mark_by, mark_outcome}
 use Rattle.request_handlers.specs.Ticks.{moment_after}
 use Rattle.request_handlers.specs.Step.{outcome}
 use Rattle.request_handlers.specs.Core.{GenerationsWithin}
@@ -210,7 +210,7 @@ module _ (rules : Rules) (caller : Caller) (s : Staging) (refusal : Option Error
 decided_within : (n : ℕ) (gs : List Group) (t : Target) (m : OwedMarker) → GenerationsWithin n gs → GenerationsWithin n (decided_at gs t m)
 unfolding TurnWithin
 decided_within n gs (targets.Partition p) m all = all
-decided_within n gs (targets.Group g) m all = put_within n gs (with_event (Decide m.pair.producer (marked_outcome m.outcome)) (group_of gs g)) all (found_within n gs g all)
+decided_within n gs (targets.Group g) m all = put_within n gs (with_event (Decide m.pair.producer m.outcome) (group_of gs g)) all (found_within n gs g all)
 
 mark_within : (w : World) (n : ℕ) → GenerationsWithin n w.groups → GenerationsWithin n (mark_outcome w).world.groups
 mark_within w n all = by_front (next_warrant w.coordinator) where

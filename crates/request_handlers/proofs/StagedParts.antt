@@ -1,5 +1,5 @@
 -- A part of a TxnOffsetCommit that is granted is staged, or told why it isn't.
-use Rattle.std.proofs.Common.{◌≡◌, ℕ, List, [], ◌∷◌, Option, Some, None, pos, refl, sym, ap, subst, ◌∙◌}
+use Rattle.std.proofs.Common.{◌≡◌, ℕ, List, [], ◌∷◌, Option, None, pos, sym, ap, subst, ◌∙◌}
 use Rattle.acl_binding.specs.declared.question.Caller.{Caller}
 use Rattle.acl_binding.specs.declared.question.Question.{Question}
 use Rattle.acl_binding.specs.declared.words.Kind.TheVariants as kinds
@@ -13,7 +13,6 @@ use Rattle.msg_admin.specs.declared.reply.Reply.TheVariants as replies
 use Rattle.msg_txn.specs.declared.txn_offset_commit.TxnOffsetCommitRequest.{TxnOffsetCommitRequest}
 use Rattle.msg_txn.specs.declared.txn_offset_commit.OffsetToStage.{OffsetToStage}
 use Rattle.msg_txn.specs.declared.txn_offset_commit.StagedOffset.{StagedOffset}
-use Rattle.walk.specs.declared.part.Part.{Part}
 use Rattle.walk.specs.Walk.{world_after, answers}
 use Rattle.walk.specs.Steps.{answer_by, world_by, part_done, part_world}
 use Rattle.group_offsets.specs.declared.group.Group.{Group}

@@ -1,6 +1,6 @@
 -- AddPartitionsToTxn: partitions become part of a transaction, all of them or none (Kafka protocol guide,
 -- "AddPartitionsToTxn API (Key: 24)"; KIP-98).
-use Rattle.std.specs.Prelude.{ℕ, ℤ, pos, Bool, true, false, ◌||◌, List, [], ◌∷◌, map, Option, Some, None, is_none, if◌then◌else◌}
+use Rattle.std.specs.Prelude.{ℕ, ℤ, pos, Bool, ◌||◌, List, [], ◌∷◌, map, Option, Some, None, is_none, if◌then◌else◌}
 use Rattle.std.specs.List.{list_any, flat_map}
 use Rattle.std.proofs.Common.{zero-le}
 use Rattle.acl_binding.specs.declared.question.Caller.{Caller}

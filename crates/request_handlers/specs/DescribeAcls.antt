@@ -1,5 +1,5 @@
 -- DescribeAcls: the bindings that a filter picks, resource by resource (Kafka protocol guide, "DescribeAcls API (Key: 29)").
-use Rattle.std.specs.Prelude.{ℤ, pos, ℕ, Bool, ◌&&◌, ◌==◌, List, [], ◌∷◌, ◌++◌, map, filter, Option, Some, None, if◌then◌else◌}
+use Rattle.std.specs.Prelude.{pos, Bool, ◌&&◌, ◌==◌, List, [], ◌∷◌, ◌++◌, map, filter, Option, Some, None, if◌then◌else◌}
 use Rattle.std.specs.List.{list_any}
 use Rattle.std.specs.Str.{bytes_eq}
 use Rattle.wire_types.specs.declared.error_code.ErrorCode.{ErrorCode}
@@ -21,7 +21,6 @@ use Rattle.acl_binding.specs.Entries.{filter_of}
 use Rattle.acl_binding.specs.Book.{BookValue}
 use Rattle.acl_binding.specs.Filter.{matching}
 use Rattle.acl_binding.specs.Verdict.{asked}
-use Rattle.msg_admin.specs.declared.reply.Reply.{Reply}
 use Rattle.msg_admin.specs.declared.reply.Reply.TheVariants as replies
 use Rattle.request_handlers.specs.World.{World}
 use Rattle.request_handlers.specs.Outcome.{Outcome}

@@ -9,8 +9,8 @@ use Rattle.wire_types.specs.declared.error_code.ErrorCode.{ErrorCode}
 use Rattle.msg_txn.specs.declared.end_txn.EndTxnRequest.{EndTxnRequest}
 use Rattle.msg_txn.specs.declared.end_txn.EndTxnReply.{EndTxnReply}
 use Rattle.msg_admin.specs.declared.reply.Reply.TheVariants as replies
-use Rattle.txn_coordinator.specs.declared.marker.Outcome.{Outcome as Ending}
-use Rattle.txn_coordinator.specs.declared.marker.Outcome.TheVariants.{Commit, Abort}
+use Rattle.record_batch.specs.declared.outcome.Outcome.{Outcome as Ending}
+use Rattle.record_batch.specs.declared.outcome.Outcome.TheVariants.{Commit, Abort}
 use Rattle.txn_coordinator.specs.declared.ending.EndForm.TheVariants.{Plain}
 use Rattle.txn_coordinator.specs.declared.turn.Turn.{Turn}
 use Rattle.txn_coordinator.specs.Coordinator.{CoordinatorValue, turned, turn_code}

@@ -16,7 +16,7 @@ use Rattle.msg_admin.specs.declared.reply.Reply.TheVariants as replies
 use Rattle.request_handlers.specs.declared.node.Node.{Node}
 use Rattle.request_handlers.specs.World.{World}
 use Rattle.request_handlers.specs.Outcome.{Outcome}
-use Rattle.request_handlers.specs.Whole.{Served, whole}
+use Rattle.request_handlers.specs.Whole.{whole}
 
 -- what is coordinated: a group by 0, a transactional id by 1, and nothing by any other number
 abbrev pub kind_of : ℤ → Option Kind

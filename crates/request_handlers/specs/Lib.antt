@@ -28,14 +28,3 @@ pub mod Marks
 pub mod Ticks
 pub mod Step
 pub mod Core
-pub mod Headline
-pub mod Tenants
-pub mod DataLaws
-pub mod DataTenants
-pub mod ReadLaws
-pub mod AclLaws
-pub mod ProducerLaws
-pub mod TxnLaws
-pub mod GroupLaws
-pub mod StagingLaws
-pub mod DescribeLaws

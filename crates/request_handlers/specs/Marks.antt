@@ -1,14 +1,10 @@
 -- A marker step: the front marker that is owed is written (KIP-98, 'WriteTxnMarkersRequest'). No permission is asked:
 -- the transaction was ended by who might end it.
 use Rattle.std.specs.Prelude.{ℕ, ℤ, pos, List, [], ◌∷◌, ◌++◌, length, Option, Some, None}
-use Rattle.record_batch.specs.declared.outcome.Outcome.{Outcome as MarkedOutcome}
-use Rattle.record_batch.specs.declared.outcome.Outcome.TheVariants as marked
 use Rattle.record_batch.specs.Batch.{BatchData}
 use Rattle.record_batch.specs.Control.{control}
 use Rattle.partition_log.specs.Log.{at_end}
 use Rattle.msg_admin.specs.declared.reply.Reply.TheVariants as replies
-use Rattle.txn_coordinator.specs.declared.marker.Outcome.{Outcome as Ending}
-use Rattle.txn_coordinator.specs.declared.marker.Outcome.TheVariants.{Commit, Abort}
 use Rattle.txn_coordinator.specs.declared.marker.OwedMarker.{OwedMarker}
 use Rattle.txn_coordinator.specs.declared.target.Target.{Target}
 use Rattle.txn_coordinator.specs.declared.target.Target.TheVariants.{Partition, Group}
@@ -19,13 +15,9 @@ use Rattle.request_handlers.specs.World.{World, TopicValue, LogValue}
 use Rattle.request_handlers.specs.Outcome.{Outcome}
 use Rattle.request_handlers.specs.Logs.{log_at, logs_with, with_log}
 
-abbrev pub marked_outcome : Ending → MarkedOutcome
-marked_outcome Commit = marked.Commit
-marked_outcome Abort = marked.Abort
-
 -- the control batch that a marker is, at a moment
 abbrev pub marker_batch : OwedMarker → ℕ → BatchData
-marker_batch m moment = control (marked_outcome m.outcome) m.pair.producer m.pair.epoch (pos moment)
+marker_batch m moment = control m.outcome m.pair.producer m.pair.epoch (pos moment)
 
 abbrev pub log_marked : LogValue → BatchData → LogValue
 log_marked log b = log ++ at_end log b ∷ []
@@ -50,7 +42,7 @@ marked_at topics (Group g) b = topics
 -- to a group, its producer's decision, which is that group's alone (KIP-98, 'GroupCoordinator')
 abbrev pub decided_at : List GroupValue → Target → OwedMarker → List GroupValue
 decided_at gs (Partition p) m = gs
-decided_at gs (Group g) m = turned gs (decide gs g m.pair.producer (marked_outcome m.outcome))
+decided_at gs (Group g) m = turned gs (decide gs g m.pair.producer m.outcome)
 
 abbrev pub mark_by : World → Option OwedMarker → Outcome
 mark_by w None = record { world = w; reply = replies.Idle; refusals = [] }

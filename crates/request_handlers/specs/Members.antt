@@ -1,6 +1,6 @@
 -- JoinGroup, SyncGroup, Heartbeat and LeaveGroup: what they ask, and what they are answered (Kafka protocol guide,
 -- "JoinGroup API (Key: 11)", "Heartbeat API (Key: 12)", "LeaveGroup API (Key: 13)", "SyncGroup API (Key: 14)").
-use Rattle.std.specs.Prelude.{ℕ, ℤ, pos, negsuc, List, [], ◌∷◌, Result, Ok, Err}
+use Rattle.std.specs.Prelude.{ℕ, pos, negsuc, List, [], ◌∷◌, Result, Ok, Err}
 use Rattle.acl_binding.specs.declared.question.Caller.{Caller}
 use Rattle.acl_binding.specs.declared.question.Question.{Question}
 use Rattle.acl_binding.specs.declared.words.Kind.TheVariants as kinds

@@ -2,7 +2,6 @@
 -- guide, session_timeout), and then transactions whose time is over are aborted (KIP-98, 'transaction.timeout.ms').
 use Rattle.std.specs.Prelude.{ℕ, max, min, [], length, map}
 use Rattle.msg_admin.specs.declared.reply.Reply.TheVariants as replies
-use Rattle.txn_coordinator.specs.Coordinator.{CoordinatorValue}
 use Rattle.txn_coordinator.specs.Expiry.{expire}
 use Rattle.group_offsets.specs.Group.{expired}
 use Rattle.request_handlers.specs.World.{World}

@@ -12,8 +12,9 @@ use acl_binding::{Caller, Kind, Operation, Question};
 use authorizer::{Permit, Policy, ask_one};
 use msg_admin::Reply;
 use msg_txn::{EndTxnReply, EndTxnRequest};
+use record_batch::Outcome as Ending;
 use std::alloc::{AllocError, Global};
-use txn_coordinator::{Coordinator, EndForm, Outcome as Ending, Pair};
+use txn_coordinator::{Coordinator, EndForm, Pair};
 use walk::refusal_code;
 use wire_types::{ErrorCode, Text};
 

@@ -11,7 +11,6 @@ mod end_txn;
 mod fetch;
 mod find_coordinator;
 mod init_producer_id;
-mod laws;
 mod list_offsets;
 mod logs;
 mod machine;
@@ -30,23 +29,11 @@ mod room;
 mod slot;
 mod state;
 mod stop;
-#[cfg(test)]
-mod tests;
 mod tick;
 mod topics;
 mod txn_offset_commit;
 mod whole;
 
-pub use laws::{
-    acls_depend_on_the_book, acls_keep_topics, adds_all_or_none, creates_each, deletes_each,
-    describes_each, fetch_depends_on_grants, fetches_committed, fetches_runs,
-    groups_depend_on_grants, groups_keep_the_rest, holds_once, init_depends_on_grants, inits_once,
-    list_offsets_depends_on_grants, lists_ends, metadata_answers_each_topic,
-    metadata_depends_on_grants, metadata_refuses_each_topic, produce_depends_on_grants,
-    produce_keeps_other_partitions, produce_keeps_the_rest, produces_as_answered, reads_committed,
-    refused_edit_nothing, staged_offsets_depend_on_grants, staged_offsets_keep_the_rest,
-    transactions_depend_on_grants, transactions_keep_the_rest, whole_runs,
-};
 pub use logs::Logs;
 pub use machine::Core;
 pub use moment::Moment;

@@ -3,7 +3,7 @@
 ghost use Rattle.std.specs.Prelude.{◌≡◌, ◌<◌, IfOk, OnOk, OnErr};
 ghost use Rattle.request_handlers.specs.Logs.{most_end};
 ghost use Rattle.request_handlers.specs.Ticks.{last_moment};
-ghost use Rattle.request_handlers.specs.Marks.{marked_outcome, marker_batch, marked_at, decided_at, mark_outcome};
+ghost use Rattle.request_handlers.specs.Marks.{marker_batch, marked_at, decided_at, mark_outcome};
 
 use crate::moment::Moment;
 use crate::outcome::Outcome;
@@ -12,19 +12,8 @@ use crate::topics::Topics;
 use crate::whole::served_whole;
 use group_offsets::Groups;
 use msg_admin::Reply;
-use record_batch::Outcome as MarkedOutcome;
 use std::alloc::{AllocError, Global};
-use txn_coordinator::{Outcome as Ending, OwedMarker, Target};
-
-/// The outcome, as a control batch tells it.
-fn marked_outcome(ending: Ending) -> MarkedOutcome
-    ensures { result ≡ marked_outcome ending }
-{
-    match ending {
-        Ending::Commit => MarkedOutcome::Commit,
-        Ending::Abort => MarkedOutcome::Abort,
-    }
-}
+use txn_coordinator::{OwedMarker, Target};
 
 /// Writes a marker where it is owed: to a partition's log, or as a decision to a group.
 fn write_marker(
@@ -39,17 +28,16 @@ fn write_marker(
     ensures groups { OnOk result (groups.new ≡ decided_at groups.old marker.now.target marker.now) }
     ensures err { OnErr result ((topics.new ≡ topics.old) × (groups.new ≡ groups.old)) }
 {
-    let outcome = marked_outcome(marker.outcome);
     match &marker.target {
         Target::Partition(partition) => topics.append_marker(
             alloc,
             &partition.topic,
             partition.index,
-            outcome,
+            marker.outcome,
             marker.pair,
             moment.milliseconds() as i64,
         ),
-        Target::Group(group) => groups.decide(alloc, group, marker.pair.producer, outcome),
+        Target::Group(group) => groups.decide(alloc, group, marker.pair.producer, marker.outcome),
     }
 }
 

@@ -22,7 +22,7 @@ use Rattle.request_handlers.specs.CreateAcls.{alter_questions, book_created}
 use Rattle.request_handlers.specs.DeleteAcls.{book_deleted}
 use Rattle.request_handlers.specs.Step.{request_outcome, counted, step}
 use Rattle.request_handlers.specs.Core.{entry_of, history}
-use Rattle.request_handlers.specs.Tenants.{SameBase, SameOn, SameGranted}
+use Rattle.api_laws.specs.Tenants.{SameBase, SameOn, SameGranted}
 use Rattle.request_handlers.proofs.Wholes.{describe_keeps, find_keeps, offsets_keep}
 use Rattle.tenant_laws.specs.Questions.{questions_of}
 use Rattle.tenant_laws.specs.Laws.{SameForRequest, AgreementGoesOn, AgreeAmong, IsAmong, AreAmong, HistoriesDependOnGrants}

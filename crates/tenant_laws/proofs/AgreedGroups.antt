@@ -31,8 +31,8 @@ use Rattle.request_handlers.specs.EndTxn.{id_question}
 use Rattle.request_handlers.specs.Members.{read_question, joined, synced, heard, left, join_group_outcome, sync_group_outcome, heartbeat_outcome, leave_group_outcome}
 use Rattle.request_handlers.specs.OffsetCommit.{committing, commit_questions, offset_of, groups_by, committing_rule, offset_commit_outcome}
 use Rattle.request_handlers.specs.TxnOffsetCommit.{staging, stage_questions, offset_staged, turn_by, staging_refusal, staging_rule, txn_offset_commit_outcome}
-use Rattle.request_handlers.specs.Tenants.{SameBase, SameGranted}
-use Rattle.request_handlers.proofs.DataGrants.{yes_of, rest_of, same_topic, same_log}
+use Rattle.api_laws.specs.Tenants.{SameBase, SameGranted}
+use Rattle.api_laws.proofs.DataGrants.{yes_of, rest_of, same_topic, same_log}
 use Rattle.tenant_laws.proofs.Agreeing.{Goes, walk_goes, AgreeBehind, by_groups, by_whole}
 use Rattle.tenant_laws.proofs.Parts.{more_topics}
 

@@ -34,9 +34,9 @@ use Rattle.request_handlers.specs.EndTxn.{id_question, ending, end_turn, ended, 
 use Rattle.request_handlers.specs.AddOffsets.{add_offsets_questions, add_offsets_turn, offsets_added, add_offsets_outcome}
 use Rattle.request_handlers.specs.AddPartitions.{add_questions, cut_rule, is_missing_in, is_missing, is_cut, add_turn, cut_outcome, added_outcome, add_partitions_outcome, partitions_in, partitions_of}
 use Rattle.request_handlers.specs.Members.{read_question}
-use Rattle.request_handlers.specs.Tenants.{SameBase, SameGranted}
-use Rattle.request_handlers.proofs.DataGrants.{yes_of, rest_of, same_topic, same_log}
-use Rattle.request_handlers.proofs.Recorded.{AreSame, recorded_put, same_init, same_end, same_add, same_add_group}
+use Rattle.api_laws.specs.Tenants.{SameBase, SameGranted}
+use Rattle.api_laws.proofs.DataGrants.{yes_of, rest_of, same_topic, same_log}
+use Rattle.api_laws.proofs.Recorded.{AreSame, recorded_put, same_init, same_end, same_add, same_add_group}
 use Rattle.tenant_laws.proofs.Agreeing.{AgreeBehind, unchanged, by_coordinator, by_whole}
 use Rattle.tenant_laws.proofs.Told.{walk_told}
 

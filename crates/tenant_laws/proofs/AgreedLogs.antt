@@ -32,8 +32,8 @@ use Rattle.request_handlers.specs.Logs.{log_at, log_after, logs_with, appended_b
 use Rattle.request_handlers.specs.Judged.{partition_at, pair_of, refused_by, held_code, given_code, producer_code, passed_by, passed, batch_in, are_acks, judged, topics_produced}
 use Rattle.request_handlers.specs.Sent.{sent}
 use Rattle.request_handlers.specs.Produce.{produce_questions, producing, produce_outcome}
-use Rattle.request_handlers.specs.Tenants.{SameBase, SameGranted}
-use Rattle.request_handlers.proofs.DataGrants.{yes_of, same_log, find_same}
+use Rattle.api_laws.specs.Tenants.{SameBase, SameGranted}
+use Rattle.api_laws.proofs.DataGrants.{yes_of, same_log, find_same}
 use Rattle.tenant_laws.proofs.Agreeing.{Goes, walk_goes, AgreeBehind, by_topics}
 use Rattle.tenant_laws.proofs.Parts.{more_topics}
 use Rattle.tenant_laws.proofs.Walked.{other_topic}

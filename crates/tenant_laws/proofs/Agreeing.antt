@@ -19,7 +19,7 @@ use Rattle.group_offsets.specs.declared.group.Group.{Group as GroupValue}
 use Rattle.group_offsets.specs.Groups.{find_group}
 use Rattle.request_handlers.specs.World.{World, TopicValue, rules_of, find_topic}
 use Rattle.request_handlers.specs.Whole.{Served, whole_by}
-use Rattle.request_handlers.specs.Tenants.{SameBase, SameOn}
+use Rattle.api_laws.specs.Tenants.{SameBase, SameOn}
 
 -- ---- a walk
 

@@ -18,16 +18,16 @@ use Rattle.request_handlers.specs.OffsetCommit.{commit_questions}
 use Rattle.request_handlers.specs.AddPartitions.{add_questions}
 use Rattle.request_handlers.specs.TxnOffsetCommit.{staging, stage_questions}
 use Rattle.request_handlers.specs.Step.{request_outcome}
-use Rattle.request_handlers.specs.Tenants.{SameBase, SameGranted, SameForMetadata, topic_questions}
-use Rattle.request_handlers.specs.DataTenants.{SameAnswer}
-use Rattle.request_handlers.specs.GroupLaws.{described_slots, SameWanted}
-use Rattle.request_handlers.proofs.Grants.{depends_on_grants}
-use Rattle.request_handlers.proofs.DataGrants.{fetch_depends, list_offsets_depends, produce_depends}
-use Rattle.request_handlers.proofs.Grouped.{groups_depend}
-use Rattle.request_handlers.proofs.Initials.{init_depends}
-use Rattle.request_handlers.proofs.Together.{transactions_depend}
-use Rattle.request_handlers.proofs.Staged.{staging_depends}
-use Rattle.request_handlers.proofs.AclEdits.{acls_depend}
+use Rattle.api_laws.specs.Tenants.{SameBase, SameGranted, SameForMetadata, topic_questions}
+use Rattle.api_laws.specs.DataTenants.{SameAnswer}
+use Rattle.api_laws.specs.GroupLaws.{described_slots, SameWanted}
+use Rattle.api_laws.proofs.Grants.{depends_on_grants}
+use Rattle.api_laws.proofs.DataGrants.{fetch_depends, list_offsets_depends, produce_depends}
+use Rattle.api_laws.proofs.Grouped.{groups_depend}
+use Rattle.api_laws.proofs.Initials.{init_depends}
+use Rattle.api_laws.proofs.Together.{transactions_depend}
+use Rattle.api_laws.proofs.Staged.{staging_depends}
+use Rattle.api_laws.proofs.AclEdits.{acls_depend}
 use Rattle.tenant_laws.specs.Questions.{fetch_questions, partition_parts, topic_parts, parts_of}
 use Rattle.tenant_laws.specs.Laws.{SameForRequest, AnswersDependOnGrants, ReceiptsDependOnGrants}
 use Rattle.tenant_laws.proofs.Parts.{granted_each, each_partition}

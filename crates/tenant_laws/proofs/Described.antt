@@ -8,8 +8,8 @@ use Rattle.authorizer.specs.declared.answer.Refusal.{Refusal}
 use Rattle.authorizer.specs.Asking.{Rules}
 use Rattle.request_handlers.specs.World.{World, TopicValue, rules_of, find_topic, topic_names}
 use Rattle.request_handlers.specs.Metadata.{topic_refusal, describable}
-use Rattle.request_handlers.specs.Tenants.{SameTopics, SameListed}
-use Rattle.request_handlers.specs.GroupLaws.{described_slots}
+use Rattle.api_laws.specs.Tenants.{SameTopics, SameListed}
+use Rattle.api_laws.specs.GroupLaws.{described_slots}
 
 slot_names : (rules : Rules) (caller : Caller) (topics : List TopicValue) → describable rules caller (topic_names topics) ≡ topic_names (described_slots rules caller topics)
 slot_names rules caller [] = refl

@@ -23,10 +23,10 @@ use Rattle.request_handlers.specs.EndTxn.{id_question, ended}
 use Rattle.request_handlers.specs.CreateAcls.{alter_questions, book_created}
 use Rattle.request_handlers.specs.DeleteAcls.{book_deleted}
 use Rattle.request_handlers.specs.Step.{request_outcome, counted, step, reached}
-use Rattle.request_handlers.specs.Tenants.{SameOn}
-use Rattle.request_handlers.proofs.Grouped.{groups_keep}
+use Rattle.api_laws.specs.Tenants.{SameOn}
+use Rattle.api_laws.proofs.Grouped.{groups_keep}
 use Rattle.request_handlers.proofs.Adds.{add_keeps}
-use Rattle.request_handlers.proofs.AclEdits.{refused_edit_nothing}
+use Rattle.api_laws.proofs.AclEdits.{refused_edit_nothing}
 use Rattle.request_handlers.proofs.Wholes.{describe_keeps, find_keeps, offsets_keep}
 use Rattle.tenant_laws.specs.Questions.{parts_of, questions_of}
 use Rattle.tenant_laws.specs.Laws.{NoPartIsGranted, NoQuestionIsGranted, AreUngranted, owed_by, KeepsSettings, UngrantedStays}

@@ -8,8 +8,8 @@ use Rattle.authorizer.specs.Asking.{part_refusal}
 use Rattle.wire_types.specs.declared.topic.Topic.{Topic}
 use Rattle.walk.specs.Alike.{AllParts, AllTopics}
 use Rattle.request_handlers.specs.World.{World, rules_of}
-use Rattle.request_handlers.specs.Tenants.{SameGranted}
-use Rattle.request_handlers.proofs.DataGrants.{yes_of, rest_of}
+use Rattle.api_laws.specs.Tenants.{SameGranted}
+use Rattle.api_laws.proofs.DataGrants.{yes_of, rest_of}
 use Rattle.tenant_laws.specs.Questions.{partition_parts}
 use Rattle.tenant_laws.specs.Laws.{AsksAbout, NoPartIsGranted, NoQuestionIsGranted}
 

@@ -18,9 +18,9 @@ use Rattle.request_handlers.specs.Outcome.{Outcome}
 use Rattle.request_handlers.specs.Whole.{Served, whole_by}
 use Rattle.request_handlers.specs.Members.{read_question}
 use Rattle.request_handlers.specs.Step.{counted}
-use Rattle.request_handlers.specs.Tenants.{SameOn}
-use Rattle.request_handlers.specs.TxnLaws.{KeepsOtherIds}
-use Rattle.request_handlers.specs.GroupLaws.{KeepsOtherGroups}
+use Rattle.api_laws.specs.Tenants.{SameOn}
+use Rattle.api_laws.specs.TxnLaws.{KeepsOtherIds}
+use Rattle.api_laws.specs.GroupLaws.{KeepsOtherGroups}
 use Rattle.tenant_laws.specs.Laws.{AsksAbout, NoPartIsGranted}
 
 -- ---- a resource in two worlds

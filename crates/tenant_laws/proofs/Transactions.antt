@@ -31,10 +31,11 @@ use Rattle.request_handlers.specs.InitProducerId.{init_question, coordinator_for
 use Rattle.request_handlers.specs.EndTxn.{id_question, ending, end_turn, ended, end_txn_outcome}
 use Rattle.request_handlers.specs.AddPartitions.{add_questions, cut_rule, is_missing, is_cut, add_turn, cut_outcome, added_outcome, add_partitions_outcome, partitions_in, partitions_of}
 use Rattle.request_handlers.specs.AddOffsets.{add_offsets_questions, add_offsets_turn, offsets_added, add_offsets_outcome}
-use Rattle.request_handlers.specs.Tenants.{SameOn}
-use Rattle.request_handlers.proofs.Initials.{inits_once, init_depends}
-use Rattle.request_handlers.proofs.Together.{keep_the_rest, nothing_added}
-use Rattle.request_handlers.proofs.Staged.{staging_keeps}
+use Rattle.api_laws.specs.Tenants.{SameOn}
+use Rattle.api_laws.proofs.Initials.{inits_once, init_depends}
+use Rattle.request_handlers.proofs.Added.{nothing_added}
+use Rattle.api_laws.proofs.Together.{keep_the_rest}
+use Rattle.api_laws.proofs.Staged.{staging_keeps}
 use Rattle.request_handlers.proofs.Adds.{add_keeps}
 use Rattle.tenant_laws.specs.Questions.{partition_parts}
 use Rattle.tenant_laws.specs.Laws.{NoPartIsGranted, owed_by}

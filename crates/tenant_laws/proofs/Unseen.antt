@@ -17,7 +17,7 @@ use Rattle.request_handlers.specs.World.{World}
 use Rattle.request_handlers.specs.Ticks.{moment_after}
 use Rattle.request_handlers.specs.Step.{step}
 use Rattle.request_handlers.specs.Core.{entry_of}
-use Rattle.request_handlers.specs.Tenants.{SameBase, SameOn}
+use Rattle.api_laws.specs.Tenants.{SameBase, SameOn}
 use Rattle.tenant_laws.specs.Laws.{AgreeAmong, IsAmong, IsUngranted}
 use Rattle.tenant_laws.specs.Runs.{Round, Round as rounds, told_first, told_second, AreApart, OthersAreUnseen}
 use Rattle.tenant_laws.proofs.Agreed.{for_request, agreement_goes_on}

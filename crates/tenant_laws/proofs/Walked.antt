@@ -20,10 +20,10 @@ use Rattle.request_handlers.specs.Judged.{partition_at, judged, topics_produced}
 use Rattle.request_handlers.specs.Produce.{produce_questions, producing, produce_outcome}
 use Rattle.request_handlers.specs.TxnOffsetCommit.{staging, stage_questions, staging_rule, txn_offset_commit_outcome}
 use Rattle.request_handlers.specs.OffsetCommit.{commit_questions, committing_rule, offset_commit_outcome}
-use Rattle.request_handlers.specs.Tenants.{SameOn}
-use Rattle.request_handlers.proofs.DataGrants.{find_other}
-use Rattle.request_handlers.proofs.Grouped.{groups_keep}
-use Rattle.request_handlers.proofs.Staged.{staging_keeps}
+use Rattle.api_laws.specs.Tenants.{SameOn}
+use Rattle.api_laws.proofs.DataGrants.{find_other}
+use Rattle.api_laws.proofs.Grouped.{groups_keep}
+use Rattle.api_laws.proofs.Staged.{staging_keeps}
 use Rattle.tenant_laws.specs.Questions.{partition_parts}
 use Rattle.tenant_laws.specs.Laws.{AsksAbout, NoPartIsGranted}
 use Rattle.tenant_laws.proofs.Parts.{each_partition}

@@ -21,8 +21,8 @@ use Rattle.request_handlers.specs.World.{World, rules_of, topic_names}
 use Rattle.request_handlers.specs.Step.{step, reply_to, refusals_of, reached}
 use Rattle.request_handlers.specs.OffsetFetch.{group_question}
 use Rattle.request_handlers.specs.Core.{CoreValue, IsCore, entry_of, history, receipt_of}
-use Rattle.request_handlers.specs.Tenants.{SameBase, SameOn, SameGranted}
-use Rattle.request_handlers.specs.GroupLaws.{described_slots}
+use Rattle.api_laws.specs.Tenants.{SameBase, SameOn, SameGranted}
+use Rattle.api_laws.specs.GroupLaws.{described_slots}
 use Rattle.tenant_laws.specs.Questions.{offset_parts, parts_of, questions_of, wants_all}
 
 -- ---- what answers depend on

@@ -8,7 +8,7 @@ use Rattle.audit_trail.specs.declared.trail.Entry.{Entry}
 use Rattle.request_handlers.specs.World.{World}
 use Rattle.request_handlers.specs.Step.{step}
 use Rattle.request_handlers.specs.Core.{entry_of}
-use Rattle.request_handlers.specs.Tenants.{SameBase}
+use Rattle.api_laws.specs.Tenants.{SameBase}
 use Rattle.tenant_laws.specs.Laws.{AgreeAmong, IsAmong, IsUngranted}
 
 -- In a round each run takes an event: the tenant's request, the same in both; one of others in each; or a tick of the

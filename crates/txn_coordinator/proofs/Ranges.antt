@@ -1,6 +1,6 @@
 -- Each call keeps producer ids and epochs in their ranges.
 use Rattle.std.proofs.Common.{◌≡◌, ℕ, ℤ, pos, ◌+◌, List, [], ◌∷◌, ◌++◌, length, map, Option, Some, None, Result, Ok, Err, Bool, true, false, cond, refl, sym, subst, ap, ◌∙◌, arith}
-use Rattle.std.specs.Prelude.{◌&&◌, ◌≤ℤ◌, ◌<ℤ◌, int_le, int_lt, IfOk}
+use Rattle.std.specs.Prelude.{◌&&◌, ◌<ℤ◌, int_le, int_lt, IfOk}
 use Rattle.std.specs.Ordering.{int_eq}
 use Rattle.std.proofs.lemmas.Int.{ints}
 use Rattle.std.proofs.lemmas.List.{length-append}
@@ -12,22 +12,22 @@ use Rattle.txn_coordinator.specs.declared.target.TopicPartition.{TopicPartition}
 use Rattle.txn_coordinator.specs.declared.transaction.Transaction.{Transaction}
 use Rattle.txn_coordinator.specs.declared.transaction.Phase.{Phase}
 use Rattle.txn_coordinator.specs.declared.transaction.Phase.TheVariants.{Empty, Ongoing, PrepareCommit, PrepareAbort, CompleteCommit, CompleteAbort}
-use Rattle.txn_coordinator.specs.declared.marker.Outcome.{Outcome}
-use Rattle.txn_coordinator.specs.declared.marker.Outcome.TheVariants.{Commit, Abort}
+use Rattle.record_batch.specs.declared.outcome.Outcome.{Outcome}
+use Rattle.record_batch.specs.declared.outcome.Outcome.TheVariants.{Commit, Abort}
 use Rattle.txn_coordinator.specs.declared.marker.OwedMarker.{OwedMarker}
 use Rattle.txn_coordinator.specs.declared.ending.EndForm.{EndForm}
 use Rattle.txn_coordinator.specs.declared.ending.EndForm.TheVariants as forms
 use Rattle.txn_coordinator.specs.declared.turn.Turn.{Turn}
 use Rattle.txn_coordinator.specs.declared.turn.Turn.TheVariants.{Stays, Puts}
 use Rattle.txn_coordinator.specs.Words.{last_epoch, is_empty, raised, is_exhausted, pair_after, given_after, is_ongoing, prepared, complete}
-use Rattle.txn_coordinator.specs.Coordinator.{CoordinatorValue, has_id, recorded, put, fresh, turned}
-use Rattle.txn_coordinator.specs.Preparing.{markers, fenced, fencing, pair_refusal}
+use Rattle.txn_coordinator.specs.Coordinator.{CoordinatorValue, has_id, recorded, put, turned}
+use Rattle.txn_coordinator.specs.Preparing.{markers, fenced, pair_refusal}
 use Rattle.txn_coordinator.specs.InitProducerId.{timeout_within, begun, init_in, init_for, init}
 use Rattle.txn_coordinator.specs.Adding.{with_partitions, with_group, open_in, open_by, open_found, open_transaction, grown, add_partitions, add_group}
 use Rattle.txn_coordinator.specs.EndTxn.{other_epoch, renewed, end_ongoing, end_closed, end_in, is_again, end_again, end_by, end_found, end}
-use Rattle.txn_coordinator.specs.Expiry.{is_due, expired, expire}
-use Rattle.txn_coordinator.specs.Warrants.{owes, completed, with_completed, after_marker, written_by, written}
-use Rattle.txn_coordinator.specs.Bounds.{IsPairInRange, CanRaise, AllCanRaise, IsInRange, AreInRange, IsCoordinator, IsTurnInRange}
+use Rattle.txn_coordinator.specs.Expiry.{is_due, expired}
+use Rattle.txn_coordinator.specs.Warrants.{owes, with_completed, written_by, written}
+use Rattle.txn_coordinator.specs.Bounds.{IsPairInRange, AllCanRaise, IsInRange, AreInRange, IsCoordinator, IsTurnInRange}
 
 -- ---- lists of records
 

@@ -1,5 +1,5 @@
 -- Small histories whose answers are known from outside: id `t` with producer 0.
-use Rattle.std.proofs.Common.{◌≡◌, ℕ, ◌+◌, ℤ, pos, negsuc, List, [], ◌∷◌, Option, Some, None, refl}
+use Rattle.std.proofs.Common.{◌≡◌, ℕ, ℤ, pos, negsuc, List, [], ◌∷◌, Some, None, refl}
 use Rattle.wire_types.specs.declared.error_code.ErrorCode.TheVariants as codes
 use Rattle.txn_coordinator.specs.declared.pair.Pair.{Pair}
 use Rattle.txn_coordinator.specs.declared.pair.PairAnswer.{PairAnswer}
@@ -8,16 +8,15 @@ use Rattle.txn_coordinator.specs.declared.target.TopicPartition.{TopicPartition}
 use Rattle.txn_coordinator.specs.declared.target.Target.{Target}
 use Rattle.txn_coordinator.specs.declared.target.Target.TheVariants.{Partition, Group}
 use Rattle.txn_coordinator.specs.declared.transaction.Phase.{Phase}
-use Rattle.txn_coordinator.specs.declared.transaction.Phase.TheVariants.{Empty, Ongoing, PrepareCommit, PrepareAbort, CompleteCommit, CompleteAbort}
-use Rattle.txn_coordinator.specs.declared.transaction.Transaction.{Transaction}
-use Rattle.txn_coordinator.specs.declared.marker.Outcome.{Outcome}
-use Rattle.txn_coordinator.specs.declared.marker.Outcome.TheVariants.{Commit, Abort}
+use Rattle.txn_coordinator.specs.declared.transaction.Phase.TheVariants.{Empty, Ongoing}
+use Rattle.record_batch.specs.declared.outcome.Outcome.{Outcome}
+use Rattle.record_batch.specs.declared.outcome.Outcome.TheVariants.{Commit, Abort}
 use Rattle.txn_coordinator.specs.declared.marker.OwedMarker.{OwedMarker}
 use Rattle.txn_coordinator.specs.declared.ending.EndForm.{EndForm}
 use Rattle.txn_coordinator.specs.declared.ending.EndForm.TheVariants as forms
 use Rattle.txn_coordinator.specs.declared.turn.Turn.{Turn}
 use Rattle.txn_coordinator.specs.Words.{no_pair}
-use Rattle.txn_coordinator.specs.Coordinator.{CoordinatorValue, no_transactions, recorded, owner, given_by, given_free, turned, turn_code, turn_answer}
+use Rattle.txn_coordinator.specs.Coordinator.{CoordinatorValue, no_transactions, owner, given_by, given_free, turned, turn_code, turn_answer}
 use Rattle.txn_coordinator.specs.InitProducerId.{init}
 use Rattle.txn_coordinator.specs.Adding.{add_partitions, add_group}
 use Rattle.txn_coordinator.specs.EndTxn.{end}

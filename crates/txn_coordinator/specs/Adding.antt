@@ -1,5 +1,5 @@
 -- AddPartitionsToTxn and AddOffsetsToTxn (KIP-98, 'AddPartitionsToTxnRequest', 'AddOffsetsToTxnRequest').
-use Rattle.std.specs.Prelude.{ℕ, Bool, List, [], ◌∷◌, ◌++◌, Option, Some, None, Result, Ok, Err, if◌then◌else◌}
+use Rattle.std.specs.Prelude.{ℕ, List, [], ◌∷◌, ◌++◌, Option, Some, None, Result, Ok, Err, if◌then◌else◌}
 use Rattle.wire_types.specs.declared.error_code.ErrorCode.{ErrorCode}
 use Rattle.wire_types.specs.declared.error_code.ErrorCode.TheVariants as codes
 use Rattle.txn_coordinator.specs.declared.pair.Pair.{Pair}

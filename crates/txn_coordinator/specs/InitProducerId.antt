@@ -1,5 +1,5 @@
 -- InitProducerId for a transactional id (KIP-98, 'InitPidRequest'): the id gets a pair that no earlier producer has.
-use Rattle.std.specs.Prelude.{ℕ, ℤ, pos, negsuc, Bool, ◌&&◌, nat_le, int_le, List, [], ◌∷◌, Option, Some, None, if◌then◌else◌}
+use Rattle.std.specs.Prelude.{ℕ, ℤ, pos, negsuc, ◌&&◌, nat_le, int_le, List, [], ◌∷◌, Option, Some, None, if◌then◌else◌}
 use Rattle.wire_types.specs.declared.error_code.ErrorCode.TheVariants as codes
 use Rattle.txn_coordinator.specs.declared.transaction.Phase.{Phase}
 use Rattle.txn_coordinator.specs.declared.transaction.Phase.TheVariants.{Empty, Ongoing, PrepareCommit, PrepareAbort, CompleteCommit, CompleteAbort}

@@ -2,7 +2,7 @@
 use Rattle.std.specs.Prelude.{ℕ, ℤ, List}
 use Rattle.txn_coordinator.specs.declared.pair.Pair.{Pair}
 use Rattle.txn_coordinator.specs.declared.target.TopicPartition.{TopicPartition}
-use Rattle.txn_coordinator.specs.declared.marker.Outcome.{Outcome}
+use Rattle.record_batch.specs.declared.outcome.Outcome.{Outcome}
 use Rattle.txn_coordinator.specs.declared.ending.EndForm.{EndForm}
 use Rattle.txn_coordinator.specs.Coordinator.{CoordinatorValue, no_transactions, turned, given_free}
 use Rattle.txn_coordinator.specs.InitProducerId.{init}

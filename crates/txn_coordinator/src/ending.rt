@@ -4,10 +4,11 @@ ghost use Rattle.std.specs.Prelude.{◌≡◌, ◌<ℤ◌, IfOk, Some};
 ghost use Rattle.txn_coordinator.specs.Words.{last_epoch};
 ghost use Rattle.txn_coordinator.specs.EndTxn.{other_epoch, renewed, prepared_plain, end_ongoing, end_closed, end_in, is_again, end_again, end_found};
 
-use crate::marker::{Outcome, OwedMarker};
+use crate::marker::OwedMarker;
 use crate::pair::Pair;
 use crate::transaction::{Phase, Transaction};
 use crate::turn::Turn;
+use record_batch::Outcome;
 use std::alloc::{AllocError, Global};
 use wire_types::{ErrorCode, Items, Shared};
 
@@ -60,7 +61,7 @@ impl Transaction {
     {
         let owed = self.markers(alloc, self.pair, outcome)?;
         let prepared = Transaction {
-            phase: outcome.prepared(),
+            phase: Phase::prepared(outcome),
             ..self
         };
         Ok(Turn::Puts(ErrorCode::None, prepared, Items::new(alloc), owed))
@@ -80,7 +81,7 @@ impl Transaction {
             EndForm::Plain | EndForm::Fencing => self.prepared_plain(alloc, outcome),
             EndForm::Raising => {
                 let owed = self.markers(alloc, self.pair.raised(), outcome)?;
-                self.renewed(alloc, next, outcome.prepared(), owed)
+                self.renewed(alloc, next, Phase::prepared(outcome), owed)
             }
         }
     }

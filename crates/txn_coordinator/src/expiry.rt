@@ -5,8 +5,9 @@ ghost use Rattle.std.specs.List.{flat_map};
 ghost use Rattle.txn_coordinator.specs.Expiry.{is_due, expired, expiry_markers};
 ghost use Rattle.txn_coordinator.specs.Bounds.{AllCanRaise};
 
-use crate::marker::{Outcome, OwedMarker};
+use crate::marker::OwedMarker;
 use crate::transaction::{Phase, Transaction};
+use record_batch::Outcome;
 use std::alloc::{AllocError, Global};
 use wire_types::{Items, Shared};
 

@@ -8,10 +8,10 @@ ghost use Rattle.txn_coordinator.specs.Preparing.{fencing};
 ghost use Rattle.txn_coordinator.specs.Bounds.{CanRaise};
 ghost use Rattle.txn_coordinator.specs.InitProducerId.{timeout_within, created, begun, init_in};
 
-use crate::marker::Outcome;
 use crate::pair::Pair;
 use crate::transaction::{Phase, Transaction};
 use crate::turn::Turn;
+use record_batch::Outcome;
 use std::alloc::{AllocError, Global};
 use wire_types::{ErrorCode, Items, Text};
 

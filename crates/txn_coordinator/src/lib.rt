@@ -24,7 +24,7 @@ mod warrant;
 pub use coordinator::Coordinator;
 pub use ending::EndForm;
 pub use laws::calls_keep_ranges;
-pub use marker::{Outcome, OwedMarker};
+pub use marker::OwedMarker;
 pub use pair::{Given, Pair, PairAnswer};
 pub use target::{Target, TopicPartition};
 pub use transaction::{Phase, Transaction};

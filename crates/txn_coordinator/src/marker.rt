@@ -2,21 +2,14 @@
 
 ghost use Rattle.std.specs.Prelude.{◌≡◌, ◌++◌, IfOk, map};
 ghost use Rattle.txn_coordinator.specs.declared.target.Target.TheVariants.{Partition, Group};
-ghost use Rattle.txn_coordinator.specs.Words.{prepared, complete};
 ghost use Rattle.txn_coordinator.specs.Preparing.{marker_for, markers};
 
 use crate::pair::Pair;
 use crate::target::Target;
-use crate::transaction::{Phase, Transaction};
+use crate::transaction::Transaction;
+use record_batch::Outcome;
 use std::alloc::{AllocError, Global};
 use wire_types::{Items, Shared, Text};
-
-/// How a transaction ends.
-#[derive(Clone, Copy, Debug, PartialEq, Eq)]
-pub enum Outcome {
-    Commit,
-    Abort,
-}
 
 /// A marker that a transactional id owes: a control batch to a partition, or the decision over what the producer staged
 /// to a group.
@@ -28,28 +21,6 @@ pub struct OwedMarker {
     pub pair: Pair,
     pub outcome: Outcome,
     pub target: Target,
-}
-
-impl Outcome {
-    /// The phase of a transaction that owes markers.
-    pub(crate) fn prepared(self) -> Phase
-        ensures { result ≡ prepared self }
-    {
-        match self {
-            Outcome::Commit => Phase::PrepareCommit,
-            Outcome::Abort => Phase::PrepareAbort,
-        }
-    }
-
-    /// The phase of a transaction whose markers are written.
-    pub(crate) fn complete(self) -> Phase
-        ensures { result ≡ complete self }
-    {
-        match self {
-            Outcome::Commit => Phase::CompleteCommit,
-            Outcome::Abort => Phase::CompleteAbort,
-        }
-    }
 }
 
 impl Transaction {

@@ -5,8 +5,9 @@ ghost use Rattle.std.specs.Option.{option_copied};
 ghost use Rattle.txn_coordinator.specs.Coordinator.{recorded, place_of, put};
 ghost use Rattle.txn_coordinator.specs.Warrants.{owes, with_completed};
 
-use crate::marker::{Outcome, OwedMarker};
-use crate::transaction::Transaction;
+use crate::marker::OwedMarker;
+use crate::transaction::{Phase, Transaction};
+use record_batch::Outcome;
 use wire_types::{Items, Shared, Text};
 
 /// The record of a transactional id, if it has one.
@@ -55,7 +56,7 @@ pub(crate) fn complete(transactions: &mut Vec<Transaction>, id: &Text, outcome: 
     let alloc = *transactions.allocator();
     if let Some(place) = place_of(transactions, id) {
         let transaction = &mut transactions[place];
-        transaction.phase = outcome.complete();
+        transaction.phase = Phase::complete(outcome);
         transaction.partitions = Items::new(alloc);
         transaction.groups = Items::new(alloc);
     }

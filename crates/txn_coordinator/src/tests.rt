@@ -3,11 +3,10 @@
 ghost use Rattle.std.specs.Prelude.{◌≡◌, IfOk};
 ghost use Rattle.txn_coordinator.specs.Permission.{MayWrite};
 
-use crate::{
-    Coordinator, EndForm, Given, Outcome, OwedMarker, Pair, PairAnswer, Target, TopicPartition,
-};
+use crate::{Coordinator, EndForm, Given, OwedMarker, Pair, PairAnswer, Target, TopicPartition};
 use acl_binding::{Caller, Kind, Operation};
 use authorizer::{Permit, Policy, ask_one};
+use record_batch::Outcome;
 use std::alloc::{AllocError, Global};
 use std::test::Fail;
 use wire_types::{ErrorCode, Items, Text};

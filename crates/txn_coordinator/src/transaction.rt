@@ -1,11 +1,12 @@
 //! The record of a transactional id.
 
 ghost use Rattle.std.specs.Prelude.{◌≡◌, IfOk};
-ghost use Rattle.txn_coordinator.specs.Words.{is_ongoing, has_target};
+ghost use Rattle.txn_coordinator.specs.Words.{is_ongoing, has_target, prepared, complete};
 ghost use Rattle.txn_coordinator.specs.Preparing.{pair_refusal};
 
 use crate::pair::Pair;
 use crate::target::{Target, TopicPartition, has_group, has_partition};
+use record_batch::Outcome;
 use std::alloc::AllocError;
 use wire_types::{ErrorCode, Items, Text};
 
@@ -48,6 +49,26 @@ impl Phase {
         ensures { result ≡ is_ongoing self }
     {
         self == Phase::Ongoing
+    }
+
+    /// The phase of a transaction that owes the markers of this outcome.
+    pub(crate) fn prepared(outcome: Outcome) -> Phase
+        ensures { result ≡ prepared outcome }
+    {
+        match outcome {
+            Outcome::Commit => Phase::PrepareCommit,
+            Outcome::Abort => Phase::PrepareAbort,
+        }
+    }
+
+    /// The phase of a transaction whose markers are written.
+    pub(crate) fn complete(outcome: Outcome) -> Phase
+        ensures { result ≡ complete outcome }
+    {
+        match outcome {
+            Outcome::Commit => Phase::CompleteCommit,
+            Outcome::Abort => Phase::CompleteAbort,
+        }
     }
 }
 

@@ -5,7 +5,7 @@ use Rattle.txn_coordinator.specs.declared.pair.Pair.{Pair}
 use Rattle.txn_coordinator.specs.declared.target.Target.{Target}
 use Rattle.txn_coordinator.specs.declared.transaction.Transaction.{Transaction}
 use Rattle.txn_coordinator.specs.declared.transaction.Phase.TheVariants.{Ongoing}
-use Rattle.txn_coordinator.specs.declared.marker.Outcome.{Outcome}
+use Rattle.record_batch.specs.declared.outcome.Outcome.{Outcome}
 use Rattle.txn_coordinator.specs.declared.marker.OwedMarker.{OwedMarker}
 use Rattle.txn_coordinator.specs.declared.turn.Turn.{Turn}
 use Rattle.txn_coordinator.specs.declared.turn.Turn.TheVariants.{Stays, Puts}

@@ -8,7 +8,7 @@ use Rattle.txn_coordinator.specs.declared.target.Target.TheVariants.{Partition, 
 use Rattle.txn_coordinator.specs.declared.transaction.Transaction.{Transaction}
 use Rattle.txn_coordinator.specs.declared.transaction.Phase.{Phase}
 use Rattle.txn_coordinator.specs.declared.transaction.Phase.TheVariants.{Ongoing, PrepareCommit, PrepareAbort, CompleteCommit}
-use Rattle.txn_coordinator.specs.declared.marker.Outcome.TheVariants.{Commit, Abort}
+use Rattle.record_batch.specs.declared.outcome.Outcome.TheVariants.{Commit, Abort}
 use Rattle.txn_coordinator.specs.declared.ending.EndForm.TheVariants as forms
 use Rattle.txn_coordinator.specs.Coordinator.{recorded}
 use Rattle.txn_laws.specs.Small.{World, Move, first_world, moved_all}

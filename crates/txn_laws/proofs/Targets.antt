@@ -9,7 +9,7 @@ use Rattle.txn_coordinator.specs.declared.target.TopicPartition.{TopicPartition}
 use Rattle.txn_coordinator.specs.declared.target.Target.{Target}
 use Rattle.txn_coordinator.specs.declared.target.Target.TheVariants.{Partition, Group}
 use Rattle.txn_coordinator.specs.declared.transaction.Transaction.{Transaction}
-use Rattle.txn_coordinator.specs.declared.marker.Outcome.{Outcome}
+use Rattle.record_batch.specs.declared.outcome.Outcome.{Outcome}
 use Rattle.txn_coordinator.specs.Words.{is_same_partition, has_partition, has_group, prepared, targets}
 use Rattle.txn_coordinator.specs.Adding.{partition_added, partitions_added, group_added}
 use Rattle.txn_coordinator.specs.Preparing.{marker_for, markers}

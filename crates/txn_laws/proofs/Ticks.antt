@@ -7,7 +7,7 @@ use Rattle.txn_coordinator.specs.declared.transaction.Transaction.{Transaction}
 use Rattle.txn_coordinator.specs.declared.marker.OwedMarker.{OwedMarker}
 use Rattle.txn_coordinator.specs.declared.turn.Turn.TheVariants.{Stays}
 use Rattle.txn_coordinator.specs.Coordinator.{has_id, recorded, put, turned}
-use Rattle.txn_coordinator.specs.declared.marker.Outcome.TheVariants.{Abort}
+use Rattle.record_batch.specs.declared.outcome.Outcome.TheVariants.{Abort}
 use Rattle.txn_coordinator.specs.Words.{raised, targets}
 use Rattle.txn_coordinator.specs.Preparing.{fenced, fence_markers, fencing}
 use Rattle.txn_coordinator.specs.Expiry.{is_due, expired, expiry_markers}

@@ -3,7 +3,7 @@ use Rattle.std.specs.Prelude.{◌≡◌, pos, if◌then◌else◌, List, [], ◌
 use Rattle.txn_coordinator.specs.declared.pair.Pair.{Pair}
 use Rattle.txn_coordinator.specs.declared.target.Target.{Target}
 use Rattle.txn_coordinator.specs.declared.target.Target.TheVariants.{Partition, Group}
-use Rattle.txn_coordinator.specs.declared.marker.Outcome.{Outcome}
+use Rattle.record_batch.specs.declared.outcome.Outcome.{Outcome}
 use Rattle.txn_coordinator.specs.declared.marker.OwedMarker.{OwedMarker}
 use Rattle.txn_coordinator.specs.Coordinator.{owner}
 use Rattle.txn_coordinator.specs.Holding.{holds}

@@ -5,8 +5,8 @@ use Rattle.txn_coordinator.specs.declared.pair.Pair.{Pair}
 use Rattle.txn_coordinator.specs.declared.target.Target.{Target}
 use Rattle.txn_coordinator.specs.declared.transaction.Transaction.{Transaction}
 use Rattle.txn_coordinator.specs.declared.transaction.Phase.TheVariants.{Ongoing}
-use Rattle.txn_coordinator.specs.declared.marker.Outcome.{Outcome}
-use Rattle.txn_coordinator.specs.declared.marker.Outcome.TheVariants.{Abort}
+use Rattle.record_batch.specs.declared.outcome.Outcome.{Outcome}
+use Rattle.record_batch.specs.declared.outcome.Outcome.TheVariants.{Abort}
 use Rattle.txn_coordinator.specs.declared.marker.OwedMarker.{OwedMarker}
 use Rattle.txn_coordinator.specs.Words.{prepared, complete, targets}
 use Rattle.txn_coordinator.specs.Coordinator.{recorded, owner}

@@ -8,7 +8,7 @@ use Rattle.txn_coordinator.specs.declared.target.TopicPartition.{TopicPartition}
 use Rattle.txn_coordinator.specs.declared.target.Target.{Target}
 use Rattle.txn_coordinator.specs.declared.target.Target.TheVariants.{Partition, Group}
 use Rattle.txn_coordinator.specs.declared.transaction.Transaction.{Transaction}
-use Rattle.txn_coordinator.specs.declared.marker.Outcome.{Outcome}
+use Rattle.record_batch.specs.declared.outcome.Outcome.{Outcome}
 use Rattle.txn_coordinator.specs.declared.marker.OwedMarker.{OwedMarker}
 use Rattle.txn_coordinator.specs.declared.ending.EndForm.{EndForm}
 use Rattle.txn_coordinator.specs.declared.turn.Turn.{Turn}

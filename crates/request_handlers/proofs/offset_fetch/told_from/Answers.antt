@@ -1,4 +1,4 @@
-use Rattle.std.proofs.Common.{List, ◌++◌, ◌+◌, ◌-◌, pos, ap, ◌∙◌, arith, rules}
+use Rattle.std.proofs.Common.{List, ◌++◌, ◌+◌, ◌-◌, pos, ap, ◌∙◌, arith}
 use Rattle.msg_group.specs.declared.offset_fetch.FetchedOffset.{FetchedOffset}
 use Rattle.request_handlers.specs.OffsetFetch.{told_at, told_from}
 use Rattle.request_handlers.proofs.Parts.{some_more, told_more}

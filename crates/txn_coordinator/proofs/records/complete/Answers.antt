@@ -1,4 +1,4 @@
-use Rattle.std.proofs.Common.{◌≡◌, ◌∙◌, sym, ap, rules}
+use Rattle.std.proofs.Common.{sym, ap, rules}
 use Rattle.txn_coordinator.specs.Warrants.{with_completed}
 use Rattle.txn_coordinator.proofs.Table.{completed_at, none_at}
 use Rattle.txn_coordinator.proofs.records.complete.Goals as goal

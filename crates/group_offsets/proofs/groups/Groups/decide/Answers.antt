@@ -1,13 +1,11 @@
-use Rattle.std.proofs.Common.{◌≡◌, ◌++◌, [], ◌∷◌, List, Option, Some, None, cond, sym, ap, subst, ◌∙◌, w32, w64, rules}
-use Rattle.std.specs.Prelude.{Result, is_ok}
+use Rattle.std.proofs.Common.{◌≡◌, Some, None, ap, ◌∙◌, w64, rules}
 use Rattle.std.proofs.lemmas.Int.{to_z-of_z}
-use Rattle.std.proofs.lemmas.Result.{on_ok_weaker, on_err_weaker, IfOk-weaker}
-use Rattle.wire_types.specs.declared.error_code.ErrorCode.{ErrorCode}
+use Rattle.std.proofs.lemmas.Result.{on_ok_weaker}
 use Rattle.group_offsets.specs.declared.group.Group.{Group}
-use Rattle.group_offsets.specs.Turn.{Turn, Puts}
+use Rattle.group_offsets.specs.Turn.{Puts}
 use Rattle.group_offsets.specs.declared.event.OffsetEvent.TheVariants.{Decide}
 use Rattle.group_offsets.specs.Group.{with_event}
-use Rattle.group_offsets.specs.Groups.{place_of, group_of}
+use Rattle.group_offsets.specs.Groups.{place_of}
 use Rattle.group_offsets.proofs.Places.{turned_at, kept_fresh}
 use Rattle.group_offsets.proofs.groups.Groups.decide.Goals as goal
 

@@ -1,11 +1,9 @@
-use Rattle.std.proofs.Common.{◌≡◌, ◌++◌, [], ◌∷◌, List, Option, Some, None, cond, sym, ap, subst, ◌∙◌, w32, w64, rules}
+use Rattle.std.proofs.Common.{◌≡◌, ◌++◌, [], ◌∷◌, List, Some, None, cond, sym, ap, subst, ◌∙◌, rules}
 use Rattle.std.specs.Prelude.{Result, is_ok}
-use Rattle.std.proofs.lemmas.Int.{to_z-of_z}
-use Rattle.std.proofs.lemmas.Result.{on_ok_weaker, on_err_weaker, IfOk-weaker}
+use Rattle.std.proofs.lemmas.Result.{on_ok_weaker, IfOk-weaker}
 use Rattle.wire_types.specs.declared.error_code.ErrorCode.{ErrorCode}
 use Rattle.std.proofs.Common.{◌<ℤ◌, pos}
 use Rattle.group_offsets.specs.declared.group.Group.{Group}
-use Rattle.group_offsets.specs.Turn.{Turn, Puts}
 use Rattle.group_offsets.specs.Joining.{join_group}
 use Rattle.group_offsets.specs.declared.member.Joined.{Joined}
 use Rattle.group_offsets.specs.Groups.{place_of, group_of}

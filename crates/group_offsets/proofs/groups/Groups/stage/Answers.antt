@@ -1,13 +1,12 @@
-use Rattle.std.proofs.Common.{◌≡◌, ◌++◌, [], ◌∷◌, List, Option, Some, None, cond, sym, ap, subst, ◌∙◌, w32, w64, rules}
+use Rattle.std.proofs.Common.{◌≡◌, ◌++◌, [], ◌∷◌, List, Some, None, cond, ap, subst, ◌∙◌, w32, w64, rules}
 use Rattle.std.specs.Prelude.{Result, is_ok}
 use Rattle.std.proofs.lemmas.Int.{to_z-of_z}
 use Rattle.std.proofs.lemmas.Result.{on_ok_weaker, on_err_weaker, IfOk-weaker}
 use Rattle.wire_types.specs.declared.error_code.ErrorCode.{ErrorCode}
 use Rattle.group_offsets.specs.declared.group.Group.{Group}
-use Rattle.group_offsets.specs.Turn.{Turn, Puts}
 use Rattle.group_offsets.specs.Group.{stage_group}
-use Rattle.group_offsets.specs.Groups.{place_of, group_of}
-use Rattle.group_offsets.proofs.Places.{group_at, turned_at, answered_at, kept_fresh, answered_fresh, unchanged_at}
+use Rattle.group_offsets.specs.Groups.{place_of}
+use Rattle.group_offsets.proofs.Places.{turned_at, answered_at, kept_fresh, answered_fresh, unchanged_at}
 use Rattle.group_offsets.proofs.groups.Groups.stage.Goals as goal
 
 pub returns-in-Some-clause-groups : goal.returns-in-Some-clause-groups

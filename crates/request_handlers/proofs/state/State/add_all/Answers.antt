@@ -7,7 +7,7 @@ use Rattle.txn_coordinator.specs.Coordinator.{turn_code}
 use Rattle.txn_coordinator.specs.Adding.{add_partitions}
 use Rattle.request_handlers.specs.World.{World, rules_of}
 use Rattle.request_handlers.specs.EndTxn.{id_question}
-use Rattle.request_handlers.proofs.Together.{no_part, nothing_added, id_granted}
+use Rattle.request_handlers.proofs.Added.{no_part, nothing_added, id_granted}
 use Rattle.request_handlers.proofs.state.State.add_all.Goals as goal
 
 pub returns-then-not-has_part-clause-world : goal.returns-then-not-has_part-clause-world

@@ -1,5 +1,4 @@
 use Rattle.std.proofs.Common.{List, map, ap, sym, ◌∙◌}
-use Rattle.wire_types.specs.declared.error_code.ErrorCode.{ErrorCode}
 use Rattle.msg_acl.specs.declared.entries.BindingEntry.{BindingEntry}
 use Rattle.msg_admin.specs.declared.reply.Reply.TheVariants as replies
 use Rattle.authorizer.specs.Asking.{policy_rules}

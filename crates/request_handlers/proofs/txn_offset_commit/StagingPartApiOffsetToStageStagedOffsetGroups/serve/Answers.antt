@@ -2,7 +2,6 @@ use Rattle.std.proofs.Common.{rules, w32, ◌≡◌, None, ap, ◌∙◌}
 use Rattle.std.proofs.lemmas.Int.{to_z-of_z}
 use Rattle.authorizer.specs.Asking.{policy_rules, part_refusal}
 use Rattle.msg_txn.specs.declared.txn_offset_commit.StagedOffset.{StagedOffset}
-use Rattle.walk.specs.declared.part.Part.{Part}
 use Rattle.request_handlers.specs.TxnOffsetCommit.{Staging, stage_questions}
 use Rattle.request_handlers.proofs.StagedParts.{granted_three, staged_world, staged_part}
 use Rattle.request_handlers.proofs.txn_offset_commit.StagingPartApiOffsetToStageStagedOffsetGroups.serve.Goals as goal

@@ -1,4 +1,4 @@
-use Rattle.std.proofs.Common.{◌≡◌, ℕ, Option, Some, length, sym, subst, ap, refl, ◌∙◌, arith, rules}
+use Rattle.std.proofs.Common.{◌≡◌, Some, length, subst, rules}
 use Rattle.txn_coordinator.specs.Coordinator.{recorded}
 use Rattle.txn_coordinator.specs.Bounds.{IsCoordinator}
 use Rattle.txn_coordinator.proofs.Ranges.{range_found, ended_kept}

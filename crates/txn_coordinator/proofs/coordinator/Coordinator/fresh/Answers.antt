@@ -1,4 +1,4 @@
-use Rattle.std.proofs.Common.{◌≡◌, ◌++◌, ◌∷◌, [], ℕ, List, Option, Some, None, Ok, Err, length, sym, subst, ap, refl, ◌∙◌, arith, rules}
+use Rattle.std.proofs.Common.{◌≡◌, ◌++◌, ◌∷◌, [], ℕ, List, Option, None, length, sym, subst, rules}
 use Rattle.txn_coordinator.specs.Bounds.{AreInRange}
 use Rattle.txn_coordinator.proofs.Ranges.{given_range}
 use Rattle.txn_coordinator.proofs.coordinator.Coordinator.fresh.Goals as goal

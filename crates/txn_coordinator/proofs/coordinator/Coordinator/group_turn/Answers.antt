@@ -1,4 +1,4 @@
-use Rattle.std.proofs.Common.{◌≡◌, ◌++◌, ◌∷◌, [], ℕ, List, Option, Some, None, Ok, Err, length, sym, subst, ap, refl, ◌∙◌, arith, rules}
+use Rattle.std.proofs.Common.{length, rules}
 use Rattle.txn_coordinator.proofs.Ranges.{grown_put}
 use Rattle.txn_coordinator.proofs.coordinator.Coordinator.group_turn.Goals as goal
 

@@ -1,4 +1,4 @@
-use Rattle.std.proofs.Common.{◌≡◌, ◌++◌, ◌∷◌, [], ℕ, List, Option, Some, None, Ok, Err, length, sym, subst, ap, refl, ◌∙◌, arith, rules}
+use Rattle.std.proofs.Common.{◌≡◌, length, sym, subst, rules}
 use Rattle.std.specs.Prelude.{IfOk}
 use Rattle.txn_coordinator.specs.Adding.{open_transaction}
 use Rattle.txn_coordinator.specs.Bounds.{IsInRange, IsCoordinator}

@@ -1,4 +1,4 @@
-use Rattle.std.proofs.Common.{◌≡◌, ◌+◌, ◌++◌, ◌∷◌, [], ℕ, ℤ, pos, List, Option, Some, None, Ok, Err, length, sym, subst, ap, refl, ◌∙◌, arith, rules}
+use Rattle.std.proofs.Common.{◌≡◌, ◌+◌, ◌++◌, ℕ, List, Option, length, sym, subst, ap, rules}
 use Rattle.txn_coordinator.specs.Coordinator.{CoordinatorValue, put}
 use Rattle.txn_coordinator.specs.Bounds.{IsInRange}
 use Rattle.txn_coordinator.proofs.Ranges.{taken_parts}

@@ -1,4 +1,4 @@
-use Rattle.std.proofs.Common.{◌≡◌, ◌++◌, ◌∷◌, [], ℕ, List, Option, Some, None, Ok, Err, length, sym, subst, ap, refl, ◌∙◌, arith, rules}
+use Rattle.std.proofs.Common.{length}
 use Rattle.txn_coordinator.proofs.Ranges.{completed_range}
 use Rattle.txn_coordinator.proofs.coordinator.Coordinator.written.Goals as goal
 

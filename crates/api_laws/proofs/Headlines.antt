@@ -1,0 +1,69 @@
+-- Each topic's answer stands at its place.
+use Rattle.std.proofs.Common.{◌≡◌, ℕ, List, [], ◌∷◌, ◌++◌, length, map, Option, Some, None, cond, refl, ap, ◌∙◌}
+use Rattle.std.specs.Prelude.{is_none, slice_get}
+use Rattle.std.specs.List.{filter_map, cons_option}
+use Rattle.std.specs.Option.{option_map}
+use Rattle.std.proofs.lemmas.List.{length-map}
+use Rattle.std.proofs.lemmas.Option.{slice_get-map}
+use Rattle.acl_binding.specs.declared.question.Caller.{Caller}
+use Rattle.acl_binding.specs.declared.question.Question.{Question}
+use Rattle.acl_binding.specs.declared.question.Verdict.{Verdict}
+use Rattle.acl_binding.specs.declared.question.Verdict.TheVariants.{Yes, Denied, Nothing}
+use Rattle.acl_binding.specs.declared.words.Kind.TheVariants as kinds
+use Rattle.acl_binding.specs.declared.words.Operation.TheVariants as operations
+use Rattle.acl_binding.specs.Verdict.{asked}
+use Rattle.authorizer.specs.declared.answer.Refusal.{Refusal}
+use Rattle.authorizer.specs.Policy.{verdict}
+use Rattle.authorizer.specs.Asking.{Rules, refusal_by, first_of}
+use Rattle.request_handlers.specs.World.{World, rules_of}
+use Rattle.walk.specs.Codes.{refusal_code}
+use Rattle.walk.specs.Weave.{weave}
+use Rattle.request_handlers.specs.Metadata.{topic_error, plain_topic, plain_topics, topic_refusal, describable, refused_topics, metadata_topics, answer_by, topic_answer}
+use Rattle.api_laws.specs.Headline.{AnsweredBy, AnswersEachTopic, RefusesEachTopic}
+
+-- the woven answers are the answers one by one
+one_by_one : (w : World) (caller : Caller) (names : List (List ℕ)) → metadata_topics w caller (Some names) ≡ map (topic_answer w caller) names
+one_by_one w caller [] = refl
+one_by_one w caller (name ∷ names) = by_refusal (one_by_one w caller names) (topic_refusal (rules_of w) caller name) where
+  by_refusal : metadata_topics w caller (Some names) ≡ map (topic_answer w caller) names → (r : Option Refusal)
+      → weave (option_map (λ x. topic_error (refusal_code x) name) r ∷ refused_topics (rules_of w) caller (Some names)) (plain_topics w (cond (is_none r) (name ∷ describable (rules_of w) caller names) (describable (rules_of w) caller names))) ≡ answer_by r name (plain_topic w name) ∷ map (topic_answer w caller) names
+  by_refusal rest (Some x) = ap (λ l. topic_error (refusal_code x) name ∷ l) rest
+  by_refusal rest None = ap (λ l. plain_topic w name ∷ l) rest
+
+at_place : (w : World) (caller : Caller) (names : List (List ℕ)) (i : ℕ) (name : List ℕ) → slice_get names i ≡ Some name
+    → AnsweredBy (topic_refusal (rules_of w) caller name) (plain_topic w name) name (slice_get (metadata_topics w caller (Some names)) i)
+at_place w caller names i name here = by_verdict (verdict w.book w.supers (asked caller operations.Describe kinds.Topic name)) placed where
+  placed : slice_get (metadata_topics w caller (Some names)) i ≡ Some (topic_answer w caller name)
+  placed = ap (λ l. slice_get l i) (one_by_one w caller names) ∙ slice_get-map (topic_answer w caller) names i ∙ ap (option_map (topic_answer w caller)) here
+
+  by_verdict : (x : Verdict) → slice_get (metadata_topics w caller (Some names)) i ≡ Some (answer_by (first_of (refusal_by x (asked caller operations.Describe kinds.Topic name)) None) name (plain_topic w name))
+      → AnsweredBy (first_of (refusal_by x (asked caller operations.Describe kinds.Topic name)) None) (plain_topic w name) name (slice_get (metadata_topics w caller (Some names)) i)
+  by_verdict Yes h = h
+  by_verdict (Denied n) h = h
+  by_verdict Nothing h = h
+
+pub answers_each_topic : AnswersEachTopic
+answers_each_topic = record {
+  places = at_place;
+  number = λ w caller names. ap length (one_by_one w caller names) ∙ length-map names (topic_answer w caller);
+}
+
+by_the_verdict : (x : Verdict) (q : Question) → first_of (refusal_by x q) None ≡ refusal_by x q
+by_the_verdict Yes q = refl
+by_the_verdict (Denied n) q = refl
+by_the_verdict Nothing q = refl
+
+in_order : (rules : Rules) (caller : Caller) (names more : List (List ℕ)) → filter_map (topic_refusal rules caller) (names ++ more) ≡ filter_map (topic_refusal rules caller) names ++ filter_map (topic_refusal rules caller) more
+in_order rules caller [] more = refl
+in_order rules caller (name ∷ names) more = by_refusal (topic_refusal rules caller name) (in_order rules caller names more) where
+  by_refusal : (r : Option Refusal) → filter_map (topic_refusal rules caller) (names ++ more) ≡ filter_map (topic_refusal rules caller) names ++ filter_map (topic_refusal rules caller) more
+      → cons_option r (filter_map (topic_refusal rules caller) (names ++ more)) ≡ cons_option r (filter_map (topic_refusal rules caller) names) ++ filter_map (topic_refusal rules caller) more
+  by_refusal None rest = rest
+  by_refusal (Some x) rest = ap (λ l. x ∷ l) rest
+
+pub refuses_each_topic : RefusesEachTopic
+refuses_each_topic = record {
+  verdict = λ rules caller name. by_the_verdict (verdict rules.book rules.supers (asked caller operations.Describe kinds.Topic name)) (asked caller operations.Describe kinds.Topic name);
+  order = in_order;
+  listed = λ rules caller. refl;
+}

@@ -1,0 +1,119 @@
+-- What an InitProducerId gives out, and what its answer depends on.
+use Rattle.std.proofs.Common.{◌≡◌, ℕ, zero, suc, ℤ, pos, negsuc, Bool, true, false, cond, List, [], ◌∷◌, ◌++◌, length, Option, Some, None, refl, sym, ap, subst, ◌∙◌}
+use Rattle.std.specs.Prelude.{slice_get}
+use Rattle.acl_binding.specs.declared.question.Caller.{Caller}
+use Rattle.acl_binding.specs.declared.question.Question.{Question}
+use Rattle.acl_binding.specs.declared.question.Verdict.{Verdict}
+use Rattle.acl_binding.specs.declared.question.Verdict.TheVariants.{Yes, Denied, Nothing}
+use Rattle.authorizer.specs.declared.answer.Refusal.{Refusal}
+use Rattle.authorizer.specs.declared.answer.Why.TheVariants as why
+use Rattle.authorizer.specs.Policy.{verdict}
+use Rattle.authorizer.specs.Asking.{Rules, refusal_by, first_of, part_refusal}
+use Rattle.msg_txn.specs.declared.init_producer_id.InitProducerIdRequest.{InitProducerIdRequest}
+use Rattle.msg_admin.specs.declared.reply.Reply.TheVariants as replies
+use Rattle.txn_coordinator.specs.declared.pair.Given.TheVariants.{Never, Free}
+use Rattle.txn_coordinator.specs.declared.transaction.Transaction.{Transaction}
+use Rattle.txn_coordinator.specs.declared.turn.Turn.{Turn}
+use Rattle.txn_coordinator.specs.Coordinator.{CoordinatorValue, recorded, owner, given_by, given_free, fresh, turned, turn_code, turn_answer, pair_answer}
+use Rattle.txn_coordinator.specs.InitProducerId.{init}
+use Rattle.request_handlers.specs.declared.node.Node.{Node}
+use Rattle.request_handlers.specs.World.{World, rules_of}
+use Rattle.request_handlers.specs.Outcome.{Outcome}
+use Rattle.request_handlers.specs.Whole.{whole_by}
+use Rattle.request_handlers.specs.InitProducerId.{init_question, init_given, init_error, init_answered, coordinator_for, reply_for, init_reply, initialized, init_producer_id_outcome}
+use Rattle.api_laws.specs.Tenants.{SameBase, SameGranted}
+use Rattle.api_laws.specs.DataTenants.{SameAnswer}
+use Rattle.api_laws.specs.AclLaws.{IsRefusedWhole}
+use Rattle.api_laws.specs.ProducerLaws.{GivesFresh, InitsOnce, InitDependsOnGrants}
+use Rattle.request_handlers.proofs.BookBounds.{whole_topics}
+use Rattle.api_laws.proofs.Recorded.{AreSame, same_fresh, same_init, same_answer}
+
+abbrev GivenIds : Type 0
+GivenIds = List (Option (List ℕ))
+
+-- ---- one producer id more
+
+beyond : (given : GivenIds) → slice_get given (length given) ≡ None
+beyond [] = refl
+beyond (x ∷ xs) = beyond xs
+
+last_at : (given : GivenIds) (x : Option (List ℕ)) → slice_get (given ++ x ∷ []) (length given) ≡ Some x
+last_at [] x = refl
+last_at (y ∷ ys) x = last_at ys x
+
+others_at : (given : GivenIds) (x : Option (List ℕ)) (n : ℕ) → (n ≡ length given → ⊥) → slice_get (given ++ x ∷ []) n ≡ slice_get given n
+others_at [] x zero differ = absurd (differ refl)
+others_at [] x (suc n) differ = refl
+others_at (y ∷ ys) x zero differ = refl
+others_at (y ∷ ys) x (suc n) differ = others_at ys x n (λ same. differ (ap suc same))
+
+others_as : (c : CoordinatorValue) (id : ℤ) → (id ≡ fresh c → ⊥) → owner (given_free c) id ≡ owner c id
+others_as c (pos n) differ = others_at c.given None n (λ same. differ (ap pos same))
+others_as c (negsuc n) differ = refl
+
+-- ---- where it is allowed, and where it is refused
+
+abbrev served_by : World → InitProducerIdRequest → Option Refusal → Outcome
+served_by w r o = whole_by o w (λ code. replies.InitProducerId (init_error code)) (initialized w r)
+
+given_after : (w : World) (r : InitProducerIdRequest) → r.transactional_id ≡ None → (initialized w r).world.coordinator ≡ given_free w.coordinator
+given_after w r is = ap (λ (id : Option (List ℕ)). coordinator_for id w.coordinator w.node.max_txn_timeout r.timeout) is
+
+gives_fresh : (w : World) (r : InitProducerIdRequest) → r.transactional_id ≡ None → GivesFresh w (served_by w r None)
+gives_fresh w r none = record {
+  producer = fresh w.coordinator;
+  reply = ap (λ (id : Option (List ℕ)). replies.InitProducerId (reply_for id w.coordinator w.node.max_txn_timeout r.timeout)) none;
+  never = ap given_by (beyond w.coordinator.given);
+  now = ap (λ (c : CoordinatorValue). given_by (owner c (fresh w.coordinator))) (given_after w r none) ∙ ap given_by (last_at w.coordinator.given None);
+  others = λ id differ. ap (λ (c : CoordinatorValue). owner c id) (given_after w r none) ∙ others_as w.coordinator id differ;
+}
+
+pub inits_once : InitsOnce
+inits_once = record {
+  fresh = λ w caller r none allowed.
+      subst (GivesFresh w)
+      (sym (ap (λ (id : Option (List ℕ)). served_by w r (part_refusal (rules_of w) (init_question caller id ∷ []))) none ∙ ap (served_by w r) allowed))
+      (gives_fresh w r none);
+  refused = λ w caller q r is.
+      subst (IsRefusedWhole w r) (ap (served_by w q) (sym is)) (record { world = refl; refusals = refl });
+}
+
+-- ---- what it depends on
+
+pub yes_alone : (x : Verdict) (q : Question) → first_of (refusal_by x q) None ≡ None → x ≡ Yes
+yes_alone Yes q h = refl
+yes_alone (Denied n) q h = absurd (let clash : Some (record { question = q; why = why.Denied n }) ≡ None = h in cc)
+yes_alone Nothing q h = absurd (let clash : Some (record { question = q; why = why.Nothing }) ≡ None = h in cc)
+
+module _ (v w : World) (caller : Caller) (timeout : ℤ) (base : SameBase v w) where
+  same_node : (id : Option (List ℕ)) → reply_for id v.coordinator v.node.max_txn_timeout timeout ≡ reply_for id v.coordinator w.node.max_txn_timeout timeout
+  same_node id = ap (λ (n : Node). reply_for id v.coordinator n.max_txn_timeout timeout) base.node
+
+  same_reply : (id : Option (List ℕ)) → SameGranted v w (init_question caller id ∷ []) → part_refusal (rules_of w) (init_question caller id ∷ []) ≡ None
+      → reply_for id v.coordinator w.node.max_txn_timeout timeout ≡ reply_for id w.coordinator w.node.max_txn_timeout timeout
+  same_reply None same none = ap init_given (same_fresh v.coordinator w.coordinator base.given)
+  same_reply (Some id) same none =
+      let q = init_question caller (Some id) in
+      let agree : AreSame v.coordinator w.coordinator id = record { given = base.given; recorded = same.0 (yes_alone (verdict w.book w.supers q) q none) } in
+      ap (λ (t : Turn). init_answered (turn_answer v.coordinator id t)) (same_init v.coordinator w.coordinator id timeout w.node.max_txn_timeout agree)
+      ∙ ap init_answered (same_answer v.coordinator w.coordinator id (init w.coordinator id timeout w.node.max_txn_timeout) agree)
+
+same_by : (o : Option Refusal) (v w : World) (caller : Caller) (r : InitProducerIdRequest) → SameBase v w → SameGranted v w (init_question caller r.transactional_id ∷ [])
+    → part_refusal (rules_of w) (init_question caller r.transactional_id ∷ []) ≡ o → SameAnswer (served_by v r o) (served_by w r o)
+same_by (Some x) v w caller r base same is = record { reply = refl; refusals = refl }
+same_by None v w caller r base same is = record {
+  reply = ap (λ a. replies.InitProducerId a) (same_node v w caller r.timeout base r.transactional_id ∙ same_reply v w caller r.timeout base r.transactional_id same is);
+  refusals = refl;
+}
+
+pub same_refusal : (v w : World) (q : Question) → rules_of v ≡ rules_of w → part_refusal (rules_of w) (q ∷ []) ≡ part_refusal (rules_of v) (q ∷ [])
+same_refusal v w q rules = ap (λ (r : Rules). part_refusal r (q ∷ [])) (sym rules)
+
+pub init_depends : InitDependsOnGrants
+init_depends = record {
+  same = λ v w caller r base same.
+      let q = init_question caller r.transactional_id in
+      subst (λ (o : Option Refusal). SameAnswer (served_by v r o) (init_producer_id_outcome w caller r)) (same_refusal v w q base.rules)
+      (same_by (part_refusal (rules_of w) (q ∷ [])) v w caller r base same refl);
+  topics = λ w caller r. whole_topics (part_refusal (rules_of w) (init_question caller r.transactional_id ∷ [])) w _ _ refl;
+}

@@ -1,0 +1,16 @@
+pub mod Runs
+pub mod Headlines
+pub mod Grants
+pub mod DataGrants
+pub mod DataPartitions
+pub mod DataAnswers
+pub mod DataFetches
+pub mod Committed
+pub mod AclEdits
+pub mod Groups
+pub mod Recorded
+pub mod Initials
+pub mod Together
+pub mod Sequenced
+pub mod Grouped
+pub mod Staged

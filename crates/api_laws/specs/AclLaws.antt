@@ -1,0 +1,54 @@
+-- What the edits of the book come to, in the subject's words, and what the three answers depend on.
+use Rattle.std.specs.Prelude.{◌≡◌, true, is_some, List, [], ◌∷◌, Some, IfSome}
+use Rattle.std.specs.List.{AllByRecursion}
+use Rattle.msg_acl.specs.declared.entries.BindingEntry.{BindingEntry}
+use Rattle.msg_acl.specs.declared.entries.FilterEntry.{FilterEntry}
+use Rattle.msg_acl.specs.declared.create_acls.CreateAclsRequest.{CreateAclsRequest}
+use Rattle.msg_acl.specs.declared.delete_acls.DeleteAclsRequest.{DeleteAclsRequest}
+use Rattle.msg_acl.specs.declared.describe_acls.DescribeAclsRequest.{DescribeAclsRequest}
+use Rattle.acl_binding.specs.declared.question.Caller.{Caller}
+use Rattle.acl_binding.specs.declared.binding.Binding.{Binding}
+use Rattle.acl_binding.specs.Entries.{binding_of, filter_of}
+use Rattle.acl_binding.specs.Book.{BookValue, number_of}
+use Rattle.acl_binding.specs.Filter.{matching}
+use Rattle.authorizer.specs.declared.answer.Refusal.{Refusal}
+use Rattle.authorizer.specs.Asking.{part_refusal}
+use Rattle.request_handlers.specs.World.{World, rules_of}
+use Rattle.request_handlers.specs.Outcome.{Outcome}
+use Rattle.request_handlers.specs.CreateAcls.{alter_questions, book_created, create_acls_outcome}
+use Rattle.request_handlers.specs.DeleteAcls.{book_deleted, delete_acls_outcome}
+use Rattle.request_handlers.specs.DescribeAcls.{describe_acls_outcome}
+use Rattle.api_laws.specs.Tenants.{SameBase}
+use Rattle.api_laws.specs.DataTenants.{SameAnswer}
+
+-- after a CreateAcls each entry that is a binding stands in the book, whatever the other entries are
+abbrev pub CreatesEach : Type 0
+CreatesEach = (book : BookValue) (es : List BindingEntry) → AllByRecursion (λ e. IfSome (binding_of e) (λ b. is_some (number_of (book_created book es).entries b) ≡ true)) es
+
+-- after a DeleteAcls none of its filters picks anything any more
+abbrev pub DeletesEach : Type 0
+DeletesEach = (book : BookValue) (es : List FilterEntry) → AllByRecursion (λ e. IfSome (filter_of e) (λ f. matching (book_deleted book es).entries f ≡ [])) es
+
+-- a request that is refused by the book of before changes nothing, and its refusal is the only one
+pub record IsRefusedWhole (w : World) (r : Refusal) (outcome : Outcome) : Type 0 where
+  pub world : outcome.world ≡ w
+  pub refusals : outcome.refusals ≡ r ∷ []
+
+pub record RefusedEditNothing : Type 0 where
+  pub create : (w : World) (caller : Caller) (q : CreateAclsRequest) (r : Refusal) → part_refusal (rules_of w) (alter_questions caller) ≡ Some r → IsRefusedWhole w r (create_acls_outcome w caller q)
+  pub delete : (w : World) (caller : Caller) (q : DeleteAclsRequest) (r : Refusal) → part_refusal (rules_of w) (alter_questions caller) ≡ Some r → IsRefusedWhole w r (delete_acls_outcome w caller q)
+
+-- worlds of one book give the same answer, and leave one book
+pub record SameEdit (a b : Outcome) : Type 0 where
+  pub answer : SameAnswer a b
+  pub book : a.world.book ≡ b.world.book
+
+pub record AclsDependOnTheBook : Type 0 where
+  pub describe : (v w : World) (caller : Caller) (r : DescribeAclsRequest) → SameBase v w → SameEdit (describe_acls_outcome v caller r) (describe_acls_outcome w caller r)
+  pub create : (v w : World) (caller : Caller) (r : CreateAclsRequest) → SameBase v w → SameEdit (create_acls_outcome v caller r) (create_acls_outcome w caller r)
+  pub delete : (v w : World) (caller : Caller) (r : DeleteAclsRequest) → SameBase v w → SameEdit (delete_acls_outcome v caller r) (delete_acls_outcome w caller r)
+
+-- no log is touched
+pub record AclsKeepTopics : Type 0 where
+  pub create : (w : World) (caller : Caller) (r : CreateAclsRequest) → (create_acls_outcome w caller r).world.topics ≡ w.topics
+  pub delete : (w : World) (caller : Caller) (r : DeleteAclsRequest) → (delete_acls_outcome w caller r).world.topics ≡ w.topics

@@ -1,0 +1,12 @@
+pub mod Runs
+pub mod Headline
+pub mod Tenants
+pub mod DataLaws
+pub mod DataTenants
+pub mod ReadLaws
+pub mod AclLaws
+pub mod ProducerLaws
+pub mod TxnLaws
+pub mod GroupLaws
+pub mod StagingLaws
+pub mod DescribeLaws

@@ -1,0 +1,51 @@
+-- What holds of producer ids, and of what producers wrote.
+use Rattle.std.specs.Prelude.{◌≡◌, ◌≤ℤ◌, ℕ, ℤ, pos, List, [], ◌∷◌, Option, Some, None}
+use Rattle.acl_binding.specs.declared.question.Caller.{Caller}
+use Rattle.authorizer.specs.declared.answer.Refusal.{Refusal}
+use Rattle.authorizer.specs.Asking.{part_refusal}
+use Rattle.settings.specs.declared.settings.Settings.{Settings}
+use Rattle.producer_state.specs.Sequences.{written_by}
+use Rattle.producer_state.specs.Laws.{IsInSequence}
+use Rattle.msg_txn.specs.declared.init_producer_id.InitProducerIdRequest.{InitProducerIdRequest}
+use Rattle.msg_admin.specs.declared.reply.Reply.TheVariants as replies
+use Rattle.audit_trail.specs.declared.event.Event.{Event}
+use Rattle.txn_coordinator.specs.declared.pair.Given.TheVariants.{Never, Free}
+use Rattle.txn_coordinator.specs.Coordinator.{owner, given_by}
+use Rattle.request_handlers.specs.World.{World, LogValue, rules_of}
+use Rattle.request_handlers.specs.First.{first_world}
+use Rattle.request_handlers.specs.Logs.{log_at}
+use Rattle.request_handlers.specs.Outcome.{Outcome}
+use Rattle.request_handlers.specs.InitProducerId.{init_question, init_given, init_producer_id_outcome}
+use Rattle.request_handlers.specs.Step.{reached}
+use Rattle.api_laws.specs.Tenants.{SameBase, SameGranted}
+use Rattle.api_laws.specs.DataTenants.{SameAnswer}
+use Rattle.api_laws.specs.AclLaws.{IsRefusedWhole}
+
+-- ---- idempotent producers
+
+-- Whatever the events were, each log holds what a producer wrote in an epoch once, in order and without a gap: its first
+-- batch begins at sequence number 0, and each other one where the one before it ended.
+abbrev pub HoldsOnce : Type 0
+HoldsOnce = (s : Settings) (es : List Event) (name : List ℕ) (index : ℤ) (log : LogValue) (id epoch : ℤ) → log_at (reached (first_world s) es).topics name index ≡ Some log → pos 0 ≤ℤ id
+    → IsInSequence (pos 0) (written_by id epoch log)
+
+-- ---- InitProducerId
+
+-- a producer id is told that was never given out before and is now, and the others are as they were
+pub record GivesFresh (w : World) (o : Outcome) : Type 0 where
+  pub producer : ℤ
+  pub reply : o.reply ≡ replies.InitProducerId (init_given producer)
+  pub never : given_by (owner w.coordinator producer) ≡ Never
+  pub now : given_by (owner o.world.coordinator producer) ≡ Free
+  pub others : (id : ℤ) → (id ≡ producer → ⊥) → owner o.world.coordinator id ≡ owner w.coordinator id
+
+pub record InitsOnce : Type 0 where
+  -- without a transactional id, where it is allowed
+  pub fresh : (w : World) (caller : Caller) (r : InitProducerIdRequest) → r.transactional_id ≡ None → part_refusal (rules_of w) (init_question caller None ∷ []) ≡ None → GivesFresh w (init_producer_id_outcome w caller r)
+  pub refused : (w : World) (caller : Caller) (q : InitProducerIdRequest) (r : Refusal) → part_refusal (rules_of w) (init_question caller q.transactional_id ∷ []) ≡ Some r → IsRefusedWhole w r (init_producer_id_outcome w caller q)
+
+-- Worlds of one book that gave out the same producer ids, and that agree on the transactional id where writing with it
+-- is granted, give the same answer, whatever their topics hold; and no topic is touched.
+pub record InitDependsOnGrants : Type 0 where
+  pub same : (v w : World) (caller : Caller) (r : InitProducerIdRequest) → SameBase v w → SameGranted v w (init_question caller r.transactional_id ∷ []) → SameAnswer (init_producer_id_outcome v caller r) (init_producer_id_outcome w caller r)
+  pub topics : (w : World) (caller : Caller) (r : InitProducerIdRequest) → (init_producer_id_outcome w caller r).world.topics ≡ w.topics

@@ -1,0 +1,67 @@
+-- What holds of AddPartitionsToTxn and EndTxn, and of InitProducerId for a transactional id.
+use Rattle.std.specs.Prelude.{◌≡◌, ◌⊎◌, ℕ, ℤ, Bool, true, false, is_none, List, [], ◌∷◌, Option, Some, None}
+use Rattle.acl_binding.specs.declared.question.Caller.{Caller}
+use Rattle.authorizer.specs.declared.answer.Refusal.{Refusal}
+use Rattle.authorizer.specs.Asking.{part_refusal}
+use Rattle.msg_txn.specs.declared.init_producer_id.InitProducerIdRequest.{InitProducerIdRequest}
+use Rattle.msg_txn.specs.declared.add_partitions.AddPartitionsToTxnRequest.{AddPartitionsToTxnRequest}
+use Rattle.msg_txn.specs.declared.end_txn.EndTxnRequest.{EndTxnRequest}
+use Rattle.walk.specs.Walk.{plain_topics, answers, refusals}
+use Rattle.walk.specs.Alike.{AllTopics}
+use Rattle.txn_coordinator.specs.Coordinator.{recorded, turned, turn_code}
+use Rattle.request_handlers.specs.World.{World, rules_of}
+use Rattle.request_handlers.specs.Outcome.{Outcome}
+use Rattle.request_handlers.specs.Logs.{log_at}
+use Rattle.request_handlers.specs.InitProducerId.{init_question, init_producer_id_outcome}
+use Rattle.request_handlers.specs.EndTxn.{id_question, end_txn_outcome}
+use Rattle.request_handlers.specs.AddPartitions.{add_questions, cut_rule, told_rule, is_cut, add_turn, add_reply, add_partitions_outcome}
+use Rattle.api_laws.specs.Tenants.{SameBase, SameGranted}
+use Rattle.api_laws.specs.DataTenants.{SameForParts, SameAnswer}
+use Rattle.api_laws.specs.AclLaws.{IsRefusedWhole}
+
+-- ---- all partitions are added, or none
+
+-- both questions of the partition are granted, and it is there
+pub record IsAddable (w : World) (caller : Caller) (id name : List ℕ) (index : ℤ) : Type 0 where
+  pub granted : part_refusal (rules_of w) (add_questions caller id name) ≡ None
+  pub there : is_none (log_at w.topics name index) ≡ false
+
+-- nothing is added: each partition that is refused is told so, each other one that it is missing, or else that nothing
+-- was tried
+pub record IsCut (w : World) (caller : Caller) (r : AddPartitionsToTxnRequest) (o : Outcome) : Type 0 where
+  pub world : o.world ≡ w
+  pub reply : o.reply ≡ add_reply (answers (cut_rule caller r.transactional_id w.topics) (rules_of w) tt r.topics)
+  pub refusals : o.refusals ≡ refusals (cut_rule caller r.transactional_id w.topics) (rules_of w) r.topics
+
+-- each partition may be added; the coordinator decides, and all are told its code
+pub record IsWhole (w : World) (caller : Caller) (r : AddPartitionsToTxnRequest) (o : Outcome) : Type 0 where
+  pub all : AllTopics (IsAddable w caller r.transactional_id) r.topics
+  pub coordinator : o.world.coordinator ≡ turned w.coordinator (add_turn w.coordinator w.moment r)
+  pub topics : o.world.topics ≡ w.topics
+  pub reply : o.reply ≡ add_reply (plain_topics (told_rule (turn_code (add_turn w.coordinator w.moment r))) tt r.topics)
+  pub refusals : o.refusals ≡ []
+
+abbrev pub AddsAllOrNone : Type 0
+AddsAllOrNone = (w : World) (caller : Caller) (r : AddPartitionsToTxnRequest) → IsCut w caller r (add_partitions_outcome w caller r) ⊎ IsWhole w caller r (add_partitions_outcome w caller r)
+
+-- ---- what the answers depend on
+
+-- Worlds that agree on what is granted of a request, and on the producer ids given out, give the same answer.
+pub record TransactionsDependOnGrants : Type 0 where
+  pub ends : (v w : World) (caller : Caller) (r : EndTxnRequest) → SameBase v w → SameGranted v w (id_question caller r.transactional_id ∷ []) → SameAnswer (end_txn_outcome v caller r) (end_txn_outcome w caller r)
+  pub adds : (v w : World) (caller : Caller) (r : AddPartitionsToTxnRequest) → SameBase v w → SameForParts v w (cut_rule caller r.transactional_id w.topics) r.topics → SameAnswer (add_partitions_outcome v caller r) (add_partitions_outcome w caller r)
+
+-- ---- what stays as it was
+
+-- another transactional id has the record that it had, and no log is touched
+pub record KeepsOtherIds (w : World) (id : List ℕ) (o : Outcome) : Type 0 where
+  pub others : (other : List ℕ) → (other ≡ id → ⊥) → recorded o.world.coordinator.transactions other ≡ recorded w.coordinator.transactions other
+  pub topics : o.world.topics ≡ w.topics
+
+pub record TransactionsKeepTheRest : Type 0 where
+  pub inits : (w : World) (caller : Caller) (r : InitProducerIdRequest) (id : List ℕ) → r.transactional_id ≡ Some id → KeepsOtherIds w id (init_producer_id_outcome w caller r)
+  pub adds : (w : World) (caller : Caller) (r : AddPartitionsToTxnRequest) → KeepsOtherIds w r.transactional_id (add_partitions_outcome w caller r)
+  pub ends : (w : World) (caller : Caller) (r : EndTxnRequest) → KeepsOtherIds w r.transactional_id (end_txn_outcome w caller r)
+  -- and where writing with the id isn't granted, nothing changes
+  pub refused_end : (w : World) (caller : Caller) (q : EndTxnRequest) (r : Refusal) → part_refusal (rules_of w) (id_question caller q.transactional_id ∷ []) ≡ Some r → IsRefusedWhole w r (end_txn_outcome w caller q)
+  pub refused_add : (w : World) (caller : Caller) (q : AddPartitionsToTxnRequest) (r : Refusal) → part_refusal (rules_of w) (id_question caller q.transactional_id ∷ []) ≡ Some r → (add_partitions_outcome w caller q).world ≡ w

@@ -1,0 +1,87 @@
+//! Readers and writers that fail at one call after the other.
+
+ghost use Rattle.std.specs.Prelude.{Some, None};
+
+use commands::replay;
+use std::io;
+use std::io::{ErrorKind, Read, Write};
+use std::test::Fail;
+
+const INPUT: &[u8] =
+    b"node_id = 1\nhost = \"h\"\nport = 1\n---\nreq a h 00000000\nreq a h 00000000\nreq a h 00\n";
+
+/// What is written for it.
+const ANSWER: &[u8] = b"closed\nclosed\nline 3: unreadable\n";
+
+/// A reader of one byte at a time, that fails once it has made so many reads.
+#[derive(Drop)]
+struct Failing<'a> {
+    bytes: &'a [u8],
+    reads: usize,
+}
+
+impl Read for Failing<'_> {
+    ghost remaining = { λ _. None };
+
+    fn read(&mut self, piece: &mut [u8]) -> io::Result<usize> {
+        if self.reads == 0 || piece.is_empty() {
+            return Err(ErrorKind::BrokenPipe.into());
+        }
+        self.reads -= 1;
+        self.bytes.read(&mut piece[..1])
+    }
+}
+
+/// A writer of one byte at a time, that fails once it has made so many writes.
+#[derive(Drop)]
+struct Narrow {
+    held: Vec<u8>,
+    writes: usize,
+}
+
+impl Write for Narrow {
+    fn write(&mut self, bytes: &[u8]) -> io::Result<usize> {
+        if self.writes == 0 || bytes.is_empty() {
+            return Err(ErrorKind::StorageFull.into());
+        }
+        self.writes -= 1;
+        self.held.push(bytes[0])?;
+        Ok(1)
+    }
+
+    fn flush(&mut self) -> io::Result<()> {
+        Ok(())
+    }
+}
+
+/// Each read fails in turn: nothing is written.
+#[test]
+fn failing_reads(rt: HostRuntime) -> Result<(), Fail> {
+    for reads in 0..INPUT.len() + 2 {
+        let mut reader = Failing {
+            bytes: INPUT,
+            reads,
+        };
+        let mut writer = Vec::new(rt.alloc());
+        let status = replay(rt.alloc(), &mut reader, &mut writer);
+        assert_eq!(rt; status, 1);
+        assert_eq!(rt; writer.is_empty(), reads <= INPUT.len());
+    }
+    Ok(())
+}
+
+/// Each write fails in turn: the answer's front is written.
+#[test]
+fn failing_writes(rt: HostRuntime) -> Result<(), Fail> {
+    for writes in 0..ANSWER.len() + 1 {
+        let mut reader = INPUT;
+        let mut writer = Narrow {
+            held: Vec::new(rt.alloc()),
+            writes,
+        };
+        let status = replay(rt.alloc(), &mut reader, &mut writer);
+        assert_eq!(rt; status, 1);
+        assert!(rt; writer.held.as_slice() == &ANSWER[..writes]);
+    }
+    Ok(())
+}

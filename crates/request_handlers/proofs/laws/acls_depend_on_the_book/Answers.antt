@@ -1,5 +1,0 @@
-use Rattle.request_handlers.proofs.AclEdits.{acls_depend as the_law}
-use Rattle.request_handlers.proofs.laws.acls_depend_on_the_book.Goals as goal
-
-pub returns : goal.returns
-returns c = the_law

@@ -1,5 +1,0 @@
-use Rattle.request_handlers.proofs.DataGrants.{produce_keeps as the_law}
-use Rattle.request_handlers.proofs.laws.produce_keeps_the_rest.Goals as goal
-
-pub returns : goal.returns
-returns c = the_law

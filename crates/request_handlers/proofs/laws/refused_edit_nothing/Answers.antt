@@ -1,5 +1,0 @@
-use Rattle.request_handlers.proofs.AclEdits.{refused_edit_nothing as the_law}
-use Rattle.request_handlers.proofs.laws.refused_edit_nothing.Goals as goal
-
-pub returns : goal.returns
-returns c = the_law
