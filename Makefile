@@ -1,12 +1,14 @@
-# `make run` builds the program and runs the main job on a shipped example; `make test` is the gate.
-.PHONY: run test
+# `make run` answers the shipped example, and `make prove` proves and builds the program. `make test` is the gate.
+.PHONY: run prove test
 
 run:
-	./kbroker replay < examples/metadata.txt
+	@scripts/run_example.py
+
+prove:
+	@scripts/prove.py
 
 test:
 	rt ci
-	scripts/build.sh
 	scripts/examples.py
 	scripts/refused_memory.py
 	scripts/worn_epochs.py

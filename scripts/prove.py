@@ -1,0 +1,268 @@
+#!/usr/bin/env python3
+"""Proves and builds the program and the crates that it stands on: `make prove`.
+
+Each library is proved from nothing, unless the last proof of the same sources still holds, as many side by side as there
+are processors and memory for: `rt ci` proves them the same way, and the tests and the other crates as well. A line on
+standard error tells how far it is. Each crate's log is crates/NAME/out/prove.log. With names, as `scripts/prove.py walk`,
+it is those crates and what they stand on.
+"""
+
+import fcntl
+import os
+import re
+import shutil
+import signal
+import subprocess
+import sys
+import time
+from pathlib import Path
+
+import toolchain
+from program import NAME, PROGRAM, ROOT, crates_of
+
+FUNCTIONS = re.compile(r"^logic=proved functions=(\d+)", re.M)
+RUNS_PROGRAM = re.compile(r"^rt: running ", re.M)
+SHARE_OF_MEMORY = 0.85
+MOST_JOBS = 4
+NEED_OF_JOB = 0.6  # of another job in the same crate
+TOLD_EVERY = 10  # seconds
+
+
+class Stale(Exception):
+    """The kept work of these crates fits no longer what stands below or above it."""
+
+
+class Progress:
+    """The line that tells how far the proofs are."""
+
+    def __init__(self, crates):
+        self.crates, self.done, self.functions = crates, 0, 0
+        self.started, self.told = time.monotonic(), 0.0
+
+    def minutes(self):
+        return (time.monotonic() - self.started) / 60
+
+    def add(self, log):
+        """Counts a crate that is proved, by its log where there is one."""
+        self.done += 1
+        text = log.read_text(errors="replace") if log.is_file() else ""
+        self.functions += sum(map(int, FUNCTIONS.findall(text)[-1:]))
+
+    def tell(self, running, now=False):
+        """Writes the line over the one before on a terminal, and elsewhere a new one now and then."""
+        is_terminal = sys.stderr.isatty()
+        if not (now or is_terminal or time.monotonic() - self.told >= TOLD_EVERY):
+            return
+        self.told = time.monotonic()
+        line = f"kbroker: {self.done} of {self.crates} crates, {self.functions} functions, "
+        line += f"{self.minutes():.1f} minutes{': ' if running else ''}{', '.join(running)}"
+        if is_terminal:
+            line = "\r\033[K" + line[: shutil.get_terminal_size().columns - 1]
+        print(line, end="" if is_terminal else "\n", file=sys.stderr, flush=True)
+
+    def end_line(self):
+        """Ends the line on a terminal, so that what comes next has one of its own."""
+        if sys.stderr.isatty():
+            print(file=sys.stderr)
+
+
+class Step:
+    """A library that is being proved, or the program that is being built."""
+
+    def __init__(self, rt, crate, jobs, lock):
+        self.rt, self.crate, self.jobs, self.lock = rt, crate, jobs, lock
+        self.log = log_of(crate)
+        self.need = rt.need(crate) * (1 + NEED_OF_JOB * (jobs - 1))
+        self.stamp = crate.stamp()
+        self.log.parent.mkdir(exist_ok=True)
+        with self.log.open("w") as log:
+            words = self.of_program() if crate.is_program else self.of_library(log)
+            self.process = subprocess.Popen(
+                [*rt.rtlib.guarded(), *words],
+                cwd=crate.folder,
+                stdin=subprocess.DEVNULL,
+                stdout=log,
+                stderr=subprocess.STDOUT,
+            )
+
+    def of_program(self):
+        """The command that builds the program: it also runs it, over no input."""
+        return [sys.executable, self.rt.__file__, "run", "--jobs", str(self.jobs), "--", "replay"]
+
+    def of_library(self, log):
+        """The command that proves a library and writes its statements, and what was there is removed."""
+        crate = self.crate
+        shutil.rmtree(os.path.dirname(crate.rlib), ignore_errors=True)
+        os.makedirs(os.path.dirname(crate.rlib))
+        crate.out = log
+        words = crate.words(["--jobs", str(self.jobs)], keeps=False)
+        return [self.rt.rtlib.RATTLE, "build", *words, "--statements", "-o", crate.rlib]
+
+    def end(self):
+        """Keeps what a proof has given, or says why there is none."""
+        text = self.log.read_text(errors="replace")
+        is_well = self.process.returncode == 0
+        if self.crate.is_program:
+            is_well = RUNS_PROGRAM.search(text)
+        if not is_well:
+            stale = set(self.rt.rtlib.STALE.findall(text))
+            if stale:
+                raise Stale(stale)
+            sys.stderr.writelines(text.splitlines(keepends=True)[-20:])
+            killed = ", most likely for memory" * (self.process.returncode == -signal.SIGKILL)
+            sys.exit(f"kbroker: {self.crate.name} is not proved{killed}: see {self.log}")
+        if self.stamp != self.crate.stamp():
+            sys.exit(f"kbroker: a source of {self.crate.name} or below it changed meanwhile")
+        if not self.crate.is_program:
+            stamp_of(self.crate).write_text(self.stamp)
+        os.close(self.lock)
+
+    def stop(self):
+        """Ends it before it is done. What it wrote has no stamp, and so is made anew."""
+        self.process.kill()
+        self.process.wait()
+
+
+def lock_of(crate):
+    """What keeps every other rt out of the crate's folder until it is closed, or None where one works there."""
+    lock = os.open(crate.folder, os.O_RDONLY)
+    try:
+        if not crate.is_program:  # whose rt takes the lock itself
+            fcntl.flock(lock, fcntl.LOCK_EX | fcntl.LOCK_NB)
+    except BlockingIOError:
+        os.close(lock)
+        return None
+    return lock
+
+
+def log_of(crate):
+    return Path(crate.folder) / "out/prove.log"
+
+
+def stamp_of(crate):
+    """The file with the sum of the sources that the crate's library was made from."""
+    return Path(crate.folder) / "out/rlib/stamp"
+
+
+def lacking(crates):
+    """Those of these crates, lowest first, whose library is to be made: statements fit only the libraries that they were
+    proved over, so what stands on a library that is newer is made anew too."""
+    found = []
+    for crate in crates:
+        is_kept = crate.makes_rlib() and crate.is_built() and not {*found} & {*crate.below()}
+        made = stamp_of(crate).stat().st_mtime_ns if is_kept else 0
+        if not is_kept or any(stamp_of(it).stat().st_mtime_ns > made for it in crate.below()):
+            found.append(crate)
+    return found
+
+
+def lines_behind(crates):
+    """The lines of the longest chain of crates that waits for each one, its own among them."""
+    behind = {it: 0 for it in crates}
+    for crate in reversed(crates):
+        behind[crate] += crate.count(rb"\n")
+        for below in crate.below():
+            if below in behind:
+                behind[below] = max(behind[below], behind[crate])
+    return behind
+
+
+def start_next(rt, left, running, memory, lanes):
+    """Starts what is ready and has a processor and memory, the longest chain first."""
+    behind, unmade = lines_behind(left), {*left, *(it.crate for it in running)}
+    ready = [it for it in left if not unmade & {*it.below()}]
+    ready.sort(key=lambda it: -behind[it])
+    for at, crate in enumerate(ready):
+        idle = lanes - sum(it.jobs for it in running)
+        room, need = memory - sum(it.need for it in running), rt.need(crate)
+        if idle < 1 or running and need > room:
+            continue
+        spare = min(MOST_JOBS, idle // (len(ready) - at), 1 + int((room / need - 1) / NEED_OF_JOB))
+        lock = lock_of(crate)
+        if lock is not None:
+            left.remove(crate)
+            running.append(Step(rt, crate, max(1, spare), lock))
+
+
+def processors(rt):
+    """How many processors to use: as for rt, the environment may say so."""
+    number = os.environ.get("RT_JOBS", "")
+    return int(number) if number.isdigit() and int(number) else rt.processors()
+
+
+def prove_side_by_side(rt, left, progress):
+    """Proves these crates, each when those below it are."""
+    memory, running = SHARE_OF_MEMORY * rt.free(), []
+    lanes = processors(rt)
+    try:
+        while left or running:
+            start_next(rt, left, running, memory, lanes)
+            progress.tell([it.crate.name for it in running] or ["waiting for another rt to end"])
+            time.sleep(0.5)
+            for step in [it for it in running if it.process.poll() is not None]:
+                running.remove(step)
+                step.end()
+                progress.add(step.log)
+    finally:
+        for step in running:
+            step.stop()
+        progress.end_line()
+
+
+def load_crates(rt, names):
+    """The toolchain's view of these crates and what they stand on, lowest first."""
+    known = {}
+    for name in crates_of(names):
+        folder = str(ROOT / "crates" / name)
+        known[folder] = rt.rtlib.Crate(folder, str(ROOT), known)
+    return [*known.values()]
+
+
+def prove(rt, names):
+    """Proves and builds these crates and what they stand on, and returns the progress at the end."""
+    rt.rtlib.guarded()  # the guard starts here, with the first process that it is to end
+    crates = load_crates(rt, names)
+    for is_last in (False, True):
+        progress, left = Progress(len(crates)), lacking(crates)
+        for crate in crates:
+            if crate not in left:
+                progress.add(log_of(crate))
+        try:
+            prove_side_by_side(rt, left, progress)
+            return progress
+        except Stale as error:
+            if is_last:
+                sys.exit(f"kbroker: kept work does not fit: remove the folders out/ of {error}")
+            for name in error.args[0]:
+                shutil.rmtree(ROOT / "crates" / name / "out", ignore_errors=True)
+
+
+def hold_alone():
+    """Keeps every other one of these runs out of the repository until this process ends, however it ends."""
+    held = os.open(ROOT / "crates", os.O_RDONLY)
+    try:
+        fcntl.flock(held, fcntl.LOCK_EX | fcntl.LOCK_NB)
+    except BlockingIOError:
+        sys.exit("kbroker: another run proves this repository: wait for its end")
+
+
+def end_on_signals():
+    """Has a signal end this process by way of its `finally` blocks."""
+    for it in (signal.SIGINT, signal.SIGTERM, signal.SIGHUP):
+        signal.signal(it, lambda number, _: sys.exit(128 + number))
+
+
+def main():
+    names = sys.argv[1:] or [NAME]
+    end_on_signals()
+    hold_alone()
+    progress = prove(toolchain.load(), names)
+    progress.tell([], now=True)
+    progress.end_line()
+    if NAME in names:
+        PROGRAM.touch()  # newer than each source, as its stamp says
+        print(f"kbroker: proved and built: {PROGRAM.relative_to(ROOT)}", file=sys.stderr)
+
+
+if __name__ == "__main__":
+    main()
