@@ -1,5 +1,7 @@
 # `make run` answers the shipped example, and `make prove` proves and builds the program. `make test` is the gate.
-.PHONY: run prove test
+# `make wrong-bodies` tries the edits that the gate has no time for: of each crate, or of those named, as in
+# `make wrong-bodies CRATES="walk authorizer"`.
+.PHONY: run prove test wrong-bodies
 
 run:
 	@scripts/run_example.py
@@ -8,7 +10,7 @@ prove:
 	@scripts/prove.py
 
 test:
-	rt ci
-	scripts/examples.py
-	scripts/refused_memory.py
-	scripts/worn_epochs.py
+	@scripts/gate.py
+
+wrong-bodies:
+	@scripts/wrong_bodies.py $(CRATES)

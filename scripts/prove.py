@@ -1,10 +1,10 @@
 #!/usr/bin/env python3
 """Proves and builds the program and the crates that it stands on: `make prove`.
 
-Each library is proved from nothing, unless the last proof of the same sources still holds, as many side by side as there
-are processors and memory for: `rt ci` proves them the same way, and the tests and the other crates as well. A line on
-standard error tells how far it is. Each crate's log is crates/NAME/out/prove.log. With names, as `scripts/prove.py walk`,
-it is those crates and what they stand on.
+Each library is proved from nothing, unless the last proof of the same sources still holds, as many side by side as
+there are processors and memory for: `rt ci` proves them the same way, and the tests and the other crates as well. A line
+on standard error tells how far it is. Each crate's log is crates/NAME/out/prove.log. With names, as in
+`scripts/prove.py walk`, it is those crates and what they stand on.
 """
 
 import fcntl
@@ -33,20 +33,20 @@ class Stale(Exception):
 
 
 class Progress:
-    """The line that tells how far the proofs are."""
+    """The line that tells how far a run over many crates is."""
 
-    def __init__(self, crates):
-        self.crates, self.done, self.functions = crates, 0, 0
+    def __init__(self, crates, things):
+        self.crates, self.done, self.things, self.seen = crates, 0, things, 0
         self.started, self.told = time.monotonic(), 0.0
 
     def minutes(self):
+        """The time since it was made."""
         return (time.monotonic() - self.started) / 60
 
-    def add(self, log):
-        """Counts a crate that is proved, by its log where there is one."""
+    def add(self, seen):
+        """Counts a crate that is done, with so many things."""
         self.done += 1
-        text = log.read_text(errors="replace") if log.is_file() else ""
-        self.functions += sum(map(int, FUNCTIONS.findall(text)[-1:]))
+        self.seen += seen
 
     def tell(self, running, now=False):
         """Writes the line over the one before on a terminal, and elsewhere a new one now and then."""
@@ -54,7 +54,7 @@ class Progress:
         if not (now or is_terminal or time.monotonic() - self.told >= TOLD_EVERY):
             return
         self.told = time.monotonic()
-        line = f"kbroker: {self.done} of {self.crates} crates, {self.functions} functions, "
+        line = f"kbroker: {self.done} of {self.crates} crates, {self.seen} {self.things}, "
         line += f"{self.minutes():.1f} minutes{': ' if running else ''}{', '.join(running)}"
         if is_terminal:
             line = "\r\033[K" + line[: shutil.get_terminal_size().columns - 1]
@@ -110,7 +110,7 @@ class Step:
                 raise Stale(stale)
             sys.stderr.writelines(text.splitlines(keepends=True)[-20:])
             killed = ", most likely for memory" * (self.process.returncode == -signal.SIGKILL)
-            sys.exit(f"kbroker: {self.crate.name} is not proved{killed}: see {self.log}")
+            sys.exit(f"kbroker: {self.crate.name} is not proved{killed}: see {self.log.relative_to(ROOT)}")
         if self.stamp != self.crate.stamp():
             sys.exit(f"kbroker: a source of {self.crate.name} or below it changed meanwhile")
         if not self.crate.is_program:
@@ -139,14 +139,20 @@ def log_of(crate):
     return Path(crate.folder) / "out/prove.log"
 
 
+def functions_in(log):
+    """How many functions a log says are proved, or 0 where there is none."""
+    text = log.read_text(errors="replace") if log.is_file() else ""
+    return sum(map(int, FUNCTIONS.findall(text)[-1:]))
+
+
 def stamp_of(crate):
     """The file with the sum of the sources that the crate's library was made from."""
     return Path(crate.folder) / "out/rlib/stamp"
 
 
 def lacking(crates):
-    """Those of these crates, lowest first, whose library is to be made: statements fit only the libraries that they were
-    proved over, so what stands on a library that is newer is made anew too."""
+    """Those of these crates, lowest first, whose library is to be made. Statements fit only the libraries that they
+    were proved over, so what stands on a library that is newer is made anew too."""
     found = []
     for crate in crates:
         is_kept = crate.makes_rlib() and crate.is_built() and not {*found} & {*crate.below()}
@@ -202,7 +208,7 @@ def prove_side_by_side(rt, left, progress):
             for step in [it for it in running if it.process.poll() is not None]:
                 running.remove(step)
                 step.end()
-                progress.add(step.log)
+                progress.add(functions_in(step.log))
     finally:
         for step in running:
             step.stop()
@@ -223,10 +229,10 @@ def prove(rt, names):
     rt.rtlib.guarded()  # the guard starts here, with the first process that it is to end
     crates = load_crates(rt, names)
     for is_last in (False, True):
-        progress, left = Progress(len(crates)), lacking(crates)
+        progress, left = Progress(len(crates), "functions"), lacking(crates)
         for crate in crates:
             if crate not in left:
-                progress.add(log_of(crate))
+                progress.add(functions_in(log_of(crate)))
         try:
             prove_side_by_side(rt, left, progress)
             return progress
@@ -238,12 +244,13 @@ def prove(rt, names):
 
 
 def hold_alone():
-    """Keeps every other one of these runs out of the repository until this process ends, however it ends."""
+    """Keeps every other such run out of the repository until what it returns is closed, or this process ends."""
     held = os.open(ROOT / "crates", os.O_RDONLY)
     try:
         fcntl.flock(held, fcntl.LOCK_EX | fcntl.LOCK_NB)
     except BlockingIOError:
         sys.exit("kbroker: another run proves this repository: wait for its end")
+    return held
 
 
 def end_on_signals():

@@ -1,7 +1,8 @@
 """Loads the toolchain's command `rt`, which is a Python program, for the scripts beside this file.
 
-They need what its commands don't give: `rt lib` locks each crate below the one that it builds, so that no two crates that
-stand on a third are proved side by side. What is taken of it: `need`, `processors`, `free`, and of `rtlib` the crates.
+They need what its commands don't give: `rt lib` locks each crate below the one that it builds, so that no two crates
+that stand on a third are proved side by side. What is taken of it: `need`, `processors`, `free`, and from `rtlib` the
+crates with their words for the compiler, their stamps, and the guard that ends what was started.
 """
 
 import importlib.machinery

@@ -1,0 +1,168 @@
+#!/usr/bin/env python3
+"""The gate, `make test`: `rt ci`, and then the scripts over the program that it has built.
+
+It proves every crate and its tests from nothing, and runs all that there is to run. The last line is 'N passed, M
+failed', with a crate, an edit and a script for one each. What rt said is kept in out/gate.log, and what each crate took,
+as seen every two seconds, in out/gate.json: scripts/gate_times.py makes a table of it.
+"""
+
+import json
+import os
+import re
+import resource
+import subprocess
+import sys
+import threading
+import time
+
+import prove
+from program import PROGRAM, ROOT
+
+LOG = ROOT / "out/gate.log"
+TIMES = ROOT / "out/gate.json"
+SCRIPTS = ("examples.py", "refused_memory.py", "worn_epochs.py")
+SEEN_EVERY = 2  # seconds
+TICKS = os.sysconf("SC_CLK_TCK")
+PAGE = os.sysconf("SC_PAGE_SIZE")
+TOTALS = re.compile(r"^(\d+) passed, (\d+) failed$", re.M)
+
+
+def processes():
+    """Each process by its number: its parent, when it was started, its processor seconds and its memory."""
+    found = {}
+    for name in filter(str.isdigit, os.listdir("/proc")):
+        try:
+            with open(f"/proc/{name}/stat", encoding="utf-8", errors="replace") as it:
+                fields = it.read().rpartition(")")[2].split()
+        except OSError:
+            continue  # it has ended
+        seconds = (int(fields[11]) + int(fields[12])) / TICKS
+        found[int(name)] = int(fields[1]), int(fields[19]), seconds, int(fields[21]) * PAGE
+    return found
+
+
+def work_of(process):
+    """The crate that a process of the toolchain works at and the kind of its work, or None."""
+    try:
+        with open(f"/proc/{process}/cmdline", encoding="utf-8", errors="replace") as it:
+            words = it.read().split("\0")
+        folder = os.readlink(f"/proc/{process}/cwd")
+    except OSError:
+        return None
+    if "--crate-name" not in words[:-1]:
+        return None
+    kind = "edits" if "/rt-edit-" in folder else "tests" if "--test" in words else "proof"
+    return words[words.index("--crate-name") + 1], kind
+
+
+class Sampler:
+    """Adds up what the processes below one take. What one took after it was last seen is lost."""
+
+    def __init__(self, top):
+        self.top, self.peak = top, 0
+        self.works, self.seconds = {}, {}
+
+    def look(self):
+        """Takes one sample."""
+        found, held = processes(), 0
+        below = {}
+        for process, (parent, *_) in found.items():
+            below.setdefault(parent, []).append(process)
+        stack = [(self.top, None)]
+        while stack:
+            process, work = stack.pop()
+            if process in found:
+                _, started, seconds, memory = found[process]
+                key = process, started
+                if not self.works.get(key):
+                    self.works[key] = work_of(process) or work
+                self.seconds[key] = seconds
+                held += memory
+                stack += [(it, self.works[key]) for it in below.get(process, [])]
+        self.peak = max(self.peak, held)
+
+    def by_crate(self):
+        """The processor seconds of each crate, by kind."""
+        crates = {}
+        for key, seconds in self.seconds.items():
+            if self.works[key]:
+                crate, kind = self.works[key]
+                kinds = crates.setdefault(crate, {"proof": 0.0, "tests": 0.0, "edits": 0.0})
+                kinds[kind] += seconds
+        return crates
+
+
+def copy_lines(source, *targets):
+    """Writes each line that comes to all of these."""
+    for line in source:
+        for it in targets:
+            it.write(line)
+            it.flush()
+
+
+def run_rt():
+    """Runs `rt ci`, shows and keeps what it says, and writes what it took. Returns its text and status."""
+    LOG.parent.mkdir(exist_ok=True)
+    started = time.monotonic()
+    with LOG.open("w") as log:
+        said = {"stdout": subprocess.PIPE, "stderr": subprocess.STDOUT, "errors": "replace"}
+        process = subprocess.Popen(["rt", "ci"], cwd=ROOT, **said)
+        reader = threading.Thread(target=copy_lines, args=(process.stdout, sys.stdout, log))
+        reader.start()
+        sampler = Sampler(process.pid)
+        try:
+            while process.poll() is None:
+                sampler.look()
+                time.sleep(SEEN_EVERY)
+        finally:
+            process.terminate()
+            status = process.wait()
+            reader.join()
+    used = resource.getrusage(resource.RUSAGE_CHILDREN)
+    taken = {
+        "crates": sampler.by_crate(),
+        "total": used.ru_utime + used.ru_stime,
+        "wall": time.monotonic() - started,
+        "processors": len(os.sched_getaffinity(0)),
+        "peak": sampler.peak,
+    }
+    TIMES.write_text(json.dumps(taken, indent=1) + "\n")
+    return LOG.read_text(), status
+
+
+def run_scripts():
+    """Runs each script over the program, and returns how many passed."""
+    passed = 0
+    for name in SCRIPTS:
+        sys.stdout.flush()
+        status = subprocess.run([ROOT / "scripts" / name]).returncode if PROGRAM.exists() else 1
+        passed += status == 0
+        if status:
+            print(f"gate: {name} FAILED")
+    return passed
+
+
+def main():
+    prove.end_on_signals()
+    prove.hold_alone()
+    started = time.monotonic()
+    text, status = run_rt()
+    of_scripts = run_scripts()
+    passed, failed = map(int, (TOTALS.findall(text) or [(0, 1)])[-1])
+    if status and not failed:
+        failed = 1
+    crates = len(re.findall(r"^rt: \w+ proved$", text, re.M))
+    edits = len(re.findall(r"^rt: must-fail \S+: refused", text, re.M))
+    tests = sum(map(int, re.findall(r"^test result: ok\. (\d+) passed", text, re.M)))
+    minutes = (time.monotonic() - started) / 60
+    print(
+        f"gate: {crates} crates proved, {edits} edits refused, {tests} tests and {of_scripts} scripts"
+        f" passed in {minutes:.1f} minutes; see {LOG.relative_to(ROOT)}"
+    )
+    passed, failed = passed + of_scripts, failed + len(SCRIPTS) - of_scripts
+    print(f"{passed} passed, {failed} failed", flush=True)
+    sys.exit(1 if failed else 0)
+
+
+if __name__ == "__main__":
+    main()

@@ -1,0 +1,155 @@
+#!/usr/bin/env python3
+"""Tries the second shelf of wrong bodies, crates/NAME/wrong-bodies/*.edit: `make wrong-bodies`.
+
+`rt ci` tries those of must-fail/ at each gate. These are more of the same kind, for whoever changes a crate:
+`scripts/wrong_bodies.py --both walk` tries both shelves of the crate walk, and with no name all crates are tried. Each
+crate has a `rt must-fail` of its own, over a copy of the repository, where its shelf stands in the place of must-fail/.
+What is printed is each edit that the prover didn't refuse, or refused for no more than a name in a proof file.
+"""
+
+import os
+import shutil
+import subprocess
+import sys
+import tempfile
+import time
+from pathlib import Path
+
+import prove
+import toolchain
+from program import PARTS, ROOT, crates_list, crates_of
+
+WITHOUT_NAME = "only because a proof file names what the edit took away"
+SHELVES = ("wrong-bodies", "must-fail")
+
+
+def shelved(name, shelves):
+    """The edits of a crate on these shelves, by their names."""
+    found = {}
+    for shelf in shelves:
+        for edit in sorted((ROOT / "crates" / name / shelf).glob("*.edit")):
+            if edit.name in found:
+                sys.exit(f"wrong bodies: {name}/{edit.name} stands on both shelves")
+            found[edit.name] = edit
+    return found
+
+
+def copy_repository(room, edits):
+    """Copies what `rt must-fail` reads of these crates and those below, with their libraries and these edits."""
+    names = crates_of(edits)
+    lines = (ROOT / "crates.txt").read_text().splitlines(keepends=True)
+    kept = [it for it in lines if {*it.partition(":")[0].split()[:1]} & {*names}]
+    (room / "crates").mkdir(parents=True)
+    (room / "crates.txt").write_text("".join(kept))
+    for name in names:
+        for part in (*PARTS, "out/rlib"):
+            if (ROOT / "crates" / name / part).is_dir():
+                shutil.copytree(ROOT / "crates" / name / part, room / "crates" / name / part)
+        shelf = room / "crates" / name / "must-fail"
+        shelf.mkdir()
+        for edit in edits.get(name, {}).values():
+            shutil.copy(edit, shelf)
+
+
+class Trial:
+    """A crate whose edits are being tried."""
+
+    def __init__(self, rt, crate, room, edits):
+        self.name, self.edits, self.need = crate.name, edits, rt.need(crate)
+        self.log = room / f"{crate.name}.log"
+        with self.log.open("w") as log:
+            # what rt leaves in its temporary folders when it is ended goes with the room
+            self.process = subprocess.Popen(
+                [*rt.rtlib.guarded(), sys.executable, rt.__file__, "must-fail", crate.name],
+                cwd=room / "copy",
+                env={**os.environ, "TMPDIR": str(room / "tmp")},
+                stdin=subprocess.DEVNULL,
+                stdout=log,
+                stderr=subprocess.STDOUT,
+            )
+
+    def stop(self):
+        """Ends it before it is done."""
+        self.process.kill()
+        self.process.wait()
+
+    def told(self):
+        """What was said of each edit, by its name."""
+        found, name = {}, None
+        for line in self.log.read_text(errors="replace").splitlines():
+            head = f"rt: must-fail {self.name}/"
+            if line.startswith(head):
+                name, _, line = line[len(head) :].partition(": ")
+            if name:
+                found[name] = [*found.get(name, []), line]
+        return {it: "\n".join(lines) for it, lines in found.items()}
+
+    def judge(self):
+        """Prints what is no plain refusal, and returns how many edits were not refused."""
+        told, failed = self.told(), 0
+        for name, edit in self.edits.items():
+            text = told.get(name, "NOT TRIED")
+            is_refused = text.startswith("refused, as it must be")
+            failed += not is_refused
+            if not is_refused or WITHOUT_NAME in text:
+                print(f"{edit.parent.name} {self.name}/{name}: {text}", flush=True)
+        if any(it not in told for it in self.edits):
+            print("".join(self.log.read_text(errors="replace").splitlines(keepends=True)[-10:]))
+        return failed
+
+
+def try_side_by_side(rt, crates, edits, room):
+    """Tries each crate's edits, as many crates at a time as processors and memory allow, and returns what failed."""
+    work = {it: it.count(rb"\n") * (10 + len(edits[it.name])) for it in crates}
+    left, running, failed = sorted(crates, key=lambda it: -work[it]), [], 0
+    memory, lanes = prove.SHARE_OF_MEMORY * rt.free(), prove.processors(rt)
+    progress = prove.Progress(len(crates), "edits")
+    try:
+        while left or running:
+            for crate in [*left]:
+                room_left = memory - sum(it.need for it in running)
+                if not running or len(running) < lanes and rt.need(crate) <= room_left:
+                    left.remove(crate)
+                    running.append(Trial(rt, crate, room, edits[crate.name]))
+            progress.tell([it.name for it in running])
+            time.sleep(0.5)
+            for trial in [it for it in running if it.process.poll() is not None]:
+                running.remove(trial)
+                failed += trial.judge()
+                progress.add(len(trial.edits))
+    finally:
+        for trial in running:
+            trial.stop()
+        progress.end_line()
+    print(
+        f"wrong bodies: {progress.seen} edits of {len(crates)} crates were tried in"
+        f" {progress.minutes():.1f} minutes, and {failed} were not refused"
+    )
+    return failed
+
+
+def main():
+    words = sys.argv[1:]
+    shelves = SHELVES if "--both" in words else SHELVES[:1]
+    names = [it for it in words if it != "--both"] or [*crates_list()]
+    edits = {it: shelved(it, shelves) for it in crates_of(names) if it in names}
+    edits = {name: found for name, found in edits.items() if found}
+    if not edits:
+        sys.exit("wrong bodies: these crates have none")
+    prove.end_on_signals()
+    held = prove.hold_alone()
+    rt = toolchain.load()
+    crates = [it for it in prove.load_crates(rt, edits) if it.name in edits]
+    below = [it.name for crate in crates for it in crate.below()]
+    if below:
+        prove.prove(rt, below)
+    with tempfile.TemporaryDirectory(prefix="wrong-bodies-") as folder:
+        room = Path(folder)
+        copy_repository(room / "copy", edits)
+        (room / "tmp").mkdir()
+        os.close(held)
+        sys.exit(1 if try_side_by_side(rt, crates, edits, room) else 0)
+
+
+if __name__ == "__main__":
+    main()
