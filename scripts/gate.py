@@ -2,8 +2,8 @@
 """The gate, `make test`: `rt ci`, and then the scripts over the program that it has built.
 
 It proves every crate and its tests from nothing, and runs all that there is to run. The last line is 'N passed, M
-failed', with a crate, an edit and a script for one each. What rt said is kept in out/gate.log, and what each crate took,
-as seen every two seconds, in out/gate.json: scripts/gate_times.py makes a table of it.
+failed', with a crate, an edit and a script for one each. What rt said is kept in out/gate.log, and what each crate
+took, as seen every two seconds, in out/gate.json: scripts/gate_times.py makes a table of it.
 """
 
 import json

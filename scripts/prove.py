@@ -2,8 +2,8 @@
 """Proves and builds the program and the crates that it stands on: `make prove`.
 
 Each library is proved from nothing, unless the last proof of the same sources still holds, as many side by side as
-there are processors and memory for: `rt ci` proves them the same way, and the tests and the other crates as well. A line
-on standard error tells how far it is. Each crate's log is crates/NAME/out/prove.log. With names, as in
+there are processors and memory for: `rt ci` proves them the same way, and the tests and the other crates as well. A
+line on standard error tells how far it is. Each crate's log is crates/NAME/out/prove.log. With names, as in
 `scripts/prove.py walk`, it is those crates and what they stand on.
 """
 
@@ -21,6 +21,7 @@ import toolchain
 from program import NAME, PROGRAM, ROOT, crates_of
 
 FUNCTIONS = re.compile(r"^logic=proved functions=(\d+)", re.M)
+UNUSABLE = re.compile(r"^rattle: error\[unusable-built-library\]: the rlib of `(\w+)`", re.M)
 RUNS_PROGRAM = re.compile(r"^rt: running ", re.M)
 SHARE_OF_MEMORY = 0.85
 MOST_JOBS = 4
@@ -29,7 +30,7 @@ TOLD_EVERY = 10  # seconds
 
 
 class Stale(Exception):
-    """The kept work of these crates fits no longer what stands below or above it."""
+    """What is kept of these crates no longer fits what is kept of others."""
 
 
 class Progress:
@@ -105,7 +106,7 @@ class Step:
         if self.crate.is_program:
             is_well = RUNS_PROGRAM.search(text)
         if not is_well:
-            stale = set(self.rt.rtlib.STALE.findall(text))
+            stale = {*self.rt.rtlib.STALE.findall(text), *UNUSABLE.findall(text)}
             if stale:
                 raise Stale(stale)
             sys.stderr.writelines(text.splitlines(keepends=True)[-20:])
@@ -173,14 +174,13 @@ def lines_behind(crates):
     return behind
 
 
-def start_next(rt, left, running, memory, lanes):
-    """Starts what is ready and has a processor and memory, the longest chain first."""
-    behind, unmade = lines_behind(left), {*left, *(it.crate for it in running)}
+def start_next(rt, left, running, memory, needs):
+    """Starts what is ready and has a processor and memory, in the order of what is left."""
+    unmade = {*left, *(it.crate for it in running)}
     ready = [it for it in left if not unmade & {*it.below()}]
-    ready.sort(key=lambda it: -behind[it])
     for at, crate in enumerate(ready):
-        idle = lanes - sum(it.jobs for it in running)
-        room, need = memory - sum(it.need for it in running), rt.need(crate)
+        idle = processors(rt) - sum(it.jobs for it in running)
+        room, need = memory - sum(it.need for it in running), needs[crate]
         if idle < 1 or running and need > room:
             continue
         spare = min(MOST_JOBS, idle // (len(ready) - at), 1 + int((room / need - 1) / NEED_OF_JOB))
@@ -197,12 +197,13 @@ def processors(rt):
 
 
 def prove_side_by_side(rt, left, progress):
-    """Proves these crates, each when those below it are."""
+    """Proves these crates, each when those below it are, and those with the longest chain above them first."""
     memory, running = SHARE_OF_MEMORY * rt.free(), []
-    lanes = processors(rt)
+    behind, needs = lines_behind(left), {it: rt.need(it) for it in left}
+    left = sorted(left, key=lambda it: -behind[it])
     try:
         while left or running:
-            start_next(rt, left, running, memory, lanes)
+            start_next(rt, left, running, memory, needs)
             progress.tell([it.crate.name for it in running] or ["waiting for another rt to end"])
             time.sleep(0.5)
             for step in [it for it in running if it.process.poll() is not None]:
@@ -228,7 +229,8 @@ def prove(rt, names):
     """Proves and builds these crates and what they stand on, and returns the progress at the end."""
     rt.rtlib.guarded()  # the guard starts here, with the first process that it is to end
     crates = load_crates(rt, names)
-    for is_last in (False, True):
+    removed = set()
+    while True:
         progress, left = Progress(len(crates), "functions"), lacking(crates)
         for crate in crates:
             if crate not in left:
@@ -237,9 +239,12 @@ def prove(rt, names):
             prove_side_by_side(rt, left, progress)
             return progress
         except Stale as error:
-            if is_last:
-                sys.exit(f"kbroker: kept work does not fit: remove the folders out/ of {error}")
-            for name in error.args[0]:
+            stale = error.args[0] - removed
+            if not stale:
+                sys.exit(f"kbroker: {error}: remove the folders out/ of these crates")
+            removed |= stale
+            for name in stale:
+                print(f"kbroker: what is kept of {name} is made anew", file=sys.stderr)
                 shutil.rmtree(ROOT / "crates" / name / "out", ignore_errors=True)
 
 

@@ -5,6 +5,7 @@ The proved program answers it where it is built from the sources as they stand. 
 sources with no proof, in a minute or two, and a line on standard error says so.
 """
 
+import signal
 import subprocess
 import sys
 
@@ -44,6 +45,7 @@ def run_unproved():
 
 
 def main():
+    signal.signal(signal.SIGINT, signal.SIG_DFL)  # it ends with what it runs, without a word
     sys.exit(run_unproved() if what_lacks() else run_proved())
 
 

@@ -34,6 +34,14 @@ def shelved(name, shelves):
     return found
 
 
+def link_or_copy(file, to):
+    """Copies a file of a library, which is only read, and replaced where it is made anew."""
+    try:
+        os.link(file, to)
+    except OSError:
+        shutil.copy2(file, to)
+
+
 def copy_repository(room, edits):
     """Copies what `rt must-fail` reads of these crates and those below, with their libraries and these edits."""
     names = crates_of(edits)
@@ -42,10 +50,14 @@ def copy_repository(room, edits):
     (room / "crates").mkdir(parents=True)
     (room / "crates.txt").write_text("".join(kept))
     for name in names:
-        for part in (*PARTS, "out/rlib"):
-            if (ROOT / "crates" / name / part).is_dir():
-                shutil.copytree(ROOT / "crates" / name / part, room / "crates" / name / part)
-        shelf = room / "crates" / name / "must-fail"
+        crate, copy = ROOT / "crates" / name, room / "crates" / name
+        for part in PARTS:
+            if (crate / part).is_dir():
+                shutil.copytree(crate / part, copy / part)
+        if (crate / "out/rlib/stamp").is_file():
+            library = copy / "out/rlib"
+            shutil.copytree(crate / "out/rlib", library, copy_function=link_or_copy)
+        shelf = copy / "must-fail"
         shelf.mkdir()
         for edit in edits.get(name, {}).values():
             shutil.copy(edit, shelf)
@@ -55,7 +67,7 @@ class Trial:
     """A crate whose edits are being tried."""
 
     def __init__(self, rt, crate, room, edits):
-        self.name, self.edits, self.need = crate.name, edits, rt.need(crate)
+        self.crate, self.name, self.edits = crate, crate.name, edits
         self.log = room / f"{crate.name}.log"
         with self.log.open("w") as log:
             # what rt leaves in its temporary folders when it is ended goes with the room
@@ -102,13 +114,14 @@ def try_side_by_side(rt, crates, edits, room):
     """Tries each crate's edits, as many crates at a time as processors and memory allow, and returns what failed."""
     work = {it: it.count(rb"\n") * (10 + len(edits[it.name])) for it in crates}
     left, running, failed = sorted(crates, key=lambda it: -work[it]), [], 0
+    needs = {it: rt.need(it) for it in crates}
     memory, lanes = prove.SHARE_OF_MEMORY * rt.free(), prove.processors(rt)
     progress = prove.Progress(len(crates), "edits")
     try:
         while left or running:
             for crate in [*left]:
-                room_left = memory - sum(it.need for it in running)
-                if not running or len(running) < lanes and rt.need(crate) <= room_left:
+                free = memory - sum(needs[it.crate] for it in running)
+                if not running or len(running) < lanes and needs[crate] <= free:
                     left.remove(crate)
                     running.append(Trial(rt, crate, room, edits[crate.name]))
             progress.tell([it.name for it in running])
