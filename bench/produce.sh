@@ -3,5 +3,5 @@
 # `bench/produce.sh`.
 set -euo pipefail
 top="$(cd "$(dirname "$0")/.." && pwd)"
-"$top/scripts/build.sh"
+"$top/scripts/program.py"
 exec python3 "$top/bench/produce.py" "$top/crates/kbroker/out/kbroker"
