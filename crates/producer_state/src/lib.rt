@@ -9,8 +9,6 @@ mod known;
 mod laws;
 mod producers;
 mod sequence;
-#[cfg(test)]
-mod tests;
 
 pub use judgment::Judgment;
 pub use laws::{accepted_once, newer_fences, next_is_count, numbers_alone, sent_again_repeats};

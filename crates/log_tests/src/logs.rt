@@ -3,11 +3,9 @@
 mod plain;
 mod small_logs;
 
-use crate::fault::FetchFault;
-use crate::log::Log;
-use crate::view::consumer_view;
 use bytes::Bytes;
 use msg_data::Isolation;
+use partition_log::{FetchFault, Log, consumer_view};
 use producer_state::Judgment;
 use record_batch::{Batch, Outcome};
 use std::alloc::Global;

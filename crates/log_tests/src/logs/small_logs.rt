@@ -1,12 +1,10 @@
 //! All logs of a few batches of two producers: what is served of them, and what a consumer shows.
 
-use crate::fault::FetchFault;
-use crate::log::Log;
-use crate::tests::plain::{Ask, Entry, Kind, end, is_served, is_shown};
-use crate::tests::{ONE, RICH};
-use crate::view::consumer_view;
+use crate::logs::plain::{Ask, Entry, Kind, end, is_served, is_shown};
+use crate::logs::{ONE, RICH};
 use bytes::Bytes;
 use msg_data::Isolation;
+use partition_log::{FetchFault, Log, consumer_view};
 use producer_state::Judgment;
 use record_batch::{Batch, Outcome, crc32c};
 use std::alloc::{AllocError, Global};

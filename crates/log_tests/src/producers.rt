@@ -1,9 +1,7 @@
 //! Batches of one producer, one after the other.
 
-use crate::judgment::Judgment;
-use crate::producers::Producers;
-use crate::sequence::{last_sequence, next_sequence};
 use bytes::Bytes;
+use producer_state::{Judgment, Producers, last_sequence, next_sequence};
 use record_batch::{Batch, Outcome, crc32c};
 use std::alloc::{AllocError, Global};
 use std::process::Abort;
