@@ -3,7 +3,5 @@
 
 mod help;
 mod job;
-#[cfg(test)]
-mod tests;
 
 pub use job::{Job, arguments};

@@ -5,8 +5,6 @@ mod fault;
 mod names;
 mod sentences;
 mod settings;
-#[cfg(test)]
-mod tests;
 
 pub use fault::{OpenFault, first_fault};
 pub use names::is_topic_name;

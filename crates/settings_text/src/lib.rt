@@ -6,8 +6,6 @@ mod fault;
 mod fields;
 mod rows;
 mod sentences;
-#[cfg(test)]
-mod tests;
 mod users;
 
 pub use document::{Document, User, document_of_text};

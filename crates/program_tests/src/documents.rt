@@ -1,7 +1,7 @@
 //! Settings texts of each fault, of each two neighbours of the faults' order, and of none.
 
-use crate::{Document, SettingsFault, document_of_text};
 use acl_binding::{Binding, Kind, Operation, Pattern, Permission};
+use settings_text::{Document, SettingsFault, document_of_text};
 use std::alloc::AllocError;
 use std::test::Fail;
 

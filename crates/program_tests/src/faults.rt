@@ -1,7 +1,7 @@
 //! Each fault of settings once, and which of two is named.
 
-use crate::{OpenFault, Settings, TopicSetting, first_fault};
 use acl_binding::{Binding, Kind, Operation, Pattern, Permission};
+use settings::{OpenFault, Settings, TopicSetting, first_fault};
 use std::alloc::{AllocError, Global};
 use std::test::Fail;
 use wire_types::{Items, Text};

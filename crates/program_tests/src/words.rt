@@ -1,6 +1,6 @@
 //! Command lines.
 
-use crate::{Job, arguments};
+use arguments::{Job, arguments};
 use std::test::Fail;
 
 #[test]
