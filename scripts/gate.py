@@ -92,22 +92,27 @@ class Sampler:
         return crates
 
 
-def copy_lines(source, *targets):
-    """Writes each line that comes to all of these."""
+def copy_lines(source, shown, kept):
+    """Writes each line that comes to both, and goes on where nobody reads what is shown."""
     for line in source:
-        for it in targets:
-            it.write(line)
-            it.flush()
+        kept.write(line)
+        kept.flush()
+        try:
+            shown.write(line)
+            shown.flush()
+        except OSError:
+            continue
 
 
 def run_rt():
     """Runs `rt ci`, shows and keeps what it says, and writes what it took. Returns its text and status."""
     LOG.parent.mkdir(exist_ok=True)
     started = time.monotonic()
-    with LOG.open("w") as log:
-        said = {"stdout": subprocess.PIPE, "stderr": subprocess.STDOUT, "errors": "replace"}
+    with LOG.open("wb") as log:
+        said = {"stdout": subprocess.PIPE, "stderr": subprocess.STDOUT}
         process = subprocess.Popen(["rt", "ci"], cwd=ROOT, **said)
-        reader = threading.Thread(target=copy_lines, args=(process.stdout, sys.stdout, log))
+        targets = process.stdout, sys.stdout.buffer, log
+        reader = threading.Thread(target=copy_lines, args=targets)
         reader.start()
         sampler = Sampler(process.pid)
         try:
@@ -127,7 +132,7 @@ def run_rt():
         "peak": sampler.peak,
     }
     TIMES.write_text(json.dumps(taken, indent=1) + "\n")
-    return LOG.read_text(), status
+    return LOG.read_text(encoding="utf-8", errors="replace"), status
 
 
 def run_scripts():
@@ -135,10 +140,12 @@ def run_scripts():
     passed = 0
     for name in SCRIPTS:
         sys.stdout.flush()
-        status = subprocess.run([ROOT / "scripts" / name]).returncode if PROGRAM.exists() else 1
-        passed += status == 0
-        if status:
+        if not PROGRAM.exists():
+            print(f"gate: {name} FAILED: there is no program")
+        elif subprocess.run([ROOT / "scripts" / name]).returncode:
             print(f"gate: {name} FAILED")
+        else:
+            passed += 1
     return passed
 
 
