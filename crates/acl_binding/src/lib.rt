@@ -12,8 +12,6 @@ mod laws;
 mod names;
 mod question;
 mod scan;
-#[cfg(test)]
-mod tests;
 mod wire_numbers;
 mod words;
 

@@ -14,8 +14,6 @@ mod looking;
 mod names;
 mod permit;
 mod policy;
-#[cfg(test)]
-mod tests;
 
 pub use answer::{Answer, Refusal, Why};
 pub use asking::{GivenPermits, ThreePermits, TwoPermits, ask_given, ask_one, ask_three, ask_two};

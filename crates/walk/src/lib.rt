@@ -8,8 +8,6 @@ mod code;
 mod laws;
 mod part;
 mod parts;
-#[cfg(test)]
-mod tests;
 mod walking;
 
 pub use code::refusal_code;

@@ -1,6 +1,6 @@
 //! Bindings, and a caller whom they are for.
 
-use crate::{Binding, Book, Caller, Kind, Operation, Pattern, Permission, Verdict};
+use acl_binding::{Binding, Book, Caller, Kind, Operation, Pattern, Permission, Verdict};
 use std::alloc::{AllocError, Global};
 use wire_types::Text;
 

@@ -3,8 +3,8 @@
 ghost use Rattle.std.specs.Prelude.{◌≡◌, ◌+◌, ◌<◌, ◌≤◌, length, codes};
 
 use super::{asked, for_ann, policy};
-use crate::Policy;
 use acl_binding::{Filter, FilterPattern, Kind, Operation, Pattern, Permission, Verdict};
+use authorizer::Policy;
 use std::alloc::{AllocError, Global};
 use std::test::Fail;
 use wire_types::Text;

@@ -5,10 +5,10 @@ ghost use Rattle.std.specs.Prelude.{◌≡◌, IfOk};
 mod by_name;
 mod by_scan;
 
-use crate::{Answer, Policy, TwoPermits, Why, ask_given, ask_one, ask_three, ask_two};
 use acl_binding::{
     Added, Binding, Caller, Kind, Operation, Pattern, Permission, Question, Verdict,
 };
+use authorizer::{Answer, Policy, TwoPermits, Why, ask_given, ask_one, ask_three, ask_two};
 use std::alloc::{AllocError, Global};
 use std::test::Fail;
 use wire_types::{Items, Text};

@@ -1,7 +1,7 @@
 //! What filters pick, and what is taken out by them.
 
-use crate::tests::fixtures::{binding, for_ann};
-use crate::{Book, Filter, FilterPattern, Operation, Pattern, Permission};
+use crate::bindings::fixtures::{binding, for_ann};
+use acl_binding::{Book, Filter, FilterPattern, Operation, Pattern, Permission};
 use std::alloc::{AllocError, Global};
 use std::test::Fail;
 use wire_types::Text;

@@ -1,7 +1,7 @@
 //! The rules of the Kafka documentation as tables of verdicts.
 
-use crate::tests::fixtures::{ann, binding, for_ann, verdict_of};
-use crate::{Added, Book, Kind, Operation, Pattern, Permission, Verdict};
+use crate::bindings::fixtures::{ann, binding, for_ann, verdict_of};
+use acl_binding::{Added, Book, Kind, Operation, Pattern, Permission, Verdict};
 use std::test::Fail;
 use wire_types::Text;
 

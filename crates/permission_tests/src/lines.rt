@@ -1,7 +1,7 @@
 //! Lines of refusals, as they are printed, and entries of events that are no requests.
 
-use crate::{Entry, Event, Trail, line};
 use acl_binding::{Kind, Operation, Question};
+use audit_trail::{Entry, Event, Trail, line};
 use authorizer::{Refusal, Why};
 use msg_admin::Reply;
 use std::alloc::{AllocError, Global};

@@ -1,7 +1,7 @@
 //! What a book keeps, and what is asked of it.
 
-use crate::tests::fixtures::{ANN, HOST, ann, binding, for_ann};
-use crate::{Added, Binding, Book, Kind, Operation, Pattern, Permission};
+use crate::bindings::fixtures::{ANN, HOST, ann, binding, for_ann};
+use acl_binding::{Added, Binding, Book, Kind, Operation, Pattern, Permission};
 use std::test::Fail;
 use wire_types::Text;
 

@@ -4,10 +4,10 @@ ghost use Rattle.std.specs.Prelude.{◌≡◌, ◌+◌, ◌<◌, ◌≤◌, [], 
 ghost use Rattle.authorizer.specs.Policy.{verdict};
 
 use super::{asked, policy};
-use crate::Policy;
 use acl_binding::{
     Binding, Book, Filter, FilterPattern, Kind, Operation, Pattern, Permission, Question, Verdict,
 };
+use authorizer::Policy;
 use std::alloc::{AllocError, Global};
 use std::test::Fail;
 use wire_types::Text;

@@ -1,5 +1,5 @@
 use Rattle.std.proofs.Common.{◌≤◌, ◌+◌}
-use Rattle.authorizer.proofs.tests.by_scan.fill.Given as goal
+use Rattle.permission_tests.proofs.policies.by_scan.fill.Given as goal
 
 -- each row takes one number at most
 abbrev pub invariant-loop-row : goal.invariant-loop-row

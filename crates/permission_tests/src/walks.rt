@@ -1,13 +1,13 @@
 //! One small api through the walk: who may read a topic is told its partitions.
 
-use crate::{
-    Part, PartApi, answers_each_part, first_is_granted, has_part, one_walk, refusal_code, walk,
-    walk_plain,
-};
 use acl_binding::{Caller, Kind, Operation};
 use authorizer::{Policy, ask_one};
 use std::alloc::{AllocError, Global};
 use std::test::Fail;
+use walk::{
+    Part, PartApi, answers_each_part, first_is_granted, has_part, one_walk, refusal_code, walk,
+    walk_plain,
+};
 use wire_types::{ErrorCode, Items, Text, Topic};
 
 /// Asks to read the topic.
