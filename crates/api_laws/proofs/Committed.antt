@@ -25,12 +25,12 @@ use Rattle.walk.specs.Walk.{answers}
 use Rattle.walk.specs.Steps.{answer_by}
 use Rattle.walk.specs.Headline.{at, world_before, IsAnswered}
 use Rattle.walk.proofs.Headlines.{answers_each_part}
-use Rattle.request_handlers.specs.declared.room.Room.{Room}
-use Rattle.request_handlers.specs.World.{World, TopicValue, LogValue, rules_of}
-use Rattle.request_handlers.specs.Logs.{log_at, HoldLogs}
-use Rattle.request_handlers.specs.Fetch.{room_for, is_outside, served_by, served_at, fetched, fetch_rule, whole_room}
+use Rattle.data_handlers.specs.declared.room.Room.{Room}
+use Rattle.broker_world.specs.World.{World, TopicValue, LogValue, rules_of}
+use Rattle.broker_world.specs.Logs.{log_at, HoldLogs}
+use Rattle.data_handlers.specs.Fetch.{room_for, is_outside, served_by, served_at, fetched, fetch_rule, whole_room}
 use Rattle.api_laws.specs.ReadLaws.{ShowsCommitted, ReadsCommitted, FetchesCommitted}
-use Rattle.request_handlers.proofs.Held.{log_is}
+use Rattle.broker_world.proofs.Held.{log_is}
 
 -- ---- a partition
 

@@ -18,18 +18,19 @@ use Rattle.producer_state.specs.Sequences.{is_of_producer, begun, gone_on, Seque
 use Rattle.partition_log.specs.Log.{at_end}
 use Rattle.partition_log.specs.Fetch.{limit_of}
 use Rattle.msg_data.specs.declared.produce.ProducedRecords.{ProducedRecords}
-use Rattle.request_handlers.specs.World.{TopicValue, LogValue, find_topic}
-use Rattle.request_handlers.specs.Logs.{log_in, log_of, log_at, logs_with, with_log, log_by, offset_by, appended_by}
-use Rattle.request_handlers.specs.Sent.{sent}
+use Rattle.broker_world.specs.World.{TopicValue, LogValue, find_topic}
+use Rattle.broker_world.specs.Logs.{log_in, log_of, log_at, logs_with, with_log, log_by, offset_by, appended_by}
+use Rattle.data_handlers.specs.Sent.{sent}
 use Rattle.txn_coordinator.specs.declared.pair.Given.{Given}
 use Rattle.txn_coordinator.specs.declared.pair.Given.TheVariants.{Never, Free, Owned}
 use Rattle.txn_coordinator.specs.declared.target.Target.{Target}
 use Rattle.txn_coordinator.specs.Holding.{holds}
 use Rattle.txn_coordinator.specs.Coordinator.{CoordinatorValue, owner, given_by}
-use Rattle.request_handlers.specs.Judged.{partition_at, pair_of, refused_by, held_code, are_acks, given_code, producer_code, passed_by, passed, batch_in, judged, topics_produced}
-use Rattle.request_handlers.specs.RoomLaws.{IsGoodBatch, judged_batch}
-use Rattle.request_handlers.specs.Produce.{produced_to, produced_by, produced}
-use Rattle.request_handlers.specs.ListOffsets.{listed_by, listed_at, listed_error}
+use Rattle.data_handlers.specs.Judged.{partition_at, pair_of, held_code, are_acks, given_code, producer_code, passed_by, passed, batch_in, judged, topics_produced}
+use Rattle.broker_world.specs.Codes.{refused_by}
+use Rattle.data_handlers.specs.RoomLaws.{IsGoodBatch, judged_batch}
+use Rattle.data_handlers.specs.Produce.{produced_to, produced_by, produced}
+use Rattle.data_handlers.specs.ListOffsets.{listed_by, listed_at, listed_error}
 use Rattle.api_laws.proofs.DataGrants.{find_same}
 use Rattle.api_laws.specs.DataLaws.{IsAppended, IsRepeated, IsUnchanged, ProducesAsAnswered, ListsEnds}
 

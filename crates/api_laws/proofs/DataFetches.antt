@@ -11,10 +11,10 @@ use Rattle.partition_log.specs.Fetch.{reaching, below, fitting, at_least_one, li
 use Rattle.partition_log.specs.Laws.{total_bytes}
 use Rattle.msg_data.specs.declared.isolation.Isolation.{Isolation}
 use Rattle.msg_data.specs.declared.fetch.FetchPartition.{FetchPartition}
-use Rattle.request_handlers.specs.declared.room.Room.{Room}
-use Rattle.request_handlers.specs.World.{TopicValue, LogValue}
-use Rattle.request_handlers.specs.Logs.{log_at}
-use Rattle.request_handlers.specs.Fetch.{room_for, is_outside, served_by, served_at, fetched, room_after}
+use Rattle.data_handlers.specs.declared.room.Room.{Room}
+use Rattle.broker_world.specs.World.{TopicValue, LogValue}
+use Rattle.broker_world.specs.Logs.{log_at}
+use Rattle.data_handlers.specs.Fetch.{room_for, is_outside, served_by, served_at, fetched, room_after}
 use Rattle.api_laws.specs.DataLaws.{IsServed, IsFetched, IsUnserved, FetchesRuns}
 
 -- ---- beginnings and ends of a log

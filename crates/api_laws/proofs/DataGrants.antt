@@ -32,21 +32,22 @@ use Rattle.walk.specs.Alike.{AllParts, AllTopics, AreAlike}
 use Rattle.walk.specs.Steps.{world_by, part_world, parts_world, topics_world}
 use Rattle.walk.proofs.Alikeness.{answer_alike}
 use Rattle.walk.proofs.Weaving.{woven}
-use Rattle.request_handlers.specs.declared.room.Room.{Room}
-use Rattle.request_handlers.specs.World.{World, TopicValue, LogValue, rules_of, find_topic}
-use Rattle.request_handlers.specs.declared.node.Node.{Node}
-use Rattle.request_handlers.specs.First.{magnitude}
-use Rattle.request_handlers.specs.Logs.{log_after, log_of, log_at, logs_with, with_log, appended_by, appended}
+use Rattle.data_handlers.specs.declared.room.Room.{Room}
+use Rattle.broker_world.specs.World.{World, TopicValue, LogValue, rules_of, find_topic}
+use Rattle.broker_world.specs.declared.node.Node.{Node}
+use Rattle.broker_world.specs.First.{magnitude}
+use Rattle.broker_world.specs.Logs.{log_after, log_of, log_at, logs_with, with_log, appended_by, appended}
 use Rattle.txn_coordinator.specs.declared.pair.Pair.{Pair}
 use Rattle.txn_coordinator.specs.declared.target.Target.{Target}
 use Rattle.txn_coordinator.specs.declared.transaction.Transaction.{Transaction}
 use Rattle.txn_coordinator.specs.Coordinator.{CoordinatorValue, recorded, owner, given_by}
 use Rattle.txn_coordinator.specs.Holding.{holds_found}
-use Rattle.request_handlers.specs.Judged.{partition_at, pair_of, refused_by, held_code, given_code, producer_code, passed_by, passed, batch_in, are_acks, judged, topics_produced}
-use Rattle.request_handlers.specs.Sent.{sent}
-use Rattle.request_handlers.specs.Produce.{produce_questions, produced, produced_by, produce_rule, producing, produce_reply}
-use Rattle.request_handlers.specs.Fetch.{served_by, served_at, fetched, room_after, fetch_rule, whole_room}
-use Rattle.request_handlers.specs.ListOffsets.{listed_by, list_rule}
+use Rattle.data_handlers.specs.Judged.{partition_at, pair_of, held_code, given_code, producer_code, passed_by, passed, batch_in, are_acks, judged, topics_produced}
+use Rattle.broker_world.specs.Codes.{refused_by}
+use Rattle.data_handlers.specs.Sent.{sent}
+use Rattle.data_handlers.specs.Produce.{produce_questions, produced, produced_by, produce_rule, producing, produce_reply}
+use Rattle.data_handlers.specs.Fetch.{served_by, served_at, fetched, room_after, fetch_rule, whole_room}
+use Rattle.data_handlers.specs.ListOffsets.{listed_by, list_rule}
 use Rattle.api_laws.specs.Tenants.{SameGranted, SameOn}
 use Rattle.api_laws.specs.DataTenants.{FetchDependsOnGrants, ListOffsetsDependsOnGrants, ProduceDependsOnGrants, ProduceKeepsTheRest}
 

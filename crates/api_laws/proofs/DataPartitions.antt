@@ -14,12 +14,12 @@ use Rattle.msg_data.specs.declared.produce.ProducedRecords.{ProducedRecords}
 use Rattle.walk.specs.Alike.{AllParts, AllTopics}
 use Rattle.walk.specs.Steps.{world_by, part_world, parts_world, topics_world}
 use Rattle.walk.proofs.Weaving.{woven}
-use Rattle.request_handlers.specs.World.{World, TopicValue, LogValue, rules_of, find_topic}
-use Rattle.request_handlers.specs.First.{magnitude}
-use Rattle.request_handlers.specs.Logs.{log_after, log_in, log_of, log_at, logs_with, with_log, appended_by}
+use Rattle.broker_world.specs.World.{World, TopicValue, LogValue, rules_of, find_topic}
+use Rattle.broker_world.specs.First.{magnitude}
+use Rattle.broker_world.specs.Logs.{log_after, log_in, log_of, log_at, logs_with, with_log, appended_by}
 use Rattle.txn_coordinator.specs.Coordinator.{CoordinatorValue}
-use Rattle.request_handlers.specs.Judged.{partition_at, judged, topics_produced}
-use Rattle.request_handlers.specs.Produce.{produce_questions, produce_rule, producing}
+use Rattle.data_handlers.specs.Judged.{partition_at, judged, topics_produced}
+use Rattle.data_handlers.specs.Produce.{produce_questions, produce_rule, producing}
 use Rattle.api_laws.specs.DataTenants.{IsAnother, ProduceKeepsOtherPartitions}
 use Rattle.api_laws.proofs.DataGrants.{find_same, find_other}
 

@@ -13,10 +13,10 @@ use Rattle.authorizer.specs.declared.answer.Why.TheVariants as why
 use Rattle.authorizer.specs.Policy.{verdict}
 use Rattle.authorizer.specs.Asking.{refusal_by, first_of}
 use Rattle.msg_data.specs.declared.metadata.TopicInfo.{TopicInfo}
-use Rattle.request_handlers.specs.World.{World, rules_of, find_topic, topic_names}
+use Rattle.broker_world.specs.World.{World, rules_of, find_topic, topic_names}
 use Rattle.walk.specs.Codes.{refusal_code}
 use Rattle.walk.specs.Weave.{weave}
-use Rattle.request_handlers.specs.Metadata.{plain_topic, plain_topics, topic_found, topic_error, describable, refused_topics, metadata_topics, metadata_refusals, broker_info}
+use Rattle.data_handlers.specs.Metadata.{plain_topic, plain_topics, topic_found, topic_error, describable, refused_topics, metadata_topics, metadata_refusals, broker_info}
 use Rattle.api_laws.specs.Tenants.{SameBase, SameGranted, SameForMetadata, SameTopics, DependsOnGrants, topic_questions}
 
 -- a topic that is the same in both worlds is answered the same

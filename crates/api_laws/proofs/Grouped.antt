@@ -41,23 +41,25 @@ use Rattle.group_offsets.specs.Joining.{join_group}
 use Rattle.group_offsets.specs.Groups.{find_group, group_of, turned, join, sync, beat, leave, commit}
 use Rattle.group_offsets.specs.Laws.{Call, Call as calls, called, all_called, concerns, concerning}
 use Rattle.group_offsets.proofs.Apart.{groups_are_apart}
-use Rattle.request_handlers.specs.declared.node.Node.{Node}
-use Rattle.request_handlers.specs.World.{World, TopicValue, LogValue, rules_of, find_topic}
-use Rattle.request_handlers.specs.Outcome.{Outcome}
-use Rattle.request_handlers.specs.Logs.{log_at}
-use Rattle.request_handlers.specs.Metadata.{topic_refusal}
-use Rattle.request_handlers.specs.Whole.{Served, whole_by}
-use Rattle.request_handlers.specs.Members.{read_question, code_in, join_error, join_reply, joined, join_group_outcome, sync_reply, synced, sync_group_outcome, beat_reply, heard, heartbeat_outcome, leave_reply, left, leave_group_outcome}
-use Rattle.request_handlers.specs.FindCoordinator.{kind_of, find_questions, find_error, find_reply, find_coordinator_outcome}
-use Rattle.request_handlers.specs.OffsetCommit.{Committing, committing, commit_questions, committed_code, offset_of, code_by, groups_by, commit_rule, committing_rule, offset_commit_outcome}
-use Rattle.request_handlers.specs.OffsetFetch.{group_question, offset_rule, told_from, told_as, told_topic, told_topics, fetch_reply, offsets_of, fetched_outcome, offset_fetch_by, offset_fetch_outcome}
+use Rattle.broker_world.specs.declared.node.Node.{Node}
+use Rattle.broker_world.specs.World.{World, TopicValue, LogValue, rules_of, find_topic}
+use Rattle.broker_world.specs.Outcome.{Outcome}
+use Rattle.broker_world.specs.Logs.{log_at}
+use Rattle.broker_world.specs.Questions.{topic_refusal}
+use Rattle.broker_world.specs.Whole.{Served, whole_by}
+use Rattle.broker_world.specs.Questions.{read_question}
+use Rattle.broker_world.specs.Codes.{code_in}
+use Rattle.group_handlers.specs.Members.{join_error, join_reply, joined, join_group_outcome, sync_reply, synced, sync_group_outcome, beat_reply, heard, heartbeat_outcome, leave_reply, left, leave_group_outcome}
+use Rattle.group_handlers.specs.FindCoordinator.{kind_of, find_questions, find_error, find_reply, find_coordinator_outcome}
+use Rattle.group_handlers.specs.OffsetCommit.{Committing, committing, commit_questions, committed_code, offset_of, code_by, groups_by, commit_rule, committing_rule, offset_commit_outcome}
+use Rattle.group_handlers.specs.OffsetFetch.{group_question, offset_rule, told_from, told_as, told_topic, told_topics, fetch_reply, offsets_of, fetched_outcome, offset_fetch_by, offset_fetch_outcome}
 use Rattle.api_laws.specs.Tenants.{SameBase, SameGranted}
 use Rattle.api_laws.specs.DataTenants.{SameForParts, SameAnswer}
 use Rattle.api_laws.specs.AclLaws.{IsRefusedWhole}
 use Rattle.api_laws.specs.GroupLaws.{described_slots, SameWanted, GroupsDependOnGrants, KeepsOtherGroups, GroupsKeepTheRest}
 use Rattle.api_laws.proofs.Initials.{yes_alone, same_refusal}
 use Rattle.api_laws.proofs.DataGrants.{same_topic, same_log, rest_of, yes_of}
-use Rattle.request_handlers.proofs.BookBounds.{whole_topics}
+use Rattle.acl_handlers.proofs.BookBounds.{whole_topics}
 
 -- ---- a group that is the same
 

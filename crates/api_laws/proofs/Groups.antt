@@ -21,8 +21,8 @@ use Rattle.acl_binding.specs.WireNumbers.{kind_code, pattern_code, operation_cod
 use Rattle.acl_binding.specs.Binding.{same_binding}
 use Rattle.acl_binding.specs.Book.{number_of, AreDistinct}
 use Rattle.acl_binding.specs.Filter.{matches, matching}
-use Rattle.request_handlers.specs.DescribeAcls.{same_resource, described_acl, described_resource, firsts, described}
-use Rattle.request_handlers.specs.DeleteAcls.{entry_of_binding}
+use Rattle.acl_handlers.specs.DescribeAcls.{same_resource, described_acl, described_resource, firsts, described}
+use Rattle.acl_handlers.specs.DeleteAcls.{entry_of_binding}
 use Rattle.api_laws.specs.DescribeLaws.{told_of, told, same_entry, same_group, DescribesEach}
 
 -- ---- bindings of one resource

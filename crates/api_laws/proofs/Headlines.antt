@@ -15,10 +15,11 @@ use Rattle.acl_binding.specs.Verdict.{asked}
 use Rattle.authorizer.specs.declared.answer.Refusal.{Refusal}
 use Rattle.authorizer.specs.Policy.{verdict}
 use Rattle.authorizer.specs.Asking.{Rules, refusal_by, first_of}
-use Rattle.request_handlers.specs.World.{World, rules_of}
+use Rattle.broker_world.specs.World.{World, rules_of}
 use Rattle.walk.specs.Codes.{refusal_code}
 use Rattle.walk.specs.Weave.{weave}
-use Rattle.request_handlers.specs.Metadata.{topic_error, plain_topic, plain_topics, topic_refusal, describable, refused_topics, metadata_topics, answer_by, topic_answer}
+use Rattle.data_handlers.specs.Metadata.{topic_error, plain_topic, plain_topics, describable, refused_topics, metadata_topics, answer_by, topic_answer}
+use Rattle.broker_world.specs.Questions.{topic_refusal}
 use Rattle.api_laws.specs.Headline.{AnsweredBy, AnswersEachTopic, RefusesEachTopic}
 
 -- the woven answers are the answers one by one

@@ -16,16 +16,16 @@ use Rattle.txn_coordinator.specs.declared.transaction.Transaction.{Transaction}
 use Rattle.txn_coordinator.specs.declared.turn.Turn.{Turn}
 use Rattle.txn_coordinator.specs.Coordinator.{CoordinatorValue, recorded, owner, given_by, given_free, fresh, turned, turn_code, turn_answer, pair_answer}
 use Rattle.txn_coordinator.specs.InitProducerId.{init}
-use Rattle.request_handlers.specs.declared.node.Node.{Node}
-use Rattle.request_handlers.specs.World.{World, rules_of}
-use Rattle.request_handlers.specs.Outcome.{Outcome}
-use Rattle.request_handlers.specs.Whole.{whole_by}
-use Rattle.request_handlers.specs.InitProducerId.{init_question, init_given, init_error, init_answered, coordinator_for, reply_for, init_reply, initialized, init_producer_id_outcome}
+use Rattle.broker_world.specs.declared.node.Node.{Node}
+use Rattle.broker_world.specs.World.{World, rules_of}
+use Rattle.broker_world.specs.Outcome.{Outcome}
+use Rattle.broker_world.specs.Whole.{whole_by}
+use Rattle.txn_handlers.specs.InitProducerId.{init_question, init_given, init_error, init_answered, coordinator_for, reply_for, init_reply, initialized, init_producer_id_outcome}
 use Rattle.api_laws.specs.Tenants.{SameBase, SameGranted}
 use Rattle.api_laws.specs.DataTenants.{SameAnswer}
 use Rattle.api_laws.specs.AclLaws.{IsRefusedWhole}
 use Rattle.api_laws.specs.ProducerLaws.{GivesFresh, InitsOnce, InitDependsOnGrants}
-use Rattle.request_handlers.proofs.BookBounds.{whole_topics}
+use Rattle.acl_handlers.proofs.BookBounds.{whole_topics}
 use Rattle.api_laws.proofs.Recorded.{AreSame, same_fresh, same_init, same_answer}
 
 abbrev GivenIds : Type 0

@@ -25,30 +25,31 @@ use Rattle.audit_trail.specs.declared.event.Event.{Event}
 use Rattle.audit_trail.specs.declared.event.Event.TheVariants.{Ask, Mark, Tick}
 use Rattle.walk.specs.Steps.{world_by, part_world, parts_world, topics_world}
 use Rattle.walk.proofs.Weaving.{woven}
-use Rattle.request_handlers.specs.World.{World, TopicValue, LogValue, rules_of, find_topic}
-use Rattle.request_handlers.specs.First.{magnitude, empty_logs, first_topics, first_world}
-use Rattle.request_handlers.specs.Logs.{log_in, log_of, log_at, logs_with, with_log, log_by, log_after, appended_by}
+use Rattle.broker_world.specs.World.{World, TopicValue, LogValue, rules_of, find_topic}
+use Rattle.broker_world.specs.First.{magnitude, empty_logs, first_topics, first_world}
+use Rattle.broker_world.specs.Logs.{log_in, log_of, log_at, logs_with, with_log, log_by, log_after, appended_by}
 use Rattle.txn_coordinator.specs.Coordinator.{CoordinatorValue}
-use Rattle.request_handlers.specs.Judged.{partition_at, judged, topics_produced}
-use Rattle.request_handlers.specs.Produce.{produce_questions, produce_rule, producing}
-use Rattle.request_handlers.specs.DescribeAcls.{describe_acls_questions}
-use Rattle.request_handlers.specs.CreateAcls.{alter_questions}
-use Rattle.request_handlers.specs.InitProducerId.{init_question}
+use Rattle.data_handlers.specs.Judged.{partition_at, judged, topics_produced}
+use Rattle.data_handlers.specs.Produce.{produce_questions, produce_rule, producing}
+use Rattle.acl_handlers.specs.DescribeAcls.{describe_acls_questions}
+use Rattle.acl_handlers.specs.CreateAcls.{alter_questions}
+use Rattle.txn_handlers.specs.InitProducerId.{init_question}
 use Rattle.request_handlers.specs.Step.{outcome, step, reached}
 use Rattle.api_laws.specs.ProducerLaws.{HoldsOnce}
-use Rattle.request_handlers.proofs.BookBounds.{whole_topics}
+use Rattle.acl_handlers.proofs.BookBounds.{whole_topics}
 use Rattle.producer_state.specs.Sequences.{is_data}
 use Rattle.txn_coordinator.specs.declared.marker.OwedMarker.{OwedMarker}
 use Rattle.txn_coordinator.specs.declared.target.Target.{Target}
 use Rattle.txn_coordinator.specs.declared.target.Target.TheVariants.{Partition, Group}
 use Rattle.txn_coordinator.specs.Warrants.{next_warrant}
-use Rattle.request_handlers.specs.EndTxn.{id_question}
-use Rattle.request_handlers.specs.AddOffsets.{add_offsets_questions}
-use Rattle.request_handlers.specs.Marks.{marker_batch, log_marked, marked_by, marked_at, mark_by}
+use Rattle.broker_world.specs.Questions.{id_question}
+use Rattle.txn_handlers.specs.AddOffsets.{add_offsets_questions}
+use Rattle.broker_world.specs.Markers.{marker_batch, log_marked, marked_by}
+use Rattle.txn_handlers.specs.Marks.{marked_at, mark_by}
 use Rattle.request_handlers.proofs.Wholes.{offsets_keep}
-use Rattle.request_handlers.specs.Members.{read_question}
-use Rattle.request_handlers.specs.FindCoordinator.{kind_of, find_questions}
-use Rattle.request_handlers.proofs.Adds.{add_keeps}
+use Rattle.broker_world.specs.Questions.{read_question}
+use Rattle.group_handlers.specs.FindCoordinator.{kind_of, find_questions}
+use Rattle.txn_handlers.proofs.Adds.{add_keeps}
 
 -- ---- logs that took in nothing else
 

@@ -33,14 +33,15 @@ use Rattle.group_offsets.specs.Turn.{answered}
 use Rattle.group_offsets.specs.Group.{stage_group}
 use Rattle.group_offsets.specs.Groups.{find_group, turned}
 use Rattle.group_offsets.specs.Laws.{Call as calls}
-use Rattle.request_handlers.specs.World.{World, TopicValue, LogValue, rules_of, find_topic}
-use Rattle.request_handlers.specs.Logs.{log_at}
-use Rattle.request_handlers.specs.Whole.{whole_by}
-use Rattle.request_handlers.specs.Judged.{refused_by}
-use Rattle.request_handlers.specs.Members.{read_question, code_in}
-use Rattle.request_handlers.specs.EndTxn.{id_question}
-use Rattle.request_handlers.specs.AddOffsets.{add_offsets_questions, add_offsets_reply, add_offsets_turn, offsets_added, add_offsets_outcome}
-use Rattle.request_handlers.specs.TxnOffsetCommit.{Staging, staging, stage_questions, offset_staged, staged_code, turn_by, staging_refusal, stage_turn, stage_rule, staging_rule, txn_offset_commit_outcome}
+use Rattle.broker_world.specs.World.{World, TopicValue, LogValue, rules_of, find_topic}
+use Rattle.broker_world.specs.Logs.{log_at}
+use Rattle.broker_world.specs.Whole.{whole_by}
+use Rattle.broker_world.specs.Codes.{refused_by}
+use Rattle.broker_world.specs.Questions.{read_question}
+use Rattle.broker_world.specs.Codes.{code_in}
+use Rattle.broker_world.specs.Questions.{id_question}
+use Rattle.txn_handlers.specs.AddOffsets.{add_offsets_questions, add_offsets_reply, add_offsets_turn, offsets_added, add_offsets_outcome}
+use Rattle.txn_handlers.specs.TxnOffsetCommit.{Staging, staging, stage_questions, offset_staged, staged_code, turn_by, staging_refusal, stage_turn, stage_rule, staging_rule, txn_offset_commit_outcome}
 use Rattle.api_laws.specs.Tenants.{SameBase, SameGranted}
 use Rattle.api_laws.specs.DataTenants.{SameForParts, SameAnswer}
 use Rattle.api_laws.specs.AclLaws.{IsRefusedWhole}
@@ -51,7 +52,7 @@ use Rattle.api_laws.proofs.DataGrants.{same_topic, same_log, rest_of, yes_of}
 use Rattle.api_laws.proofs.Recorded.{AreSame, same_add_group}
 use Rattle.api_laws.proofs.Together.{add_group_id, other_kept, whole_kept}
 use Rattle.api_laws.proofs.Grouped.{same_group, own_name, other_name, kept_call, same_call, whole_same, refused_alone}
-use Rattle.request_handlers.proofs.BookBounds.{whole_topics}
+use Rattle.acl_handlers.proofs.BookBounds.{whole_topics}
 
 -- ---- AddOffsetsToTxn: what its answer depends on
 

@@ -45,13 +45,14 @@ use Rattle.txn_coordinator.specs.InitProducerId.{timeout_within, init_in, init_f
 use Rattle.txn_coordinator.specs.Adding.{open_in, open_by, open_found, open_transaction, grown, with_partitions, with_group, add_partitions, add_group}
 use Rattle.txn_coordinator.specs.EndTxn.{end_in, end_by, end_found, end}
 use Rattle.txn_coordinator.proofs.Table.{recorded_id}
-use Rattle.request_handlers.specs.World.{World, TopicValue, LogValue, rules_of, find_topic}
-use Rattle.request_handlers.specs.Outcome.{Outcome}
-use Rattle.request_handlers.specs.Logs.{log_at}
-use Rattle.request_handlers.specs.Whole.{Served, whole_by}
-use Rattle.request_handlers.specs.InitProducerId.{init_question, init_error, initialized, coordinator_for, init_producer_id_outcome}
-use Rattle.request_handlers.specs.EndTxn.{id_question, end_reply, end_turn, ended, ending, end_txn_outcome}
-use Rattle.request_handlers.specs.AddPartitions.{add_questions, added_partition, cut_code, cut_rule, told_rule, is_missing_in, is_missing, is_cut, add_turn, add_reply, cut_outcome, added_outcome, add_partitions_outcome, partitions_in, partitions_of}
+use Rattle.broker_world.specs.World.{World, TopicValue, LogValue, rules_of, find_topic}
+use Rattle.broker_world.specs.Outcome.{Outcome}
+use Rattle.broker_world.specs.Logs.{log_at}
+use Rattle.broker_world.specs.Whole.{Served, whole_by}
+use Rattle.txn_handlers.specs.InitProducerId.{init_question, init_error, initialized, coordinator_for, init_producer_id_outcome}
+use Rattle.broker_world.specs.Questions.{id_question}
+use Rattle.txn_handlers.specs.EndTxn.{end_reply, end_turn, ended, ending, end_txn_outcome}
+use Rattle.txn_handlers.specs.AddPartitions.{add_questions, added_partition, cut_code, cut_rule, told_rule, is_missing_in, is_missing, is_cut, add_turn, add_reply, cut_outcome, added_outcome, add_partitions_outcome, partitions_in, partitions_of}
 use Rattle.api_laws.specs.Tenants.{SameBase, SameGranted}
 use Rattle.api_laws.specs.DataTenants.{SameForParts, SameAnswer}
 use Rattle.api_laws.specs.AclLaws.{IsRefusedWhole}
@@ -59,10 +60,10 @@ use Rattle.api_laws.specs.TxnLaws.{IsAddable, IsCut, IsWhole, AddsAllOrNone, Tra
 use Rattle.api_laws.proofs.Recorded.{AreSame, recorded_put, same_end, same_add}
 use Rattle.api_laws.proofs.Initials.{yes_alone, same_refusal}
 use Rattle.api_laws.proofs.DataGrants.{same_topic, same_log, rest_of, yes_of}
-use Rattle.request_handlers.proofs.Adds.{add_keeps}
-use Rattle.request_handlers.proofs.Added.{nothing_added}
+use Rattle.txn_handlers.proofs.Adds.{add_keeps}
+use Rattle.txn_handlers.proofs.Added.{nothing_added}
 use Rattle.api_laws.proofs.Grouped.{refused_alone}
-use Rattle.request_handlers.proofs.BookBounds.{whole_topics}
+use Rattle.acl_handlers.proofs.BookBounds.{whole_topics}
 
 -- ---- nothing refused, and nothing missing
 

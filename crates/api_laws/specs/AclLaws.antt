@@ -13,11 +13,11 @@ use Rattle.acl_binding.specs.Book.{BookValue, number_of}
 use Rattle.acl_binding.specs.Filter.{matching}
 use Rattle.authorizer.specs.declared.answer.Refusal.{Refusal}
 use Rattle.authorizer.specs.Asking.{part_refusal}
-use Rattle.request_handlers.specs.World.{World, rules_of}
-use Rattle.request_handlers.specs.Outcome.{Outcome}
-use Rattle.request_handlers.specs.CreateAcls.{alter_questions, book_created, create_acls_outcome}
-use Rattle.request_handlers.specs.DeleteAcls.{book_deleted, delete_acls_outcome}
-use Rattle.request_handlers.specs.DescribeAcls.{describe_acls_outcome}
+use Rattle.broker_world.specs.World.{World, rules_of}
+use Rattle.broker_world.specs.Outcome.{Outcome}
+use Rattle.acl_handlers.specs.CreateAcls.{alter_questions, book_created, create_acls_outcome}
+use Rattle.acl_handlers.specs.DeleteAcls.{book_deleted, delete_acls_outcome}
+use Rattle.acl_handlers.specs.DescribeAcls.{describe_acls_outcome}
 use Rattle.api_laws.specs.Tenants.{SameBase}
 use Rattle.api_laws.specs.DataTenants.{SameAnswer}
 

@@ -15,13 +15,13 @@ use Rattle.msg_data.specs.declared.fetch.FetchPartition.{FetchPartition}
 use Rattle.msg_data.specs.declared.fetch.FetchedRecords.{FetchedRecords}
 use Rattle.msg_data.specs.declared.list_offsets.WantedOffset.{WantedOffset}
 use Rattle.txn_coordinator.specs.Coordinator.{CoordinatorValue}
-use Rattle.request_handlers.specs.declared.room.Room.{Room}
-use Rattle.request_handlers.specs.World.{TopicValue, LogValue}
-use Rattle.request_handlers.specs.Logs.{log_at}
-use Rattle.request_handlers.specs.Judged.{partition_at, judged, topics_produced}
-use Rattle.request_handlers.specs.Produce.{produced}
-use Rattle.request_handlers.specs.Fetch.{room_for, less, is_outside, served_at, fetched, room_after, batch_bytes}
-use Rattle.request_handlers.specs.ListOffsets.{listed, listed_at}
+use Rattle.data_handlers.specs.declared.room.Room.{Room}
+use Rattle.broker_world.specs.World.{TopicValue, LogValue}
+use Rattle.broker_world.specs.Logs.{log_at}
+use Rattle.data_handlers.specs.Judged.{partition_at, judged, topics_produced}
+use Rattle.data_handlers.specs.Produce.{produced}
+use Rattle.data_handlers.specs.Fetch.{room_for, less, is_outside, served_at, fetched, room_after, batch_bytes}
+use Rattle.data_handlers.specs.ListOffsets.{listed, listed_at}
 
 -- ---- Produce
 

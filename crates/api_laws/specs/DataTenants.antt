@@ -10,12 +10,12 @@ use Rattle.msg_data.specs.declared.fetch.FetchRequest.{FetchRequest}
 use Rattle.msg_data.specs.declared.list_offsets.ListOffsetsRequest.{ListOffsetsRequest}
 use Rattle.walk.specs.Rule.{PartRule}
 use Rattle.walk.specs.Alike.{AllTopics}
-use Rattle.request_handlers.specs.World.{World, rules_of, find_topic}
-use Rattle.request_handlers.specs.Logs.{log_at}
-use Rattle.request_handlers.specs.Outcome.{Outcome}
-use Rattle.request_handlers.specs.Produce.{produce_questions, producing, produce_outcome}
-use Rattle.request_handlers.specs.Fetch.{fetch_rule, fetch_outcome}
-use Rattle.request_handlers.specs.ListOffsets.{list_rule, list_offsets_outcome}
+use Rattle.broker_world.specs.World.{World, rules_of, find_topic}
+use Rattle.broker_world.specs.Logs.{log_at}
+use Rattle.broker_world.specs.Outcome.{Outcome}
+use Rattle.data_handlers.specs.Produce.{produce_questions, producing, produce_outcome}
+use Rattle.data_handlers.specs.Fetch.{fetch_rule, fetch_outcome}
+use Rattle.data_handlers.specs.ListOffsets.{list_rule, list_offsets_outcome}
 use Rattle.api_laws.specs.Tenants.{SameBase, SameGranted}
 
 -- the worlds agree on what each question of a part is about that is granted

@@ -10,8 +10,8 @@ use Rattle.msg_acl.specs.declared.describe_acls.DescribedResource.{DescribedReso
 use Rattle.acl_binding.specs.declared.filter.Filter.{Filter}
 use Rattle.acl_binding.specs.Book.{BookValue, IsBook}
 use Rattle.acl_binding.specs.Filter.{matching}
-use Rattle.request_handlers.specs.DescribeAcls.{describe_acls_reply}
-use Rattle.request_handlers.specs.DeleteAcls.{entry_of_binding}
+use Rattle.acl_handlers.specs.DescribeAcls.{describe_acls_reply}
+use Rattle.acl_handlers.specs.DeleteAcls.{entry_of_binding}
 
 -- the groups that a filter is answered with
 abbrev pub groups_of : BookValue → Filter → List DescribedResource

@@ -13,13 +13,14 @@ use Rattle.msg_group.specs.declared.leave_group.LeaveGroupRequest.{LeaveGroupReq
 use Rattle.msg_group.specs.declared.offset_commit.OffsetCommitRequest.{OffsetCommitRequest}
 use Rattle.msg_group.specs.declared.offset_fetch.OffsetFetchRequest.{OffsetFetchRequest}
 use Rattle.group_offsets.specs.Groups.{find_group}
-use Rattle.request_handlers.specs.World.{World, TopicValue, rules_of}
-use Rattle.request_handlers.specs.Outcome.{Outcome}
-use Rattle.request_handlers.specs.Metadata.{topic_refusal}
-use Rattle.request_handlers.specs.Members.{read_question, join_group_outcome, sync_group_outcome, heartbeat_outcome, leave_group_outcome}
-use Rattle.request_handlers.specs.FindCoordinator.{find_coordinator_outcome}
-use Rattle.request_handlers.specs.OffsetCommit.{committing_rule, offset_commit_outcome}
-use Rattle.request_handlers.specs.OffsetFetch.{group_question, offset_fetch_outcome}
+use Rattle.broker_world.specs.World.{World, TopicValue, rules_of}
+use Rattle.broker_world.specs.Outcome.{Outcome}
+use Rattle.broker_world.specs.Questions.{topic_refusal}
+use Rattle.broker_world.specs.Questions.{read_question}
+use Rattle.group_handlers.specs.Members.{join_group_outcome, sync_group_outcome, heartbeat_outcome, leave_group_outcome}
+use Rattle.group_handlers.specs.FindCoordinator.{find_coordinator_outcome}
+use Rattle.group_handlers.specs.OffsetCommit.{committing_rule, offset_commit_outcome}
+use Rattle.group_handlers.specs.OffsetFetch.{group_question, offset_fetch_outcome}
 use Rattle.api_laws.specs.Tenants.{SameBase, SameGranted}
 use Rattle.api_laws.specs.DataTenants.{SameForParts, SameAnswer}
 use Rattle.api_laws.specs.AclLaws.{IsRefusedWhole}

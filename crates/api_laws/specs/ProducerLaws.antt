@@ -11,11 +11,11 @@ use Rattle.msg_admin.specs.declared.reply.Reply.TheVariants as replies
 use Rattle.audit_trail.specs.declared.event.Event.{Event}
 use Rattle.txn_coordinator.specs.declared.pair.Given.TheVariants.{Never, Free}
 use Rattle.txn_coordinator.specs.Coordinator.{owner, given_by}
-use Rattle.request_handlers.specs.World.{World, LogValue, rules_of}
-use Rattle.request_handlers.specs.First.{first_world}
-use Rattle.request_handlers.specs.Logs.{log_at}
-use Rattle.request_handlers.specs.Outcome.{Outcome}
-use Rattle.request_handlers.specs.InitProducerId.{init_question, init_given, init_producer_id_outcome}
+use Rattle.broker_world.specs.World.{World, LogValue, rules_of}
+use Rattle.broker_world.specs.First.{first_world}
+use Rattle.broker_world.specs.Logs.{log_at}
+use Rattle.broker_world.specs.Outcome.{Outcome}
+use Rattle.txn_handlers.specs.InitProducerId.{init_question, init_given, init_producer_id_outcome}
 use Rattle.request_handlers.specs.Step.{reached}
 use Rattle.api_laws.specs.Tenants.{SameBase, SameGranted}
 use Rattle.api_laws.specs.DataTenants.{SameAnswer}

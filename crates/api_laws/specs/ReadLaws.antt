@@ -16,10 +16,10 @@ use Rattle.msg_admin.specs.declared.request.Request.TheVariants.{Fetch}
 use Rattle.msg_admin.specs.declared.reply.Reply.TheVariants as replies
 use Rattle.audit_trail.specs.declared.event.Event.TheVariants.{Ask}
 use Rattle.walk.specs.Headline.{at}
-use Rattle.request_handlers.specs.declared.room.Room.{Room}
-use Rattle.request_handlers.specs.World.{LogValue, TopicValue}
-use Rattle.request_handlers.specs.Logs.{log_at, HoldLogs}
-use Rattle.request_handlers.specs.Fetch.{room_for, batch_bytes, served_at, fetched}
+use Rattle.data_handlers.specs.declared.room.Room.{Room}
+use Rattle.broker_world.specs.World.{LogValue, TopicValue}
+use Rattle.broker_world.specs.Logs.{log_at, HoldLogs}
+use Rattle.data_handlers.specs.Fetch.{room_for, batch_bytes, served_at, fetched}
 use Rattle.request_handlers.specs.Step.{reply_to}
 use Rattle.request_handlers.specs.Core.{CoreValue, IsCore}
 

@@ -5,11 +5,11 @@ use Rattle.authorizer.specs.declared.answer.Refusal.{Refusal}
 use Rattle.authorizer.specs.Asking.{part_refusal}
 use Rattle.msg_txn.specs.declared.add_offsets.AddOffsetsToTxnRequest.{AddOffsetsToTxnRequest}
 use Rattle.msg_txn.specs.declared.txn_offset_commit.TxnOffsetCommitRequest.{TxnOffsetCommitRequest}
-use Rattle.request_handlers.specs.World.{World, rules_of}
-use Rattle.request_handlers.specs.EndTxn.{id_question}
-use Rattle.request_handlers.specs.Members.{read_question}
-use Rattle.request_handlers.specs.AddOffsets.{add_offsets_questions, add_offsets_outcome}
-use Rattle.request_handlers.specs.TxnOffsetCommit.{staging_rule, txn_offset_commit_outcome}
+use Rattle.broker_world.specs.World.{World, rules_of}
+use Rattle.broker_world.specs.Questions.{id_question}
+use Rattle.broker_world.specs.Questions.{read_question}
+use Rattle.txn_handlers.specs.AddOffsets.{add_offsets_questions, add_offsets_outcome}
+use Rattle.txn_handlers.specs.TxnOffsetCommit.{staging_rule, txn_offset_commit_outcome}
 use Rattle.api_laws.specs.Tenants.{SameBase, SameGranted}
 use Rattle.api_laws.specs.DataTenants.{SameForParts, SameAnswer}
 use Rattle.api_laws.specs.AclLaws.{IsRefusedWhole}

@@ -13,8 +13,8 @@ use Rattle.authorizer.specs.Policy.{verdict}
 use Rattle.msg_data.specs.declared.metadata.MetadataRequest.{MetadataRequest}
 use Rattle.txn_coordinator.specs.Coordinator.{recorded}
 use Rattle.group_offsets.specs.Groups.{find_group}
-use Rattle.request_handlers.specs.World.{World, rules_of, find_topic, topic_names}
-use Rattle.request_handlers.specs.Metadata.{describable, metadata_answer, metadata_refusals}
+use Rattle.broker_world.specs.World.{World, rules_of, find_topic, topic_names}
+use Rattle.data_handlers.specs.Metadata.{describable, metadata_answer, metadata_refusals}
 
 -- the same settings but for topics, book, moment, number of events and producer ids given out
 pub record SameBase (v w : World) : Type 0 where

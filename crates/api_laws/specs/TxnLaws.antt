@@ -9,12 +9,13 @@ use Rattle.msg_txn.specs.declared.end_txn.EndTxnRequest.{EndTxnRequest}
 use Rattle.walk.specs.Walk.{plain_topics, answers, refusals}
 use Rattle.walk.specs.Alike.{AllTopics}
 use Rattle.txn_coordinator.specs.Coordinator.{recorded, turned, turn_code}
-use Rattle.request_handlers.specs.World.{World, rules_of}
-use Rattle.request_handlers.specs.Outcome.{Outcome}
-use Rattle.request_handlers.specs.Logs.{log_at}
-use Rattle.request_handlers.specs.InitProducerId.{init_question, init_producer_id_outcome}
-use Rattle.request_handlers.specs.EndTxn.{id_question, end_txn_outcome}
-use Rattle.request_handlers.specs.AddPartitions.{add_questions, cut_rule, told_rule, is_cut, add_turn, add_reply, add_partitions_outcome}
+use Rattle.broker_world.specs.World.{World, rules_of}
+use Rattle.broker_world.specs.Outcome.{Outcome}
+use Rattle.broker_world.specs.Logs.{log_at}
+use Rattle.txn_handlers.specs.InitProducerId.{init_question, init_producer_id_outcome}
+use Rattle.broker_world.specs.Questions.{id_question}
+use Rattle.txn_handlers.specs.EndTxn.{end_txn_outcome}
+use Rattle.txn_handlers.specs.AddPartitions.{add_questions, cut_rule, told_rule, is_cut, add_turn, add_reply, add_partitions_outcome}
 use Rattle.api_laws.specs.Tenants.{SameBase, SameGranted}
 use Rattle.api_laws.specs.DataTenants.{SameForParts, SameAnswer}
 use Rattle.api_laws.specs.AclLaws.{IsRefusedWhole}

@@ -24,12 +24,12 @@ use Rattle.txn_laws.proofs.Base.{each_weaker}
 use Rattle.txn_laws.proofs.Complete.{ongoing_waits, waiting_law}
 use Rattle.txn_laws.proofs.Prepared.{prepared_law}
 use Rattle.txn_laws.proofs.Ticks.{one_by_one, tick_law}
-use Rattle.request_handlers.specs.World.{World, rules_of}
-use Rattle.request_handlers.specs.InitProducerId.{init_question}
-use Rattle.request_handlers.specs.AddPartitions.{is_cut, partitions_of}
-use Rattle.request_handlers.specs.AddOffsets.{add_offsets_questions}
-use Rattle.request_handlers.specs.EndTxn.{id_question}
-use Rattle.request_handlers.specs.Ticks.{moment_after}
+use Rattle.broker_world.specs.World.{World, rules_of}
+use Rattle.txn_handlers.specs.InitProducerId.{init_question}
+use Rattle.txn_handlers.specs.AddPartitions.{is_cut, partitions_of}
+use Rattle.txn_handlers.specs.AddOffsets.{add_offsets_questions}
+use Rattle.broker_world.specs.Questions.{id_question}
+use Rattle.broker_world.specs.Clock.{moment_after}
 use Rattle.request_handlers.specs.Step.{step, reached}
 use Rattle.broker_laws.specs.Entries.{entries_in}
 use Rattle.broker_laws.specs.Moves.{unless_refused, initializing, moves_of, moves_of_all, marks}

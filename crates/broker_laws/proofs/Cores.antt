@@ -1,6 +1,6 @@
 -- What holds in each world that events reach holds in each core that isn't down.
 use Rattle.std.proofs.Common.{sym, subst}
-use Rattle.request_handlers.specs.World.{World}
+use Rattle.broker_world.specs.World.{World}
 use Rattle.request_handlers.specs.Core.{events_of}
 use Rattle.broker_laws.specs.Laws.{InReached, InCores}
 

@@ -13,7 +13,7 @@ use Rattle.txn_laws.specs.Sound.{Each, IsSound, IsOwed}
 use Rattle.txn_laws.specs.Laws.{up_to_last}
 use Rattle.txn_laws.proofs.Moves.{move_sound}
 use Rattle.txn_laws.proofs.Completed.{StillWaits, move_waits, mark_waits, some_owed, one_more}
-use Rattle.request_handlers.specs.World.{World}
+use Rattle.broker_world.specs.World.{World}
 use Rattle.request_handlers.specs.Step.{step}
 use Rattle.broker_laws.specs.Moves.{moves_of, mark_count, marks}
 use Rattle.broker_laws.specs.Laws.{InReached, IsCompletedBy, EndsComplete}

@@ -26,9 +26,9 @@ use Rattle.txn_laws.proofs.Targets.{same_number}
 use Rattle.txn_laws.proofs.Moves.{held, free_is, one_owner, moves_sound, moves_fence}
 use Rattle.txn_laws.proofs.Fences.{gone_past, fencing_law, refusal_law}
 use Rattle.producer_state.proofs.Numbers.{lt_is}
-use Rattle.request_handlers.specs.World.{World}
-use Rattle.request_handlers.specs.Judged.{pair_of, held_code, given_code, producer_code}
-use Rattle.request_handlers.specs.TxnOffsetCommit.{Staging, staging, staging_refusal}
+use Rattle.broker_world.specs.World.{World}
+use Rattle.data_handlers.specs.Judged.{pair_of, held_code, given_code, producer_code}
+use Rattle.txn_handlers.specs.TxnOffsetCommit.{Staging, staging, staging_refusal}
 use Rattle.request_handlers.specs.Step.{reached}
 use Rattle.broker_laws.specs.Entries.{entries_in}
 use Rattle.broker_laws.specs.Moves.{moves_of_all}

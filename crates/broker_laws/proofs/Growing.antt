@@ -16,20 +16,22 @@ use Rattle.group_offsets.specs.declared.event.OffsetEvent.{OffsetEvent}
 use Rattle.group_offsets.specs.declared.event.OffsetEvent.TheVariants.{Decide}
 use Rattle.group_offsets.specs.Group.{expired}
 use Rattle.txn_laws.specs.Sound.{Each}
-use Rattle.request_handlers.specs.World.{World, rules_of}
-use Rattle.request_handlers.specs.Whole.{Served, whole_by}
-use Rattle.request_handlers.specs.Members.{read_question, joined, synced, heard, left}
-use Rattle.request_handlers.specs.FindCoordinator.{kind_of, find_questions}
-use Rattle.request_handlers.specs.InitProducerId.{init_question, initialized}
-use Rattle.request_handlers.specs.AddPartitions.{is_cut, cut_outcome, added_outcome}
-use Rattle.request_handlers.specs.AddOffsets.{add_offsets_questions, offsets_added}
-use Rattle.request_handlers.specs.EndTxn.{id_question, ended}
-use Rattle.request_handlers.specs.OffsetCommit.{committing_rule}
-use Rattle.request_handlers.specs.TxnOffsetCommit.{staging_rule}
-use Rattle.request_handlers.specs.DescribeAcls.{describe_acls_questions}
-use Rattle.request_handlers.specs.CreateAcls.{alter_questions}
-use Rattle.request_handlers.specs.Marks.{decided_at, mark_by}
-use Rattle.request_handlers.specs.Ticks.{moment_after}
+use Rattle.broker_world.specs.World.{World, rules_of}
+use Rattle.broker_world.specs.Whole.{Served, whole_by}
+use Rattle.broker_world.specs.Questions.{read_question}
+use Rattle.group_handlers.specs.Members.{joined, synced, heard, left}
+use Rattle.group_handlers.specs.FindCoordinator.{kind_of, find_questions}
+use Rattle.txn_handlers.specs.InitProducerId.{init_question, initialized}
+use Rattle.txn_handlers.specs.AddPartitions.{is_cut, cut_outcome, added_outcome}
+use Rattle.txn_handlers.specs.AddOffsets.{add_offsets_questions, offsets_added}
+use Rattle.broker_world.specs.Questions.{id_question}
+use Rattle.txn_handlers.specs.EndTxn.{ended}
+use Rattle.group_handlers.specs.OffsetCommit.{committing_rule}
+use Rattle.txn_handlers.specs.TxnOffsetCommit.{staging_rule}
+use Rattle.acl_handlers.specs.DescribeAcls.{describe_acls_questions}
+use Rattle.acl_handlers.specs.CreateAcls.{alter_questions}
+use Rattle.txn_handlers.specs.Marks.{decided_at, mark_by}
+use Rattle.broker_world.specs.Clock.{moment_after}
 use Rattle.request_handlers.specs.Step.{step, reached}
 use Rattle.request_handlers.proofs.Wholes.{offsets_keep}
 use Rattle.broker_laws.specs.Laws.{ComesBy, GroupsGoOn}

@@ -10,9 +10,9 @@ use Rattle.txn_coordinator.specs.declared.target.Target.{Target}
 use Rattle.txn_coordinator.specs.declared.target.Target.TheVariants.{Partition, Group}
 use Rattle.group_offsets.specs.declared.group.Group.{Group as GroupValue}
 use Rattle.txn_laws.specs.Small.{Entry, with_entry}
-use Rattle.request_handlers.specs.World.{TopicValue, LogValue, find_topic}
-use Rattle.request_handlers.specs.Logs.{log_in, log_of, log_at, logs_with, with_log}
-use Rattle.request_handlers.specs.Judged.{partition_at}
+use Rattle.broker_world.specs.World.{TopicValue, LogValue, find_topic}
+use Rattle.broker_world.specs.Logs.{log_in, log_of, log_at, logs_with, with_log}
+use Rattle.data_handlers.specs.Judged.{partition_at}
 use Rattle.api_laws.proofs.DataGrants.{find_same, find_other}
 use Rattle.broker_laws.specs.Entries.{entry_of, log_entries, entries_at}
 use Rattle.broker_laws.specs.Targets.{is_there}

@@ -30,11 +30,11 @@ use Rattle.txn_laws.specs.Small.Move.{Store, Plain}
 use Rattle.txn_laws.specs.Sound.{Each}
 use Rattle.txn_laws.specs.Kept.{kept_moved_all}
 use Rattle.txn_laws.proofs.Base.{each_append}
-use Rattle.request_handlers.specs.World.{World, LogValue, rules_of}
-use Rattle.request_handlers.specs.Logs.{log_at}
-use Rattle.request_handlers.specs.Members.{code_in}
-use Rattle.request_handlers.specs.OffsetCommit.{Committing, committing, offset_of, groups_by, committing_rule}
-use Rattle.request_handlers.specs.TxnOffsetCommit.{Staging, staging, offset_staged, staged_code, turn_by, staging_refusal, staging_rule}
+use Rattle.broker_world.specs.World.{World, LogValue, rules_of}
+use Rattle.broker_world.specs.Logs.{log_at}
+use Rattle.broker_world.specs.Codes.{code_in}
+use Rattle.group_handlers.specs.OffsetCommit.{Committing, committing, offset_of, groups_by, committing_rule}
+use Rattle.txn_handlers.specs.TxnOffsetCommit.{Staging, staging, offset_staged, staged_code, turn_by, staging_refusal, staging_rule}
 use Rattle.broker_laws.specs.Entries.{in_group, event_entry, small}
 use Rattle.broker_laws.specs.Moves.{topics_moves, turn_moves, commit_moves, committed_moves, staged_moves}
 use Rattle.broker_laws.specs.Laws.{StagesNothing}

@@ -22,7 +22,7 @@ use Rattle.group_offsets.specs.Joining.{session_timeout, chosen, entry_refusal, 
 use Rattle.group_offsets.specs.Groups.{find_group, group_of, put, turned, join, sync, beat, leave}
 use Rattle.group_offsets.proofs.Apart.{name_of, find_put, find_expired}
 use Rattle.txn_laws.specs.Small.{with_entry}
-use Rattle.request_handlers.specs.World.{TopicValue}
+use Rattle.broker_world.specs.World.{TopicValue}
 use Rattle.broker_laws.specs.Entries.{event_entry, entries_at}
 
 pub text_is : (a b : List ℕ) → bytes_eq a b ≡ true → a ≡ b

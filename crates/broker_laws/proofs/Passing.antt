@@ -20,9 +20,10 @@ use Rattle.txn_coordinator.specs.Coordinator.{CoordinatorValue, recorded, owner,
 use Rattle.txn_coordinator.specs.Holding.{is_usable, holds_found, holds}
 use Rattle.walk.specs.Codes.{permission_code}
 use Rattle.txn_laws.specs.Small.{is_no_error, is_free}
-use Rattle.request_handlers.specs.Sent.{sent_by, sent}
-use Rattle.request_handlers.specs.SentLaws.{sent_is}
-use Rattle.request_handlers.specs.Judged.{are_acks, refused_by, given_code, producer_code, passed_by, passed, batch_in, judged}
+use Rattle.data_handlers.specs.Sent.{sent_by, sent}
+use Rattle.data_handlers.specs.SentLaws.{sent_is}
+use Rattle.data_handlers.specs.Judged.{are_acks, given_code, producer_code, passed_by, passed, batch_in, judged}
+use Rattle.broker_world.specs.Codes.{refused_by}
 
 -- ---- the batch
 

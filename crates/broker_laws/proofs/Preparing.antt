@@ -36,11 +36,12 @@ use Rattle.txn_coordinator.specs.Expiry.{is_due}
 use Rattle.txn_coordinator.proofs.Table.{recorded_id}
 use Rattle.txn_laws.proofs.Base.{is_same, put_at_test, owner_is, given_within}
 use Rattle.txn_laws.proofs.Calls.{ongoing_is}
-use Rattle.request_handlers.specs.World.{World, rules_of}
-use Rattle.request_handlers.specs.Whole.{whole_by}
-use Rattle.request_handlers.specs.InitProducerId.{init_question, init_answered, init_error, coordinator_for, reply_for, initialized}
-use Rattle.request_handlers.specs.EndTxn.{id_question, ending, end_reply, end_turn, ended}
-use Rattle.request_handlers.specs.Ticks.{moment_after}
+use Rattle.broker_world.specs.World.{World, rules_of}
+use Rattle.broker_world.specs.Whole.{whole_by}
+use Rattle.txn_handlers.specs.InitProducerId.{init_question, init_answered, init_error, coordinator_for, reply_for, initialized}
+use Rattle.broker_world.specs.Questions.{id_question}
+use Rattle.txn_handlers.specs.EndTxn.{ending, end_reply, end_turn, ended}
+use Rattle.broker_world.specs.Clock.{moment_after}
 use Rattle.request_handlers.specs.Step.{step}
 use Rattle.broker_laws.specs.Laws.{InReached, Prepares, HasPair, Fences}
 use Rattle.broker_laws.proofs.Passing.{never_none}

@@ -23,11 +23,11 @@ use Rattle.txn_laws.specs.Small.{World as SmallWorld, appended}
 use Rattle.txn_laws.specs.Small.Entry.{Data, Other}
 use Rattle.txn_laws.specs.Small.Move.{Send, Plain}
 use Rattle.txn_laws.specs.Kept.{kept_moved_all}
-use Rattle.request_handlers.specs.World.{World, TopicValue, LogValue, rules_of}
-use Rattle.request_handlers.specs.First.{magnitude}
-use Rattle.request_handlers.specs.Logs.{log_at, with_log, log_by, appended_by}
-use Rattle.request_handlers.specs.Judged.{pair_of, partition_at, held_code, given_code, judged, topics_produced}
-use Rattle.request_handlers.specs.Produce.{producing}
+use Rattle.broker_world.specs.World.{World, TopicValue, LogValue, rules_of}
+use Rattle.broker_world.specs.First.{magnitude}
+use Rattle.broker_world.specs.Logs.{log_at, with_log, log_by, appended_by}
+use Rattle.data_handlers.specs.Judged.{pair_of, partition_at, held_code, given_code, judged, topics_produced}
+use Rattle.data_handlers.specs.Produce.{producing}
 use Rattle.broker_laws.specs.Entries.{entry_by, entry_of, small}
 use Rattle.broker_laws.specs.Moves.{topics_moves, storing, appending, moves_by, log_moves, batch_moves, produced_moves}
 use Rattle.broker_laws.proofs.Logs.{entries_with, entries_kept}

@@ -31,15 +31,15 @@ use Rattle.txn_laws.specs.Laws.{IsEnded, IsDone, expiries}
 use Rattle.txn_laws.specs.Kept.{kept_pair, kept_entries, kept_world, kept_moved_all}
 use Rattle.txn_laws.proofs.GroupsKeep.{kept_law, kept_end_law}
 use Rattle.txn_laws.proofs.Moves.{moves_sound, first_sound}
-use Rattle.request_handlers.specs.World.{World, TopicValue, LogValue, rules_of, find_topic}
-use Rattle.request_handlers.specs.First.{magnitude, empty_logs, first_topic, first_topics, first_world}
-use Rattle.request_handlers.specs.Logs.{log_in, log_of, log_at}
-use Rattle.request_handlers.specs.Judged.{pair_of, partition_at, judged}
-use Rattle.request_handlers.specs.Produce.{producing}
-use Rattle.request_handlers.specs.InitProducerId.{init_question}
-use Rattle.request_handlers.specs.AddPartitions.{is_cut, partitions_of}
-use Rattle.request_handlers.specs.AddOffsets.{add_offsets_questions}
-use Rattle.request_handlers.specs.EndTxn.{id_question}
+use Rattle.broker_world.specs.World.{World, TopicValue, LogValue, rules_of, find_topic}
+use Rattle.broker_world.specs.First.{magnitude, empty_logs, first_topic, first_topics, first_world}
+use Rattle.broker_world.specs.Logs.{log_in, log_of, log_at}
+use Rattle.data_handlers.specs.Judged.{pair_of, partition_at, judged}
+use Rattle.data_handlers.specs.Produce.{producing}
+use Rattle.txn_handlers.specs.InitProducerId.{init_question}
+use Rattle.txn_handlers.specs.AddPartitions.{is_cut, partitions_of}
+use Rattle.txn_handlers.specs.AddOffsets.{add_offsets_questions}
+use Rattle.broker_world.specs.Questions.{id_question}
 use Rattle.request_handlers.specs.Step.{step, reached}
 use Rattle.broker_laws.specs.Entries.{log_entries, entries_in, small}
 use Rattle.broker_laws.specs.Moves.{topics_moves, storing, appending, moves_by, batch_moves, produced_moves, initializing, moves_of, moves_of_all, mark_count, marks}

@@ -5,8 +5,8 @@ use Rattle.txn_coordinator.specs.declared.marker.OwedMarker.{OwedMarker}
 use Rattle.txn_coordinator.specs.Warrants.{next_warrant}
 use Rattle.group_offsets.specs.declared.group.Group.{Group as GroupValue}
 use Rattle.group_offsets.specs.Group.{fresh_group}
-use Rattle.request_handlers.specs.World.{World}
-use Rattle.request_handlers.specs.Marks.{mark_by}
+use Rattle.broker_world.specs.World.{World}
+use Rattle.txn_handlers.specs.Marks.{mark_by}
 use Rattle.broker_laws.specs.Entries.{event_entry, log_entries}
 use Rattle.broker_laws.specs.Laws.{EntriesAreTheLog, MarksAreNotRefused}
 

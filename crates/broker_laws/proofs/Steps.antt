@@ -36,25 +36,28 @@ use Rattle.txn_laws.proofs.GroupsKeep.{kept_tick}
 use Rattle.group_offsets.specs.declared.event.OffsetEvent.TheVariants.{Decide}
 use Rattle.group_offsets.specs.declared.group.Group.{Group as GroupValue}
 use Rattle.group_offsets.specs.Group.{expired}
-use Rattle.request_handlers.specs.Members.{read_question, joined, synced, heard, left}
-use Rattle.request_handlers.specs.FindCoordinator.{kind_of, find_questions}
+use Rattle.broker_world.specs.Questions.{read_question}
+use Rattle.group_handlers.specs.Members.{joined, synced, heard, left}
+use Rattle.group_handlers.specs.FindCoordinator.{kind_of, find_questions}
 use Rattle.request_handlers.proofs.Wholes.{offsets_keep}
-use Rattle.request_handlers.specs.World.{World, TopicValue, LogValue, rules_of}
-use Rattle.request_handlers.specs.First.{magnitude}
-use Rattle.request_handlers.specs.Logs.{log_at, log_after, appended_by}
-use Rattle.request_handlers.specs.Judged.{partition_at, judged, topics_produced}
-use Rattle.request_handlers.specs.Produce.{producing}
-use Rattle.request_handlers.specs.Whole.{Served, whole_by}
-use Rattle.request_handlers.specs.InitProducerId.{init_question, coordinator_for, initialized}
-use Rattle.request_handlers.specs.AddPartitions.{cut_rule, is_missing_in, is_missing, is_cut, partitions_in, partitions_of, cut_outcome, added_outcome, add_turn}
-use Rattle.request_handlers.specs.AddOffsets.{add_offsets_questions, add_offsets_turn, offsets_added}
-use Rattle.request_handlers.specs.EndTxn.{id_question, ended, ending, end_turn}
-use Rattle.request_handlers.specs.OffsetCommit.{committing_rule}
-use Rattle.request_handlers.specs.TxnOffsetCommit.{staging_rule}
-use Rattle.request_handlers.specs.DescribeAcls.{describe_acls_questions}
-use Rattle.request_handlers.specs.CreateAcls.{alter_questions}
-use Rattle.request_handlers.specs.Marks.{marker_batch, log_marked, marked_by, marked_at, decided_at, mark_by}
-use Rattle.request_handlers.specs.Ticks.{moment_after}
+use Rattle.broker_world.specs.World.{World, TopicValue, LogValue, rules_of}
+use Rattle.broker_world.specs.First.{magnitude}
+use Rattle.broker_world.specs.Logs.{log_at, log_after, appended_by}
+use Rattle.data_handlers.specs.Judged.{partition_at, judged, topics_produced}
+use Rattle.data_handlers.specs.Produce.{producing}
+use Rattle.broker_world.specs.Whole.{Served, whole_by}
+use Rattle.txn_handlers.specs.InitProducerId.{init_question, coordinator_for, initialized}
+use Rattle.txn_handlers.specs.AddPartitions.{cut_rule, is_missing_in, is_missing, is_cut, partitions_in, partitions_of, cut_outcome, added_outcome, add_turn}
+use Rattle.txn_handlers.specs.AddOffsets.{add_offsets_questions, add_offsets_turn, offsets_added}
+use Rattle.broker_world.specs.Questions.{id_question}
+use Rattle.txn_handlers.specs.EndTxn.{ended, ending, end_turn}
+use Rattle.group_handlers.specs.OffsetCommit.{committing_rule}
+use Rattle.txn_handlers.specs.TxnOffsetCommit.{staging_rule}
+use Rattle.acl_handlers.specs.DescribeAcls.{describe_acls_questions}
+use Rattle.acl_handlers.specs.CreateAcls.{alter_questions}
+use Rattle.broker_world.specs.Markers.{marker_batch, log_marked, marked_by}
+use Rattle.txn_handlers.specs.Marks.{marked_at, decided_at, mark_by}
+use Rattle.broker_world.specs.Clock.{moment_after}
 use Rattle.request_handlers.specs.Step.{step}
 use Rattle.broker_laws.specs.Entries.{entry_of, in_group, entries_at, small}
 use Rattle.broker_laws.specs.Moves.{unless_refused, initializing, moves_of}

@@ -26,7 +26,7 @@ use Rattle.txn_coordinator.specs.Expiry.{is_due, expired, expiry_markers, expire
 use Rattle.txn_coordinator.specs.Warrants.{owes, completed, with_completed, written_by}
 use Rattle.txn_laws.specs.Sound.{Each}
 use Rattle.txn_laws.proofs.Base.{each_append}
-use Rattle.request_handlers.specs.World.{TopicValue}
+use Rattle.broker_world.specs.World.{TopicValue}
 use Rattle.broker_laws.specs.Targets.{IsThere, TakesInExisting, IsOwedToExisting, AllExist}
 
 -- ---- lists

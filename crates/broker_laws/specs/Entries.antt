@@ -12,9 +12,9 @@ use Rattle.group_offsets.specs.declared.group.Group.{Group as GroupValue}
 use Rattle.group_offsets.specs.Groups.{group_of}
 use Rattle.txn_laws.specs.Small.{Entry, World as SmallWorld}
 use Rattle.txn_laws.specs.Small.Entry.{Data, Marker, Other}
-use Rattle.request_handlers.specs.World.{World, TopicValue, LogValue}
-use Rattle.request_handlers.specs.Logs.{log_at}
-use Rattle.request_handlers.specs.Judged.{pair_of}
+use Rattle.broker_world.specs.World.{World, TopicValue, LogValue}
+use Rattle.broker_world.specs.Logs.{log_at}
+use Rattle.data_handlers.specs.Judged.{pair_of}
 
 -- ---- a batch
 

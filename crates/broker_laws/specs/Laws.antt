@@ -44,14 +44,14 @@ use Rattle.txn_laws.specs.Small.{first_world as first_small_world, moved_all}
 use Rattle.txn_laws.specs.Sound.{Each, IsOrdered}
 use Rattle.txn_laws.specs.Laws.{IsEnded, IsDone, IsSilent, Refuses, up_to_last}
 use Rattle.txn_laws.specs.Kept.{kept_pair, kept_world, kept_moved_all}
-use Rattle.request_handlers.specs.World.{World, LogValue}
-use Rattle.request_handlers.specs.First.{first_world}
-use Rattle.request_handlers.specs.Logs.{log_at}
-use Rattle.request_handlers.specs.Judged.{pair_of, producer_code}
-use Rattle.request_handlers.specs.InitProducerId.{init_answered, init_error}
-use Rattle.request_handlers.specs.EndTxn.{ending, end_reply}
-use Rattle.request_handlers.specs.TxnOffsetCommit.{Staging, staging, staging_refusal}
-use Rattle.request_handlers.specs.Ticks.{moment_after}
+use Rattle.broker_world.specs.World.{World, LogValue}
+use Rattle.broker_world.specs.First.{first_world}
+use Rattle.broker_world.specs.Logs.{log_at}
+use Rattle.data_handlers.specs.Judged.{pair_of, producer_code}
+use Rattle.txn_handlers.specs.InitProducerId.{init_answered, init_error}
+use Rattle.txn_handlers.specs.EndTxn.{ending, end_reply}
+use Rattle.txn_handlers.specs.TxnOffsetCommit.{Staging, staging, staging_refusal}
+use Rattle.broker_world.specs.Clock.{moment_after}
 use Rattle.request_handlers.specs.Step.{step, reply_to, reached, refusals_of}
 use Rattle.request_handlers.specs.Core.{CoreValue, IsCore}
 use Rattle.broker_laws.specs.Entries.{entry_of, event_entry, entries_in, small}

@@ -37,18 +37,19 @@ use Rattle.group_offsets.specs.Turn.{Turn, Stays, Puts}
 use Rattle.group_offsets.specs.Groups.{commit}
 use Rattle.txn_laws.specs.Small.{Move, Move as moves}
 use Rattle.txn_laws.specs.Laws.{expiries}
-use Rattle.request_handlers.specs.World.{World, TopicValue, LogValue, rules_of}
-use Rattle.request_handlers.specs.First.{magnitude}
-use Rattle.request_handlers.specs.Logs.{log_at}
-use Rattle.request_handlers.specs.Judged.{pair_of, partition_at, judged}
-use Rattle.request_handlers.specs.Produce.{producing}
-use Rattle.request_handlers.specs.InitProducerId.{init_question}
-use Rattle.request_handlers.specs.AddPartitions.{is_cut, partitions_of}
-use Rattle.request_handlers.specs.AddOffsets.{add_offsets_questions}
-use Rattle.request_handlers.specs.EndTxn.{id_question, ending}
-use Rattle.request_handlers.specs.OffsetCommit.{Committing, committing, offset_of, committing_rule}
-use Rattle.request_handlers.specs.TxnOffsetCommit.{staging, staging_refusal, stage_turn, staging_rule}
-use Rattle.request_handlers.specs.Ticks.{moment_after}
+use Rattle.broker_world.specs.World.{World, TopicValue, LogValue, rules_of}
+use Rattle.broker_world.specs.First.{magnitude}
+use Rattle.broker_world.specs.Logs.{log_at}
+use Rattle.data_handlers.specs.Judged.{pair_of, partition_at, judged}
+use Rattle.data_handlers.specs.Produce.{producing}
+use Rattle.txn_handlers.specs.InitProducerId.{init_question}
+use Rattle.txn_handlers.specs.AddPartitions.{is_cut, partitions_of}
+use Rattle.txn_handlers.specs.AddOffsets.{add_offsets_questions}
+use Rattle.broker_world.specs.Questions.{id_question}
+use Rattle.txn_handlers.specs.EndTxn.{ending}
+use Rattle.group_handlers.specs.OffsetCommit.{Committing, committing, offset_of, committing_rule}
+use Rattle.txn_handlers.specs.TxnOffsetCommit.{staging, staging_refusal, stage_turn, staging_rule}
+use Rattle.broker_world.specs.Clock.{moment_after}
 use Rattle.request_handlers.specs.Step.{step}
 
 -- what is refused moves nothing

@@ -7,8 +7,8 @@ use Rattle.txn_coordinator.specs.declared.marker.OwedMarker.{OwedMarker}
 use Rattle.txn_coordinator.specs.Words.{targets}
 use Rattle.txn_coordinator.specs.Coordinator.{CoordinatorValue}
 use Rattle.txn_laws.specs.Sound.{Each}
-use Rattle.request_handlers.specs.World.{World, TopicValue}
-use Rattle.request_handlers.specs.Logs.{log_at}
+use Rattle.broker_world.specs.World.{World, TopicValue}
+use Rattle.broker_world.specs.Logs.{log_at}
 
 -- the target is a partition that is there, or any group: a group begins with the first call that changes it
 abbrev pub is_there : List TopicValue → Target → Bool

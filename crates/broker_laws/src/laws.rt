@@ -1,7 +1,7 @@
 //! The laws, each the contract of a function with nothing to do. Most hold of the world that any list of events reaches
 //! from any settings (`reached`), and so of each core that isn't down (`cores`).
 
-ghost use Rattle.request_handlers.specs.World.{World};
+ghost use Rattle.broker_world.specs.World.{World};
 ghost use Rattle.broker_laws.specs.Targets.{HasTargets};
 ghost use Rattle.broker_laws.specs.Laws.{InReached, InCores};
 ghost use Rattle.broker_laws.specs.Laws.{EntriesAreTheLog, IsMoved, EventsAreMoves};

@@ -17,8 +17,8 @@ use Rattle.audit_trail.specs.declared.event.Event.TheVariants.{Ask}
 use Rattle.audit_trail.specs.declared.trail.Receipt.{Receipt}
 use Rattle.walk.specs.Headline.{at}
 use Rattle.request_handlers.specs.declared.stop.Stop.{Stop}
-use Rattle.request_handlers.specs.World.{World, rules_of}
-use Rattle.request_handlers.specs.First.{first_world}
+use Rattle.broker_world.specs.World.{World, rules_of}
+use Rattle.broker_world.specs.First.{first_world}
 use Rattle.api_laws.specs.ReadLaws.{ShowsCommitted}
 use Rattle.request_handlers.specs.Step.{reply_to, refusals_of, reached}
 use Rattle.request_handlers.specs.Core.{CoreValue, IsCore, entry_of, events_of, advanced, receipt_of, Ran}

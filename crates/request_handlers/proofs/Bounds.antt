@@ -36,35 +36,37 @@ use Rattle.msg_admin.specs.Bodies.{request_body}
 use Rattle.audit_trail.specs.declared.event.Event.{Event}
 use Rattle.audit_trail.specs.declared.event.Event.TheVariants.{Ask, Mark, Tick}
 use Rattle.audit_trail.proofs.Counts.{count_push}
-use Rattle.request_handlers.specs.World.{World, TopicValue, rules_of}
-use Rattle.request_handlers.specs.Metadata.{topic_refusal, topic_refusals}
-use Rattle.request_handlers.specs.First.{magnitude, empty_logs, first_topics, first_world}
-use Rattle.request_handlers.specs.Logs.{most_of, most_end, room_of, HoldLogs}
-use Rattle.request_handlers.specs.Judged.{records_size}
-use Rattle.request_handlers.specs.Produce.{producing}
-use Rattle.request_handlers.specs.Fetch.{fetch_rule}
-use Rattle.request_handlers.specs.ListOffsets.{list_rule}
-use Rattle.request_handlers.specs.DescribeAcls.{describe_acls_questions}
-use Rattle.request_handlers.specs.CreateAcls.{alter_questions, book_created}
-use Rattle.request_handlers.specs.DeleteAcls.{book_deleted}
-use Rattle.request_handlers.specs.InitProducerId.{init_question}
+use Rattle.broker_world.specs.World.{World, TopicValue, rules_of}
+use Rattle.broker_world.specs.Questions.{topic_refusal}
+use Rattle.data_handlers.specs.Metadata.{topic_refusals}
+use Rattle.broker_world.specs.First.{magnitude, empty_logs, first_topics, first_world}
+use Rattle.broker_world.specs.Logs.{most_of, most_end, room_of, HoldLogs}
+use Rattle.data_handlers.specs.Judged.{records_size}
+use Rattle.data_handlers.specs.Produce.{producing}
+use Rattle.data_handlers.specs.Fetch.{fetch_rule}
+use Rattle.data_handlers.specs.ListOffsets.{list_rule}
+use Rattle.acl_handlers.specs.DescribeAcls.{describe_acls_questions}
+use Rattle.acl_handlers.specs.CreateAcls.{alter_questions, book_created}
+use Rattle.acl_handlers.specs.DeleteAcls.{book_deleted}
+use Rattle.txn_handlers.specs.InitProducerId.{init_question}
 use Rattle.msg_txn.specs.declared.add_partitions.AddPartitionsToTxnRequest.{AddPartitionsToTxnRequest}
 use Rattle.msg_txn.specs.AddPartitions.{add_partitions_to_txn_request}
 use Rattle.txn_coordinator.specs.declared.marker.OwedMarker.{OwedMarker}
 use Rattle.txn_coordinator.specs.declared.target.Target.{Target}
 use Rattle.txn_coordinator.specs.declared.target.Target.TheVariants.{Partition, Group}
 use Rattle.txn_coordinator.specs.Warrants.{next_warrant}
-use Rattle.request_handlers.specs.EndTxn.{id_question}
-use Rattle.request_handlers.specs.AddOffsets.{add_offsets_questions}
-use Rattle.request_handlers.specs.AddPartitions.{cut_rule, is_cut, cut_outcome, added_outcome}
-use Rattle.request_handlers.specs.Marks.{marker_batch, marked_at, mark_by}
-use Rattle.request_handlers.specs.RoomLaws.{marked_within}
-use Rattle.request_handlers.specs.OffsetCommit.{committing_rule}
-use Rattle.request_handlers.specs.TxnOffsetCommit.{staging_rule}
+use Rattle.broker_world.specs.Questions.{id_question}
+use Rattle.txn_handlers.specs.AddOffsets.{add_offsets_questions}
+use Rattle.txn_handlers.specs.AddPartitions.{cut_rule, is_cut, cut_outcome, added_outcome}
+use Rattle.broker_world.specs.Markers.{marker_batch}
+use Rattle.txn_handlers.specs.Marks.{marked_at, mark_by}
+use Rattle.broker_world.proofs.LogRoom.{marked_within}
+use Rattle.group_handlers.specs.OffsetCommit.{committing_rule}
+use Rattle.txn_handlers.specs.TxnOffsetCommit.{staging_rule}
 use Rattle.msg_txn.specs.declared.txn_offset_commit.TxnOffsetCommitRequest.{TxnOffsetCommitRequest}
 use Rattle.msg_txn.specs.declared.txn_offset_commit.OffsetToStage.{OffsetToStage}
 use Rattle.msg_txn.specs.TxnOffsetCommit.{offset_to_stage, txn_offset_commit_request}
-use Rattle.request_handlers.specs.OffsetFetch.{group_question, offset_rule, offsets_of, fetched_outcome, offset_fetch_by}
+use Rattle.group_handlers.specs.OffsetFetch.{group_question, offset_rule, offsets_of, fetched_outcome, offset_fetch_by}
 use Rattle.msg_group.specs.declared.offset_commit.OffsetCommitRequest.{OffsetCommitRequest}
 use Rattle.msg_group.specs.declared.offset_commit.OffsetToCommit.{OffsetToCommit}
 use Rattle.msg_group.specs.OffsetCommit.{offset_to_commit, offset_commit_request}
@@ -72,14 +74,14 @@ use Rattle.msg_group.specs.declared.offset_fetch.OffsetFetchRequest.{OffsetFetch
 use Rattle.msg_group.specs.OffsetFetch.{offset_fetch_request}
 use Rattle.request_handlers.proofs.Generations.{generations_outcome, generations_weaker, no_groups}
 use Rattle.request_handlers.proofs.Wholes.{offsets_keep}
-use Rattle.request_handlers.specs.Members.{read_question}
-use Rattle.request_handlers.specs.FindCoordinator.{kind_of, find_questions}
-use Rattle.request_handlers.proofs.Adds.{add_keeps, mark_keeps}
+use Rattle.broker_world.specs.Questions.{read_question}
+use Rattle.group_handlers.specs.FindCoordinator.{kind_of, find_questions}
+use Rattle.txn_handlers.proofs.Adds.{add_keeps, mark_keeps}
 use Rattle.request_handlers.specs.Step.{outcome, refusals_of}
 use Rattle.request_handlers.specs.Core.{CoreValue, IsCore, IsBounded, EventFits, most_parts, most_bindings, trail_limit, advanced, entry_of}
-use Rattle.request_handlers.proofs.Held.{first_hold}
+use Rattle.broker_world.proofs.Held.{first_hold}
 use Rattle.request_handlers.proofs.Histories.{events_outcome, history_goes_on}
-use Rattle.request_handlers.proofs.BookBounds.{with_next, created_next, deleted_next, few_creations, whole_next, whole_refusals, whole_topics}
+use Rattle.acl_handlers.proofs.BookBounds.{with_next, created_next, deleted_next, few_creations, whole_next, whole_refusals, whole_topics}
 
 -- no more are kept than there are
 few_kept : {A B : Type 0} (f : A → Option B) (xs : List A) → length (filter_map f xs) ≤ length xs

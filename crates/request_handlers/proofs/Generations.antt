@@ -34,24 +34,24 @@ use Rattle.group_offsets.specs.Turn.{Turn, Stays, Puts}
 use Rattle.group_offsets.specs.Group.{is_empty, is_member, member_refusal, synced, sync_group, beaten, beat_group, leave_group, is_lapsed, left, expired, commit_refusal, with_event, noted, commit_group, stage_refusal, stage_group}
 use Rattle.group_offsets.specs.Joining.{session_timeout, chosen, entry_refusal, let_in, join_under, join_within, join_group}
 use Rattle.group_offsets.specs.Groups.{find_group, group_of, put, turned, join, sync, beat, leave, commit}
-use Rattle.request_handlers.specs.World.{World, TopicValue, LogValue, rules_of}
-use Rattle.request_handlers.specs.First.{first_world}
-use Rattle.request_handlers.specs.Logs.{log_at}
-use Rattle.request_handlers.specs.Whole.{Served, whole_by}
-use Rattle.request_handlers.specs.DescribeAcls.{describe_acls_questions}
-use Rattle.request_handlers.specs.CreateAcls.{alter_questions}
-use Rattle.request_handlers.specs.InitProducerId.{init_question}
-use Rattle.request_handlers.specs.EndTxn.{id_question}
-use Rattle.request_handlers.specs.AddOffsets.{add_offsets_questions}
-use Rattle.request_handlers.specs.Members.{read_question}
-use Rattle.request_handlers.specs.FindCoordinator.{kind_of, find_questions}
-use Rattle.request_handlers.specs.OffsetCommit.{Committing, committing, commit_questions, groups_by, commit_rule, committing_rule}
-use Rattle.request_handlers.specs.TxnOffsetCommit.{Staging, staging, stage_questions, offset_staged, turn_by, staging_refusal, stage_turn, stage_rule, staging_rule}
-use Rattle.request_handlers.specs.Marks.{decided_at, mark_by, mark_outcome}
-use Rattle.request_handlers.specs.Ticks.{moment_after}
+use Rattle.broker_world.specs.World.{World, TopicValue, LogValue, rules_of}
+use Rattle.broker_world.specs.First.{first_world}
+use Rattle.broker_world.specs.Logs.{log_at}
+use Rattle.broker_world.specs.Whole.{Served, whole_by}
+use Rattle.acl_handlers.specs.DescribeAcls.{describe_acls_questions}
+use Rattle.acl_handlers.specs.CreateAcls.{alter_questions}
+use Rattle.txn_handlers.specs.InitProducerId.{init_question}
+use Rattle.broker_world.specs.Questions.{id_question}
+use Rattle.txn_handlers.specs.AddOffsets.{add_offsets_questions}
+use Rattle.broker_world.specs.Questions.{read_question}
+use Rattle.group_handlers.specs.FindCoordinator.{kind_of, find_questions}
+use Rattle.group_handlers.specs.OffsetCommit.{Committing, committing, commit_questions, groups_by, commit_rule, committing_rule}
+use Rattle.txn_handlers.specs.TxnOffsetCommit.{Staging, staging, stage_questions, offset_staged, turn_by, staging_refusal, stage_turn, stage_rule, staging_rule}
+use Rattle.txn_handlers.specs.Marks.{decided_at, mark_by, mark_outcome}
+use Rattle.broker_world.specs.Clock.{moment_after}
 use Rattle.request_handlers.specs.Step.{outcome}
 use Rattle.request_handlers.specs.Core.{GenerationsWithin}
-use Rattle.request_handlers.proofs.Adds.{add_keeps}
+use Rattle.txn_handlers.proofs.Adds.{add_keeps}
 use Rattle.request_handlers.proofs.Wholes.{offsets_keep}
 
 pub generations_weaker : (m n : ℕ) (gs : List Group) → m ≤ n → GenerationsWithin m gs → GenerationsWithin n gs

@@ -1,15 +1,5 @@
-pub mod InRange
-pub mod Parts
-pub mod AclParts
-pub mod Places
-pub mod Offsets
-pub mod Adds
-pub mod Added
-pub mod Held
+pub mod TrailLimit
 pub mod Wholes
 pub mod Histories
-pub mod BookBounds
 pub mod Generations
 pub mod Bounds
-pub mod StagedParts
-pub mod Rows

@@ -12,15 +12,15 @@ use Rattle.msg_admin.specs.declared.request.Request.TheVariants.{Produce, Fetch,
 use Rattle.audit_trail.specs.declared.event.Event.{Event}
 use Rattle.audit_trail.specs.declared.event.Event.TheVariants.{Ask, Mark, Tick}
 use Rattle.walk.specs.Codes.{refusal_code}
-use Rattle.request_handlers.specs.declared.outcome.Outcome.{Outcome as Told}
-use Rattle.request_handlers.specs.World.{World, rules_of}
-use Rattle.request_handlers.specs.Whole.{Served, whole_by, whole}
-use Rattle.request_handlers.specs.DescribeAcls.{describe_acls_questions, describe_acls_outcome}
+use Rattle.broker_world.specs.declared.outcome.Outcome.{Outcome as Told}
+use Rattle.broker_world.specs.World.{World, rules_of}
+use Rattle.broker_world.specs.Whole.{Served, whole_by, whole}
+use Rattle.acl_handlers.specs.DescribeAcls.{describe_acls_questions, describe_acls_outcome}
 use Rattle.wire_types.specs.declared.topic.Topic.{Topic}
 use Rattle.msg_group.specs.declared.offset_fetch.OffsetFetchRequest.{OffsetFetchRequest}
 use Rattle.msg_txn.specs.declared.find_coordinator.FindCoordinatorRequest.{FindCoordinatorRequest}
-use Rattle.request_handlers.specs.FindCoordinator.{kind_of, find_questions, find_coordinator_outcome}
-use Rattle.request_handlers.specs.OffsetFetch.{group_question, offsets_of, fetched_outcome, offset_fetch_by, offset_fetch_outcome}
+use Rattle.group_handlers.specs.FindCoordinator.{kind_of, find_questions, find_coordinator_outcome}
+use Rattle.group_handlers.specs.OffsetFetch.{group_question, offsets_of, fetched_outcome, offset_fetch_by, offset_fetch_outcome}
 use Rattle.request_handlers.specs.Step.{request_outcome, outcome, is_reading}
 
 pub on_ok : {T E P : Type 0} (r : Result T E) → P → OnOk r P
@@ -30,15 +30,6 @@ on_ok (Err e) p = tt
 pub on_err : {T E P : Type 0} (r : Result T E) → P → OnErr r P
 on_err (Ok x) p = tt
 on_err (Err e) p = p
-
--- the reply of a request that was refused
-pub refused_told : {E : Type 0} (w : World) (rules : Rules) (q p : Question) (refused : ErrorCode → Reply) (served : Served) (r : Refusal) (reply : Reply) (result : Result Told E)
-    → rules_of w ≡ rules → q ≡ p → part_refusal rules (q ∷ []) ≡ Some r → reply ≡ refused (refusal_code r) → IfOk result (λ o. o ≡ record { reply = reply; refusals = r ∷ [] })
-    → IfOk result (λ o. o.reply ≡ (whole w (p ∷ []) refused served).reply)
-refused_told w rules q p refused served r reply (Err e) same asked is told all = tt
-refused_told w rules q p refused served r reply (Ok o) same asked is told all =
-    let here : part_refusal (rules_of w) (p ∷ []) ≡ Some r = ap (λ (x : Rules). part_refusal x (p ∷ [])) same ∙ ap (λ (x : Question). part_refusal rules (x ∷ [])) (sym asked) ∙ is in
-    ap (λ (x : Told). x.reply) all ∙ told ∙ sym (ap (λ (x : Option Refusal). (whole_by x w refused served).reply) here)
 
 -- ---- what only reads changes nothing
 

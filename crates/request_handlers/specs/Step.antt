@@ -7,26 +7,26 @@ use Rattle.msg_admin.specs.declared.request.Request.TheVariants as requests
 use Rattle.msg_admin.specs.declared.reply.Reply.{Reply}
 use Rattle.audit_trail.specs.declared.event.Event.{Event}
 use Rattle.audit_trail.specs.declared.event.Event.TheVariants.{Ask, Mark, Tick}
-use Rattle.request_handlers.specs.World.{World}
-use Rattle.request_handlers.specs.Outcome.{Outcome}
-use Rattle.request_handlers.specs.Metadata.{metadata_outcome}
-use Rattle.request_handlers.specs.Produce.{produce_outcome}
-use Rattle.request_handlers.specs.Fetch.{fetch_outcome}
-use Rattle.request_handlers.specs.ListOffsets.{list_offsets_outcome}
-use Rattle.request_handlers.specs.InitProducerId.{init_producer_id_outcome}
-use Rattle.request_handlers.specs.AddPartitions.{add_partitions_outcome}
-use Rattle.request_handlers.specs.AddOffsets.{add_offsets_outcome}
-use Rattle.request_handlers.specs.EndTxn.{end_txn_outcome}
-use Rattle.request_handlers.specs.TxnOffsetCommit.{txn_offset_commit_outcome}
-use Rattle.request_handlers.specs.Marks.{mark_outcome}
+use Rattle.broker_world.specs.World.{World}
+use Rattle.broker_world.specs.Outcome.{Outcome}
+use Rattle.data_handlers.specs.Metadata.{metadata_outcome}
+use Rattle.data_handlers.specs.Produce.{produce_outcome}
+use Rattle.data_handlers.specs.Fetch.{fetch_outcome}
+use Rattle.data_handlers.specs.ListOffsets.{list_offsets_outcome}
+use Rattle.txn_handlers.specs.InitProducerId.{init_producer_id_outcome}
+use Rattle.txn_handlers.specs.AddPartitions.{add_partitions_outcome}
+use Rattle.txn_handlers.specs.AddOffsets.{add_offsets_outcome}
+use Rattle.txn_handlers.specs.EndTxn.{end_txn_outcome}
+use Rattle.txn_handlers.specs.TxnOffsetCommit.{txn_offset_commit_outcome}
+use Rattle.txn_handlers.specs.Marks.{mark_outcome}
 use Rattle.request_handlers.specs.Ticks.{tick_outcome}
-use Rattle.request_handlers.specs.Members.{join_group_outcome, sync_group_outcome, heartbeat_outcome, leave_group_outcome}
-use Rattle.request_handlers.specs.FindCoordinator.{find_coordinator_outcome}
-use Rattle.request_handlers.specs.OffsetCommit.{offset_commit_outcome}
-use Rattle.request_handlers.specs.OffsetFetch.{offset_fetch_outcome}
-use Rattle.request_handlers.specs.DescribeAcls.{describe_acls_outcome}
-use Rattle.request_handlers.specs.CreateAcls.{create_acls_outcome}
-use Rattle.request_handlers.specs.DeleteAcls.{delete_acls_outcome}
+use Rattle.group_handlers.specs.Members.{join_group_outcome, sync_group_outcome, heartbeat_outcome, leave_group_outcome}
+use Rattle.group_handlers.specs.FindCoordinator.{find_coordinator_outcome}
+use Rattle.group_handlers.specs.OffsetCommit.{offset_commit_outcome}
+use Rattle.group_handlers.specs.OffsetFetch.{offset_fetch_outcome}
+use Rattle.acl_handlers.specs.DescribeAcls.{describe_acls_outcome}
+use Rattle.acl_handlers.specs.CreateAcls.{create_acls_outcome}
+use Rattle.acl_handlers.specs.DeleteAcls.{delete_acls_outcome}
 
 -- permissions are those of the book at the event's start
 abbrev pub request_outcome : World → Caller → Request → Outcome

@@ -4,16 +4,9 @@ use Rattle.std.specs.Prelude.{ℕ, max, min, [], length, map}
 use Rattle.msg_admin.specs.declared.reply.Reply.TheVariants as replies
 use Rattle.txn_coordinator.specs.Expiry.{expire}
 use Rattle.group_offsets.specs.Group.{expired}
-use Rattle.request_handlers.specs.World.{World}
-use Rattle.request_handlers.specs.Outcome.{Outcome}
-
--- in milliseconds: 2^62 - 1
-abbrev pub last_moment : ℕ
-last_moment = 4611686018427387903
-
--- it never goes back, and stays at the last moment
-abbrev pub moment_after : ℕ → ℕ → ℕ
-moment_after moment told = max moment (min told last_moment)
+use Rattle.broker_world.specs.World.{World}
+use Rattle.broker_world.specs.Outcome.{Outcome}
+use Rattle.broker_world.specs.Clock.{moment_after}
 
 abbrev pub at_moment : World → ℕ → World
 at_moment w moment = record w { moment = moment; groups = map (expired moment) w.groups; coordinator = expire w.coordinator moment }

@@ -13,13 +13,13 @@ use Rattle.msg_admin.specs.declared.request.Request.{Request}
 use Rattle.msg_admin.specs.declared.request.Request.TheVariants.{Produce, Fetch, ListOffsets, Metadata, OffsetCommit, OffsetFetch, FindCoordinator, JoinGroup, Heartbeat, LeaveGroup, SyncGroup, InitProducerId, AddPartitionsToTxn, AddOffsetsToTxn, EndTxn, TxnOffsetCommit, DescribeAcls, CreateAcls, DeleteAcls}
 use Rattle.audit_trail.specs.declared.event.Event.{Event}
 use Rattle.audit_trail.specs.declared.event.Event.TheVariants.{Ask, Mark, Tick}
-use Rattle.request_handlers.specs.World.{World}
-use Rattle.request_handlers.specs.Produce.{produce_questions}
-use Rattle.request_handlers.specs.OffsetCommit.{commit_questions}
-use Rattle.request_handlers.specs.TxnOffsetCommit.{staging, stage_questions}
-use Rattle.request_handlers.specs.AddPartitions.{add_questions}
-use Rattle.request_handlers.specs.CreateAcls.{alter_questions, book_created}
-use Rattle.request_handlers.specs.DeleteAcls.{book_deleted}
+use Rattle.broker_world.specs.World.{World}
+use Rattle.data_handlers.specs.Produce.{produce_questions}
+use Rattle.group_handlers.specs.OffsetCommit.{commit_questions}
+use Rattle.txn_handlers.specs.TxnOffsetCommit.{staging, stage_questions}
+use Rattle.txn_handlers.specs.AddPartitions.{add_questions}
+use Rattle.acl_handlers.specs.CreateAcls.{alter_questions, book_created}
+use Rattle.acl_handlers.specs.DeleteAcls.{book_deleted}
 use Rattle.request_handlers.specs.Step.{request_outcome, counted, step}
 use Rattle.request_handlers.specs.Core.{entry_of, history}
 use Rattle.api_laws.specs.Tenants.{SameBase, SameOn, SameGranted}

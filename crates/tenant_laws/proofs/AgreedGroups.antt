@@ -24,13 +24,14 @@ use Rattle.group_offsets.specs.declared.group.Group.{Group}
 use Rattle.group_offsets.specs.Groups.{find_group, turned, join, sync, beat}
 use Rattle.group_offsets.specs.Laws.{Call, Call as calls, called}
 use Rattle.group_offsets.proofs.Apart.{groups_are_apart}
-use Rattle.request_handlers.specs.World.{World, LogValue, rules_of}
-use Rattle.request_handlers.specs.Logs.{log_at}
-use Rattle.request_handlers.specs.Judged.{refused_by}
-use Rattle.request_handlers.specs.EndTxn.{id_question}
-use Rattle.request_handlers.specs.Members.{read_question, joined, synced, heard, left, join_group_outcome, sync_group_outcome, heartbeat_outcome, leave_group_outcome}
-use Rattle.request_handlers.specs.OffsetCommit.{committing, commit_questions, offset_of, groups_by, committing_rule, offset_commit_outcome}
-use Rattle.request_handlers.specs.TxnOffsetCommit.{staging, stage_questions, offset_staged, turn_by, staging_refusal, staging_rule, txn_offset_commit_outcome}
+use Rattle.broker_world.specs.World.{World, LogValue, rules_of}
+use Rattle.broker_world.specs.Logs.{log_at}
+use Rattle.broker_world.specs.Codes.{refused_by}
+use Rattle.broker_world.specs.Questions.{id_question}
+use Rattle.broker_world.specs.Questions.{read_question}
+use Rattle.group_handlers.specs.Members.{joined, synced, heard, left, join_group_outcome, sync_group_outcome, heartbeat_outcome, leave_group_outcome}
+use Rattle.group_handlers.specs.OffsetCommit.{committing, commit_questions, offset_of, groups_by, committing_rule, offset_commit_outcome}
+use Rattle.txn_handlers.specs.TxnOffsetCommit.{staging, stage_questions, offset_staged, turn_by, staging_refusal, staging_rule, txn_offset_commit_outcome}
 use Rattle.api_laws.specs.Tenants.{SameBase, SameGranted}
 use Rattle.api_laws.proofs.DataGrants.{yes_of, rest_of, same_topic, same_log}
 use Rattle.tenant_laws.proofs.Agreeing.{Goes, walk_goes, AgreeBehind, by_groups, by_whole}

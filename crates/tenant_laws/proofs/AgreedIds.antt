@@ -26,14 +26,15 @@ use Rattle.txn_coordinator.specs.declared.turn.Turn.TheVariants.{Stays, Puts}
 use Rattle.txn_coordinator.specs.Coordinator.{CoordinatorValue, has_id, recorded, turned}
 use Rattle.txn_coordinator.specs.InitProducerId.{init}
 use Rattle.txn_coordinator.specs.Adding.{add_partitions}
-use Rattle.request_handlers.specs.declared.node.Node.{Node}
-use Rattle.request_handlers.specs.World.{World, LogValue, rules_of}
-use Rattle.request_handlers.specs.Logs.{log_at}
-use Rattle.request_handlers.specs.InitProducerId.{init_question, coordinator_for, initialized, init_producer_id_outcome}
-use Rattle.request_handlers.specs.EndTxn.{id_question, ending, end_turn, ended, end_txn_outcome}
-use Rattle.request_handlers.specs.AddOffsets.{add_offsets_questions, add_offsets_turn, offsets_added, add_offsets_outcome}
-use Rattle.request_handlers.specs.AddPartitions.{add_questions, cut_rule, is_missing_in, is_missing, is_cut, add_turn, cut_outcome, added_outcome, add_partitions_outcome, partitions_in, partitions_of}
-use Rattle.request_handlers.specs.Members.{read_question}
+use Rattle.broker_world.specs.declared.node.Node.{Node}
+use Rattle.broker_world.specs.World.{World, LogValue, rules_of}
+use Rattle.broker_world.specs.Logs.{log_at}
+use Rattle.txn_handlers.specs.InitProducerId.{init_question, coordinator_for, initialized, init_producer_id_outcome}
+use Rattle.broker_world.specs.Questions.{id_question}
+use Rattle.txn_handlers.specs.EndTxn.{ending, end_turn, ended, end_txn_outcome}
+use Rattle.txn_handlers.specs.AddOffsets.{add_offsets_questions, add_offsets_turn, offsets_added, add_offsets_outcome}
+use Rattle.txn_handlers.specs.AddPartitions.{add_questions, cut_rule, is_missing_in, is_missing, is_cut, add_turn, cut_outcome, added_outcome, add_partitions_outcome, partitions_in, partitions_of}
+use Rattle.broker_world.specs.Questions.{read_question}
 use Rattle.api_laws.specs.Tenants.{SameBase, SameGranted}
 use Rattle.api_laws.proofs.DataGrants.{yes_of, rest_of, same_topic, same_log}
 use Rattle.api_laws.proofs.Recorded.{AreSame, recorded_put, same_init, same_end, same_add, same_add_group}

@@ -25,13 +25,14 @@ use Rattle.txn_coordinator.specs.declared.target.Target.{Target}
 use Rattle.txn_coordinator.specs.declared.transaction.Transaction.{Transaction}
 use Rattle.txn_coordinator.specs.Coordinator.{CoordinatorValue, recorded, owner, given_by}
 use Rattle.txn_coordinator.specs.Holding.{holds_found}
-use Rattle.request_handlers.specs.declared.node.Node.{Node}
-use Rattle.request_handlers.specs.World.{World, TopicValue, LogValue, rules_of, find_topic}
-use Rattle.request_handlers.specs.First.{magnitude}
-use Rattle.request_handlers.specs.Logs.{log_at, log_after, logs_with, appended_by}
-use Rattle.request_handlers.specs.Judged.{partition_at, pair_of, refused_by, held_code, given_code, producer_code, passed_by, passed, batch_in, are_acks, judged, topics_produced}
-use Rattle.request_handlers.specs.Sent.{sent}
-use Rattle.request_handlers.specs.Produce.{produce_questions, producing, produce_outcome}
+use Rattle.broker_world.specs.declared.node.Node.{Node}
+use Rattle.broker_world.specs.World.{World, TopicValue, LogValue, rules_of, find_topic}
+use Rattle.broker_world.specs.First.{magnitude}
+use Rattle.broker_world.specs.Logs.{log_at, log_after, logs_with, appended_by}
+use Rattle.data_handlers.specs.Judged.{partition_at, pair_of, held_code, given_code, producer_code, passed_by, passed, batch_in, are_acks, judged, topics_produced}
+use Rattle.broker_world.specs.Codes.{refused_by}
+use Rattle.data_handlers.specs.Sent.{sent}
+use Rattle.data_handlers.specs.Produce.{produce_questions, producing, produce_outcome}
 use Rattle.api_laws.specs.Tenants.{SameBase, SameGranted}
 use Rattle.api_laws.proofs.DataGrants.{yes_of, same_log, find_same}
 use Rattle.tenant_laws.proofs.Agreeing.{Goes, walk_goes, AgreeBehind, by_topics}

@@ -17,8 +17,8 @@ use Rattle.walk.proofs.Weaving.{woven}
 use Rattle.txn_coordinator.specs.Coordinator.{CoordinatorValue, recorded}
 use Rattle.group_offsets.specs.declared.group.Group.{Group as GroupValue}
 use Rattle.group_offsets.specs.Groups.{find_group}
-use Rattle.request_handlers.specs.World.{World, TopicValue, rules_of, find_topic}
-use Rattle.request_handlers.specs.Whole.{Served, whole_by}
+use Rattle.broker_world.specs.World.{World, TopicValue, rules_of, find_topic}
+use Rattle.broker_world.specs.Whole.{Served, whole_by}
 use Rattle.api_laws.specs.Tenants.{SameBase, SameOn}
 
 -- ---- a walk

@@ -11,12 +11,13 @@ use Rattle.msg_admin.specs.declared.request.Request.TheVariants.{Produce, Fetch,
 use Rattle.msg_admin.specs.declared.reply.Reply.TheVariants as replies
 use Rattle.audit_trail.specs.declared.event.Event.TheVariants.{Ask}
 use Rattle.walk.specs.Alike.{AllTopics}
-use Rattle.request_handlers.specs.World.{World, rules_of}
-use Rattle.request_handlers.specs.Metadata.{topic_part, metadata_outcome}
-use Rattle.request_handlers.specs.Produce.{produce_questions}
-use Rattle.request_handlers.specs.OffsetCommit.{commit_questions}
-use Rattle.request_handlers.specs.AddPartitions.{add_questions}
-use Rattle.request_handlers.specs.TxnOffsetCommit.{staging, stage_questions}
+use Rattle.broker_world.specs.World.{World, rules_of}
+use Rattle.broker_world.specs.Questions.{topic_part}
+use Rattle.data_handlers.specs.Metadata.{metadata_outcome}
+use Rattle.data_handlers.specs.Produce.{produce_questions}
+use Rattle.group_handlers.specs.OffsetCommit.{commit_questions}
+use Rattle.txn_handlers.specs.AddPartitions.{add_questions}
+use Rattle.txn_handlers.specs.TxnOffsetCommit.{staging, stage_questions}
 use Rattle.request_handlers.specs.Step.{request_outcome}
 use Rattle.api_laws.specs.Tenants.{SameBase, SameGranted, SameForMetadata, topic_questions}
 use Rattle.api_laws.specs.DataTenants.{SameAnswer}

@@ -6,8 +6,9 @@ use Rattle.std.proofs.lemmas.Slice.Eq.{bytes_eq-Decides}
 use Rattle.acl_binding.specs.declared.question.Caller.{Caller}
 use Rattle.authorizer.specs.declared.answer.Refusal.{Refusal}
 use Rattle.authorizer.specs.Asking.{Rules}
-use Rattle.request_handlers.specs.World.{World, TopicValue, rules_of, find_topic, topic_names}
-use Rattle.request_handlers.specs.Metadata.{topic_refusal, describable}
+use Rattle.broker_world.specs.World.{World, TopicValue, rules_of, find_topic, topic_names}
+use Rattle.broker_world.specs.Questions.{topic_refusal}
+use Rattle.data_handlers.specs.Metadata.{describable}
 use Rattle.api_laws.specs.Tenants.{SameTopics, SameListed}
 use Rattle.api_laws.specs.GroupLaws.{described_slots}
 

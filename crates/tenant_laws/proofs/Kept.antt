@@ -14,18 +14,20 @@ use Rattle.msg_admin.specs.declared.request.Request.TheVariants.{Produce, Fetch,
 use Rattle.msg_admin.specs.declared.reply.Reply.{Reply}
 use Rattle.audit_trail.specs.declared.event.Event.{Event}
 use Rattle.audit_trail.specs.declared.event.Event.TheVariants.{Ask, Mark, Tick}
-use Rattle.request_handlers.specs.World.{World, rules_of}
-use Rattle.request_handlers.specs.Whole.{Served, whole_by}
-use Rattle.request_handlers.specs.Members.{read_question, join_group_outcome, sync_group_outcome, heartbeat_outcome, leave_group_outcome, joined, synced, heard, left}
-use Rattle.request_handlers.specs.InitProducerId.{init_question, initialized}
-use Rattle.request_handlers.specs.AddOffsets.{add_offsets_questions, offsets_added}
-use Rattle.request_handlers.specs.EndTxn.{id_question, ended}
-use Rattle.request_handlers.specs.CreateAcls.{alter_questions, book_created}
-use Rattle.request_handlers.specs.DeleteAcls.{book_deleted}
+use Rattle.broker_world.specs.World.{World, rules_of}
+use Rattle.broker_world.specs.Whole.{Served, whole_by}
+use Rattle.broker_world.specs.Questions.{read_question}
+use Rattle.group_handlers.specs.Members.{join_group_outcome, sync_group_outcome, heartbeat_outcome, leave_group_outcome, joined, synced, heard, left}
+use Rattle.txn_handlers.specs.InitProducerId.{init_question, initialized}
+use Rattle.txn_handlers.specs.AddOffsets.{add_offsets_questions, offsets_added}
+use Rattle.broker_world.specs.Questions.{id_question}
+use Rattle.txn_handlers.specs.EndTxn.{ended}
+use Rattle.acl_handlers.specs.CreateAcls.{alter_questions, book_created}
+use Rattle.acl_handlers.specs.DeleteAcls.{book_deleted}
 use Rattle.request_handlers.specs.Step.{request_outcome, counted, step, reached}
 use Rattle.api_laws.specs.Tenants.{SameOn}
 use Rattle.api_laws.proofs.Grouped.{groups_keep}
-use Rattle.request_handlers.proofs.Adds.{add_keeps}
+use Rattle.txn_handlers.proofs.Adds.{add_keeps}
 use Rattle.api_laws.proofs.AclEdits.{refused_edit_nothing}
 use Rattle.request_handlers.proofs.Wholes.{describe_keeps, find_keeps, offsets_keep}
 use Rattle.tenant_laws.specs.Questions.{parts_of, questions_of}

@@ -7,7 +7,7 @@ use Rattle.authorizer.specs.Policy.{verdict}
 use Rattle.authorizer.specs.Asking.{part_refusal}
 use Rattle.wire_types.specs.declared.topic.Topic.{Topic}
 use Rattle.walk.specs.Alike.{AllParts, AllTopics}
-use Rattle.request_handlers.specs.World.{World, rules_of}
+use Rattle.broker_world.specs.World.{World, rules_of}
 use Rattle.api_laws.specs.Tenants.{SameGranted}
 use Rattle.api_laws.proofs.DataGrants.{yes_of, rest_of}
 use Rattle.tenant_laws.specs.Questions.{partition_parts}

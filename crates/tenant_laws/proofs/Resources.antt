@@ -13,10 +13,10 @@ use Rattle.msg_admin.specs.declared.reply.Reply.{Reply}
 use Rattle.txn_coordinator.specs.Coordinator.{CoordinatorValue, recorded}
 use Rattle.group_offsets.specs.declared.group.Group.{Group as GroupValue}
 use Rattle.group_offsets.specs.Groups.{find_group}
-use Rattle.request_handlers.specs.World.{World, TopicValue, rules_of, find_topic}
-use Rattle.request_handlers.specs.Outcome.{Outcome}
-use Rattle.request_handlers.specs.Whole.{Served, whole_by}
-use Rattle.request_handlers.specs.Members.{read_question}
+use Rattle.broker_world.specs.World.{World, TopicValue, rules_of, find_topic}
+use Rattle.broker_world.specs.Outcome.{Outcome}
+use Rattle.broker_world.specs.Whole.{Served, whole_by}
+use Rattle.broker_world.specs.Questions.{read_question}
 use Rattle.request_handlers.specs.Step.{counted}
 use Rattle.api_laws.specs.Tenants.{SameOn}
 use Rattle.api_laws.specs.TxnLaws.{KeepsOtherIds}

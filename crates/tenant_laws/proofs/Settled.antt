@@ -16,22 +16,24 @@ use Rattle.msg_admin.specs.declared.reply.Reply.{Reply}
 use Rattle.txn_coordinator.specs.Coordinator.{CoordinatorValue}
 use Rattle.group_offsets.specs.declared.group.Group.{Group}
 use Rattle.walk.specs.Alike.{AllParts, AllTopics}
-use Rattle.request_handlers.specs.World.{World, TopicValue, LogValue, rules_of, topic_names}
-use Rattle.request_handlers.specs.First.{magnitude}
-use Rattle.request_handlers.specs.Logs.{log_at, log_after, logs_with, with_log, appended_by}
-use Rattle.request_handlers.specs.Judged.{partition_at, judged, topics_produced}
-use Rattle.request_handlers.specs.Whole.{Served, whole_by}
-use Rattle.request_handlers.specs.Produce.{producing, produce_outcome}
-use Rattle.request_handlers.specs.OffsetCommit.{offset_commit_outcome}
-use Rattle.request_handlers.specs.Members.{read_question, joined, synced, heard, left}
-use Rattle.request_handlers.specs.InitProducerId.{init_question, initialized}
-use Rattle.request_handlers.specs.AddOffsets.{add_offsets_questions, offsets_added}
-use Rattle.request_handlers.specs.EndTxn.{id_question, ended}
-use Rattle.request_handlers.specs.TxnOffsetCommit.{txn_offset_commit_outcome}
-use Rattle.request_handlers.specs.CreateAcls.{alter_questions, book_created}
-use Rattle.request_handlers.specs.DeleteAcls.{book_deleted}
+use Rattle.broker_world.specs.World.{World, TopicValue, LogValue, rules_of, topic_names}
+use Rattle.broker_world.specs.First.{magnitude}
+use Rattle.broker_world.specs.Logs.{log_at, log_after, logs_with, with_log, appended_by}
+use Rattle.data_handlers.specs.Judged.{partition_at, judged, topics_produced}
+use Rattle.broker_world.specs.Whole.{Served, whole_by}
+use Rattle.data_handlers.specs.Produce.{producing, produce_outcome}
+use Rattle.group_handlers.specs.OffsetCommit.{offset_commit_outcome}
+use Rattle.broker_world.specs.Questions.{read_question}
+use Rattle.group_handlers.specs.Members.{joined, synced, heard, left}
+use Rattle.txn_handlers.specs.InitProducerId.{init_question, initialized}
+use Rattle.txn_handlers.specs.AddOffsets.{add_offsets_questions, offsets_added}
+use Rattle.broker_world.specs.Questions.{id_question}
+use Rattle.txn_handlers.specs.EndTxn.{ended}
+use Rattle.txn_handlers.specs.TxnOffsetCommit.{txn_offset_commit_outcome}
+use Rattle.acl_handlers.specs.CreateAcls.{alter_questions, book_created}
+use Rattle.acl_handlers.specs.DeleteAcls.{book_deleted}
 use Rattle.request_handlers.specs.Step.{request_outcome}
-use Rattle.request_handlers.proofs.Adds.{add_keeps}
+use Rattle.txn_handlers.proofs.Adds.{add_keeps}
 use Rattle.request_handlers.proofs.Wholes.{describe_keeps, find_keeps, offsets_keep}
 use Rattle.tenant_laws.specs.Laws.{KeepsSettings}
 use Rattle.tenant_laws.proofs.Walks.{Leaves, walk_leaves}

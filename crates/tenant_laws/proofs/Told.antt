@@ -17,23 +17,26 @@ use Rattle.msg_admin.specs.declared.reply.Reply.{Reply}
 use Rattle.walk.specs.Rule.{PartRule}
 use Rattle.walk.specs.Walk.{parts_refused, refusals}
 use Rattle.walk.specs.Woven.{has_any}
-use Rattle.request_handlers.specs.World.{World, rules_of}
-use Rattle.request_handlers.specs.Whole.{Served, whole_by}
-use Rattle.request_handlers.specs.Metadata.{topic_part, topic_refusal, topic_refusals}
-use Rattle.request_handlers.specs.Produce.{produce_questions, producing}
-use Rattle.request_handlers.specs.Fetch.{fetch_rule}
-use Rattle.request_handlers.specs.ListOffsets.{list_rule}
-use Rattle.request_handlers.specs.OffsetCommit.{commit_questions, committing_rule}
-use Rattle.request_handlers.specs.OffsetFetch.{group_question, offset_rule, offsets_of, fetched_outcome, offset_fetch_by}
-use Rattle.request_handlers.specs.FindCoordinator.{kind_of, find_questions}
-use Rattle.request_handlers.specs.Members.{read_question, joined, synced, heard, left}
-use Rattle.request_handlers.specs.InitProducerId.{init_question, initialized}
-use Rattle.request_handlers.specs.AddOffsets.{add_offsets_questions, offsets_added}
-use Rattle.request_handlers.specs.EndTxn.{id_question, ended}
-use Rattle.request_handlers.specs.TxnOffsetCommit.{staging, stage_questions, staging_rule}
-use Rattle.request_handlers.specs.AddPartitions.{add_questions, cut_rule, is_missing, is_cut, cut_outcome, added_outcome, add_partitions_outcome}
-use Rattle.request_handlers.specs.DescribeAcls.{describe_acls_questions}
-use Rattle.request_handlers.specs.CreateAcls.{alter_questions}
+use Rattle.broker_world.specs.World.{World, rules_of}
+use Rattle.broker_world.specs.Whole.{Served, whole_by}
+use Rattle.broker_world.specs.Questions.{topic_part, topic_refusal}
+use Rattle.data_handlers.specs.Metadata.{topic_refusals}
+use Rattle.data_handlers.specs.Produce.{produce_questions, producing}
+use Rattle.data_handlers.specs.Fetch.{fetch_rule}
+use Rattle.data_handlers.specs.ListOffsets.{list_rule}
+use Rattle.group_handlers.specs.OffsetCommit.{commit_questions, committing_rule}
+use Rattle.group_handlers.specs.OffsetFetch.{group_question, offset_rule, offsets_of, fetched_outcome, offset_fetch_by}
+use Rattle.group_handlers.specs.FindCoordinator.{kind_of, find_questions}
+use Rattle.broker_world.specs.Questions.{read_question}
+use Rattle.group_handlers.specs.Members.{joined, synced, heard, left}
+use Rattle.txn_handlers.specs.InitProducerId.{init_question, initialized}
+use Rattle.txn_handlers.specs.AddOffsets.{add_offsets_questions, offsets_added}
+use Rattle.broker_world.specs.Questions.{id_question}
+use Rattle.txn_handlers.specs.EndTxn.{ended}
+use Rattle.txn_handlers.specs.TxnOffsetCommit.{staging, stage_questions, staging_rule}
+use Rattle.txn_handlers.specs.AddPartitions.{add_questions, cut_rule, is_missing, is_cut, cut_outcome, added_outcome, add_partitions_outcome}
+use Rattle.acl_handlers.specs.DescribeAcls.{describe_acls_questions}
+use Rattle.acl_handlers.specs.CreateAcls.{alter_questions}
 use Rattle.request_handlers.specs.Step.{request_outcome}
 use Rattle.tenant_laws.specs.Questions.{fetch_questions, partition_parts, topic_parts, offset_parts}
 use Rattle.tenant_laws.specs.Laws.{refusals_in, told_alone, request_refusals, RefusalsAreOfParts}

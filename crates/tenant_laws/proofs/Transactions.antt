@@ -25,18 +25,19 @@ use Rattle.txn_coordinator.specs.Coordinator.{recorded}
 use Rattle.txn_coordinator.specs.InitProducerId.{init}
 use Rattle.group_offsets.specs.declared.group.Group.{Group as GroupValue}
 use Rattle.group_offsets.specs.Groups.{find_group}
-use Rattle.request_handlers.specs.World.{World, TopicValue, rules_of, find_topic}
-use Rattle.request_handlers.specs.Whole.{Served, whole_by}
-use Rattle.request_handlers.specs.InitProducerId.{init_question, coordinator_for, initialized, init_producer_id_outcome}
-use Rattle.request_handlers.specs.EndTxn.{id_question, ending, end_turn, ended, end_txn_outcome}
-use Rattle.request_handlers.specs.AddPartitions.{add_questions, cut_rule, is_missing, is_cut, add_turn, cut_outcome, added_outcome, add_partitions_outcome, partitions_in, partitions_of}
-use Rattle.request_handlers.specs.AddOffsets.{add_offsets_questions, add_offsets_turn, offsets_added, add_offsets_outcome}
+use Rattle.broker_world.specs.World.{World, TopicValue, rules_of, find_topic}
+use Rattle.broker_world.specs.Whole.{Served, whole_by}
+use Rattle.txn_handlers.specs.InitProducerId.{init_question, coordinator_for, initialized, init_producer_id_outcome}
+use Rattle.broker_world.specs.Questions.{id_question}
+use Rattle.txn_handlers.specs.EndTxn.{ending, end_turn, ended, end_txn_outcome}
+use Rattle.txn_handlers.specs.AddPartitions.{add_questions, cut_rule, is_missing, is_cut, add_turn, cut_outcome, added_outcome, add_partitions_outcome, partitions_in, partitions_of}
+use Rattle.txn_handlers.specs.AddOffsets.{add_offsets_questions, add_offsets_turn, offsets_added, add_offsets_outcome}
 use Rattle.api_laws.specs.Tenants.{SameOn}
 use Rattle.api_laws.proofs.Initials.{inits_once, init_depends}
-use Rattle.request_handlers.proofs.Added.{nothing_added}
+use Rattle.txn_handlers.proofs.Added.{nothing_added}
 use Rattle.api_laws.proofs.Together.{keep_the_rest}
 use Rattle.api_laws.proofs.Staged.{staging_keeps}
-use Rattle.request_handlers.proofs.Adds.{add_keeps}
+use Rattle.txn_handlers.proofs.Adds.{add_keeps}
 use Rattle.tenant_laws.specs.Questions.{partition_parts}
 use Rattle.tenant_laws.specs.Laws.{NoPartIsGranted, owed_by}
 use Rattle.tenant_laws.proofs.Parts.{each_partition}

@@ -13,8 +13,8 @@ use Rattle.txn_coordinator.specs.Expiry.{is_due, expired}
 use Rattle.group_offsets.specs.Group.{expired as group_expired}
 use Rattle.group_offsets.specs.Groups.{find_group}
 use Rattle.group_offsets.proofs.Apart.{find_expired}
-use Rattle.request_handlers.specs.World.{World}
-use Rattle.request_handlers.specs.Ticks.{moment_after}
+use Rattle.broker_world.specs.World.{World}
+use Rattle.broker_world.specs.Clock.{moment_after}
 use Rattle.request_handlers.specs.Step.{step}
 use Rattle.request_handlers.specs.Core.{entry_of}
 use Rattle.api_laws.specs.Tenants.{SameBase, SameOn}

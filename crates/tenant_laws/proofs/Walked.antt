@@ -13,13 +13,13 @@ use Rattle.msg_data.specs.declared.produce.ProducedRecords.{ProducedRecords}
 use Rattle.msg_group.specs.declared.offset_commit.OffsetCommitRequest.{OffsetCommitRequest}
 use Rattle.msg_txn.specs.declared.txn_offset_commit.TxnOffsetCommitRequest.{TxnOffsetCommitRequest}
 use Rattle.group_offsets.specs.Groups.{find_group}
-use Rattle.request_handlers.specs.World.{World, TopicValue, LogValue, rules_of, find_topic}
-use Rattle.request_handlers.specs.First.{magnitude}
-use Rattle.request_handlers.specs.Logs.{log_at, log_after, appended_by}
-use Rattle.request_handlers.specs.Judged.{partition_at, judged, topics_produced}
-use Rattle.request_handlers.specs.Produce.{produce_questions, producing, produce_outcome}
-use Rattle.request_handlers.specs.TxnOffsetCommit.{staging, stage_questions, staging_rule, txn_offset_commit_outcome}
-use Rattle.request_handlers.specs.OffsetCommit.{commit_questions, committing_rule, offset_commit_outcome}
+use Rattle.broker_world.specs.World.{World, TopicValue, LogValue, rules_of, find_topic}
+use Rattle.broker_world.specs.First.{magnitude}
+use Rattle.broker_world.specs.Logs.{log_at, log_after, appended_by}
+use Rattle.data_handlers.specs.Judged.{partition_at, judged, topics_produced}
+use Rattle.data_handlers.specs.Produce.{produce_questions, producing, produce_outcome}
+use Rattle.txn_handlers.specs.TxnOffsetCommit.{staging, stage_questions, staging_rule, txn_offset_commit_outcome}
+use Rattle.group_handlers.specs.OffsetCommit.{commit_questions, committing_rule, offset_commit_outcome}
 use Rattle.api_laws.specs.Tenants.{SameOn}
 use Rattle.api_laws.proofs.DataGrants.{find_other}
 use Rattle.api_laws.proofs.Grouped.{groups_keep}

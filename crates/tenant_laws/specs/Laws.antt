@@ -17,9 +17,9 @@ use Rattle.msg_admin.specs.declared.request.Request.TheVariants.{OffsetFetch}
 use Rattle.audit_trail.specs.declared.event.Event.{Event}
 use Rattle.audit_trail.specs.declared.event.Event.TheVariants.{Ask, Mark, Tick}
 use Rattle.txn_coordinator.specs.declared.marker.OwedMarker.{OwedMarker}
-use Rattle.request_handlers.specs.World.{World, rules_of, topic_names}
+use Rattle.broker_world.specs.World.{World, rules_of, topic_names}
 use Rattle.request_handlers.specs.Step.{step, reply_to, refusals_of, reached}
-use Rattle.request_handlers.specs.OffsetFetch.{group_question}
+use Rattle.group_handlers.specs.OffsetFetch.{group_question}
 use Rattle.request_handlers.specs.Core.{CoreValue, IsCore, entry_of, history, receipt_of}
 use Rattle.api_laws.specs.Tenants.{SameBase, SameOn, SameGranted}
 use Rattle.api_laws.specs.GroupLaws.{described_slots}

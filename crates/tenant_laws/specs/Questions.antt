@@ -29,19 +29,19 @@ use Rattle.acl_binding.specs.Verdict.{asked}
 use Rattle.wire_types.specs.declared.topic.Topic.{Topic}
 use Rattle.msg_admin.specs.declared.request.Request.{Request}
 use Rattle.msg_admin.specs.declared.request.Request.TheVariants as requests
-use Rattle.request_handlers.specs.Metadata.{topic_part}
-use Rattle.request_handlers.specs.Produce.{produce_questions}
-use Rattle.request_handlers.specs.Members.{read_question}
-use Rattle.request_handlers.specs.OffsetCommit.{commit_questions}
-use Rattle.request_handlers.specs.OffsetFetch.{group_question}
-use Rattle.request_handlers.specs.FindCoordinator.{kind_of, find_questions}
-use Rattle.request_handlers.specs.InitProducerId.{init_question}
-use Rattle.request_handlers.specs.EndTxn.{id_question}
-use Rattle.request_handlers.specs.AddPartitions.{add_questions}
-use Rattle.request_handlers.specs.AddOffsets.{add_offsets_questions}
-use Rattle.request_handlers.specs.TxnOffsetCommit.{staging, stage_questions}
-use Rattle.request_handlers.specs.DescribeAcls.{describe_acls_questions}
-use Rattle.request_handlers.specs.CreateAcls.{alter_questions}
+use Rattle.broker_world.specs.Questions.{topic_part}
+use Rattle.data_handlers.specs.Produce.{produce_questions}
+use Rattle.broker_world.specs.Questions.{read_question}
+use Rattle.group_handlers.specs.OffsetCommit.{commit_questions}
+use Rattle.group_handlers.specs.OffsetFetch.{group_question}
+use Rattle.group_handlers.specs.FindCoordinator.{kind_of, find_questions}
+use Rattle.txn_handlers.specs.InitProducerId.{init_question}
+use Rattle.broker_world.specs.Questions.{id_question}
+use Rattle.txn_handlers.specs.AddPartitions.{add_questions}
+use Rattle.txn_handlers.specs.AddOffsets.{add_offsets_questions}
+use Rattle.txn_handlers.specs.TxnOffsetCommit.{staging, stage_questions}
+use Rattle.acl_handlers.specs.DescribeAcls.{describe_acls_questions}
+use Rattle.acl_handlers.specs.CreateAcls.{alter_questions}
 
 -- to read the topic
 abbrev pub fetch_questions : Caller → List ℕ → List Question

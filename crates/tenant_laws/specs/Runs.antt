@@ -5,7 +5,7 @@ use Rattle.acl_binding.specs.declared.words.Kind.{Kind}
 use Rattle.audit_trail.specs.declared.event.Event.{Event}
 use Rattle.audit_trail.specs.declared.event.Event.TheVariants.{Tick}
 use Rattle.audit_trail.specs.declared.trail.Entry.{Entry}
-use Rattle.request_handlers.specs.World.{World}
+use Rattle.broker_world.specs.World.{World}
 use Rattle.request_handlers.specs.Step.{step}
 use Rattle.request_handlers.specs.Core.{entry_of}
 use Rattle.api_laws.specs.Tenants.{SameBase}

@@ -1,0 +1,2 @@
+pub mod AclParts
+pub mod BookBounds

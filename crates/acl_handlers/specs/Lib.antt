@@ -1,0 +1,3 @@
+pub mod DescribeAcls
+pub mod CreateAcls
+pub mod DeleteAcls

@@ -1,0 +1,116 @@
+//! CreateAcls: bindings are added to the book.
+
+ghost use Rattle.std.specs.Prelude.{◌≡◌, ◌+◌, ◌<◌, ◌≤◌, ◌^◌, length, map, IfOk, OnOk};
+ghost use Rattle.acl_binding.specs.Entries.{binding_of};
+ghost use Rattle.msg_acl.specs.declared.entries.BindingEntry.{BindingEntry as Entry};
+ghost use Rattle.walk.specs.Codes.{refusal_code};
+ghost use Rattle.acl_handlers.specs.CreateAcls.{book_with, book_created, created_with, created, create_acls_reply, create_acls_outcome};
+
+use acl_binding::{BadEntry, Binding, Caller, Operation};
+use authorizer::{Policy, Refusal, ask_one};
+use broker_world::{Outcome, State, asks_cluster, refused_whole, served_whole};
+use msg_acl::{BindingEntry, CreateAclsReply, CreateAclsRequest, CreatedAcl};
+use msg_admin::Reply;
+use std::alloc::{AllocError, Global};
+use walk::refusal_code;
+use wire_types::{ErrorCode, Items};
+
+fn created_with(error: ErrorCode) -> CreatedAcl
+    ensures { result ≡ created_with error }
+{
+    CreatedAcl {
+        error,
+        message: None,
+    }
+}
+
+fn create_acls_reply(results: Items<CreatedAcl>) -> Reply
+    ensures { result ≡ Reply.CreateAcls (create_acls_reply results) }
+{
+    Reply::CreateAcls(CreateAclsReply {
+        throttle: 0,
+        results,
+    })
+}
+
+/// Adds the binding that an entry is, if it is one.
+fn create(
+    alloc: Global,
+    policy: &mut Policy,
+    entry: &BindingEntry,
+) -> Result<CreatedAcl, AllocError>
+    requires { policy.old.book.next + 1 < 2 ^ 63 }
+    ensures book { OnOk result (policy.new.book ≡ book_with policy.old.book (binding_of entry.now)) }
+    ensures supers { OnOk result (policy.new.supers ≡ policy.old.supers) }
+    ensures next { OnOk result (policy.new.book.next ≤ policy.old.book.next + 1) }
+    ensures answer { IfOk result (λ answer. answer ≡ created entry.now) }
+{
+    match Binding::check(entry.clone()?) {
+        Ok(binding) => {
+            policy.add(alloc, binding)?;
+            Ok(created_with(ErrorCode::None))
+        }
+        Err(BadEntry) => Ok(created_with(ErrorCode::InvalidRequest)),
+    }
+}
+
+/// Adds the bindings of the entries, one after the other.
+fn create_all(
+    alloc: Global,
+    policy: &mut Policy,
+    creations: &[BindingEntry],
+) -> Result<Items<CreatedAcl>, AllocError>
+    requires { policy.old.book.next + length creations.now < 2 ^ 63 }
+    ensures book { OnOk result (policy.new.book ≡ book_created policy.old.book creations.now) }
+    ensures supers { OnOk result (policy.new.supers ≡ policy.old.supers) }
+    ensures answers { IfOk result (λ results. results ≡ map created creations.now) }
+{
+    let mut results = Items::new(alloc);
+    for entry in creations {
+        results.push(create(alloc, policy, entry)?)?;
+    }
+    Ok(results)
+}
+
+/// The code of the refusal for each entry.
+fn created_none(
+    alloc: Global,
+    refusal: &Refusal,
+    creations: &[BindingEntry],
+) -> Result<Reply, AllocError>
+    ensures { IfOk result (λ reply. reply ≡ Reply.CreateAcls (create_acls_reply (map (λ (entry : Entry). created_with (refusal_code refusal.now)) creations.now))) }
+{
+    let code = refusal_code(refusal);
+    let mut results = Items::new(alloc);
+    for _entry in creations {
+        results.push(created_with(code))?;
+    }
+    Ok(create_acls_reply(results))
+}
+
+/// What a CreateAcls does and is answered.
+pub fn answer_create_acls(
+    alloc: Global,
+    state: &mut State,
+    caller: &Caller,
+    request: &CreateAclsRequest,
+) -> Result<Outcome, AllocError>
+    requires { state.old.book.next + length request.now.creations < 2 ^ 63 }
+    ensures world { OnOk result (state.new ≡ (create_acls_outcome state.old caller.now request.now).world) }
+    ensures reply { IfOk result (λ o. o.reply ≡ (create_acls_outcome state.old caller.now request.now).reply) }
+    ensures refusals { IfOk result (λ o. o.refusals ≡ (create_acls_outcome state.old caller.now request.now).refusals) }
+{
+    let question = asks_cluster(alloc, caller, Operation::Alter)?;
+    let creations = request.creations.as_slice();
+    match ask_one(&state.policy, question) {
+        Ok(permit) => {
+            permit.spend(&state.policy);
+            let results = create_all(alloc, &mut state.policy, creations)?;
+            Ok(served_whole(alloc, create_acls_reply(results)))
+        }
+        Err(refusal) => {
+            let reply = created_none(alloc, &refusal, creations)?;
+            refused_whole(alloc, reply, refusal)
+        }
+    }
+}

@@ -1,0 +1,151 @@
+//! DeleteAcls: what filters pick is taken out of the book.
+
+ghost use Rattle.std.specs.Prelude.{◌≡◌, ◌+◌, ◌<◌, ◌≤◌, ◌^◌, map, IfOk, OnOk};
+ghost use Rattle.acl_binding.specs.Entries.{filter_of};
+ghost use Rattle.msg_acl.specs.declared.entries.FilterEntry.{FilterEntry as Entry};
+ghost use Rattle.walk.specs.Codes.{refusal_code};
+ghost use Rattle.acl_handlers.specs.DeleteAcls.{book_without, book_deleted, deleted_acl, deleted_error, deleted_by, deleted, delete_acls_reply, delete_acls_outcome};
+
+use crate::filters::filter_in;
+use acl_binding::{Binding, Caller, Operation};
+use authorizer::{Policy, Refusal, ask_one};
+use broker_world::{Outcome, State, asks_cluster, refused_whole, served_whole};
+use msg_acl::{
+    BindingEntry, DeleteAclsReply, DeleteAclsRequest, DeletedAcl, DeletedAcls, FilterEntry,
+};
+use msg_admin::Reply;
+use std::alloc::{AllocError, Global};
+use walk::refusal_code;
+use wire_types::{ErrorCode, Items};
+
+/// The binding as it stands in a message.
+fn deleted_acl(binding: &Binding) -> Result<DeletedAcl, AllocError>
+    ensures { IfOk result (λ acl. acl ≡ deleted_acl binding.now) }
+{
+    Ok(DeletedAcl {
+        error: ErrorCode::None,
+        message: None,
+        binding: BindingEntry {
+            kind: binding.kind.number(),
+            name: binding.name.clone()?,
+            pattern: binding.pattern.number(),
+            principal: binding.principal.clone()?,
+            host: binding.host.clone()?,
+            operation: binding.operation.number(),
+            permission: binding.permission.number(),
+        },
+    })
+}
+
+fn deleted_error(alloc: Global, error: ErrorCode) -> DeletedAcls
+    ensures { result ≡ deleted_error error }
+{
+    DeletedAcls {
+        error,
+        message: None,
+        matches: Items::new(alloc),
+    }
+}
+
+fn delete_acls_reply(results: Items<DeletedAcls>) -> Reply
+    ensures { result ≡ Reply.DeleteAcls (delete_acls_reply results) }
+{
+    Reply::DeleteAcls(DeleteAclsReply {
+        throttle: 0,
+        results,
+    })
+}
+
+/// The bindings as they stand in a message.
+fn deleted_acls(alloc: Global, bindings: &[Binding]) -> Result<Items<DeletedAcl>, AllocError>
+    ensures { IfOk result (λ matches. matches ≡ map deleted_acl bindings.now) }
+{
+    let mut matches = Items::new(alloc);
+    for binding in bindings {
+        matches.push(deleted_acl(binding)?)?;
+    }
+    Ok(matches)
+}
+
+/// Takes out what the filter of an entry picks, if it is one.
+fn delete(
+    alloc: Global,
+    policy: &mut Policy,
+    entry: &FilterEntry,
+) -> Result<DeletedAcls, AllocError>
+    requires { policy.old.book.next < 2 ^ 63 }
+    ensures book { OnOk result (policy.new.book ≡ book_without policy.old.book (filter_of entry.now)) }
+    ensures supers { OnOk result (policy.new.supers ≡ policy.old.supers) }
+    ensures answer { IfOk result (λ answer. answer ≡ deleted_by policy.old.book (filter_of entry.now)) }
+{
+    let Some(filter) = filter_in(entry)? else {
+        return Ok(deleted_error(alloc, ErrorCode::InvalidRequest));
+    };
+    let picked = policy.remove(alloc, &filter)?;
+    Ok(DeletedAcls {
+        error: ErrorCode::None,
+        message: None,
+        matches: deleted_acls(alloc, picked.as_slice())?,
+    })
+}
+
+/// Takes out what the filters pick, one after the other.
+fn delete_all(
+    alloc: Global,
+    policy: &mut Policy,
+    filters: &[FilterEntry],
+) -> Result<Items<DeletedAcls>, AllocError>
+    requires { policy.old.book.next < 2 ^ 63 }
+    ensures book { OnOk result (policy.new.book ≡ book_deleted policy.old.book filters.now) }
+    ensures supers { OnOk result (policy.new.supers ≡ policy.old.supers) }
+    ensures answers { IfOk result (λ results. results ≡ deleted policy.old.book filters.now) }
+{
+    let mut results = Items::new(alloc);
+    for entry in filters {
+        results.push(delete(alloc, policy, entry)?)?;
+    }
+    Ok(results)
+}
+
+/// The code of the refusal for each filter.
+fn deleted_none(
+    alloc: Global,
+    refusal: &Refusal,
+    filters: &[FilterEntry],
+) -> Result<Reply, AllocError>
+    ensures { IfOk result (λ reply. reply ≡ Reply.DeleteAcls (delete_acls_reply (map (λ (entry : Entry). deleted_error (refusal_code refusal.now)) filters.now))) }
+{
+    let code = refusal_code(refusal);
+    let mut results = Items::new(alloc);
+    for _entry in filters {
+        results.push(deleted_error(alloc, code))?;
+    }
+    Ok(delete_acls_reply(results))
+}
+
+/// What a DeleteAcls does and is answered.
+pub fn answer_delete_acls(
+    alloc: Global,
+    state: &mut State,
+    caller: &Caller,
+    request: &DeleteAclsRequest,
+) -> Result<Outcome, AllocError>
+    requires { state.old.book.next < 2 ^ 63 }
+    ensures world { OnOk result (state.new ≡ (delete_acls_outcome state.old caller.now request.now).world) }
+    ensures reply { IfOk result (λ o. o.reply ≡ (delete_acls_outcome state.old caller.now request.now).reply) }
+    ensures refusals { IfOk result (λ o. o.refusals ≡ (delete_acls_outcome state.old caller.now request.now).refusals) }
+{
+    let question = asks_cluster(alloc, caller, Operation::Alter)?;
+    let filters = request.filters.as_slice();
+    match ask_one(&state.policy, question) {
+        Ok(permit) => {
+            permit.spend(&state.policy);
+            let results = delete_all(alloc, &mut state.policy, filters)?;
+            Ok(served_whole(alloc, delete_acls_reply(results)))
+        }
+        Err(refusal) => {
+            let reply = deleted_none(alloc, &refusal, filters)?;
+            refused_whole(alloc, reply, refusal)
+        }
+    }
+}

@@ -1,0 +1,32 @@
+//! The filters that entries of messages are.
+
+ghost use Rattle.std.specs.Prelude.{◌≡◌, IfOk};
+ghost use Rattle.acl_binding.specs.Entries.{filter_of};
+
+use acl_binding::{BadEntry, Filter};
+use msg_acl::FilterEntry;
+use std::alloc::AllocError;
+
+fn copied(entry: &FilterEntry) -> Result<FilterEntry, AllocError>
+    ensures { IfOk result (λ copy. copy ≡ entry.now) }
+{
+    Ok(FilterEntry {
+        kind: entry.kind,
+        name: entry.name.clone()?,
+        pattern: entry.pattern,
+        principal: entry.principal.clone()?,
+        host: entry.host.clone()?,
+        operation: entry.operation,
+        permission: entry.permission,
+    })
+}
+
+/// The filter that an entry of a message is, if it is one.
+pub(crate) fn filter_in(entry: &FilterEntry) -> Result<Option<Filter>, AllocError>
+    ensures { IfOk result (λ filter. filter ≡ filter_of entry.now) }
+{
+    match Filter::check(copied(entry)?) {
+        Ok(filter) => Ok(Some(filter)),
+        Err(BadEntry) => Ok(None),
+    }
+}

@@ -1,0 +1,53 @@
+-- One part more: what is answered for it comes first, and then what the rest gives.
+use Rattle.std.proofs.Common.{◌≡◌, ℕ, ℤ, pos, suc, ◌+◌, ◌-◌, ◌<◌, List, [], ◌∷◌, ◌++◌, length, get_or, drop, drop-cons, add-one, Bool, true, false, ◌&&◌, Option, Some, None, cond, refl, sym, ap, ◌∙◌, arith, append_assoc}
+use Rattle.std.specs.Prelude.{slice_get, is_none}
+use Rattle.std.specs.List.{list_all}
+use Rattle.std.specs.Option.{option_to_list, option_map}
+use Rattle.std.proofs.lemmas.Option.{slice_get_within, get_or_from_slice_get, slice_get-map, slice_get-get_or}
+use Rattle.acl_binding.specs.declared.question.Caller.{Caller}
+use Rattle.acl_binding.specs.declared.binding.Binding.{Binding}
+use Rattle.acl_binding.specs.Book.{BookValue, added}
+use Rattle.authorizer.specs.Policy.{PolicyValue, policy_added}
+use Rattle.group_offsets.specs.declared.event.OffsetEvent.{OffsetEvent}
+use Rattle.broker_world.specs.First.{with_bindings}
+use Rattle.authorizer.specs.declared.answer.Refusal.{Refusal}
+use Rattle.broker_world.specs.World.{World, TopicValue, rules_of, topic_names}
+use Rattle.broker_world.specs.Questions.{topic_refusal}
+
+-- one more at the end of what is done, one less at the front of what is left
+pub one_more : {A : Type 0} (done : List A) (a : A) (left rest whole : List A) → left ≡ a ∷ rest → done ++ left ≡ whole → (done ++ a ∷ []) ++ rest ≡ whole
+one_more done a left rest whole split all = append_assoc done (a ∷ []) rest ∙ ap (λ l. done ++ l) (sym split) ∙ all
+
+-- some more at the end of what is done
+pub some_more : {A : Type 0} (done more left rest whole : List A) → left ≡ more ++ rest → done ++ left ≡ whole → (done ++ more) ++ rest ≡ whole
+some_more done more left rest whole split all = append_assoc done more rest ∙ ap (λ l. done ++ l) (sym split) ∙ all
+
+-- a read at i splits what is left
+pub drop_at : {A : Type 0} (xs : List A) (i : ℕ) (x : A) → i < length xs → x ≡ get_or xs i x → drop i xs ≡ x ∷ drop (i + 1) xs
+drop_at xs i x lt is = drop-cons xs i x lt ∙ ap (λ y. y ∷ drop (suc i) xs) (sym is) ∙ ap (λ n. x ∷ drop n xs) (sym (add-one i))
+
+pub drop_get : {A : Type 0} (xs : List A) (i : ℕ) (x : A) → slice_get xs i ≡ Some x → drop i xs ≡ x ∷ drop (i + 1) xs
+drop_get xs i x h = drop_at xs i x (slice_get_within xs i x h) (sym (get_or_from_slice_get xs i x x h))
+
+and_second : (a b : Bool) → (a && b) ≡ true → b ≡ true
+and_second true b h = h
+and_second false b h = absurd cc
+
+-- what holds of all that is left holds of the rest
+pub all_rest : {A : Type 0} (p : A → Bool) (xs : List A) (i : ℕ) (x : A) → i < length xs → x ≡ get_or xs i x → list_all p (drop i xs) ≡ true → list_all p (drop (i + 1) xs) ≡ true
+all_rest p xs i x lt is all = and_second (p x) (list_all p (drop (i + 1) xs)) (sym (ap (list_all p) (drop_at xs i x lt is)) ∙ all)
+
+-- ---- bindings in their order
+
+-- one more binding was added
+pub book_goes_on : (acls : List Binding) (i : ℕ) (b copy : Binding) (policy new : PolicyValue) (whole : BookValue) → i < length acls → b ≡ get_or acls i b → copy ≡ b → new ≡ policy_added policy copy
+    → with_bindings policy.book (drop i acls) ≡ whole → with_bindings new.book (drop (i + 1) acls) ≡ whole
+book_goes_on acls i b copy policy new whole lt is same after so_far =
+    ap (λ p. with_bindings p.book (drop (i + 1) acls)) after ∙ ap (λ x. with_bindings (added policy.book x) (drop (i + 1) acls)) same
+    ∙ sym (ap (with_bindings policy.book) (drop_at acls i b lt is)) ∙ so_far
+
+-- the name at a place of the table
+pub names_at : (topics : List TopicValue) (i : ℕ) (t : TopicValue) → i < length topics → t ≡ get_or topics i t → slice_get (topic_names topics) i ≡ Some t.name
+names_at topics i t lt is =
+    slice_get-map (λ (t : TopicValue). t.name) topics i
+    ∙ ap (option_map (λ (t : TopicValue). t.name)) (slice_get-get_or topics i t lt ∙ ap Some (sym is))

@@ -1,0 +1,10 @@
+pub mod Partitions
+pub mod World
+pub mod First
+pub mod Logs
+pub mod Markers
+pub mod Clock
+pub mod Outcome
+pub mod Whole
+pub mod Questions
+pub mod Codes

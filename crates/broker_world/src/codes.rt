@@ -1,0 +1,26 @@
+//! The codes of answers.
+
+ghost use Rattle.std.specs.Prelude.{◌≡◌};
+ghost use Rattle.broker_world.specs.Codes.{code_in, refused_by};
+
+use wire_types::ErrorCode;
+
+/// The code of an answer.
+pub fn code_in(answer: Result<(), ErrorCode>) -> ErrorCode
+    ensures { result ≡ code_in answer }
+{
+    match answer {
+        Ok(()) => ErrorCode::None,
+        Err(code) => code,
+    }
+}
+
+/// Why something is refused by a code, unless that is no error.
+pub fn refused_by(code: ErrorCode) -> Option<ErrorCode>
+    ensures { result ≡ refused_by code }
+{
+    match code {
+        ErrorCode::None => None,
+        _ => Some(code),
+    }
+}

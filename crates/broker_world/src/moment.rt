@@ -1,0 +1,50 @@
+//! The broker's clock.
+
+ghost use Rattle.std.specs.Prelude.{◌≡◌, ◌≤◌};
+ghost use Rattle.broker_world.specs.Clock.{last_moment, moment_after};
+
+use std::marker::Model;
+
+/// The last moment, in milliseconds: 2^62 - 1.
+const LAST_MOMENT: u64 = 4_611_686_018_427_387_903;
+
+/// The moment that the last tick told, in milliseconds. It begins at 0, never goes back, and stays at the last moment.
+#[derive(Drop)]
+pub struct Moment {
+    milliseconds: u64,
+}
+
+impl Model for Moment {
+    ghost use Rattle.std.specs.Prelude.{ℕ, ◌≤◌};
+    ghost use Rattle.broker_world.specs.Clock.{last_moment};
+
+    ghost Value = { ℕ };
+
+    ghost view = { λ m. m.milliseconds };
+
+    ghost invariant = { λ m. m.milliseconds ≤ last_moment };
+}
+
+impl Moment {
+    /// The moment of a clock that never ticked.
+    pub(crate) fn first() -> Moment
+        ensures { result ≡ 0 }
+    {
+        Moment { milliseconds: 0 }
+    }
+
+    /// In milliseconds.
+    pub fn milliseconds(&self) -> u64
+        ensures value { result ≡ self.now }
+        ensures within { result ≤ last_moment }
+    {
+        self.milliseconds
+    }
+
+    /// Goes on to what a tick tells.
+    pub fn go_on(&mut self, told: u64)
+        ensures { self.new ≡ moment_after self.old told }
+    {
+        self.milliseconds = self.milliseconds.max(told.min(LAST_MOMENT));
+    }
+}

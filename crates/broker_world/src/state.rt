@@ -1,0 +1,97 @@
+//! What the broker keeps between two events.
+
+ghost use Rattle.std.specs.Prelude.{◌≡◌, ◌≤◌, length, true, IfOk};
+ghost use Rattle.std.specs.List.{list_all};
+ghost use Rattle.authorizer.specs.Asking.{policy_rules};
+ghost use Rattle.acl_binding.specs.Book.{empty_book};
+ghost use Rattle.acl_binding.specs.Creatable.{is_creatable};
+ghost use Rattle.settings.specs.Fault.{is_in_range};
+ghost use Rattle.broker_world.specs.World.{rules_of};
+ghost use Rattle.broker_world.specs.First.{first_world, with_bindings};
+
+use crate::moment::Moment;
+use crate::node::Node;
+use crate::topics::Topics;
+use acl_binding::Binding;
+use authorizer::Policy;
+use group_offsets::Groups;
+use settings::Settings;
+use std::alloc::{AllocError, Global};
+use std::marker::Model;
+use txn_coordinator::Coordinator;
+use wire_types::{Items, Text};
+
+/// The broker's world.
+#[derive(Drop)]
+pub struct State {
+    pub node: Node,
+    pub policy: Policy,
+    pub topics: Topics,
+    pub coordinator: Coordinator,
+    pub groups: Groups,
+    pub moment: Moment,
+    pub events: u64,
+}
+
+impl Model for State {
+    ghost use Rattle.std.specs.Prelude.{[]};
+    ghost use Rattle.broker_world.specs.World.{World};
+
+    ghost Value = { World };
+
+    ghost view = { λ s. record { node = s.node; supers = s.policy.supers; book = s.policy.book; topics = s.topics; coordinator = s.coordinator; groups = s.groups; moment = s.moment; events = s.events } };
+}
+
+impl State {
+    /// The world that settings without a fault begin with.
+    pub fn first(alloc: Global, settings: &Settings) -> Result<State, AllocError>
+        requires in_range { is_in_range settings.now ≡ true }
+        requires creatable { list_all is_creatable settings.now.acls ≡ true }
+        ensures { IfOk result (λ s. s ≡ first_world settings.now) }
+    {
+        Ok(State {
+            node: Node::first(settings)?,
+            policy: first_policy(alloc, &settings.supers, settings.acls.as_slice())?,
+            topics: Topics::first(alloc, settings.topics.as_slice())?,
+            coordinator: Coordinator::new(alloc),
+            groups: Groups::new(alloc),
+            moment: Moment::first(),
+            events: 0,
+        })
+    }
+
+    /// The one node.
+    pub fn node(&self) -> &Node
+        ensures { result.now ≡ self.now.node }
+    {
+        &self.node
+    }
+
+    /// The policy in force.
+    pub fn policy(&self) -> &Policy
+        ensures { policy_rules result.now ≡ rules_of self.now }
+    {
+        &self.policy
+    }
+
+    /// The topics with their logs.
+    pub fn topics(&self) -> &Topics
+        ensures { result.now ≡ self.now.topics }
+    {
+        &self.topics
+    }
+}
+
+/// The policy that bindings make in their order.
+fn first_policy(alloc: Global, supers: &Items<Text>, acls: &[Binding]) -> Result<Policy, AllocError>
+    requires few { length acls.now ≤ 100000 }
+    requires creatable { list_all is_creatable acls.now ≡ true }
+    ensures book { IfOk result (λ policy. policy.book ≡ with_bindings empty_book acls.now) }
+    ensures supers { IfOk result (λ policy. policy.supers ≡ supers.now) }
+{
+    let mut policy = Policy::new(alloc, supers.clone()?);
+    for binding in acls {
+        policy.add(alloc, binding.clone()?)?;
+    }
+    Ok(policy)
+}

@@ -1,0 +1,24 @@
+-- Topic by topic: what is answered for one comes first, and then what the rest gives.
+use Rattle.std.proofs.Common.{◌≡◌, ℕ, ℤ, suc, ◌+◌, ◌-◌, ◌<◌, List, ◌∷◌, ◌++◌, drop, Option, Some, None, cond, refl, ap, ◌∙◌, arith}
+use Rattle.std.specs.Prelude.{slice_get, is_none}
+use Rattle.std.specs.Option.{option_to_list}
+use Rattle.acl_binding.specs.declared.question.Caller.{Caller}
+use Rattle.authorizer.specs.declared.answer.Refusal.{Refusal}
+use Rattle.broker_world.specs.World.{World, rules_of}
+use Rattle.broker_world.specs.Questions.{topic_refusal}
+use Rattle.broker_world.proofs.Parts.{drop_get}
+use Rattle.data_handlers.specs.Metadata.{partition_info, partitions_from, plain_topic, plain_topics, describable, if_granted, described_topic}
+
+-- the partition at a place
+pub partitions_at : (node : ℤ) (n i : ℕ) → i < n → partitions_from node i (n - i) ≡ partition_info node i ∷ partitions_from node (i + 1) (n - (i + 1))
+partitions_at node n i lt = let more : n - i ≡ suc (n - (i + 1)) = omega arith in ap (partitions_from node i) more
+
+-- the first topic's answer, if it may be described, and then those of the rest
+described_cons : (w : World) (caller : Caller) (name : List ℕ) (names : List (List ℕ)) → plain_topics w (describable (rules_of w) caller (name ∷ names)) ≡ option_to_list (described_topic w caller name) ++ plain_topics w (describable (rules_of w) caller names)
+described_cons w caller name names = by_refusal (topic_refusal (rules_of w) caller name) where
+  by_refusal : (r : Option Refusal) → plain_topics w (cond (is_none r) (name ∷ describable (rules_of w) caller names) (describable (rules_of w) caller names)) ≡ option_to_list (if_granted r (plain_topic w name)) ++ plain_topics w (describable (rules_of w) caller names)
+  by_refusal (Some x) = refl
+  by_refusal None = refl
+
+pub described_at : (w : World) (caller : Caller) (names : List (List ℕ)) (i : ℕ) (name : List ℕ) → slice_get names i ≡ Some name → plain_topics w (describable (rules_of w) caller (drop i names)) ≡ option_to_list (described_topic w caller name) ++ plain_topics w (describable (rules_of w) caller (drop (i + 1) names))
+described_at w caller names i name h = ap (λ l. plain_topics w (describable (rules_of w) caller l)) (drop_get names i name h) ∙ described_cons w caller name (drop (i + 1) names)

@@ -1,0 +1,8 @@
+pub mod Metadata
+pub mod Sent
+pub mod Judged
+pub mod SentLaws
+pub mod RoomLaws
+pub mod Produce
+pub mod Fetch
+pub mod ListOffsets

@@ -1,0 +1,225 @@
+//! Fetch: batches are read from an offset on.
+
+ghost use Rattle.std.specs.Prelude.{◌≡◌, IfOk};
+ghost use Rattle.std.specs.Option.{option_copied};
+ghost use Rattle.data_handlers.specs.Fetch.{room_for, less, served_by, served_at, fetched_error, batch_bytes, list_told, fetched, room_after, whole_room, fetch_outcome};
+
+use crate::room::Room;
+use acl_binding::{Caller, Kind, Operation};
+use authorizer::{Policy, ask_one};
+use broker_world::{Outcome, State, Topics, magnitude};
+use bytes::Bytes;
+use msg_admin::Reply;
+use msg_data::{
+    AbortedTransaction, FetchPartition, FetchReply, FetchRequest, FetchedRecords, Isolation,
+};
+use partition_log::{FetchFault, Log, Served};
+use record_batch::Batch;
+use std::alloc::{AllocError, Global};
+use walk::{Part, PartApi, refusal_code, walk};
+use wire_types::{ErrorCode, Items, Text};
+
+/// Who fetches, what that reader sees of transactions, and from what.
+#[derive(Drop)]
+pub(crate) struct Fetching<'a> {
+    pub(crate) caller: &'a Caller,
+    pub(crate) isolation: Isolation,
+    pub(crate) topics: &'a Topics,
+}
+
+impl<'a> PartApi<FetchPartition, FetchedRecords, Room> for Fetching<'a> {
+    ghost use Rattle.data_handlers.specs.Fetch.{fetch_rule};
+
+    ghost rule = { λ api. fetch_rule api.caller.now api.isolation api.topics.now };
+
+    fn serve(
+        &self,
+        alloc: Global,
+        policy: &Policy,
+        room: &mut Room,
+        name: &Text,
+        part: &FetchPartition,
+    ) -> Result<Part<FetchedRecords>, AllocError> {
+        let topic = self.caller.asks(Operation::Read, Kind::Topic, name)?;
+        match ask_one(policy, topic) {
+            Ok(permit) => {
+                permit.spend(policy);
+                let served = serve(alloc, self.topics, self.isolation, *room, name, part)?;
+                *room = room.after(&served);
+                Ok(Part::served(fetched(alloc, part, self.isolation, served)?))
+            }
+            Err(refusal) => {
+                let answer = fetched_error(refusal_code(&refusal), part);
+                Ok(Part::refused(answer, refusal))
+            }
+        }
+    }
+}
+
+/// What is served of a topic's partition, if both are there.
+fn serve(
+    alloc: Global,
+    topics: &Topics,
+    isolation: Isolation,
+    room: Room,
+    name: &Text,
+    part: &FetchPartition,
+) -> Result<Result<Served, ErrorCode>, AllocError>
+    ensures { IfOk result (λ served. served ≡ served_at isolation topics.now room name.now part.now) }
+{
+    serve_from(alloc, topics.log(name, part.index), isolation, room, part)
+}
+
+fn serve_from(
+    alloc: Global,
+    log: Option<&Log>,
+    isolation: Isolation,
+    room: Room,
+    part: &FetchPartition,
+) -> Result<Result<Served, ErrorCode>, AllocError>
+    ensures { IfOk result (λ served. served ≡ served_by isolation room part.now (option_copied log.entry)) }
+{
+    let Some(log) = log else {
+        return Ok(Err(ErrorCode::UnknownTopicOrPartition));
+    };
+    let most = room.most_for(part);
+    match log.fetch(alloc, part.offset, isolation, most, !room.given) {
+        Ok(served) => Ok(Ok(served)),
+        Err(FetchFault::OutOfRange) => Ok(Err(ErrorCode::OffsetOutOfRange)),
+        Err(FetchFault::NoMemory) => Err(AllocError),
+    }
+}
+
+impl Room {
+    /// How many bytes may be served of a partition.
+    fn most_for(&self, part: &FetchPartition) -> u64
+        ensures { result ≡ room_for self.now part.now }
+    {
+        u64::from(magnitude(part.max_bytes)).min(self.left)
+    }
+
+    /// What is left behind what was served of a partition.
+    fn after(&self, served: &Result<Served, ErrorCode>) -> Room
+        ensures { result ≡ room_after self.now served.now }
+    {
+        match served {
+            Ok(served) => self.less(served.batches.as_slice()),
+            Err(_) => *self,
+        }
+    }
+
+    /// What is left behind the batches.
+    fn less(&self, batches: &[Batch]) -> Room
+        ensures { result ≡ less self.now batches.now }
+    {
+        let mut left = self.left;
+        for batch in batches {
+            left = left.saturating_sub(batch.bytes().len() as u64);
+        }
+        Room {
+            left,
+            given: self.given || !batches.is_empty(),
+        }
+    }
+}
+
+fn fetched_error(error: ErrorCode, part: &FetchPartition) -> FetchedRecords
+    ensures { result ≡ fetched_error error part.now }
+{
+    FetchedRecords {
+        index: part.index,
+        error,
+        high_watermark: -1,
+        last_stable_offset: -1,
+        aborted: None,
+        records: Bytes::new(),
+    }
+}
+
+/// The answer for a partition.
+fn fetched(
+    alloc: Global,
+    part: &FetchPartition,
+    isolation: Isolation,
+    served: Result<Served, ErrorCode>,
+) -> Result<FetchedRecords, AllocError>
+    ensures { IfOk result (λ answer. answer ≡ fetched isolation part.now served) }
+{
+    match served {
+        Ok(served) => Ok(FetchedRecords {
+            index: part.index,
+            error: ErrorCode::None,
+            high_watermark: served.high,
+            last_stable_offset: served.stable,
+            records: joined(alloc, served.batches.as_slice())?,
+            aborted: list_told(isolation, served.aborted),
+        }),
+        Err(code) => Ok(fetched_error(code, part)),
+    }
+}
+
+/// The list of aborted transactions, for a reader that needs one.
+fn list_told(
+    isolation: Isolation,
+    aborted: Items<AbortedTransaction>,
+) -> Option<Items<AbortedTransaction>>
+    ensures { result ≡ list_told isolation aborted }
+{
+    match isolation {
+        Isolation::ReadUncommitted => None,
+        Isolation::ReadCommitted => Some(aborted),
+    }
+}
+
+/// The batches, one behind the other.
+fn joined(alloc: Global, batches: &[Batch]) -> Result<Bytes, AllocError>
+    ensures { IfOk result (λ bytes. bytes ≡ batch_bytes batches.now) }
+{
+    let mut out = Vec::new(alloc);
+    for batch in batches {
+        out.extend_from_slice(batch.bytes().as_slice())?;
+    }
+    Ok(Bytes::from_vec(out)?)
+}
+
+/// What a Fetch is answered.
+pub fn answer_fetch(
+    alloc: Global,
+    state: &State,
+    caller: &Caller,
+    request: &FetchRequest,
+) -> Result<Outcome, AllocError>
+    ensures reply { IfOk result (λ o. o.reply ≡ (fetch_outcome state.now caller.now request.now).reply) }
+    ensures refusals { IfOk result (λ o. o.refusals ≡ (fetch_outcome state.now caller.now request.now).refusals) }
+{
+    let api = Fetching {
+        caller,
+        isolation: request.isolation,
+        topics: state.topics(),
+    };
+    let mut room = whole_room(request);
+    let walked = walk(
+        alloc,
+        &api,
+        state.policy(),
+        &mut room,
+        request.topics.as_slice(),
+    )?;
+    Ok(Outcome {
+        reply: Reply::Fetch(FetchReply {
+            throttle: 0,
+            topics: walked.topics,
+        }),
+        refusals: walked.refusals,
+    })
+}
+
+/// The room of a whole answer.
+fn whole_room(request: &FetchRequest) -> Room
+    ensures { result ≡ whole_room request.now }
+{
+    Room {
+        left: u64::from(magnitude(request.max_bytes)),
+        given: false,
+    }
+}

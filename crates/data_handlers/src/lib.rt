@@ -1,0 +1,14 @@
+//! Metadata, Produce, Fetch and ListOffsets: what each does and is answered of what the bindings in force allow.
+#![tactic(auto)]
+
+mod fetch;
+mod list_offsets;
+mod metadata;
+mod produce;
+mod room;
+
+pub use fetch::answer_fetch;
+pub use list_offsets::answer_list_offsets;
+pub use metadata::answer_metadata;
+pub use produce::answer_produce;
+pub use room::Room;

@@ -1,0 +1,221 @@
+//! Metadata: the cluster's one broker, and topics with their partitions.
+
+ghost use Rattle.std.specs.Prelude.{◌≡◌, ◌<◌, ◌^◌, IfOk, Some, None, pos};
+ghost use Rattle.std.specs.Option.{option_map};
+ghost use Rattle.authorizer.specs.Asking.{part_refusal};
+ghost use Rattle.broker_world.specs.World.{rules_of, topic_names};
+ghost use Rattle.data_handlers.specs.Metadata.{topic_error, partition_info, partitions_from, plain_topic, plain_topics, topic_refusals, topic_answer, describable, described_topic, metadata_topics, broker_info, metadata_answer, metadata_refusals, metadata_outcome};
+ghost use Rattle.broker_world.specs.Questions.{topic_refusal};
+
+use acl_binding::{Caller, Kind, Operation};
+use authorizer::{Refusal, ask_one};
+use broker_world::{Node, Outcome, State};
+use msg_admin::Reply;
+use msg_data::{BrokerInfo, MetadataReply, MetadataRequest, PartitionInfo, TopicInfo};
+use std::alloc::{AllocError, Global};
+use wire_types::{ErrorCode, Items, Text};
+
+/// The answers to the parts of a request, and the refusals of those that were refused.
+#[derive(Drop)]
+pub(crate) struct Answered {
+    pub(crate) topics: Items<TopicInfo>,
+    pub(crate) refusals: Items<Refusal>,
+}
+
+/// What is answered for one part, and its refusal if it was refused.
+#[derive(Drop)]
+struct Part {
+    answer: TopicInfo,
+    refusal: Option<Refusal>,
+}
+
+/// The answer to a Metadata request, and its refusals.
+fn metadata_told(
+    alloc: Global,
+    state: &State,
+    caller: &Caller,
+    request: &MetadataRequest,
+) -> Result<(MetadataReply, Items<Refusal>), AllocError>
+    ensures reply { IfOk result (λ r. r.0 ≡ metadata_answer state.now caller.now request.now) }
+    ensures refusals { IfOk result (λ r. r.1 ≡ metadata_refusals (rules_of state.now) caller.now request.now) }
+{
+    let answered = match &request.topics {
+        Some(names) => named_topics(alloc, state, caller, names.as_slice())?,
+        None => Answered {
+            topics: described_topics(alloc, state, caller)?,
+            refusals: Items::new(alloc),
+        },
+    };
+    let mut brokers = Items::new(alloc);
+    let node = state.node();
+    brokers.push(broker_info(node)?)?;
+    let reply = MetadataReply {
+        brokers,
+        controller: node.node_id,
+        topics: answered.topics,
+    };
+    Ok((reply, answered.refusals))
+}
+
+/// What a Metadata is answered.
+pub fn answer_metadata(
+    alloc: Global,
+    state: &State,
+    caller: &Caller,
+    request: &MetadataRequest,
+) -> Result<Outcome, AllocError>
+    ensures reply { IfOk result (λ o. o.reply ≡ (metadata_outcome state.now caller.now request.now).reply) }
+    ensures refusals { IfOk result (λ o. o.refusals ≡ (metadata_outcome state.now caller.now request.now).refusals) }
+{
+    let (reply, refusals) = metadata_told(alloc, state, caller, request)?;
+    Ok(Outcome {
+        reply: Reply::Metadata(reply),
+        refusals,
+    })
+}
+
+/// The answers for topics that are named, one after the other.
+fn named_topics(
+    alloc: Global,
+    state: &State,
+    caller: &Caller,
+    names: &[Text],
+) -> Result<Answered, AllocError>
+    ensures topics { IfOk result (λ a. a.topics ≡ metadata_topics state.now caller.now (Some names.now)) }
+    ensures refusals { IfOk result (λ a. a.refusals ≡ topic_refusals (rules_of state.now) caller.now (Some names.now)) }
+{
+    let mut topics = Items::new(alloc);
+    let mut refusals = Items::new(alloc);
+    for name in names {
+        let part = named_topic(alloc, state, caller, name)?;
+        topics.push(part.answer)?;
+        refusals.push_some(part.refusal)?;
+    }
+    Ok(Answered { topics, refusals })
+}
+
+/// The answer for a topic that is named: permission comes before existence.
+fn named_topic(
+    alloc: Global,
+    state: &State,
+    caller: &Caller,
+    name: &Text,
+) -> Result<Part, AllocError>
+    ensures answer { IfOk result (λ part. part.answer ≡ topic_answer state.now caller.now name.now) }
+    ensures refusal { IfOk result (λ part. part.refusal ≡ topic_refusal (rules_of state.now) caller.now name.now) }
+{
+    let question = caller.asks(Operation::Describe, Kind::Topic, name)?;
+    let policy = state.policy();
+    match ask_one(policy, question) {
+        Ok(permit) => {
+            permit.spend(policy);
+            Ok(Part {
+                answer: plain_topic(alloc, state, name)?,
+                refusal: None,
+            })
+        }
+        Err(refusal) => Ok(Part {
+            answer: topic_error(alloc, ErrorCode::TopicAuthorizationFailed, name)?,
+            refusal: Some(refusal),
+        }),
+    }
+}
+
+/// The answers for all topics that may be described.
+fn described_topics(
+    alloc: Global,
+    state: &State,
+    caller: &Caller,
+) -> Result<Items<TopicInfo>, AllocError>
+    ensures { IfOk result (λ t. t ≡ metadata_topics state.now caller.now None) }
+{
+    let mut topics = Items::new(alloc);
+    let names = state.topics();
+    for place in 0..names.len() {
+        let topic = described_topic(alloc, state, caller, names.name(place))?;
+        topics.push_some(topic)?;
+    }
+    Ok(topics)
+}
+
+/// The answer for a topic, if it may be described.
+fn described_topic(
+    alloc: Global,
+    state: &State,
+    caller: &Caller,
+    name: &Text,
+) -> Result<Option<TopicInfo>, AllocError>
+    ensures { IfOk result (λ t. t ≡ described_topic state.now caller.now name.now) }
+{
+    let question = caller.asks(Operation::Describe, Kind::Topic, name)?;
+    let policy = state.policy();
+    match ask_one(policy, question) {
+        Ok(permit) => {
+            permit.spend(policy);
+            Ok(Some(plain_topic(alloc, state, name)?))
+        }
+        Err(_refusal) => Ok(None),
+    }
+}
+
+/// What is answered for a topic, permission aside.
+fn plain_topic(alloc: Global, state: &State, name: &Text) -> Result<TopicInfo, AllocError>
+    ensures { IfOk result (λ t. t ≡ plain_topic state.now name.now) }
+{
+    match state.topics().partitions(name) {
+        Some(count) => Ok(TopicInfo {
+            error: ErrorCode::None,
+            name: name.clone()?,
+            internal: false,
+            partitions: partition_infos(alloc, state.node().node_id, count)?,
+        }),
+        None => topic_error(alloc, ErrorCode::UnknownTopicOrPartition, name),
+    }
+}
+
+fn broker_info(node: &Node) -> Result<BrokerInfo, AllocError>
+    ensures { IfOk result (λ b. b ≡ broker_info node.now) }
+{
+    Ok(BrokerInfo {
+        node: node.node_id,
+        host: node.host.clone()?,
+        port: node.port,
+        rack: None,
+    })
+}
+
+fn topic_error(alloc: Global, error: ErrorCode, name: &Text) -> Result<TopicInfo, AllocError>
+    ensures { IfOk result (λ t. t ≡ topic_error error name.now) }
+{
+    Ok(TopicInfo {
+        error,
+        name: name.clone()?,
+        internal: false,
+        partitions: Items::new(alloc),
+    })
+}
+
+/// A partition, which the one node leads and keeps.
+fn partition_info(alloc: Global, node: i32, index: u32) -> Result<PartitionInfo, AllocError>
+    requires { index < 2 ^ 31 }
+    ensures { IfOk result (λ p. p ≡ partition_info node index) }
+{
+    Ok(PartitionInfo {
+        error: ErrorCode::None,
+        index: index as i32,
+        leader: node,
+        replicas: Items::from(vec![in alloc; node]?),
+        in_sync: Items::from(vec![in alloc; node]?),
+    })
+}
+
+fn partition_infos(alloc: Global, node: i32, count: u32) -> Result<Items<PartitionInfo>, AllocError>
+    requires { count < 2 ^ 31 }
+    ensures { IfOk result (λ p. p ≡ partitions_from node 0 count) }
+{
+    let mut infos = Items::new(alloc);
+    for index in 0..count {
+        infos.push(partition_info(alloc, node, index)?)?;
+    }
+    Ok(infos)
+}

@@ -1,0 +1,324 @@
+//! Produce: batches are appended to partitions.
+
+ghost use Rattle.std.specs.Prelude.{◌≡◌, ◌≤◌, ◌+◌, length, IfOk, OnOk};
+ghost use Rattle.std.specs.Option.{option_copied};
+ghost use Rattle.walk.specs.Walk.{topics_weight};
+ghost use Rattle.broker_world.specs.Logs.{MayWrite, room_of, most_end};
+ghost use Rattle.data_handlers.specs.Sent.{sent};
+ghost use Rattle.data_handlers.specs.Judged.{partition_at, pair_of, held_code, are_acks, given_code, producer_code, passed, batch_in, judged, topics_produced, records_size};
+ghost use Rattle.broker_world.specs.Codes.{refused_by};
+ghost use Rattle.data_handlers.specs.Produce.{produced_error, produced_at, produced_to, unproduced, produced, producing, produce_reply, produce_outcome};
+
+use acl_binding::{Caller, Kind, Operation};
+use authorizer::{Permit, Policy, ask_given};
+use broker_world::{Outcome, State, Topics, magnitude, refused_by};
+use bytes::Bytes;
+use msg_admin::Reply;
+use msg_data::{ProduceReply, ProduceRequest, ProducedOffset, ProducedRecords};
+use partition_log::Log;
+use record_batch::{Batch, BatchFault, BatchHeader};
+use std::alloc::{AllocError, Global};
+use txn_coordinator::{Coordinator, Given, Pair, Target, TopicPartition};
+use walk::{Part, PartApi, refusal_code, walk};
+use wire_types::{ErrorCode, Items, Text, Topic};
+
+/// What a Produce says of all its partitions, the greatest size of a batch, and the transactions that are open.
+#[derive(Drop)]
+pub(crate) struct Producing<'a> {
+    pub(crate) caller: &'a Caller,
+    pub(crate) id: &'a Option<Text>,
+    pub(crate) acks: i16,
+    pub(crate) most: u32,
+    pub(crate) coordinator: &'a Coordinator,
+}
+
+impl<'a> PartApi<ProducedRecords, ProducedOffset, Topics> for Producing<'a> {
+    ghost use Rattle.data_handlers.specs.Produce.{produce_rule};
+
+    ghost rule = { λ api. produce_rule api.caller.now api.most api.coordinator.now api.id.now api.acks };
+
+    fn serve(
+        &self,
+        alloc: Global,
+        policy: &Policy,
+        topics: &mut Topics,
+        name: &Text,
+        part: &ProducedRecords,
+    ) -> Result<Part<ProducedOffset>, AllocError> {
+        let records = part.records.clone()?;
+        let target = partition_at(name, part.index)?;
+        let id = self
+            .caller
+            .asks_given(Operation::Write, Kind::TransactionalId, self.id)?;
+        let topic = self.caller.asks(Operation::Write, Kind::Topic, name)?;
+        match ask_given(policy, id, topic) {
+            Ok(given) => {
+                let permit = given.last(policy);
+                let answer = self.grant(
+                    alloc, policy, permit, topics, name, part, &target, records,
+                )?;
+                Ok(Part::served(answer))
+            }
+            Err(refusal) => {
+                let answer = produced_error(refusal_code(&refusal), part);
+                Ok(Part::refused(answer, refusal))
+            }
+        }
+    }
+}
+
+impl<'a> Producing<'a> {
+    /// Serves a part that was granted, whose target and records are also handed in.
+    fn grant(
+        &self,
+        alloc: Global,
+        policy: &Policy,
+        permit: Permit,
+        topics: &mut Topics,
+        name: &Text,
+        part: &ProducedRecords,
+        target: &Target,
+        records: Option<Bytes>,
+    ) -> Result<ProducedOffset, AllocError>
+        requires permit { MayWrite policy.now name.now permit }
+        requires target { target.now ≡ partition_at name.now part.now.index }
+        requires records { records ≡ part.now.records }
+        requires room { records_size part.now.records ≤ room_of topics.old }
+        ensures topics { OnOk result (topics.new ≡ topics_produced (judged self.now.most self.now.coordinator.now self.now.id.now self.now.acks (partition_at name.now part.now.index) part.now.records) topics.old name.now part.now.index) }
+        ensures answer { IfOk result (λ answer. answer ≡ produced (judged self.now.most self.now.coordinator.now self.now.id.now self.now.acks (partition_at name.now part.now.index) part.now.records) topics.old name.now part.now) }
+    {
+        let batch = self.judge(target, records);
+        produce(alloc, policy, permit, topics, name, part, batch)
+    }
+
+    /// The batch to be appended to a partition, or why none is, whether or not the partition is there.
+    fn judge(&self, target: &Target, records: Option<Bytes>) -> Result<Batch, ErrorCode>
+        ensures { result ≡ judged self.now.most self.now.coordinator.now self.now.id.now self.now.acks target.now records }
+    {
+        if !are_acks(self.acks) {
+            return Err(ErrorCode::InvalidRequiredAcks);
+        }
+        batch_in(records, self.most, self.coordinator, self.id, target)
+    }
+}
+
+/// What was judged good is appended, if the partition is there.
+fn produce(
+    alloc: Global,
+    policy: &Policy,
+    permit: Permit,
+    topics: &mut Topics,
+    name: &Text,
+    part: &ProducedRecords,
+    batch: Result<Batch, ErrorCode>,
+) -> Result<ProducedOffset, AllocError>
+    requires permit { MayWrite policy.now name.now permit }
+    requires room { IfOk batch (λ b. most_end topics.old + length b.bytes ≤ 9223372036854775807) }
+    ensures topics { OnOk result (topics.new ≡ topics_produced batch topics.old name.now part.now.index) }
+    ensures answer { IfOk result (λ answer. answer ≡ produced batch topics.old name.now part.now) }
+{
+    match batch {
+        Ok(batch) => {
+            let offset = topics.append(alloc, policy, permit, name, part.index, batch)?;
+            Ok(produced_to(part, offset))
+        }
+        Err(code) => {
+            permit.spend(policy);
+            Ok(unproduced(code, part, topics.log(name, part.index)))
+        }
+    }
+}
+
+fn partition_at(name: &Text, index: i32) -> Result<Target, AllocError>
+    ensures { IfOk result (λ target. target ≡ partition_at name.now index) }
+{
+    let topic = name.clone()?;
+    Ok(Target::Partition(TopicPartition { topic, index }))
+}
+
+fn produced_error(error: ErrorCode, part: &ProducedRecords) -> ProducedOffset
+    ensures { result ≡ produced_error error part.now }
+{
+    ProducedOffset {
+        index: part.index,
+        error,
+        base_offset: -1,
+        log_append_time: -1,
+    }
+}
+
+fn produced_at(offset: i64, part: &ProducedRecords) -> ProducedOffset
+    ensures { result ≡ produced_at offset part.now }
+{
+    ProducedOffset {
+        index: part.index,
+        error: ErrorCode::None,
+        base_offset: offset,
+        log_append_time: -1,
+    }
+}
+
+/// The answer where the batch stands at an offset, or why it doesn't.
+fn produced_to(part: &ProducedRecords, offset: Result<i64, ErrorCode>) -> ProducedOffset
+    ensures { result ≡ produced_to part.now offset }
+{
+    match offset {
+        Ok(offset) => produced_at(offset, part),
+        Err(code) => produced_error(code, part),
+    }
+}
+
+/// The answer where there is no batch to append.
+fn unproduced(code: ErrorCode, part: &ProducedRecords, log: Option<&Log>) -> ProducedOffset
+    ensures { result ≡ unproduced code part.now (option_copied log.entry) }
+{
+    match log {
+        Some(_) => produced_error(code, part),
+        None => produced_error(ErrorCode::UnknownTopicOrPartition, part),
+    }
+}
+
+/// The batch, if there are records.
+fn batch_in(
+    records: Option<Bytes>,
+    most: u32,
+    coordinator: &Coordinator,
+    id: &Option<Text>,
+    target: &Target,
+) -> Result<Batch, ErrorCode>
+    ensures { result ≡ batch_in most coordinator.now id.now target.now records }
+{
+    match records {
+        Some(records) if records.len() != 0 => {
+            passed(coordinator, id, target, sent(records, most))
+        },
+        _ => Err(ErrorCode::InvalidRecord),
+    }
+}
+
+/// The batch, if its producer may send it.
+fn passed(
+    coordinator: &Coordinator,
+    id: &Option<Text>,
+    target: &Target,
+    batch: Result<Batch, BatchFault>,
+) -> Result<Batch, ErrorCode>
+    ensures { result ≡ passed coordinator.now id.now target.now batch }
+{
+    match batch {
+        Ok(batch) => match producer_code(coordinator, id, target, batch.header()) {
+            Some(code) => Err(code),
+            None => Ok(batch),
+        },
+        Err(fault) => Err(fault.code()),
+    }
+}
+
+fn are_acks(acks: i16) -> bool
+    ensures { result ≡ are_acks acks }
+{
+    acks == -1 || acks == 0 || acks == 1
+}
+
+/// The batch that a producer sent, or its first fault.
+fn sent(bytes: Bytes, most: u32) -> Result<Batch, BatchFault>
+    ensures { result ≡ sent most bytes }
+{
+    Batch::check(bytes, most)
+}
+
+/// Why a batch of a producer or of a transaction is refused, if it is.
+fn producer_code(
+    coordinator: &Coordinator,
+    id: &Option<Text>,
+    target: &Target,
+    header: &BatchHeader,
+) -> Option<ErrorCode>
+    ensures { result ≡ producer_code coordinator.now id.now target.now header.now }
+{
+    if header.is_transactional() {
+        return held_code(coordinator, id, pair_of(header), target);
+    }
+    if header.producer_id < 0 {
+        return None;
+    }
+    given_code(coordinator.given(header.producer_id))
+}
+
+/// The producer that a batch names.
+fn pair_of(header: &BatchHeader) -> Pair
+    ensures { result ≡ pair_of header.now }
+{
+    Pair {
+        producer: header.producer_id,
+        epoch: header.producer_epoch,
+    }
+}
+
+/// Why a batch of a transaction is refused, if it is.
+fn held_code(
+    coordinator: &Coordinator,
+    id: &Option<Text>,
+    pair: Pair,
+    target: &Target,
+) -> Option<ErrorCode>
+    ensures { result ≡ held_code coordinator.now id.now pair target.now }
+{
+    match id {
+        Some(id) => refused_by(coordinator.holds(id, pair, target)),
+        None => Some(ErrorCode::InvalidTxnState),
+    }
+}
+
+/// Why a batch that isn't of a transaction is refused by whom its producer id was given to.
+fn given_code(given: Given) -> Option<ErrorCode>
+    ensures { result ≡ given_code given }
+{
+    match given {
+        Given::Never => Some(ErrorCode::InvalidProducerIdMapping),
+        Given::Free => None,
+        Given::Owned => Some(ErrorCode::InvalidTxnState),
+    }
+}
+
+/// The reply with these answers. With acks 0 it isn't sent.
+fn produce_reply(acks: i16, topics: Items<Topic<ProducedOffset>>) -> Reply
+    ensures { result ≡ produce_reply acks topics }
+{
+    let reply = ProduceReply {
+        topics,
+        throttle: 0,
+    };
+    if acks == 0 {
+        Reply::SilentProduce(reply)
+    } else {
+        Reply::Produce(reply)
+    }
+}
+
+/// What a Produce does and is answered.
+pub fn answer_produce(
+    alloc: Global,
+    state: &mut State,
+    caller: &Caller,
+    request: &ProduceRequest,
+) -> Result<Outcome, AllocError>
+    requires { topics_weight (producing state.old caller.now request.now) request.now.topics ≤ room_of state.old.topics }
+    ensures world { OnOk result (state.new ≡ (produce_outcome state.old caller.now request.now).world) }
+    ensures reply { IfOk result (λ o. o.reply ≡ (produce_outcome state.old caller.now request.now).reply) }
+    ensures refusals { IfOk result (λ o. o.refusals ≡ (produce_outcome state.old caller.now request.now).refusals) }
+{
+    let api = Producing {
+        caller,
+        id: &request.transactional_id,
+        acks: request.acks,
+        most: magnitude(state.node.max_batch),
+        coordinator: &state.coordinator,
+    };
+    let topics = request.topics.as_slice();
+    let walked = walk(alloc, &api, &state.policy, &mut state.topics, topics)?;
+    Ok(Outcome {
+        reply: produce_reply(request.acks, walked.topics),
+        refusals: walked.refusals,
+    })
+}

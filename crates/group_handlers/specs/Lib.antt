@@ -1,0 +1,4 @@
+pub mod Members
+pub mod FindCoordinator
+pub mod OffsetCommit
+pub mod OffsetFetch

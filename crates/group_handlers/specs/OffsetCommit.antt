@@ -1,0 +1,78 @@
+-- OffsetCommit: what one partition asks, does and is answered (Kafka protocol guide, "OffsetCommit API (Key: 8)").
+use Rattle.std.specs.Prelude.{ℕ, ℤ, List, [], ◌∷◌, Option, Some, None, unwrap_or}
+use Rattle.std.proofs.Common.{zero-le}
+use Rattle.acl_binding.specs.declared.question.Caller.{Caller}
+use Rattle.acl_binding.specs.declared.question.Question.{Question}
+use Rattle.acl_binding.specs.declared.words.Kind.TheVariants as kinds
+use Rattle.acl_binding.specs.declared.words.Operation.TheVariants as operations
+use Rattle.acl_binding.specs.Verdict.{asked}
+use Rattle.wire_types.specs.declared.error_code.ErrorCode.{ErrorCode}
+use Rattle.wire_types.specs.declared.error_code.ErrorCode.TheVariants as codes
+use Rattle.msg_group.specs.declared.offset_commit.OffsetCommitRequest.{OffsetCommitRequest}
+use Rattle.msg_group.specs.declared.offset_commit.OffsetToCommit.{OffsetToCommit}
+use Rattle.msg_group.specs.declared.offset_commit.CommittedOffset.{CommittedOffset}
+use Rattle.msg_admin.specs.declared.reply.Reply.TheVariants as replies
+use Rattle.walk.specs.Rule.{PartRule}
+use Rattle.walk.specs.Walk.{world_after, answers, refusals}
+use Rattle.group_offsets.specs.declared.event.PartitionOffset.{PartitionOffset}
+use Rattle.group_offsets.specs.declared.group.Group.{Group}
+use Rattle.group_offsets.specs.Turn.{answered}
+use Rattle.group_offsets.specs.Groups.{turned, commit}
+use Rattle.broker_world.specs.World.{World, TopicValue, LogValue, rules_of}
+use Rattle.broker_world.specs.Outcome.{Outcome}
+use Rattle.broker_world.specs.Logs.{log_at}
+use Rattle.broker_world.specs.Questions.{read_question}
+use Rattle.broker_world.specs.Codes.{code_in}
+
+-- who commits for which group
+pub record Committing : Type 0 where
+  pub group : List ℕ
+  pub generation : ℤ
+  pub member : List ℕ
+
+abbrev pub committing : OffsetCommitRequest → Committing
+committing r = record { group = r.group; generation = r.generation; member = r.member }
+
+-- to read the group, and then to read the topic
+abbrev pub commit_questions : Caller → List ℕ → List ℕ → List Question
+commit_questions caller group name = read_question caller group ∷ asked caller operations.Read kinds.Topic name ∷ []
+
+-- null metadata is kept as the empty text
+abbrev pub offset_of : List ℕ → OffsetToCommit → PartitionOffset
+offset_of name p = record { topic = name; index = p.index; offset = p.offset; metadata = unwrap_or p.metadata [] }
+
+abbrev pub committed_code : ErrorCode → OffsetToCommit → CommittedOffset
+committed_code code p = record { index = p.index; error = code }
+
+-- ---- a partition, permission aside: nothing is committed for one that isn't there
+
+abbrev pub code_by : Committing → List Group → List ℕ → OffsetToCommit → Option LogValue → ErrorCode
+code_by c gs name p None = codes.UnknownTopicOrPartition
+code_by c gs name p (Some log) = code_in (answered (commit gs c.group c.generation c.member (offset_of name p)))
+
+abbrev pub groups_by : Committing → List Group → List ℕ → OffsetToCommit → Option LogValue → List Group
+groups_by c gs name p None = gs
+groups_by c gs name p (Some log) = turned gs (commit gs c.group c.generation c.member (offset_of name p))
+
+abbrev pub commit_rule : Caller → Committing → List TopicValue → PartRule OffsetToCommit CommittedOffset (List Group)
+commit_rule caller c topics = record {
+  questions = λ name p. commit_questions caller c.group name;
+  plain = λ gs name p. committed_code (code_by c gs name p (log_at topics name p.index)) p;
+  after = λ gs name p. groups_by c gs name p (log_at topics name p.index);
+  refused = λ code name p. committed_code code p;
+  weight = λ p. 0;
+  room = λ gs. 0;
+  takes = λ gs name p. zero-le;
+}
+
+-- ---- the request
+
+abbrev pub committing_rule : World → Caller → OffsetCommitRequest → PartRule OffsetToCommit CommittedOffset (List Group)
+committing_rule w caller r = commit_rule caller (committing r) w.topics
+
+abbrev pub offset_commit_outcome : World → Caller → OffsetCommitRequest → Outcome
+offset_commit_outcome w caller r = record {
+  world = record w { groups = world_after (committing_rule w caller r) (rules_of w) w.groups r.topics };
+  reply = replies.OffsetCommit (record { topics = answers (committing_rule w caller r) (rules_of w) w.groups r.topics });
+  refusals = refusals (committing_rule w caller r) (rules_of w) r.topics;
+}

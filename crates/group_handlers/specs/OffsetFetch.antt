@@ -1,0 +1,106 @@
+-- OffsetFetch: the request is asked first, then each partition (Kafka protocol guide, "OffsetFetch API (Key: 9)"). No
+-- existence is looked up.
+use Rattle.std.specs.Prelude.{ℕ, ◌+◌, zero, suc, ℤ, pos, negsuc, Bool, List, [], ◌∷◌, ◌++◌, length, Option, Some, None, is_none, Result, Ok, Err, if◌then◌else◌}
+use Rattle.std.specs.List.{filter_map}
+use Rattle.std.proofs.Common.{zero-le}
+use Rattle.acl_binding.specs.declared.question.Caller.{Caller}
+use Rattle.acl_binding.specs.declared.question.Question.{Question}
+use Rattle.acl_binding.specs.declared.words.Kind.TheVariants as kinds
+use Rattle.acl_binding.specs.declared.words.Operation.TheVariants as operations
+use Rattle.acl_binding.specs.Verdict.{asked}
+use Rattle.authorizer.specs.declared.answer.Refusal.{Refusal}
+use Rattle.authorizer.specs.Asking.{Rules, part_refusal}
+use Rattle.wire_types.specs.declared.error_code.ErrorCode.{ErrorCode}
+use Rattle.wire_types.specs.declared.error_code.ErrorCode.TheVariants as codes
+use Rattle.wire_types.specs.declared.topic.Topic.{Topic}
+use Rattle.msg_group.specs.declared.offset_fetch.OffsetFetchRequest.{OffsetFetchRequest}
+use Rattle.msg_group.specs.declared.offset_fetch.FetchedOffset.{FetchedOffset}
+use Rattle.msg_admin.specs.declared.reply.Reply.{Reply}
+use Rattle.msg_admin.specs.declared.reply.Reply.TheVariants as replies
+use Rattle.walk.specs.Rule.{PartRule}
+use Rattle.walk.specs.Walk.{answers, refusals}
+use Rattle.walk.specs.Codes.{refusal_code}
+use Rattle.group_offsets.specs.declared.event.PartitionOffset.{PartitionOffset}
+use Rattle.group_offsets.specs.declared.event.OffsetEvent.{OffsetEvent}
+use Rattle.group_offsets.specs.Groups.{group_of}
+use Rattle.group_offsets.specs.Offsets.{fetched, is_told}
+use Rattle.broker_world.specs.World.{World, TopicValue, rules_of}
+use Rattle.broker_world.specs.Outcome.{Outcome}
+use Rattle.broker_world.specs.Questions.{topic_refusal}
+
+-- ---- what is asked
+
+-- to describe the group
+abbrev pub group_question : Caller → List ℕ → Question
+group_question caller group = asked caller operations.Describe kinds.Group group
+
+-- ---- a partition, permission aside
+
+abbrev pub fetched_code : ErrorCode → ℤ → FetchedOffset
+fetched_code code index = record { index = index; offset = negsuc 0; leader_epoch = negsuc 0; metadata = Some []; error = code }
+
+abbrev pub fetched_at : PartitionOffset → ℤ → FetchedOffset
+fetched_at o index = record { index = index; offset = o.offset; leader_epoch = negsuc 0; metadata = Some o.metadata; error = codes.None }
+
+abbrev pub fetched_offset : Result (Option PartitionOffset) ErrorCode → ℤ → FetchedOffset
+fetched_offset (Err code) index = fetched_code code index
+fetched_offset (Ok None) index = fetched_code codes.None index
+fetched_offset (Ok (Some o)) index = fetched_at o index
+
+abbrev pub offset_rule : Caller → List OffsetEvent → Bool → PartRule ℤ FetchedOffset (Unit {0})
+offset_rule caller es stable = record {
+  questions = λ name index. asked caller operations.Describe kinds.Topic name ∷ [];
+  plain = λ w name index. fetched_offset (fetched es stable name index) index;
+  after = λ w name index. w;
+  refused = λ code name index. fetched_code code index;
+  weight = λ index. 0;
+  room = λ w. 0;
+  takes = λ w name index. zero-le;
+}
+
+-- ---- all partitions of which something is told, among the topics that may be described, in the settings' order
+
+abbrev pub told_at : List OffsetEvent → Bool → List ℕ → ℤ → List FetchedOffset
+told_at es stable name index = if is_told es stable name index then fetched_offset (fetched es stable name index) index ∷ [] else []
+
+-- of so many partitions from this one on
+abbrev pub told_from : List OffsetEvent → Bool → List ℕ → ℕ → ℕ → List FetchedOffset
+told_from es stable name index zero = []
+told_from es stable name index (suc count) = told_at es stable name (pos index) ++ told_from es stable name (index + 1) count
+
+-- a topic of which nothing is told is left out
+abbrev pub told_as : List ℕ → List FetchedOffset → Option (Topic FetchedOffset)
+told_as name [] = None
+told_as name (p ∷ ps) = Some (record { name = name; partitions = p ∷ ps })
+
+abbrev pub told_topic : Rules → Caller → List OffsetEvent → Bool → TopicValue → Option (Topic FetchedOffset)
+told_topic rules caller es stable t = if is_none (topic_refusal rules caller t.name) then told_as t.name (told_from es stable t.name 0 (length t.partitions)) else None
+
+abbrev pub told_topics : Rules → Caller → List OffsetEvent → Bool → List TopicValue → List (Topic FetchedOffset)
+told_topics rules caller es stable topics = filter_map (told_topic rules caller es stable) topics
+
+-- ---- the request
+
+abbrev pub fetch_reply : ErrorCode → List (Topic FetchedOffset) → Reply
+fetch_reply code topics = replies.OffsetFetch (record { throttle = pos 0; topics = topics; error = code })
+
+abbrev pub offsets_of : World → List ℕ → List OffsetEvent
+offsets_of w group = (group_of w.groups group).offsets
+
+abbrev pub named_outcome : World → Caller → List OffsetEvent → Bool → List (Topic ℤ) → Outcome
+named_outcome w caller es stable ts = record {
+  world = w;
+  reply = fetch_reply codes.None (answers (offset_rule caller es stable) (rules_of w) tt ts);
+  refusals = refusals (offset_rule caller es stable) (rules_of w) ts;
+}
+
+abbrev pub fetched_outcome : World → Caller → List OffsetEvent → Bool → Option (List (Topic ℤ)) → Outcome
+fetched_outcome w caller es stable None = record { world = w; reply = fetch_reply codes.None (told_topics (rules_of w) caller es stable w.topics); refusals = [] }
+fetched_outcome w caller es stable (Some ts) = named_outcome w caller es stable ts
+
+abbrev pub offset_fetch_by : Option Refusal → World → Caller → OffsetFetchRequest → Outcome
+offset_fetch_by None w caller r = fetched_outcome w caller (offsets_of w r.group) r.require_stable r.topics
+offset_fetch_by (Some refusal) w caller r = record { world = w; reply = fetch_reply (refusal_code refusal) []; refusals = refusal ∷ [] }
+
+abbrev pub offset_fetch_outcome : World → Caller → OffsetFetchRequest → Outcome
+offset_fetch_outcome w caller r = offset_fetch_by (part_refusal (rules_of w) (group_question caller r.group ∷ [])) w caller r

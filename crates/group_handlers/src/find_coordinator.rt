@@ -1,0 +1,78 @@
+//! FindCoordinator: the one node coordinates everything.
+
+ghost use Rattle.std.specs.Prelude.{◌≡◌, IfOk};
+ghost use Rattle.group_handlers.specs.FindCoordinator.{kind_of, found_node, find_error, find_coordinator_outcome};
+
+use acl_binding::{Caller, Kind, Operation};
+use authorizer::ask_one;
+use broker_world::{Node, Outcome, State, refused_whole, served_whole};
+use msg_admin::Reply;
+use msg_txn::{FindCoordinatorReply, FindCoordinatorRequest};
+use std::alloc::{AllocError, Global};
+use walk::refusal_code;
+use wire_types::{ErrorCode, Text};
+
+/// What is coordinated, by its number.
+fn kind_of(key_type: i8) -> Option<Kind>
+    ensures { result ≡ kind_of key_type }
+{
+    match key_type {
+        0 => Some(Kind::Group),
+        1 => Some(Kind::TransactionalId),
+        _ => None,
+    }
+}
+
+fn found_node(node: &Node) -> Result<Reply, AllocError>
+    ensures { IfOk result (λ reply. reply ≡ Reply.FindCoordinator (found_node node.now)) }
+{
+    Ok(Reply::FindCoordinator(FindCoordinatorReply {
+        throttle: 0,
+        error: ErrorCode::None,
+        message: None,
+        node: node.node_id,
+        host: node.host.clone()?,
+        port: node.port,
+    }))
+}
+
+fn find_error(alloc: Global, error: ErrorCode) -> Result<Reply, AllocError>
+    ensures { IfOk result (λ reply. reply ≡ Reply.FindCoordinator (find_error error)) }
+{
+    Ok(Reply::FindCoordinator(FindCoordinatorReply {
+        throttle: 0,
+        error,
+        message: None,
+        node: -1,
+        host: Text::of(alloc, "")?,
+        port: -1,
+    }))
+}
+
+/// What a FindCoordinator is answered.
+pub fn answer_find_coordinator(
+    alloc: Global,
+    state: &State,
+    caller: &Caller,
+    request: &FindCoordinatorRequest,
+) -> Result<Outcome, AllocError>
+    ensures reply { IfOk result (λ o. o.reply ≡ (find_coordinator_outcome state.now caller.now request.now).reply) }
+    ensures refusals { IfOk result (λ o. o.refusals ≡ (find_coordinator_outcome state.now caller.now request.now).refusals) }
+{
+    let Some(kind) = kind_of(request.key_type) else {
+        let reply = find_error(alloc, ErrorCode::InvalidRequest)?;
+        return Ok(served_whole(alloc, reply));
+    };
+    let question = caller.asks(Operation::Describe, kind, &request.key)?;
+    let policy = state.policy();
+    match ask_one(policy, question) {
+        Ok(permit) => {
+            permit.spend(policy);
+            Ok(served_whole(alloc, found_node(state.node())?))
+        }
+        Err(refusal) => {
+            let reply = find_error(alloc, refusal_code(&refusal))?;
+            refused_whole(alloc, reply, refusal)
+        }
+    }
+}

@@ -1,0 +1,208 @@
+//! JoinGroup, SyncGroup, Heartbeat and LeaveGroup: the member of a group.
+
+ghost use Rattle.std.specs.Prelude.{◌≡◌, ◌<ℤ◌, pos, IfOk, OnOk};
+ghost use Rattle.group_offsets.specs.Groups.{group_of};
+ghost use Rattle.broker_world.specs.Questions.{read_question};
+ghost use Rattle.broker_world.specs.Codes.{code_in};
+ghost use Rattle.group_handlers.specs.Members.{join_welcome, join_error, join_reply, join_group_outcome, sync_reply, sync_group_outcome, beat_reply, heartbeat_outcome, leave_reply, leave_group_outcome};
+
+use acl_binding::{Caller, Kind, Operation, Question};
+use authorizer::ask_one;
+use broker_world::{Outcome, State, code_in, read_question, refused_whole, served_whole};
+use bytes::Bytes;
+use group_offsets::Joined;
+use msg_admin::Reply;
+use msg_group::{
+    HeartbeatReply, HeartbeatRequest, JoinGroupReply, JoinGroupRequest, JoinedMember,
+    LeaveGroupReply, LeaveGroupRequest, OfferedProtocol, SyncGroupReply, SyncGroupRequest,
+};
+use std::alloc::{AllocError, Global};
+use walk::refusal_code;
+use wire_types::{ErrorCode, Items, Text};
+
+/// What a member is told that has joined.
+fn join_welcome(alloc: Global, joined: Joined) -> Result<Reply, AllocError>
+    ensures { IfOk result (λ reply. reply ≡ Reply.JoinGroup (join_welcome joined)) }
+{
+    let Joined {
+        generation,
+        member,
+        protocol,
+    } = joined;
+    let OfferedProtocol { name, metadata } = protocol;
+    let mut members = Items::new(alloc);
+    members.push(JoinedMember {
+        member: member.clone()?,
+        metadata,
+    })?;
+    Ok(Reply::JoinGroup(JoinGroupReply {
+        throttle: 0,
+        error: ErrorCode::None,
+        generation,
+        protocol: name,
+        leader: member.clone()?,
+        member,
+        members,
+    }))
+}
+
+fn join_error(
+    alloc: Global,
+    error: ErrorCode,
+    request: &JoinGroupRequest,
+) -> Result<Reply, AllocError>
+    ensures { IfOk result (λ reply. reply ≡ Reply.JoinGroup (join_error error request.now)) }
+{
+    Ok(Reply::JoinGroup(JoinGroupReply {
+        throttle: 0,
+        error,
+        generation: -1,
+        protocol: Text::of(alloc, "")?,
+        leader: Text::of(alloc, "")?,
+        member: request.member.clone()?,
+        members: Items::new(alloc),
+    }))
+}
+
+fn join_reply(
+    alloc: Global,
+    joined: Result<Joined, ErrorCode>,
+    request: &JoinGroupRequest,
+) -> Result<Reply, AllocError>
+    ensures { IfOk result (λ reply. reply ≡ Reply.JoinGroup (join_reply joined request.now)) }
+{
+    match joined {
+        Ok(joined) => join_welcome(alloc, joined),
+        Err(code) => join_error(alloc, code, request),
+    }
+}
+
+fn sync_reply(assignment: Result<Bytes, ErrorCode>) -> Reply
+    ensures { result ≡ Reply.SyncGroup (sync_reply assignment) }
+{
+    match assignment {
+        Ok(assignment) => Reply::SyncGroup(SyncGroupReply {
+            throttle: 0,
+            error: ErrorCode::None,
+            assignment,
+        }),
+        Err(error) => Reply::SyncGroup(SyncGroupReply {
+            throttle: 0,
+            error,
+            assignment: Bytes::new(),
+        }),
+    }
+}
+
+fn beat_reply(error: ErrorCode) -> Reply
+    ensures { result ≡ Reply.Heartbeat (beat_reply error) }
+{
+    Reply::Heartbeat(HeartbeatReply { throttle: 0, error })
+}
+
+fn leave_reply(error: ErrorCode) -> Reply
+    ensures { result ≡ Reply.LeaveGroup (leave_reply error) }
+{
+    Reply::LeaveGroup(LeaveGroupReply { throttle: 0, error })
+}
+
+/// What a JoinGroup does and is answered.
+pub fn answer_join_group(
+    alloc: Global,
+    state: &mut State,
+    caller: &Caller,
+    request: &JoinGroupRequest,
+) -> Result<Outcome, AllocError>
+    requires { (group_of state.old.groups request.now.group).generation <ℤ pos 2147483647 }
+    ensures world { OnOk result (state.new ≡ (join_group_outcome state.old caller.now request.now).world) }
+    ensures reply { IfOk result (λ o. o.reply ≡ (join_group_outcome state.old caller.now request.now).reply) }
+    ensures refusals { IfOk result (λ o. o.refusals ≡ (join_group_outcome state.old caller.now request.now).refusals) }
+{
+    let question = read_question(caller, &request.group)?;
+    match ask_one(&state.policy, question) {
+        Ok(permit) => {
+            let (place, moment) = (state.events, state.moment.milliseconds());
+            let groups = &mut state.groups;
+            let joined = groups.join(alloc, &state.policy, permit, request, place, moment)?;
+            Ok(served_whole(alloc, join_reply(alloc, joined, request)?))
+        }
+        Err(refusal) => {
+            let reply = join_error(alloc, refusal_code(&refusal), request)?;
+            refused_whole(alloc, reply, refusal)
+        }
+    }
+}
+
+/// What a SyncGroup does and is answered.
+pub fn answer_sync_group(
+    alloc: Global,
+    state: &mut State,
+    caller: &Caller,
+    request: &SyncGroupRequest,
+) -> Result<Outcome, AllocError>
+    ensures world { OnOk result (state.new ≡ (sync_group_outcome state.old caller.now request.now).world) }
+    ensures reply { IfOk result (λ o. o.reply ≡ (sync_group_outcome state.old caller.now request.now).reply) }
+    ensures refusals { IfOk result (λ o. o.refusals ≡ (sync_group_outcome state.old caller.now request.now).refusals) }
+{
+    let question = read_question(caller, &request.group)?;
+    match ask_one(&state.policy, question) {
+        Ok(permit) => {
+            let moment = state.moment.milliseconds();
+            let assignment = state.groups.sync(&state.policy, permit, request, moment)?;
+            Ok(served_whole(alloc, sync_reply(assignment)))
+        }
+        Err(refusal) => {
+            let reply = sync_reply(Err(refusal_code(&refusal)));
+            refused_whole(alloc, reply, refusal)
+        }
+    }
+}
+
+/// What a Heartbeat does and is answered.
+pub fn answer_heartbeat(
+    alloc: Global,
+    state: &mut State,
+    caller: &Caller,
+    request: &HeartbeatRequest,
+) -> Result<Outcome, AllocError>
+    ensures world { OnOk result (state.new ≡ (heartbeat_outcome state.old caller.now request.now).world) }
+    ensures reply { IfOk result (λ o. o.reply ≡ (heartbeat_outcome state.old caller.now request.now).reply) }
+    ensures refusals { IfOk result (λ o. o.refusals ≡ (heartbeat_outcome state.old caller.now request.now).refusals) }
+{
+    let question = read_question(caller, &request.group)?;
+    match ask_one(&state.policy, question) {
+        Ok(permit) => {
+            let moment = state.moment.milliseconds();
+            let heard = state.groups.beat(&state.policy, permit, request, moment);
+            Ok(served_whole(alloc, beat_reply(code_in(heard))))
+        }
+        Err(refusal) => {
+            let reply = beat_reply(refusal_code(&refusal));
+            refused_whole(alloc, reply, refusal)
+        }
+    }
+}
+
+/// What a LeaveGroup does and is answered.
+pub fn answer_leave_group(
+    alloc: Global,
+    state: &mut State,
+    caller: &Caller,
+    request: &LeaveGroupRequest,
+) -> Result<Outcome, AllocError>
+    ensures world { OnOk result (state.new ≡ (leave_group_outcome state.old caller.now request.now).world) }
+    ensures reply { IfOk result (λ o. o.reply ≡ (leave_group_outcome state.old caller.now request.now).reply) }
+    ensures refusals { IfOk result (λ o. o.refusals ≡ (leave_group_outcome state.old caller.now request.now).refusals) }
+{
+    let question = read_question(caller, &request.group)?;
+    match ask_one(&state.policy, question) {
+        Ok(permit) => {
+            let left = state.groups.leave(&state.policy, permit, request);
+            Ok(served_whole(alloc, leave_reply(code_in(left))))
+        }
+        Err(refusal) => {
+            let reply = leave_reply(refusal_code(&refusal));
+            refused_whole(alloc, reply, refusal)
+        }
+    }
+}

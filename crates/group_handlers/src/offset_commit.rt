@@ -1,0 +1,136 @@
+//! OffsetCommit: offsets of partitions are committed for a group.
+
+ghost use Rattle.std.specs.Prelude.{◌≡◌, IfOk, OnOk};
+ghost use Rattle.std.specs.Option.{option_copied};
+ghost use Rattle.acl_binding.specs.declared.words.Operation.TheVariants as operations;
+ghost use Rattle.group_offsets.specs.Groups.{MayUse};
+ghost use Rattle.group_handlers.specs.OffsetCommit.{offset_of, committed_code, code_by, groups_by, offset_commit_outcome};
+
+use acl_binding::{Caller, Kind, Operation};
+use authorizer::{Permit, Policy, TwoPermits, ask_two};
+use broker_world::{Outcome, State, Topics, code_in, read_question};
+use group_offsets::{Groups, PartitionOffset};
+use msg_admin::Reply;
+use msg_group::{CommittedOffset, OffsetCommitReply, OffsetCommitRequest, OffsetToCommit};
+use partition_log::Log;
+use std::alloc::{AllocError, Global};
+use walk::{Part, PartApi, refusal_code, walk};
+use wire_types::{ErrorCode, Text};
+
+/// Who commits for which group, and what partitions there are.
+#[derive(Drop)]
+pub(crate) struct Committing<'a> {
+    pub(crate) caller: &'a Caller,
+    pub(crate) group: &'a Text,
+    pub(crate) generation: i32,
+    pub(crate) member: &'a Text,
+    pub(crate) topics: &'a Topics,
+}
+
+impl<'a> PartApi<OffsetToCommit, CommittedOffset, Groups> for Committing<'a> {
+    ghost use Rattle.group_handlers.specs.OffsetCommit.{commit_rule};
+
+    ghost rule = { λ api. commit_rule api.caller.now (record { group = api.group.now; generation = api.generation; member = api.member.now }) api.topics.now };
+
+    fn serve(
+        &self,
+        alloc: Global,
+        policy: &Policy,
+        groups: &mut Groups,
+        name: &Text,
+        part: &OffsetToCommit,
+    ) -> Result<Part<CommittedOffset>, AllocError> {
+        let offset = offset_of(alloc, name, part)?;
+        let group = read_question(self.caller, self.group)?;
+        let topic = self.caller.asks(Operation::Read, Kind::Topic, name)?;
+        match ask_two(policy, group, topic) {
+            Ok(TwoPermits { first, second }) => {
+                second.spend(policy);
+                let log = self.topics.log(name, part.index);
+                let answer = self.commit(alloc, policy, first, groups, log, name, part, offset)?;
+                Ok(Part::served(answer))
+            }
+            Err(refusal) => {
+                let answer = committed_code(refusal_code(&refusal), part);
+                Ok(Part::refused(answer, refusal))
+            }
+        }
+    }
+}
+
+impl<'a> Committing<'a> {
+    /// Commits the offset of a part that was granted, if the partition is there.
+    fn commit(
+        &self,
+        alloc: Global,
+        policy: &Policy,
+        permit: Permit,
+        groups: &mut Groups,
+        log: Option<&Log>,
+        name: &Text,
+        part: &OffsetToCommit,
+        offset: PartitionOffset,
+    ) -> Result<CommittedOffset, AllocError>
+        requires permit { MayUse policy.now operations.Read self.now.group.now permit }
+        requires offset { offset ≡ offset_of name.now part.now }
+        ensures groups { OnOk result (groups.new ≡ groups_by (record { group = self.now.group.now; generation = self.now.generation; member = self.now.member.now }) groups.old name.now part.now (option_copied log.entry)) }
+        ensures answer { IfOk result (λ answer. answer ≡ committed_code (code_by (record { group = self.now.group.now; generation = self.now.generation; member = self.now.member.now }) groups.old name.now part.now (option_copied log.entry)) part.now) }
+    {
+        if log.is_none() {
+            permit.spend(policy);
+            return Ok(committed_code(ErrorCode::UnknownTopicOrPartition, part));
+        }
+        let (generation, member) = (self.generation, self.member);
+        let committed = groups.commit(
+            alloc, policy, permit, self.group, generation, member, offset,
+        )?;
+        Ok(committed_code(code_in(committed), part))
+    }
+}
+
+fn offset_of(
+    alloc: Global,
+    name: &Text,
+    part: &OffsetToCommit,
+) -> Result<PartitionOffset, AllocError>
+    ensures { IfOk result (λ offset. offset ≡ offset_of name.now part.now) }
+{
+    PartitionOffset::told(alloc, name, part.index, part.offset, &part.metadata)
+}
+
+fn committed_code(error: ErrorCode, part: &OffsetToCommit) -> CommittedOffset
+    ensures { result ≡ committed_code error part.now }
+{
+    CommittedOffset {
+        index: part.index,
+        error,
+    }
+}
+
+/// What an OffsetCommit does and is answered.
+pub fn answer_offset_commit(
+    alloc: Global,
+    state: &mut State,
+    caller: &Caller,
+    request: &OffsetCommitRequest,
+) -> Result<Outcome, AllocError>
+    ensures world { OnOk result (state.new ≡ (offset_commit_outcome state.old caller.now request.now).world) }
+    ensures reply { IfOk result (λ o. o.reply ≡ (offset_commit_outcome state.old caller.now request.now).reply) }
+    ensures refusals { IfOk result (λ o. o.refusals ≡ (offset_commit_outcome state.old caller.now request.now).refusals) }
+{
+    let api = Committing {
+        caller,
+        group: &request.group,
+        generation: request.generation,
+        member: &request.member,
+        topics: &state.topics,
+    };
+    let topics = request.topics.as_slice();
+    let walked = walk(alloc, &api, &state.policy, &mut state.groups, topics)?;
+    Ok(Outcome {
+        reply: Reply::OffsetCommit(OffsetCommitReply {
+            topics: walked.topics,
+        }),
+        refusals: walked.refusals,
+    })
+}

@@ -1,0 +1,251 @@
+//! OffsetFetch: the committed offsets of a group.
+
+ghost use Rattle.std.specs.Prelude.{◌≡◌, ◌≤◌, ◌<◌, ◌^◌, ◌++◌, pos, IfOk, OnOk};
+ghost use Rattle.authorizer.specs.Asking.{policy_rules};
+ghost use Rattle.group_handlers.specs.OffsetFetch.{group_question, fetched_code, fetched_at, fetched_offset, fetch_reply, told_at, told_from, told_topic, told_topics, fetched_outcome, offset_fetch_outcome};
+ghost use Rattle.group_offsets.specs.Offsets.{fetched};
+
+use acl_binding::{Caller, Kind, Operation, Question};
+use authorizer::{Policy, ask_one};
+use broker_world::{Outcome, Slot, State, refused_whole, served_whole};
+use group_offsets::{Offsets, PartitionOffset};
+use msg_admin::Reply;
+use msg_group::{FetchedOffset, OffsetFetchReply, OffsetFetchRequest};
+use std::alloc::{AllocError, Global};
+use walk::{Part, PartApi, refusal_code, walk};
+use wire_types::{ErrorCode, Items, Text, Topic};
+
+/// Whose offsets are asked for, by whom, and whether only stable ones will do.
+#[derive(Drop)]
+pub(crate) struct Telling<'a> {
+    pub(crate) caller: &'a Caller,
+    pub(crate) offsets: &'a Offsets,
+    pub(crate) stable: bool,
+}
+
+impl<'a> PartApi<i32, FetchedOffset, ()> for Telling<'a> {
+    ghost use Rattle.group_handlers.specs.OffsetFetch.{offset_rule};
+
+    ghost rule = { λ api. offset_rule api.caller.now api.offsets.now api.stable };
+
+    fn serve(
+        &self,
+        alloc: Global,
+        policy: &Policy,
+        _world: &mut (),
+        name: &Text,
+        part: &i32,
+    ) -> Result<Part<FetchedOffset>, AllocError> {
+        let topic = self.caller.asks(Operation::Describe, Kind::Topic, name)?;
+        match ask_one(policy, topic) {
+            Ok(permit) => {
+                permit.spend(policy);
+                let answer = fetched(alloc, self.offsets, self.stable, name, *part)?;
+                Ok(Part::served(answer))
+            }
+            Err(refusal) => {
+                let answer = fetched_code(alloc, refusal_code(&refusal), *part)?;
+                Ok(Part::refused(answer, refusal))
+            }
+        }
+    }
+}
+
+/// May the caller describe the group?
+fn group_question(caller: &Caller, group: &Text) -> Result<Question, AllocError>
+    ensures { IfOk result (λ question. question ≡ group_question caller.now group.now) }
+{
+    caller.asks(Operation::Describe, Kind::Group, group)
+}
+
+fn fetched_code(alloc: Global, error: ErrorCode, index: i32) -> Result<FetchedOffset, AllocError>
+    ensures { IfOk result (λ answer. answer ≡ fetched_code error index) }
+{
+    Ok(FetchedOffset {
+        index,
+        offset: -1,
+        leader_epoch: -1,
+        metadata: Some(Text::of(alloc, "")?),
+        error,
+    })
+}
+
+fn fetched_at(offset: &PartitionOffset, index: i32) -> Result<FetchedOffset, AllocError>
+    ensures { IfOk result (λ answer. answer ≡ fetched_at offset.now index) }
+{
+    Ok(FetchedOffset {
+        index,
+        offset: offset.offset,
+        leader_epoch: -1,
+        metadata: Some(offset.metadata.clone()?),
+        error: ErrorCode::None,
+    })
+}
+
+/// What is told of a partition.
+fn fetched(
+    alloc: Global,
+    offsets: &Offsets,
+    stable: bool,
+    name: &Text,
+    index: i32,
+) -> Result<FetchedOffset, AllocError>
+    ensures { IfOk result (λ answer. answer ≡ fetched_offset (fetched offsets.now stable name.now index) index) }
+{
+    match offsets.fetched(stable, name, index) {
+        Ok(Some(offset)) => fetched_at(offset, index),
+        Ok(None) => fetched_code(alloc, ErrorCode::None, index),
+        Err(code) => fetched_code(alloc, code, index),
+    }
+}
+
+fn fetch_reply(error: ErrorCode, topics: Items<Topic<FetchedOffset>>) -> Reply
+    ensures { result ≡ fetch_reply error topics }
+{
+    Reply::OffsetFetch(OffsetFetchReply {
+        throttle: 0,
+        topics,
+        error,
+    })
+}
+
+/// What is told of the partitions of a topic, of so many.
+fn told_from(
+    alloc: Global,
+    offsets: &Offsets,
+    stable: bool,
+    name: &Text,
+    count: u32,
+) -> Result<Items<FetchedOffset>, AllocError>
+    requires { count ≤ 1000 }
+    ensures { IfOk result (λ told. told ≡ told_from offsets.now stable name.now 0 count) }
+{
+    let mut told = Items::new(alloc);
+    for index in 0..count {
+        push_told(alloc, &mut told, offsets, stable, name, index)?;
+    }
+    Ok(told)
+}
+
+/// Tells of a partition, if there is something to tell.
+fn push_told(
+    alloc: Global,
+    told: &mut Items<FetchedOffset>,
+    offsets: &Offsets,
+    stable: bool,
+    name: &Text,
+    index: u32,
+) -> Result<(), AllocError>
+    requires { index < 2 ^ 31 }
+    ensures { OnOk result (told.new ≡ told.old ++ told_at offsets.now stable name.now (pos index)) }
+{
+    let index = index as i32;
+    if offsets.is_told(stable, name, index) {
+        told.push(fetched(alloc, offsets, stable, name, index)?)?;
+    }
+    Ok(())
+}
+
+/// What is told of a topic, if it may be described and something is told.
+fn told_topic(
+    alloc: Global,
+    caller: &Caller,
+    policy: &Policy,
+    offsets: &Offsets,
+    stable: bool,
+    slot: &Slot,
+) -> Result<Option<Topic<FetchedOffset>>, AllocError>
+    ensures { IfOk result (λ told. told ≡ told_topic (policy_rules policy.now) caller.now offsets.now stable slot.now) }
+{
+    let question = caller.asks(Operation::Describe, Kind::Topic, &slot.name)?;
+    match ask_one(policy, question) {
+        Ok(permit) => {
+            permit.spend(policy);
+            let count = slot.partitions.len();
+            let partitions = told_from(alloc, offsets, stable, &slot.name, count)?;
+            if partitions.len() == 0 {
+                return Ok(None);
+            }
+            let name = slot.name.clone()?;
+            Ok(Some(Topic { name, partitions }))
+        }
+        Err(_refusal) => Ok(None),
+    }
+}
+
+/// What is told of all topics that may be described.
+fn told_topics(
+    alloc: Global,
+    caller: &Caller,
+    policy: &Policy,
+    offsets: &Offsets,
+    stable: bool,
+    slots: &[Slot],
+) -> Result<Items<Topic<FetchedOffset>>, AllocError>
+    ensures { IfOk result (λ told. told ≡ told_topics (policy_rules policy.now) caller.now offsets.now stable slots.now) }
+{
+    let mut topics = Items::new(alloc);
+    for slot in slots {
+        let told = told_topic(alloc, caller, policy, offsets, stable, slot)?;
+        topics.push_some(told)?;
+    }
+    Ok(topics)
+}
+
+/// What an OffsetFetch is answered.
+pub fn answer_offset_fetch(
+    alloc: Global,
+    state: &State,
+    caller: &Caller,
+    request: &OffsetFetchRequest,
+) -> Result<Outcome, AllocError>
+    ensures reply { IfOk result (λ o. o.reply ≡ (offset_fetch_outcome state.now caller.now request.now).reply) }
+    ensures refusals { IfOk result (λ o. o.refusals ≡ (offset_fetch_outcome state.now caller.now request.now).refusals) }
+{
+    let question = group_question(caller, &request.group)?;
+    let policy = state.policy();
+    match ask_one(policy, question) {
+        Ok(permit) => {
+            let offsets = state.groups.fetch(policy, permit, &request.group);
+            fetched_offsets(alloc, state, caller, offsets, request)
+        }
+        Err(refusal) => {
+            let reply = fetch_reply(refusal_code(&refusal), Items::new(alloc));
+            refused_whole(alloc, reply, refusal)
+        }
+    }
+}
+
+/// The answer from a group's offsets.
+fn fetched_offsets(
+    alloc: Global,
+    state: &State,
+    caller: &Caller,
+    offsets: &Offsets,
+    request: &OffsetFetchRequest,
+) -> Result<Outcome, AllocError>
+    ensures reply { IfOk result (λ o. o.reply ≡ (fetched_outcome state.now caller.now offsets.now request.now.require_stable request.now.topics).reply) }
+    ensures refusals { IfOk result (λ o. o.refusals ≡ (fetched_outcome state.now caller.now offsets.now request.now.require_stable request.now.topics).refusals) }
+{
+    let stable = request.require_stable;
+    let policy = state.policy();
+    match &request.topics {
+        None => {
+            let slots = state.topics().slots();
+            let topics = told_topics(alloc, caller, policy, offsets, stable, slots)?;
+            Ok(served_whole(alloc, fetch_reply(ErrorCode::None, topics)))
+        }
+        Some(topics) => {
+            let api = Telling {
+                caller,
+                offsets,
+                stable,
+            };
+            let walked = walk(alloc, &api, policy, &mut (), topics.as_slice())?;
+            Ok(Outcome {
+                reply: fetch_reply(ErrorCode::None, walked.topics),
+                refusals: walked.refusals,
+            })
+        }
+    }
+}

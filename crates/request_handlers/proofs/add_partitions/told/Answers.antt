@@ -1,6 +1,0 @@
-use Rattle.std.proofs.Common.{rules}
-use Rattle.walk.proofs.Weights.{weightless}
-use Rattle.request_handlers.proofs.add_partitions.told.Goals as goal
-
-pub walk_plain-requires-clause-room : goal.walk_plain-requires-clause-room
-walk_plain-requires-clause-room c = search (rules, weightless)

@@ -1,8 +1,0 @@
-use Rattle.std.proofs.Common.{◌≡◌, ◌++◌, drop, map}
-use Rattle.msg_acl.specs.declared.entries.FilterEntry.{FilterEntry}
-use Rattle.request_handlers.specs.DeleteAcls.{deleted_error}
-use Rattle.request_handlers.proofs.delete_acls.deleted_none.Given as goal
-
--- the answers so far, and then those that are left
-abbrev pub invariant-loop-entry : goal.invariant-loop-entry
-invariant-loop-entry l = l.results ++ map (λ (e : FilterEntry). deleted_error l.code) (drop l._entry-index l.filters) ≡ map (λ (e : FilterEntry). deleted_error l.code) l.filters

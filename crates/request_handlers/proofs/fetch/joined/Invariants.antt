@@ -1,7 +1,0 @@
-use Rattle.std.proofs.Common.{◌≡◌, ◌++◌, drop}
-use Rattle.request_handlers.specs.Fetch.{batch_bytes}
-use Rattle.request_handlers.proofs.fetch.joined.Given as goal
-
--- what is joined so far, and then what is left
-abbrev pub invariant-loop-batch : goal.invariant-loop-batch
-invariant-loop-batch l = l.out.items ++ batch_bytes (drop l.batch-index l.batches) ≡ batch_bytes l.batches

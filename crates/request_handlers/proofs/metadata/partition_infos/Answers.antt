@@ -1,5 +1,0 @@
-use Rattle.request_handlers.proofs.Parts.{one_more, partitions_at}
-use Rattle.request_handlers.proofs.metadata.partition_infos.Goals as goal
-
-pub loop-index-preserved : goal.loop-index-preserved
-loop-index-preserved c = rw (c.in_ok-push.ensures.ok, c.in_ok-partition_info.ensures) (one_more _ _ _ _ _ (partitions_at _ _ _ c.loop-index-test.true) c.loop-index.invariant)

@@ -1,5 +1,0 @@
-use Rattle.request_handlers.specs.SentLaws.{sent_checked}
-use Rattle.request_handlers.proofs.produce.sent.Goals as goal
-
-pub returns : goal.returns
-returns c = sent_checked c.args.most c.args.bytes c.check.result c.check.ensures.fault c.check.ensures.batch

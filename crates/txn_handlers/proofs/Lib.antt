@@ -1,0 +1,4 @@
+pub mod Added
+pub mod Adds
+pub mod StagedParts
+pub mod Rows

@@ -1,0 +1,67 @@
+-- InitProducerId: a producer, or a transactional id, is given a producer id with an epoch (Kafka protocol guide, "InitProducerId API (Key: 22)"; KIP-98).
+use Rattle.std.specs.Prelude.{ℕ, ℤ, pos, negsuc, List, [], ◌∷◌, Option, Some, None}
+use Rattle.wire_types.specs.declared.error_code.ErrorCode.{ErrorCode}
+use Rattle.wire_types.specs.declared.error_code.ErrorCode.TheVariants as codes
+use Rattle.msg_txn.specs.declared.init_producer_id.InitProducerIdRequest.{InitProducerIdRequest}
+use Rattle.msg_txn.specs.declared.init_producer_id.InitProducerIdReply.{InitProducerIdReply}
+use Rattle.acl_binding.specs.declared.question.Caller.{Caller}
+use Rattle.acl_binding.specs.declared.question.Question.{Question}
+use Rattle.acl_binding.specs.declared.words.Kind.TheVariants as kinds
+use Rattle.acl_binding.specs.declared.words.Operation.TheVariants as operations
+use Rattle.acl_binding.specs.Creatable.{cluster_name}
+use Rattle.acl_binding.specs.Verdict.{asked}
+use Rattle.msg_admin.specs.declared.reply.Reply.{Reply}
+use Rattle.msg_admin.specs.declared.reply.Reply.TheVariants as replies
+use Rattle.authorizer.specs.Policy.{PolicyValue, PermitValue, IsGood}
+use Rattle.txn_coordinator.specs.Permission.{MayWrite}
+use Rattle.txn_coordinator.specs.declared.pair.PairAnswer.{PairAnswer}
+use Rattle.txn_coordinator.specs.Coordinator.{CoordinatorValue, fresh, given_free, turned, turn_answer}
+use Rattle.txn_coordinator.specs.InitProducerId.{init}
+use Rattle.broker_world.specs.World.{World}
+use Rattle.broker_world.specs.Outcome.{Outcome}
+use Rattle.broker_world.specs.Whole.{Served, whole}
+
+-- to write with the transactional id, if one is given, or else to write idempotently to the cluster
+abbrev pub init_question : Caller → Option (List ℕ) → Question
+init_question caller None = asked caller operations.IdempotentWrite kinds.Cluster cluster_name
+init_question caller (Some id) = asked caller operations.Write kinds.TransactionalId id
+
+-- a producer id with its first epoch
+abbrev pub init_given : ℤ → InitProducerIdReply
+init_given producer = record { throttle = pos 0; error = codes.None; producer = producer; epoch = pos 0 }
+
+abbrev pub init_error : ErrorCode → InitProducerIdReply
+init_error code = record { throttle = pos 0; error = code; producer = negsuc 0; epoch = negsuc 0 }
+
+-- the pair that a transactional id has from then on, or an error
+abbrev pub init_answered : PairAnswer → InitProducerIdReply
+init_answered a = record { throttle = pos 0; error = a.code; producer = a.pair.producer; epoch = a.pair.epoch }
+
+-- Without a transactional id the producer is given the next producer id, whatever its timeout. With one it is the
+-- coordinator's call.
+abbrev pub coordinator_for : Option (List ℕ) → CoordinatorValue → ℤ → ℤ → CoordinatorValue
+coordinator_for None c greatest timeout = given_free c
+coordinator_for (Some id) c greatest timeout = turned c (init c id timeout greatest)
+
+abbrev pub reply_for : Option (List ℕ) → CoordinatorValue → ℤ → ℤ → InitProducerIdReply
+reply_for None c greatest timeout = init_given (fresh c)
+reply_for (Some id) c greatest timeout = init_answered (turn_answer c id (init c id timeout greatest))
+
+abbrev pub coordinator_after : CoordinatorValue → ℤ → InitProducerIdRequest → CoordinatorValue
+coordinator_after c greatest r = coordinator_for r.transactional_id c greatest r.timeout
+
+abbrev pub init_reply : CoordinatorValue → ℤ → InitProducerIdRequest → Reply
+init_reply c greatest r = replies.InitProducerId (reply_for r.transactional_id c greatest r.timeout)
+
+abbrev pub initialized : World → InitProducerIdRequest → Served
+initialized w r = record { world = record w { coordinator = coordinator_after w.coordinator w.node.max_txn_timeout r }; reply = init_reply w.coordinator w.node.max_txn_timeout r }
+
+abbrev pub init_producer_id_outcome : World → Caller → InitProducerIdRequest → Outcome
+init_producer_id_outcome w caller r = whole w (init_question caller r.transactional_id ∷ []) (λ code. replies.InitProducerId (init_error code)) (initialized w r)
+
+-- ---- who may
+
+-- a permit that may be spent, and for a transactional id one of writing with it
+abbrev pub IsInitPermit : PolicyValue → PermitValue → Option (List ℕ) → Type 0
+IsInitPermit policy permit None = IsGood policy permit
+IsInitPermit policy permit (Some id) = MayWrite policy permit id

@@ -1,0 +1,71 @@
+//! AddOffsetsToTxn: a group becomes part of a transaction.
+
+ghost use Rattle.std.specs.Prelude.{◌≡◌, IfOk, OnOk};
+ghost use Rattle.txn_coordinator.specs.Permission.{MayWrite as MayWriteId};
+ghost use Rattle.txn_coordinator.specs.Coordinator.{turned, turn_code};
+ghost use Rattle.txn_handlers.specs.AddOffsets.{add_offsets_reply, add_offsets_turn, add_offsets_outcome};
+
+use acl_binding::Caller;
+use authorizer::{Permit, Policy, TwoPermits, ask_two};
+use broker_world::{Outcome, State, id_question, read_question, refused_whole, served_whole};
+use msg_admin::Reply;
+use msg_txn::{AddOffsetsToTxnReply, AddOffsetsToTxnRequest};
+use std::alloc::{AllocError, Global};
+use txn_coordinator::{Coordinator, Pair};
+use walk::refusal_code;
+use wire_types::ErrorCode;
+
+fn add_offsets_reply(error: ErrorCode) -> Reply
+    ensures { result ≡ Reply.AddOffsetsToTxn (add_offsets_reply error) }
+{
+    Reply::AddOffsetsToTxn(AddOffsetsToTxnReply { throttle: 0, error })
+}
+
+/// Adds the group by a permit for the transactional id.
+fn add_by(
+    alloc: Global,
+    coordinator: &mut Coordinator,
+    policy: &Policy,
+    permit: Permit,
+    moment: u64,
+    request: &AddOffsetsToTxnRequest,
+) -> Result<ErrorCode, AllocError>
+    requires { MayWriteId policy.now permit request.now.transactional_id }
+    ensures coordinator { OnOk result (coordinator.new ≡ turned coordinator.old (add_offsets_turn coordinator.old moment request.now)) }
+    ensures code { IfOk result (λ code. code ≡ turn_code (add_offsets_turn coordinator.old moment request.now)) }
+{
+    let pair = Pair {
+        producer: request.producer,
+        epoch: request.epoch,
+    };
+    let id = &request.transactional_id;
+    coordinator.add_group(alloc, policy, permit, id, pair, moment, &request.group)
+}
+
+/// What an AddOffsetsToTxn does and is answered.
+pub fn answer_add_offsets(
+    alloc: Global,
+    state: &mut State,
+    caller: &Caller,
+    request: &AddOffsetsToTxnRequest,
+) -> Result<Outcome, AllocError>
+    ensures world { OnOk result (state.new ≡ (add_offsets_outcome state.old caller.now request.now).world) }
+    ensures reply { IfOk result (λ o. o.reply ≡ (add_offsets_outcome state.old caller.now request.now).reply) }
+    ensures refusals { IfOk result (λ o. o.refusals ≡ (add_offsets_outcome state.old caller.now request.now).refusals) }
+{
+    let id = id_question(caller, &request.transactional_id)?;
+    let group = read_question(caller, &request.group)?;
+    let moment = state.moment.milliseconds();
+    match ask_two(&state.policy, id, group) {
+        Ok(TwoPermits { first, second }) => {
+            second.spend(&state.policy);
+            let (coordinator, policy) = (&mut state.coordinator, &state.policy);
+            let code = add_by(alloc, coordinator, policy, first, moment, request)?;
+            Ok(served_whole(alloc, add_offsets_reply(code)))
+        }
+        Err(refusal) => {
+            let reply = add_offsets_reply(refusal_code(&refusal));
+            refused_whole(alloc, reply, refusal)
+        }
+    }
+}

@@ -1,0 +1,249 @@
+//! AddPartitionsToTxn: partitions become part of a transaction, all of them or none.
+
+ghost use Rattle.std.specs.Prelude.{◌≡◌, ◌++◌, [], None, IfOk, OnOk};
+ghost use Rattle.std.specs.Option.{option_copied};
+ghost use Rattle.authorizer.specs.Asking.{policy_rules, question_refusal};
+ghost use Rattle.authorizer.specs.Policy.{IsGranted};
+ghost use Rattle.walk.specs.Walk.{plain_topics, answers, refusals};
+ghost use Rattle.txn_coordinator.specs.Coordinator.{turn_code};
+ghost use Rattle.broker_world.specs.World.{rules_of};
+ghost use Rattle.txn_handlers.specs.AddPartitions.{added_partition, cut_code, is_missing_in, is_missing, cut_rule, told_rule, partitions_in, partitions_of, add_turn, add_reply, added_outcome, add_partitions_outcome};
+
+use acl_binding::{Caller, Kind, Operation, Question};
+use authorizer::{Permit, Policy, TwoPermits, ask_one, ask_two};
+use broker_world::{Outcome, State, Topics, id_question, served_whole};
+use msg_admin::Reply;
+use msg_txn::{AddPartitionsToTxnReply, AddPartitionsToTxnRequest, AddedPartition};
+use partition_log::Log;
+use std::alloc::{AllocError, Global};
+use txn_coordinator::{Pair, TopicPartition};
+use walk::{Part, PartApi, Walked, has_part, refusal_code, walk, walk_plain};
+use wire_types::{ErrorCode, Items, Text, Topic};
+
+/// Who asks to add partitions to the transaction of an id, and what partitions there are. Nothing is added.
+#[derive(Drop)]
+pub(crate) struct Cutting<'a> {
+    pub(crate) caller: &'a Caller,
+    pub(crate) id: &'a Text,
+    pub(crate) topics: &'a Topics,
+}
+
+impl<'a> PartApi<i32, AddedPartition, ()> for Cutting<'a> {
+    ghost use Rattle.txn_handlers.specs.AddPartitions.{cut_rule};
+
+    ghost rule = { λ api. cut_rule api.caller.now api.id.now api.topics.now };
+
+    fn serve(
+        &self,
+        _alloc: Global,
+        policy: &Policy,
+        _world: &mut (),
+        name: &Text,
+        part: &i32,
+    ) -> Result<Part<AddedPartition>, AllocError> {
+        let id = id_question(self.caller, self.id)?;
+        let topic = self.caller.asks(Operation::Write, Kind::Topic, name)?;
+        match ask_two(policy, id, topic) {
+            Ok(TwoPermits { first, second }) => {
+                first.spend(policy);
+                second.spend(policy);
+                let code = cut_code(self.topics.log(name, *part));
+                Ok(Part::served(added_partition(code, *part)))
+            }
+            Err(refusal) => {
+                let answer = added_partition(refusal_code(&refusal), *part);
+                Ok(Part::refused(answer, refusal))
+            }
+        }
+    }
+}
+
+/// Tells each partition one code.
+#[derive(Drop)]
+struct Telling {
+    code: ErrorCode,
+}
+
+impl PartApi<i32, AddedPartition, ()> for Telling {
+    ghost use Rattle.txn_handlers.specs.AddPartitions.{told_rule};
+
+    ghost rule = { λ api. told_rule api.code };
+
+    fn serve(
+        &self,
+        _alloc: Global,
+        _policy: &Policy,
+        _world: &mut (),
+        _name: &Text,
+        part: &i32,
+    ) -> Result<Part<AddedPartition>, AllocError> {
+        Ok(Part::served(added_partition(self.code, *part)))
+    }
+}
+
+fn added_partition(error: ErrorCode, index: i32) -> AddedPartition
+    ensures { result ≡ added_partition error index }
+{
+    AddedPartition { index, error }
+}
+
+/// What a partition is told where nothing is added.
+fn cut_code(log: Option<&Log>) -> ErrorCode
+    ensures { result ≡ cut_code (option_copied log.entry) }
+{
+    match log {
+        None => ErrorCode::UnknownTopicOrPartition,
+        Some(_) => ErrorCode::OperationNotAttempted,
+    }
+}
+
+fn is_missing_in(topics: &Topics, name: &Text, indices: &[i32]) -> bool
+    ensures { result ≡ is_missing_in topics.now name.now indices.now }
+{
+    indices
+        .iter()
+        .any(|index| topics.log(name, *index).is_none())
+}
+
+/// Whether some partition that is named isn't there.
+fn is_missing(topics: &Topics, named: &[Topic<i32>]) -> bool
+    ensures { result ≡ is_missing topics.now named.now }
+{
+    named.iter().any(|topic| is_missing_in(topics, &topic.name, topic.partitions.as_slice()))
+}
+
+/// The partitions that are named, in order.
+fn partitions_of(alloc: Global, named: &[Topic<i32>]) -> Result<Vec<TopicPartition>, AllocError>
+    ensures { IfOk result (λ partitions. partitions.items ≡ partitions_of named.now) }
+{
+    let mut partitions = Vec::new(alloc);
+    for topic in named {
+        push_partitions(&mut partitions, &topic.name, topic.partitions.as_slice())?;
+    }
+    Ok(partitions)
+}
+
+fn push_partitions(
+    partitions: &mut Vec<TopicPartition>,
+    name: &Text,
+    indices: &[i32],
+) -> Result<(), AllocError>
+    ensures { OnOk result (partitions.new.items ≡ partitions.old.items ++ partitions_in name.now indices.now) }
+{
+    for index in indices {
+        let topic = name.clone()?;
+        partitions.push(TopicPartition {
+            topic,
+            index: *index,
+        })?;
+    }
+    Ok(())
+}
+
+fn add_reply(topics: Items<Topic<AddedPartition>>) -> Reply
+    ensures { result ≡ add_reply topics }
+{
+    Reply::AddPartitionsToTxn(AddPartitionsToTxnReply {
+        throttle: 0,
+        topics,
+    })
+}
+
+/// The reply that tells each partition one code.
+fn told(
+    alloc: Global,
+    policy: &Policy,
+    code: ErrorCode,
+    named: &[Topic<i32>],
+) -> Result<Reply, AllocError>
+    ensures { IfOk result (λ reply. reply ≡ add_reply (plain_topics (told_rule code) tt named.now)) }
+{
+    let topics = walk_plain(alloc, &Telling { code }, policy, &mut (), named)?;
+    Ok(add_reply(topics))
+}
+
+/// The permit of a question that is known to be granted.
+fn granted(policy: &Policy, question: Question) -> Permit
+    requires { question_refusal (policy_rules policy.now) question ≡ None }
+    ensures { IsGranted policy.now question result }
+{
+    match ask_one(policy, question) {
+        Ok(permit) => permit,
+        Err(_) => unreachable!(),
+    }
+}
+
+/// What an AddPartitionsToTxn does and is answered.
+pub fn answer_add_partitions(
+    alloc: Global,
+    state: &mut State,
+    caller: &Caller,
+    request: &AddPartitionsToTxnRequest,
+) -> Result<Outcome, AllocError>
+    ensures world { OnOk result (state.new ≡ (add_partitions_outcome state.old caller.now request.now).world) }
+    ensures reply { IfOk result (λ o. o.reply ≡ (add_partitions_outcome state.old caller.now request.now).reply) }
+    ensures refusals { IfOk result (λ o. o.refusals ≡ (add_partitions_outcome state.old caller.now request.now).refusals) }
+{
+    let named = request.topics.as_slice();
+    let cut = cut(alloc, state, caller, request)?;
+    if cut.refusals.len() != 0 || is_missing(&state.topics, named) {
+        return Ok(Outcome {
+            reply: add_reply(cut.topics),
+            refusals: cut.refusals,
+        });
+    }
+    let code = add_all(alloc, state, caller, request)?;
+    let reply = told(alloc, &state.policy, code, named)?;
+    Ok(served_whole(alloc, reply))
+}
+
+/// The answers where nothing is added, and what is refused.
+fn cut(
+    alloc: Global,
+    state: &State,
+    caller: &Caller,
+    request: &AddPartitionsToTxnRequest,
+) -> Result<Walked<AddedPartition>, AllocError>
+    ensures answers { IfOk result (λ r. r.topics ≡ answers (cut_rule caller.now request.now.transactional_id state.now.topics) (rules_of state.now) tt request.now.topics) }
+    ensures refusals { IfOk result (λ r. r.refusals ≡ refusals (cut_rule caller.now request.now.transactional_id state.now.topics) (rules_of state.now) request.now.topics) }
+{
+    let api = Cutting {
+        caller,
+        id: &request.transactional_id,
+        topics: state.topics(),
+    };
+    walk(
+        alloc,
+        &api,
+        state.policy(),
+        &mut (),
+        request.topics.as_slice(),
+    )
+}
+
+/// Adds all the partitions, none of which was refused.
+fn add_all(
+    alloc: Global,
+    state: &mut State,
+    caller: &Caller,
+    request: &AddPartitionsToTxnRequest,
+) -> Result<ErrorCode, AllocError>
+    requires { refusals (cut_rule caller.now request.now.transactional_id state.old.topics) (rules_of state.old) request.now.topics ≡ [] }
+    ensures world { OnOk result (state.new ≡ (added_outcome state.old request.now).world) }
+    ensures code { IfOk result (λ code. code ≡ turn_code (add_turn state.old.coordinator state.old.moment request.now)) }
+{
+    if !has_part(request.topics.as_slice()) {
+        return Ok(ErrorCode::None);
+    }
+    let partitions = partitions_of(alloc, request.topics.as_slice())?;
+    let id = &request.transactional_id;
+    let pair = Pair {
+        producer: request.producer,
+        epoch: request.epoch,
+    };
+    let moment = state.moment.milliseconds();
+    let question = id_question(caller, id)?;
+    let permit = granted(&state.policy, question);
+    let coordinator = &mut state.coordinator;
+    coordinator.add_partitions(alloc, &state.policy, permit, id, pair, moment, &partitions)
+}

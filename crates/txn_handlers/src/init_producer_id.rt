@@ -1,0 +1,109 @@
+//! InitProducerId: a producer, or a transactional id, is given a producer id with an epoch.
+
+ghost use Rattle.std.specs.Prelude.{◌≡◌, IfOk, OnOk};
+ghost use Rattle.txn_handlers.specs.InitProducerId.{IsInitPermit, init_question, init_given, init_error, init_answered, init_reply, coordinator_after, init_producer_id_outcome};
+
+use acl_binding::{Caller, Kind, Operation, Question};
+use authorizer::{Permit, Policy, ask_one};
+use broker_world::{Outcome, State, asks_cluster, refused_whole, served_whole};
+use msg_admin::Reply;
+use msg_txn::{InitProducerIdReply, InitProducerIdRequest};
+use std::alloc::{AllocError, Global};
+use txn_coordinator::{Coordinator, PairAnswer};
+use walk::refusal_code;
+use wire_types::{ErrorCode, Text};
+
+/// May the caller have a producer id, or that of a transactional id?
+fn init_question(alloc: Global, caller: &Caller, id: &Option<Text>) -> Result<Question, AllocError>
+    ensures { IfOk result (λ question. question ≡ init_question caller.now id.now) }
+{
+    match id {
+        Some(id) => caller.asks(Operation::Write, Kind::TransactionalId, id),
+        None => asks_cluster(alloc, caller, Operation::IdempotentWrite),
+    }
+}
+
+fn init_given(producer: i64) -> Reply
+    ensures { result ≡ Reply.InitProducerId (init_given producer) }
+{
+    Reply::InitProducerId(InitProducerIdReply {
+        throttle: 0,
+        error: ErrorCode::None,
+        producer,
+        epoch: 0,
+    })
+}
+
+fn init_error(error: ErrorCode) -> Reply
+    ensures { result ≡ Reply.InitProducerId (init_error error) }
+{
+    Reply::InitProducerId(InitProducerIdReply {
+        throttle: 0,
+        error,
+        producer: -1,
+        epoch: -1,
+    })
+}
+
+/// The pair of a transactional id, or an error.
+fn init_answered(answer: PairAnswer) -> Reply
+    ensures { result ≡ Reply.InitProducerId (init_answered answer) }
+{
+    Reply::InitProducerId(InitProducerIdReply {
+        throttle: 0,
+        error: answer.code,
+        producer: answer.pair.producer,
+        epoch: answer.pair.epoch,
+    })
+}
+
+/// What an InitProducerId does and is answered.
+pub fn answer_init_producer_id(
+    alloc: Global,
+    state: &mut State,
+    caller: &Caller,
+    request: &InitProducerIdRequest,
+) -> Result<Outcome, AllocError>
+    ensures world { OnOk result (state.new ≡ (init_producer_id_outcome state.old caller.now request.now).world) }
+    ensures reply { IfOk result (λ o. o.reply ≡ (init_producer_id_outcome state.old caller.now request.now).reply) }
+    ensures refusals { IfOk result (λ o. o.refusals ≡ (init_producer_id_outcome state.old caller.now request.now).refusals) }
+{
+    let question = init_question(alloc, caller, &request.transactional_id)?;
+    match ask_one(&state.policy, question) {
+        Ok(permit) => {
+            let coordinator = &mut state.coordinator;
+            let greatest = state.node.max_txn_timeout;
+            let reply = initialize(alloc, coordinator, &state.policy, permit, greatest, request)?;
+            Ok(served_whole(alloc, reply))
+        }
+        Err(refusal) => {
+            let reply = init_error(refusal_code(&refusal));
+            refused_whole(alloc, reply, refusal)
+        }
+    }
+}
+
+/// Gives out the next producer id, or has the coordinator give the transactional id its next pair.
+fn initialize(
+    alloc: Global,
+    coordinator: &mut Coordinator,
+    policy: &Policy,
+    permit: Permit,
+    greatest: i32,
+    request: &InitProducerIdRequest,
+) -> Result<Reply, AllocError>
+    requires { IsInitPermit policy.now permit request.now.transactional_id }
+    ensures coordinator { OnOk result (coordinator.new ≡ coordinator_after coordinator.old greatest request.now) }
+    ensures reply { IfOk result (λ reply. reply ≡ init_reply coordinator.old greatest request.now) }
+{
+    match &request.transactional_id {
+        None => {
+            permit.spend(policy);
+            Ok(init_given(coordinator.fresh()?))
+        }
+        Some(id) => {
+            let answer = coordinator.init(alloc, policy, permit, id, request.timeout, greatest)?;
+            Ok(init_answered(answer))
+        }
+    }
+}

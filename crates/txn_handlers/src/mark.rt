@@ -1,0 +1,64 @@
+//! A marker step: the front marker that is owed is written.
+
+ghost use Rattle.std.specs.Prelude.{◌≡◌, ◌<◌, IfOk, OnOk, OnErr};
+ghost use Rattle.broker_world.specs.Logs.{most_end};
+ghost use Rattle.broker_world.specs.Clock.{last_moment};
+ghost use Rattle.broker_world.specs.Markers.{marker_batch};
+ghost use Rattle.txn_handlers.specs.Marks.{marked_at, decided_at, mark_outcome};
+
+use broker_world::{Moment, Outcome, State, Topics, served_whole};
+use group_offsets::Groups;
+use msg_admin::Reply;
+use std::alloc::{AllocError, Global};
+use txn_coordinator::{OwedMarker, Target};
+
+/// Writes a marker where it is owed: to a partition's log, or as a decision to a group.
+fn write_marker(
+    alloc: Global,
+    topics: &mut Topics,
+    groups: &mut Groups,
+    marker: &OwedMarker,
+    moment: &Moment,
+) -> Result<(), AllocError>
+    requires { most_end topics.old < 9223372036854775807 }
+    ensures topics { OnOk result (topics.new ≡ marked_at topics.old marker.now.target (marker_batch marker.now moment.now)) }
+    ensures groups { OnOk result (groups.new ≡ decided_at groups.old marker.now.target marker.now) }
+    ensures err { OnErr result ((topics.new ≡ topics.old) × (groups.new ≡ groups.old)) }
+{
+    match &marker.target {
+        Target::Partition(partition) => topics.append_marker(
+            alloc,
+            &partition.topic,
+            partition.index,
+            marker.outcome,
+            marker.pair,
+            moment.milliseconds() as i64,
+        ),
+        Target::Group(group) => groups.decide(alloc, group, marker.pair.producer, marker.outcome),
+    }
+}
+
+/// What a marker step does and is answered. Whose transaction it is, and what that principal may do by now, isn't
+/// asked.
+pub fn answer_mark(alloc: Global, state: &mut State) -> Result<Outcome, AllocError>
+    requires { most_end state.old.topics < 9223372036854775807 }
+    ensures world { OnOk result (state.new ≡ (mark_outcome state.old).world) }
+    ensures reply { IfOk result (λ o. o.reply ≡ (mark_outcome state.old).reply) }
+    ensures refusals { IfOk result (λ o. o.refusals ≡ (mark_outcome state.old).refusals) }
+{
+    let Some(warrant) = state.coordinator.next_warrant()? else {
+        return Ok(served_whole(alloc, Reply::Idle));
+    };
+    let (topics, groups) = (&mut state.topics, &mut state.groups);
+    match write_marker(alloc, topics, groups, warrant.marker(), &state.moment) {
+        Ok(()) => {
+            state.coordinator.written(warrant);
+            let left = state.coordinator.owed() as u64;
+            Ok(served_whole(alloc, Reply::Marked { left }))
+        }
+        Err(AllocError) => {
+            warrant.give_back();
+            Err(AllocError)
+        }
+    }
+}

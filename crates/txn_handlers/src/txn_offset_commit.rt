@@ -1,0 +1,205 @@
+//! TxnOffsetCommit: offsets of partitions are committed for a group with a transaction.
+
+ghost use Rattle.std.specs.Prelude.{◌≡◌, IfOk, OnOk};
+ghost use Rattle.std.specs.Option.{option_copied};
+ghost use Rattle.acl_binding.specs.declared.words.Operation.TheVariants as operations;
+ghost use Rattle.group_offsets.specs.Groups.{MayUse, turned};
+ghost use Rattle.group_offsets.specs.Turn.{answered};
+ghost use Rattle.broker_world.specs.Codes.{code_in};
+ghost use Rattle.authorizer.specs.Asking.{policy_rules};
+ghost use Rattle.walk.specs.Walk.{world_after, answers, refusals};
+ghost use Rattle.txn_handlers.specs.TxnOffsetCommit.{staging, offset_staged, staged_code, staging_refusal, turn_by, stage_rule, txn_offset_commit_outcome};
+
+use acl_binding::{Caller, Kind, Operation};
+use authorizer::{Permit, Policy, ThreePermits, ask_three};
+use broker_world::{Outcome, State, Topics, code_in, id_question, read_question, refused_by};
+use group_offsets::{Groups, PartitionOffset};
+use msg_admin::Reply;
+use msg_txn::{OffsetToStage, StagedOffset, TxnOffsetCommitReply, TxnOffsetCommitRequest};
+use partition_log::Log;
+use std::alloc::{AllocError, Global};
+use txn_coordinator::{Coordinator, Pair, Target};
+use walk::{Part, PartApi, Walked, refusal_code, walk};
+use wire_types::{ErrorCode, Text};
+
+/// Whose transaction commits for which group, and what partitions there are.
+#[derive(Drop)]
+pub(crate) struct Staging<'a> {
+    pub(crate) caller: &'a Caller,
+    pub(crate) id: &'a Text,
+    pub(crate) pair: Pair,
+    pub(crate) group: &'a Text,
+    pub(crate) generation: i32,
+    pub(crate) member: &'a Text,
+    /// Why the transaction can't commit for the group, if it can't.
+    pub(crate) refusal: Option<ErrorCode>,
+    pub(crate) topics: &'a Topics,
+}
+
+impl<'a> PartApi<OffsetToStage, StagedOffset, Groups> for Staging<'a> {
+    ghost use Rattle.txn_handlers.specs.TxnOffsetCommit.{stage_rule};
+
+    ghost rule = { λ api. stage_rule api.caller.now (record { id = api.id.now; pair = api.pair; group = api.group.now; generation = api.generation; member = api.member.now }) api.refusal api.topics.now };
+
+    fn serve(
+        &self,
+        alloc: Global,
+        policy: &Policy,
+        groups: &mut Groups,
+        name: &Text,
+        part: &OffsetToStage,
+    ) -> Result<Part<StagedOffset>, AllocError> {
+        let offset = offset_staged(alloc, name, part)?;
+        let id = id_question(self.caller, self.id)?;
+        let group = read_question(self.caller, self.group)?;
+        let topic = self.caller.asks(Operation::Read, Kind::Topic, name)?;
+        match ask_three(policy, id, group, topic) {
+            Ok(
+                ThreePermits {
+                    first,
+                    second,
+                    third,
+                },
+            ) => {
+                first.spend(policy);
+                third.spend(policy);
+                let log = self.topics.log(name, part.index);
+                let answer = self.stage(alloc, policy, second, groups, log, name, part, offset)?;
+                Ok(Part::served(answer))
+            }
+            Err(refusal) => {
+                let answer = staged_code(refusal_code(&refusal), part);
+                Ok(Part::refused(answer, refusal))
+            }
+        }
+    }
+}
+
+impl<'a> Staging<'a> {
+    /// Stages the offset of a part that was granted, if the partition is there.
+    fn stage(
+        &self,
+        alloc: Global,
+        policy: &Policy,
+        permit: Permit,
+        groups: &mut Groups,
+        log: Option<&Log>,
+        name: &Text,
+        part: &OffsetToStage,
+        offset: PartitionOffset,
+    ) -> Result<StagedOffset, AllocError>
+        requires permit { MayUse policy.now operations.Read self.now.group.now permit }
+        requires offset { offset ≡ offset_staged name.now part.now }
+        ensures groups { OnOk result (groups.new ≡ turned groups.old (turn_by self.now.refusal (record { id = self.now.id.now; pair = self.now.pair; group = self.now.group.now; generation = self.now.generation; member = self.now.member.now }) groups.old (offset_staged name.now part.now) (option_copied log.entry))) }
+        ensures answer { IfOk result (λ answer. answer ≡ staged_code (code_in (answered (turn_by self.now.refusal (record { id = self.now.id.now; pair = self.now.pair; group = self.now.group.now; generation = self.now.generation; member = self.now.member.now }) groups.old (offset_staged name.now part.now) (option_copied log.entry)))) part.now) }
+    {
+        if log.is_none() {
+            permit.spend(policy);
+            return Ok(staged_code(ErrorCode::UnknownTopicOrPartition, part));
+        }
+        if let Some(code) = self.refusal {
+            permit.spend(policy);
+            return Ok(staged_code(code, part));
+        }
+        let (producer, generation, member) = (self.pair.producer, self.generation, self.member);
+        let staged = groups.stage(
+            alloc, policy, permit, self.group, producer, generation, member, offset,
+        )?;
+        Ok(staged_code(code_in(staged), part))
+    }
+}
+
+fn offset_staged(
+    alloc: Global,
+    name: &Text,
+    part: &OffsetToStage,
+) -> Result<PartitionOffset, AllocError>
+    ensures { IfOk result (λ offset. offset ≡ offset_staged name.now part.now) }
+{
+    PartitionOffset::told(alloc, name, part.index, part.offset, &part.metadata)
+}
+
+fn staged_code(error: ErrorCode, part: &OffsetToStage) -> StagedOffset
+    ensures { result ≡ staged_code error part.now }
+{
+    StagedOffset {
+        index: part.index,
+        error,
+    }
+}
+
+/// Why the transaction that a request names can't commit for its group, if it can't.
+fn staging_refusal(
+    coordinator: &Coordinator,
+    request: &TxnOffsetCommitRequest,
+) -> Result<Option<ErrorCode>, AllocError>
+    ensures { IfOk result (λ refusal. refusal ≡ staging_refusal coordinator.now (staging request.now)) }
+{
+    let pair = Pair {
+        producer: request.producer,
+        epoch: request.epoch,
+    };
+    let group = Target::Group(request.group.clone()?);
+    Ok(refused_by(coordinator.holds(&request.transactional_id, pair, &group)))
+}
+
+/// Walks the parts of a request whose transaction can commit for its group, or can't by this code.
+fn stage_all(
+    alloc: Global,
+    policy: &Policy,
+    groups: &mut Groups,
+    topics: &Topics,
+    caller: &Caller,
+    request: &TxnOffsetCommitRequest,
+    refusal: Option<ErrorCode>,
+) -> Result<Walked<StagedOffset>, AllocError>
+    ensures groups { OnOk result (groups.new ≡ world_after (stage_rule caller.now (staging request.now) refusal topics.now) (policy_rules policy.now) groups.old request.now.topics) }
+    ensures answers { IfOk result (λ walked. walked.topics ≡ answers (stage_rule caller.now (staging request.now) refusal topics.now) (policy_rules policy.now) groups.old request.now.topics) }
+    ensures refusals { IfOk result (λ walked. walked.refusals ≡ refusals (stage_rule caller.now (staging request.now) refusal topics.now) (policy_rules policy.now) request.now.topics) }
+{
+    let api = Staging {
+        caller,
+        id: &request.transactional_id,
+        pair: Pair {
+            producer: request.producer,
+            epoch: request.epoch,
+        },
+        group: &request.group,
+        generation: request.generation,
+        member: &request.member,
+        refusal,
+        topics,
+    };
+    walk(alloc, &api, policy, groups, request.topics.as_slice())
+}
+
+/// What a TxnOffsetCommit does and is answered.
+pub fn answer_txn_offset_commit(
+    alloc: Global,
+    state: &mut State,
+    caller: &Caller,
+    request: &TxnOffsetCommitRequest,
+) -> Result<Outcome, AllocError>
+    ensures world { OnOk result (state.new ≡ (txn_offset_commit_outcome state.old caller.now request.now).world) }
+    ensures reply { IfOk result (λ o. o.reply ≡ (txn_offset_commit_outcome state.old caller.now request.now).reply) }
+    ensures refusals { IfOk result (λ o. o.refusals ≡ (txn_offset_commit_outcome state.old caller.now request.now).refusals) }
+{
+    let refusal = staging_refusal(&state.coordinator, request)?;
+    let (policy, groups) = (&state.policy, &mut state.groups);
+    let walked = stage_all(
+        alloc,
+        policy,
+        groups,
+        &state.topics,
+        caller,
+        request,
+        refusal,
+    )?;
+    Ok(Outcome {
+        reply: Reply::TxnOffsetCommit(TxnOffsetCommitReply {
+            throttle: 0,
+            topics: walked.topics,
+        }),
+        refusals: walked.refusals,
+    })
+}
