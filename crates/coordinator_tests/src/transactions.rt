@@ -3,12 +3,14 @@
 ghost use Rattle.std.specs.Prelude.{◌≡◌, IfOk};
 ghost use Rattle.txn_coordinator.specs.Permission.{MayWrite};
 
-use crate::{Coordinator, EndForm, Given, OwedMarker, Pair, PairAnswer, Target, TopicPartition};
 use acl_binding::{Caller, Kind, Operation};
 use authorizer::{Permit, Policy, ask_one};
 use record_batch::Outcome;
 use std::alloc::{AllocError, Global};
 use std::test::Fail;
+use txn_coordinator::{
+    Coordinator, EndForm, Given, OwedMarker, Pair, PairAnswer, Target, TopicPartition,
+};
 use wire_types::{ErrorCode, Items, Text};
 
 /// What a test's broker keeps, with one transactional id.

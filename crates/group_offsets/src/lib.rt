@@ -11,8 +11,6 @@ mod joining;
 mod laws;
 mod member;
 mod offsets;
-#[cfg(test)]
-mod tests;
 
 pub use event::{OffsetEvent, PartitionOffset};
 pub use group::Group;

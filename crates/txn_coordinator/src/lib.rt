@@ -15,8 +15,6 @@ mod marker;
 mod pair;
 mod records;
 mod target;
-#[cfg(test)]
-mod tests;
 mod transaction;
 mod turn;
 mod warrant;

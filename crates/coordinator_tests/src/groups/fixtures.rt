@@ -3,10 +3,10 @@
 ghost use Rattle.std.specs.Prelude.{IfOk};
 ghost use Rattle.group_offsets.specs.Groups.{MayUse};
 
-use crate::{Groups, Joined, PartitionOffset};
 use acl_binding::{Caller, Kind, Operation};
 use authorizer::{Permit, Policy, Refusal, ask_one};
 use bytes::Bytes;
+use group_offsets::{Groups, Joined, PartitionOffset};
 use msg_group::{
     HeartbeatRequest, JoinGroupRequest, LeaveGroupRequest, MemberAssignment, OfferedProtocol,
     SyncGroupRequest,

@@ -1,8 +1,8 @@
 //! Members, and the offsets that they commit.
 
-use crate::Groups;
-use crate::tests::fixtures::{beat, commit, join, joining, leave, policy, sync};
+use crate::groups::fixtures::{beat, commit, join, joining, leave, policy, sync};
 use authorizer::Policy;
+use group_offsets::Groups;
 use msg_group::JoinGroupRequest;
 use std::alloc::Global;
 use std::test::Fail;

@@ -1,8 +1,8 @@
 //! Offsets, committed and staged.
 
-use crate::tests::fixtures::{commit, decide, fetch, join, joining, policy, stage};
-use crate::{Groups, PartitionOffset};
+use crate::groups::fixtures::{commit, decide, fetch, join, joining, policy, stage};
 use authorizer::Policy;
+use group_offsets::{Groups, PartitionOffset};
 use record_batch::Outcome;
 use std::alloc::{AllocError, Global};
 use std::test::Fail;
