@@ -1,6 +1,6 @@
-//! Bodies as they travel.
+//! Bodies of the acls' requests and replies, as they travel.
 
-use crate::{DeleteAclsReply, DescribeAclsReply, DescribeAclsRequest};
+use msg_acl::{DeleteAclsReply, DescribeAclsReply, DescribeAclsRequest};
 use std::alloc::Global;
 use std::test::Fail;
 use wire_types::{Cursor, Malformed, ReadFault, Wire, WriteFault};

@@ -1,11 +1,7 @@
 //! Vectors from outside: checksums of RFC 3720, and batches that another encoder made.
 
-use crate::batch::Batch;
-use crate::crc::crc32c;
-use crate::fault::BatchFault;
-use crate::outcome::Outcome;
-use crate::record::RecordAt;
 use bytes::Bytes;
+use record_batch::{Batch, BatchFault, Outcome, RecordAt, crc32c};
 use std::alloc::{AllocError, Global};
 use wire_types::{ErrorCode, Items, write_varint};
 

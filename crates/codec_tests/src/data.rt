@@ -1,9 +1,8 @@
-//! Bodies as they travel.
+//! Bodies of the requests and replies for records and topics, as they travel.
 
-use crate::isolation::Isolation;
-use crate::list_offsets::{ListOffsetsReply, ListOffsetsRequest};
-use crate::metadata::{MetadataReply, TopicInfo};
-use crate::produce::ProduceRequest;
+use msg_data::{
+    Isolation, ListOffsetsReply, ListOffsetsRequest, MetadataReply, ProduceRequest, TopicInfo,
+};
 use std::alloc::Global;
 use std::test::Fail;
 use wire_types::{Cursor, ErrorCode, Malformed, ReadFault, Wire, WriteFault};

@@ -5,12 +5,11 @@ mod groups;
 mod transactions;
 mod versions;
 
-use crate::api::Api;
-use crate::header::Header;
-use crate::laws::{one_reply, one_request, read_fits, written_is_read};
-use crate::reply::{Reply, write_reply};
-use crate::request::{Request, read_request, write_request};
 use bytes::Bytes;
+use msg_admin::{
+    Api, Header, Reply, Request, one_reply, one_request, read_fits, read_request, write_reply,
+    write_request, written_is_read,
+};
 use msg_data::{BrokerInfo, MetadataReply, MetadataRequest, PartitionInfo, TopicInfo};
 use std::alloc::{AllocError, Global};
 use std::test::Fail;

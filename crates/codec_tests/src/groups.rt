@@ -1,11 +1,10 @@
-//! Bodies as they travel.
+//! Bodies of the groups' requests and replies, as they travel.
 
-use crate::heartbeat::{HeartbeatReply, HeartbeatRequest};
-use crate::join_group::{JoinGroupReply, JoinGroupRequest};
-use crate::leave_group::{LeaveGroupReply, LeaveGroupRequest};
-use crate::offset_commit::{OffsetCommitReply, OffsetCommitRequest};
-use crate::offset_fetch::{OffsetFetchReply, OffsetFetchRequest};
-use crate::sync_group::{SyncGroupReply, SyncGroupRequest};
+use msg_group::{
+    HeartbeatReply, HeartbeatRequest, JoinGroupReply, JoinGroupRequest, LeaveGroupReply,
+    LeaveGroupRequest, OffsetCommitReply, OffsetCommitRequest, OffsetFetchReply,
+    OffsetFetchRequest, SyncGroupReply, SyncGroupRequest,
+};
 use std::alloc::Global;
 use std::test::Fail;
 use wire_types::{Cursor, ErrorCode, Malformed, ReadFault, Wire, WriteFault};

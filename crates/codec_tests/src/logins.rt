@@ -1,6 +1,6 @@
-//! Bodies as they travel.
+//! Bodies of the requests and replies of a login, as they travel.
 
-use crate::{
+use msg_login::{
     ApiVersionsReply, SaslAuthenticateReply, SaslAuthenticateRequest, SaslHandshakeReply,
     SaslHandshakeRequest,
 };

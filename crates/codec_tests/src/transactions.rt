@@ -1,11 +1,11 @@
-//! Bodies as they travel.
+//! Bodies of the transactions' requests and replies, as they travel.
 
-use crate::add_offsets::{AddOffsetsToTxnReply, AddOffsetsToTxnRequest};
-use crate::add_partitions::{AddPartitionsToTxnReply, AddPartitionsToTxnRequest};
-use crate::end_txn::{EndTxnReply, EndTxnRequest};
-use crate::find_coordinator::{FindCoordinatorReply, FindCoordinatorRequest};
-use crate::init_producer_id::{InitProducerIdReply, InitProducerIdRequest};
-use crate::txn_offset_commit::{StagedOffset, TxnOffsetCommitReply, TxnOffsetCommitRequest};
+use msg_txn::{
+    AddOffsetsToTxnReply, AddOffsetsToTxnRequest, AddPartitionsToTxnReply,
+    AddPartitionsToTxnRequest, EndTxnReply, EndTxnRequest, FindCoordinatorReply,
+    FindCoordinatorRequest, InitProducerIdReply, InitProducerIdRequest, StagedOffset,
+    TxnOffsetCommitReply, TxnOffsetCommitRequest,
+};
 use std::alloc::Global;
 use std::test::Fail;
 use wire_types::{Cursor, ErrorCode, Malformed, ReadFault, Wire, WriteFault};

@@ -7,8 +7,6 @@ mod create_acls;
 mod delete_acls;
 mod describe_acls;
 mod entries;
-#[cfg(test)]
-mod tests;
 
 pub use create_acls::{CreateAclsReply, CreateAclsRequest, CreatedAcl};
 pub use delete_acls::{DeleteAclsReply, DeleteAclsRequest, DeletedAcl, DeletedAcls};

@@ -11,8 +11,6 @@ mod header;
 mod laws;
 mod reply;
 mod request;
-#[cfg(test)]
-mod tests;
 mod versions;
 
 pub use api::Api;

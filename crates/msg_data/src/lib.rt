@@ -8,8 +8,6 @@ mod isolation;
 mod list_offsets;
 mod metadata;
 mod produce;
-#[cfg(test)]
-mod tests;
 
 pub use fetch::{AbortedTransaction, FetchPartition, FetchReply, FetchRequest, FetchedRecords};
 pub use isolation::Isolation;

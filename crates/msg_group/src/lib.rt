@@ -9,8 +9,6 @@ mod leave_group;
 mod offset_commit;
 mod offset_fetch;
 mod sync_group;
-#[cfg(test)]
-mod tests;
 
 pub use heartbeat::{HeartbeatReply, HeartbeatRequest};
 pub use join_group::{JoinGroupReply, JoinGroupRequest, JoinedMember, OfferedProtocol};

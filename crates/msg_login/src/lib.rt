@@ -6,8 +6,6 @@
 mod api_versions;
 mod sasl_authenticate;
 mod sasl_handshake;
-#[cfg(test)]
-mod tests;
 
 pub use api_versions::{ApiVersionsReply, ServedVersions};
 pub use sasl_authenticate::{SaslAuthenticateReply, SaslAuthenticateRequest};

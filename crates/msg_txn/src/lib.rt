@@ -8,8 +8,6 @@ mod add_partitions;
 mod end_txn;
 mod find_coordinator;
 mod init_producer_id;
-#[cfg(test)]
-mod tests;
 mod txn_offset_commit;
 
 pub use add_offsets::{AddOffsetsToTxnReply, AddOffsetsToTxnRequest};

@@ -12,8 +12,6 @@ mod laws;
 mod outcome;
 mod record;
 mod table;
-#[cfg(test)]
-mod tests;
 mod walk;
 
 pub use batch::Batch;

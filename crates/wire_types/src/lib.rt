@@ -19,8 +19,6 @@ mod numbers;
 mod room;
 mod shared;
 mod tags;
-#[cfg(test)]
-mod tests;
 mod text;
 mod texts;
 mod topic;

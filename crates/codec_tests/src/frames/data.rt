@@ -1,9 +1,8 @@
 //! Whole frames of Produce, Fetch and ListOffsets, as they travel.
 
 use super::{is_frame_of, is_sent_as, only_b};
-use crate::reply::Reply;
-use crate::request::Request;
 use bytes::Bytes;
+use msg_admin::{Reply, Request};
 use msg_data::{
     FetchPartition, FetchReply, FetchRequest, FetchedRecords, FoundOffset, Isolation,
     ListOffsetsReply, ListOffsetsRequest, ProduceReply, ProduceRequest, WantedOffset,

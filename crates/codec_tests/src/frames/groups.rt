@@ -1,9 +1,8 @@
 //! Whole frames of OffsetFetch, whose headers are flexible, and of JoinGroup, as they travel.
 
 use super::{is_frame_of, is_sent_as, only_b};
-use crate::reply::Reply;
-use crate::request::Request;
 use bytes::Bytes;
+use msg_admin::{Reply, Request};
 use msg_group::{
     FetchedOffset, JoinGroupReply, JoinGroupRequest, JoinedMember, OfferedProtocol,
     OffsetFetchReply, OffsetFetchRequest,

@@ -2,8 +2,7 @@
 //! travel, and the replies that don't travel.
 
 use super::{is_frame_of, is_sent_as, only_b};
-use crate::reply::Reply;
-use crate::request::Request;
+use msg_admin::{Reply, Request};
 use msg_txn::{
     AddOffsetsToTxnReply, AddOffsetsToTxnRequest, AddPartitionsToTxnReply,
     AddPartitionsToTxnRequest, AddedPartition, EndTxnReply, EndTxnRequest, OffsetToStage,

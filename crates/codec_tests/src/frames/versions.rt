@@ -1,11 +1,14 @@
 //! Headers of flexible versions, and ApiVersions in a version that isn't served.
 
-use crate::frame::write_frame;
-use crate::header::{Header, read_sender};
-use crate::versions::{unsupported_versions, write_unsupported_versions, write_versions_request};
 use bytes::Bytes;
+use msg_admin::{
+    Header, Reply, Request, read_request, unsupported_versions, write_reply, write_request,
+    write_unsupported_versions, write_versions_request,
+};
+use msg_group::{OffsetFetchReply, OffsetFetchRequest};
+use std::alloc::{AllocError, Global};
 use std::test::Fail;
-use wire_types::{Cursor, Text};
+use wire_types::{ErrorCode, Items, Text};
 
 /// A request of ApiVersions 3, without its size field, and its answer.
 const ASKS_IN_THREE: &[u8] = b"\x00\x12\x00\x03\x00\x00\x00\x07\x00\x01c\x00\x02a\x021\x00";
@@ -46,41 +49,53 @@ fn only_the_start_is_read(rt: HostRuntime) {
     assert_eq!(rt; told(b"\x00\x11\x00\x03\x00\x00\x00\x07\xff\xff"), None);
 }
 
-/// The header of a request in a flexible version, and a body of four bytes.
+/// The request for all stable offsets of the group `g`, in a flexible version.
+fn all_offsets(alloc: Global) -> Result<Request, AllocError> {
+    Ok(Request::OffsetFetch(OffsetFetchRequest {
+        group: Text::of(alloc, "g")?,
+        topics: None,
+        require_stable: true,
+    }))
+}
+
+/// The header of a request in a flexible version, and a body of five bytes.
 #[test]
 fn a_flexible_request(rt: HostRuntime) -> Result<(), Fail> {
-    let header = Header {
-        key: 26,
-        version: 3,
-        correlation: 5,
-        client: None,
-    };
-    let frame = write_frame(rt.alloc(), true, &header, &0)?;
+    let request = all_offsets(rt.alloc())?;
+    let header = Header::new(request.api(), 5, None);
+    let frame = write_request(rt.alloc(), &header, &request)?;
     assert_eq!(rt;
         frame.as_slice(),
-        b"\x00\x00\x00\x0f\x00\x1a\x00\x03\x00\x00\x00\x05\xff\xff\x00\x00\x00\x00\x00".as_slice()
+        b"\x00\x00\x00\x10\x00\x09\x00\x07\x00\x00\x00\x05\xff\xff\x00\x02g\x00\x01\x00".as_slice()
     );
     Ok(())
 }
 
-/// The same of a response.
+/// The header of a response in a flexible version, and a body of eight bytes.
 #[test]
 fn a_flexible_response(rt: HostRuntime) -> Result<(), Fail> {
-    let frame = write_frame(rt.alloc(), true, &5, &0)?;
+    let reply = Reply::OffsetFetch(OffsetFetchReply {
+        throttle: 0,
+        topics: Items::new(rt.alloc()),
+        error: ErrorCode::None,
+    });
+    let frame = write_reply(rt.alloc(), 5, &reply)?;
     assert_eq!(rt;
         frame.as_slice(),
-        b"\x00\x00\x00\x09\x00\x00\x00\x05\x00\x00\x00\x00\x00".as_slice()
+        b"\x00\x00\x00\x0d\x00\x00\x00\x05\x00\x00\x00\x00\x00\x01\x00\x00\x00".as_slice()
     );
     Ok(())
 }
 
-/// What stands behind key and version, with the field 5 of two bytes.
+/// The header ends in the field 5 of two bytes, and the body begins behind it.
 #[test]
 fn a_tagged_field_is_skipped(rt: HostRuntime) -> Result<(), Fail> {
-    let mut cursor = Cursor::new(b"\x00\x00\x00\x05\x00\x01c\x01\x05\x02\xaa\xbb\x2a");
-    let (correlation, client) = read_sender(rt.alloc(), true, &mut cursor)?;
-    assert_eq!(rt; correlation, 5);
-    assert_eq!(rt; client, Some(Text::of(rt.alloc(), "c")?));
-    assert_eq!(rt; cursor.len(), 1);
+    let frame = Bytes::from_static(
+        b"\x00\x09\x00\x07\x00\x00\x00\x05\x00\x01c\x01\x05\x02\xaa\xbb\x02g\x00\x01\x00",
+    );
+    let (header, request) = read_request(rt.alloc(), &frame)?;
+    assert_eq!(rt; header.correlation, 5);
+    assert_eq!(rt; header.client, Some(Text::of(rt.alloc(), "c")?));
+    assert!(rt; request == all_offsets(rt.alloc())?);
     Ok(())
 }

@@ -1,13 +1,13 @@
 //! Arrays, tagged sections and topics.
 
-use crate::{
+use std::test::Fail;
+use wire_types::{
     Cursor, Items, Malformed, ReadFault, Text, Topic, Wire, flexible_topics_room,
     nullable_flexible_topics_room, read_array, read_compact_array, read_compact_nullable_array,
     read_flexible_topics, read_nullable_array, read_nullable_flexible_topics, read_varint_array,
     size, write_array, write_compact_array, write_compact_nullable_array, write_flexible_topics,
     write_no_tags, write_nullable_array, write_nullable_flexible_topics, write_varint_array,
 };
-use std::test::Fail;
 
 #[test]
 fn read_arrays(rt: HostRuntime) -> Result<(), Fail> {

@@ -1,10 +1,10 @@
 //! Numbers: the vectors of the Kafka protocol guide's primitives and of zigzag.
 
-use crate::{
+use std::test::Fail;
+use wire_types::{
     Cursor, Malformed, write_bool, write_i8, write_i16, write_i32, write_i64, write_u32,
     write_uvarint, write_varint, write_varlong,
 };
-use std::test::Fail;
 
 fn uvarint(bytes: &[u8]) -> Result<u32, Malformed> {
     Cursor::new(bytes).read_uvarint()

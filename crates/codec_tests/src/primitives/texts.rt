@@ -1,12 +1,12 @@
 //! Texts and bytes in each of their forms, with the faults that they can have.
 
-use crate::{
+use bytes::Bytes;
+use std::test::Fail;
+use wire_types::{
     Cursor, Malformed, ReadFault, Text, write_bytes, write_compact_bytes, write_compact_nullable,
     write_compact_nullable_bytes, write_compact_string, write_nullable, write_nullable_bytes,
     write_string, write_varint_bytes, write_varint_nullable_bytes,
 };
-use bytes::Bytes;
-use std::test::Fail;
 
 #[test]
 fn read_texts(rt: HostRuntime) -> Result<(), Fail> {
