@@ -1,18 +1,14 @@
 -- One part more: what is answered for it comes first, and then what the rest gives.
-use Rattle.std.proofs.Common.{◌≡◌, ℕ, ℤ, pos, suc, ◌+◌, ◌-◌, ◌<◌, List, [], ◌∷◌, ◌++◌, length, get_or, drop, drop-cons, add-one, Bool, true, false, ◌&&◌, Option, Some, None, cond, refl, sym, ap, ◌∙◌, arith, append_assoc}
-use Rattle.std.specs.Prelude.{slice_get, is_none}
+use Rattle.std.proofs.Common.{◌≡◌, ℕ, suc, ◌+◌, ◌<◌, List, [], ◌∷◌, ◌++◌, length, get_or, drop, drop-cons, add-one, Bool, true, false, ◌&&◌, Some, sym, ap, ◌∙◌, append_assoc}
+use Rattle.std.specs.Prelude.{slice_get}
 use Rattle.std.specs.List.{list_all}
-use Rattle.std.specs.Option.{option_to_list, option_map}
+use Rattle.std.specs.Option.{option_map}
 use Rattle.std.proofs.lemmas.Option.{slice_get_within, get_or_from_slice_get, slice_get-map, slice_get-get_or}
-use Rattle.acl_binding.specs.declared.question.Caller.{Caller}
 use Rattle.acl_binding.specs.declared.binding.Binding.{Binding}
 use Rattle.acl_binding.specs.Book.{BookValue, added}
 use Rattle.authorizer.specs.Policy.{PolicyValue, policy_added}
-use Rattle.group_offsets.specs.declared.event.OffsetEvent.{OffsetEvent}
 use Rattle.broker_world.specs.First.{with_bindings}
-use Rattle.authorizer.specs.declared.answer.Refusal.{Refusal}
-use Rattle.broker_world.specs.World.{World, TopicValue, rules_of, topic_names}
-use Rattle.broker_world.specs.Questions.{topic_refusal}
+use Rattle.broker_world.specs.World.{TopicValue, topic_names}
 
 -- one more at the end of what is done, one less at the front of what is left
 pub one_more : {A : Type 0} (done : List A) (a : A) (left rest whole : List A) → left ≡ a ∷ rest → done ++ left ≡ whole → (done ++ a ∷ []) ++ rest ≡ whole

@@ -1,9 +1,8 @@
 -- A request that is one part: what is told where it was refused, and what a request that only reads leaves.
-use Rattle.std.proofs.Common.{◌≡◌, ℤ, true, false, List, [], ◌∷◌, Option, Some, None, Result, Ok, Err, IfOk, OnOk, OnErr, refl, sym, ap, ◌∙◌}
+use Rattle.std.proofs.Common.{◌≡◌, ℤ, true, false, List, [], ◌∷◌, Option, Some, None, Result, Ok, Err, OnOk, OnErr, refl, sym, ap, ◌∙◌}
 use Rattle.acl_binding.specs.declared.question.Caller.{Caller}
-use Rattle.acl_binding.specs.declared.question.Question.{Question}
 use Rattle.authorizer.specs.declared.answer.Refusal.{Refusal}
-use Rattle.authorizer.specs.Asking.{Rules, part_refusal}
+use Rattle.authorizer.specs.Asking.{part_refusal}
 use Rattle.wire_types.specs.declared.error_code.ErrorCode.{ErrorCode}
 use Rattle.msg_acl.specs.declared.describe_acls.DescribeAclsRequest.{DescribeAclsRequest}
 use Rattle.msg_admin.specs.declared.reply.Reply.{Reply}
@@ -11,10 +10,8 @@ use Rattle.msg_admin.specs.declared.request.Request.{Request}
 use Rattle.msg_admin.specs.declared.request.Request.TheVariants.{Produce, Fetch, ListOffsets, Metadata, OffsetCommit, OffsetFetch, FindCoordinator, JoinGroup, Heartbeat, LeaveGroup, SyncGroup, InitProducerId, AddPartitionsToTxn, AddOffsetsToTxn, EndTxn, TxnOffsetCommit, DescribeAcls, CreateAcls, DeleteAcls}
 use Rattle.audit_trail.specs.declared.event.Event.{Event}
 use Rattle.audit_trail.specs.declared.event.Event.TheVariants.{Ask, Mark, Tick}
-use Rattle.walk.specs.Codes.{refusal_code}
-use Rattle.broker_world.specs.declared.outcome.Outcome.{Outcome as Told}
 use Rattle.broker_world.specs.World.{World, rules_of}
-use Rattle.broker_world.specs.Whole.{Served, whole_by, whole}
+use Rattle.broker_world.specs.Whole.{whole_by}
 use Rattle.acl_handlers.specs.DescribeAcls.{describe_acls_questions, describe_acls_outcome}
 use Rattle.wire_types.specs.declared.topic.Topic.{Topic}
 use Rattle.msg_group.specs.declared.offset_fetch.OffsetFetchRequest.{OffsetFetchRequest}

@@ -1,6 +1,6 @@
 -- A tick of the clock: the moment goes on, members that were not heard of for too long are let go (Kafka protocol
 -- guide, session_timeout), and then transactions whose time is over are aborted (KIP-98, 'transaction.timeout.ms').
-use Rattle.std.specs.Prelude.{ℕ, max, min, [], length, map}
+use Rattle.std.specs.Prelude.{ℕ, [], length, map}
 use Rattle.msg_admin.specs.declared.reply.Reply.TheVariants as replies
 use Rattle.txn_coordinator.specs.Expiry.{expire}
 use Rattle.group_offsets.specs.Group.{expired}
