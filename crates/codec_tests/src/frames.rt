@@ -42,17 +42,40 @@ fn read(alloc: Global, frame: &'static [u8]) -> Result<(Header, Request), ReadFa
     read_request(alloc, &Bytes::from_static(bytes))
 }
 
-/// The frame is that of the request, both ways.
-fn is_frame_of(alloc: Global, frame: &'static [u8], request: &Request) -> Option<bool> {
+/// What the frame asks for is the request.
+fn asks_for(alloc: Global, frame: &'static [u8], request: &Request) -> Option<i32> {
     let (header, read) = read(alloc, frame).ok()?;
-    let again = Header::new(request.api(), header.correlation, None);
-    let written = write_request(alloc, &again, request).ok()?;
-    Some(read == *request && written.as_slice() == frame)
+    let is = read == *request;
+    drop(read);
+    is.then_some(header.correlation)
 }
 
-fn is_sent_as(alloc: Global, correlation: i32, reply: &Reply, frame: &[u8]) -> Option<bool> {
-    let written = write_reply(alloc, correlation, reply).ok()?;
+/// The request is written as the frame.
+fn is_written(
+    alloc: Global,
+    frame: &'static [u8],
+    correlation: i32,
+    request: &Request,
+) -> Option<bool> {
+    let header = Header::new(request.api(), correlation, None);
+    let written = write_request(alloc, &header, request).ok()?;
     Some(written.as_slice() == frame)
+}
+
+/// The frame is that of the request, both ways.
+fn is_frame_of(alloc: Global, frame: &'static [u8], request: Request) -> Option<bool> {
+    let is = match asks_for(alloc, frame, &request) {
+        Some(correlation) => is_written(alloc, frame, correlation, &request),
+        None => Some(false),
+    };
+    drop(request);
+    is
+}
+
+fn is_sent_as(alloc: Global, correlation: i32, reply: Reply, frame: &[u8]) -> Option<bool> {
+    let written = write_reply(alloc, correlation, &reply);
+    drop(reply);
+    Some(written.ok()?.as_slice() == frame)
 }
 
 /// The topic `b` with one partition.
@@ -69,7 +92,8 @@ fn only_b<P: Drop>(alloc: Global, partition: P) -> Result<Items<Topic<P>>, Alloc
 
 /// The frame's header is that of a Metadata without a client.
 fn has_header(alloc: Global, frame: &'static [u8], correlation: i32) -> Option<bool> {
-    let (header, _request) = read(alloc, frame).ok()?;
+    let (header, request) = read(alloc, frame).ok()?;
+    drop(request);
     Some(header == Header::new(Api::Metadata, correlation, None))
 }
 
@@ -83,14 +107,14 @@ fn headers(rt: HostRuntime) {
 #[test]
 fn asks_for_all_topics(rt: HostRuntime) {
     let request = Request::Metadata(MetadataRequest { topics: None });
-    assert_eq!(rt; is_frame_of(rt.alloc(), ALL_TOPICS, &request), Some(true));
+    assert_eq!(rt; is_frame_of(rt.alloc(), ALL_TOPICS, request), Some(true));
 }
 
 #[test]
 fn asks_for_no_topics(rt: HostRuntime) {
     let topics = Some(Items::new(rt.alloc()));
     let request = Request::Metadata(MetadataRequest { topics });
-    assert_eq!(rt; is_frame_of(rt.alloc(), NO_NAMES, &request), Some(true));
+    assert_eq!(rt; is_frame_of(rt.alloc(), NO_NAMES, request), Some(true));
 }
 
 fn two_names(alloc: Global) -> Result<Items<Text>, AllocError> {
@@ -105,7 +129,7 @@ fn asks_for_two_topics(rt: HostRuntime) -> Result<(), Fail> {
     let topics = Some(two_names(rt.alloc())?);
     let request = Request::Metadata(MetadataRequest { topics });
     assert!(rt; request.fits());
-    assert_eq!(rt; is_frame_of(rt.alloc(), TWO_TOPICS, &request), Some(true));
+    assert_eq!(rt; is_frame_of(rt.alloc(), TWO_TOPICS, request), Some(true));
     Ok(())
 }
 
@@ -179,7 +203,7 @@ fn both_refused(alloc: Global) -> Result<Items<TopicInfo>, AllocError> {
 /// The answer of these topics is this frame.
 fn tells(alloc: Global, correlation: i32, topics: Items<TopicInfo>, frame: &[u8]) -> Option<bool> {
     let reply = reply_of(alloc, topics).ok()?;
-    is_sent_as(alloc, correlation, &reply, frame)
+    is_sent_as(alloc, correlation, reply, frame)
 }
 
 #[test]
@@ -206,7 +230,11 @@ fn tells_refused_topics(rt: HostRuntime) -> Result<(), Fail> {
 fn fault(alloc: Global, bytes: &'static [u8]) -> Option<Malformed> {
     match read_request(alloc, &Bytes::from_static(bytes)) {
         Err(ReadFault::Malformed(malformed)) => Some(malformed),
-        _ => None,
+        Err(ReadFault::NoMemory) => None,
+        Ok((_header, request)) => {
+            drop(request);
+            None
+        }
     }
 }
 

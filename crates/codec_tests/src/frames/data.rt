@@ -42,7 +42,7 @@ fn list_offsets_request(rt: HostRuntime) -> Result<(), Fail> {
         isolation: Isolation::ReadUncommitted,
         topics: only_b(rt.alloc(), wanted)?,
     });
-    let is = is_frame_of(rt.alloc(), ASKS_THE_END, &request);
+    let is = is_frame_of(rt.alloc(), ASKS_THE_END, request);
     assert_eq!(rt; is, Some(true));
     Ok(())
 }
@@ -59,7 +59,7 @@ fn list_offsets_reply(rt: HostRuntime) -> Result<(), Fail> {
         throttle: 0,
         topics: only_b(rt.alloc(), found)?,
     });
-    let is = is_sent_as(rt.alloc(), 8, &reply, ENDS_AT_ZERO);
+    let is = is_sent_as(rt.alloc(), 8, reply, ENDS_AT_ZERO);
     assert_eq!(rt; is, Some(true));
     Ok(())
 }
@@ -72,7 +72,7 @@ fn produce_request(rt: HostRuntime) {
         timeout: 0,
         topics: Items::new(rt.alloc()),
     });
-    let is = is_frame_of(rt.alloc(), PRODUCES_NOTHING, &request);
+    let is = is_frame_of(rt.alloc(), PRODUCES_NOTHING, request);
     assert_eq!(rt; is, Some(true));
 }
 
@@ -86,14 +86,14 @@ fn nothing_produced(alloc: Global) -> ProduceReply {
 #[test]
 fn produce_reply(rt: HostRuntime) {
     let reply = Reply::Produce(nothing_produced(rt.alloc()));
-    let is = is_sent_as(rt.alloc(), 9, &reply, NOTHING_PRODUCED);
+    let is = is_sent_as(rt.alloc(), 9, reply, NOTHING_PRODUCED);
     assert_eq!(rt; is, Some(true));
 }
 
 #[test]
 fn a_silent_reply_has_no_bytes(rt: HostRuntime) {
     let reply = Reply::SilentProduce(nothing_produced(rt.alloc()));
-    assert_eq!(rt; is_sent_as(rt.alloc(), 9, &reply, b""), Some(true));
+    assert_eq!(rt; is_sent_as(rt.alloc(), 9, reply, b""), Some(true));
 }
 
 #[test]
@@ -111,7 +111,7 @@ fn fetch_request(rt: HostRuntime) -> Result<(), Fail> {
         isolation: Isolation::ReadUncommitted,
         topics: only_b(rt.alloc(), wanted)?,
     });
-    assert_eq!(rt; is_frame_of(rt.alloc(), FETCHES, &request), Some(true));
+    assert_eq!(rt; is_frame_of(rt.alloc(), FETCHES, request), Some(true));
     Ok(())
 }
 
@@ -129,7 +129,7 @@ fn fetch_reply(rt: HostRuntime) -> Result<(), Fail> {
         throttle: 0,
         topics: only_b(rt.alloc(), fetched)?,
     });
-    let is = is_sent_as(rt.alloc(), 7, &reply, NOTHING_FETCHED);
+    let is = is_sent_as(rt.alloc(), 7, reply, NOTHING_FETCHED);
     assert_eq!(rt; is, Some(true));
     Ok(())
 }

@@ -35,7 +35,7 @@ fn offset_fetch_request(rt: HostRuntime) -> Result<(), Fail> {
         topics: Some(only_b(rt.alloc(), 0)?),
         require_stable: true,
     });
-    let is = is_frame_of(rt.alloc(), ASKS_FOR_AN_OFFSET, &request);
+    let is = is_frame_of(rt.alloc(), ASKS_FOR_AN_OFFSET, request);
     assert_eq!(rt; is, Some(true));
     Ok(())
 }
@@ -57,7 +57,7 @@ fn offset_fetch_reply(rt: HostRuntime) -> Result<(), Fail> {
         topics: only_b(rt.alloc(), offset_five(rt.alloc())?)?,
         error: ErrorCode::None,
     });
-    assert_eq!(rt; is_sent_as(rt.alloc(), 6, &reply, OFFSET_FIVE), Some(true));
+    assert_eq!(rt; is_sent_as(rt.alloc(), 6, reply, OFFSET_FIVE), Some(true));
     Ok(())
 }
 
@@ -80,7 +80,7 @@ fn join_request(alloc: Global) -> Result<Request, AllocError> {
 #[test]
 fn join_group_request(rt: HostRuntime) -> Result<(), Fail> {
     let request = join_request(rt.alloc())?;
-    assert_eq!(rt; is_frame_of(rt.alloc(), JOINS, &request), Some(true));
+    assert_eq!(rt; is_frame_of(rt.alloc(), JOINS, request), Some(true));
     Ok(())
 }
 
@@ -108,6 +108,6 @@ fn join_reply(alloc: Global) -> Result<Reply, AllocError> {
 #[test]
 fn join_group_reply(rt: HostRuntime) -> Result<(), Fail> {
     let reply = join_reply(rt.alloc())?;
-    assert_eq!(rt; is_sent_as(rt.alloc(), 7, &reply, LEADS), Some(true));
+    assert_eq!(rt; is_sent_as(rt.alloc(), 7, reply, LEADS), Some(true));
     Ok(())
 }

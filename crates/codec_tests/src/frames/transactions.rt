@@ -47,7 +47,7 @@ fn add_partitions_request(rt: HostRuntime) -> Result<(), Fail> {
         epoch: 2,
         topics: only_b(rt.alloc(), 0)?,
     });
-    let is = is_frame_of(rt.alloc(), ADDS_A_PARTITION, &request);
+    let is = is_frame_of(rt.alloc(), ADDS_A_PARTITION, request);
     assert_eq!(rt; is, Some(true));
     Ok(())
 }
@@ -62,7 +62,7 @@ fn add_partitions_reply(rt: HostRuntime) -> Result<(), Fail> {
         throttle: 0,
         topics: only_b(rt.alloc(), added)?,
     });
-    assert_eq!(rt; is_sent_as(rt.alloc(), 5, &reply, ADDED), Some(true));
+    assert_eq!(rt; is_sent_as(rt.alloc(), 5, reply, ADDED), Some(true));
     Ok(())
 }
 
@@ -74,7 +74,7 @@ fn add_offsets_request(rt: HostRuntime) -> Result<(), Fail> {
         epoch: 2,
         group: Text::of(rt.alloc(), "g")?,
     });
-    assert_eq!(rt; is_frame_of(rt.alloc(), ADDS_A_GROUP, &request), Some(true));
+    assert_eq!(rt; is_frame_of(rt.alloc(), ADDS_A_GROUP, request), Some(true));
     Ok(())
 }
 
@@ -84,10 +84,7 @@ fn add_offsets_reply(rt: HostRuntime) {
         throttle: 0,
         error: ErrorCode::GroupAuthorizationFailed,
     });
-    assert_eq!(rt;
-        is_sent_as(rt.alloc(), 3, &reply, GROUP_REFUSED),
-        Some(true)
-    );
+    assert_eq!(rt; is_sent_as(rt.alloc(), 3, reply, GROUP_REFUSED), Some(true));
 }
 
 #[test]
@@ -98,7 +95,7 @@ fn end_txn_request(rt: HostRuntime) -> Result<(), Fail> {
         epoch: 2,
         committed: true,
     });
-    assert_eq!(rt; is_frame_of(rt.alloc(), COMMITS, &request), Some(true));
+    assert_eq!(rt; is_frame_of(rt.alloc(), COMMITS, request), Some(true));
     Ok(())
 }
 
@@ -108,7 +105,7 @@ fn end_txn_reply(rt: HostRuntime) {
         throttle: 0,
         error: ErrorCode::ConcurrentTransactions,
     });
-    assert_eq!(rt; is_sent_as(rt.alloc(), 6, &reply, UNDER_WAY), Some(true));
+    assert_eq!(rt; is_sent_as(rt.alloc(), 6, reply, UNDER_WAY), Some(true));
 }
 
 /// What commits the offset 5.
@@ -134,7 +131,7 @@ fn staging(alloc: Global) -> Result<Request, AllocError> {
 #[test]
 fn txn_offset_commit_request(rt: HostRuntime) -> Result<(), Fail> {
     let request = staging(rt.alloc())?;
-    let is = is_frame_of(rt.alloc(), COMMITS_AN_OFFSET, &request);
+    let is = is_frame_of(rt.alloc(), COMMITS_AN_OFFSET, request);
     assert_eq!(rt; is, Some(true));
     Ok(())
 }
@@ -150,7 +147,7 @@ fn txn_offset_commit_reply(rt: HostRuntime) -> Result<(), Fail> {
         topics: only_b(rt.alloc(), refused)?,
     });
     assert_eq!(rt;
-        is_sent_as(rt.alloc(), 4, &reply, GROUP_NOT_ADDED),
+        is_sent_as(rt.alloc(), 4, reply, GROUP_NOT_ADDED),
         Some(true)
     );
     Ok(())
@@ -163,6 +160,6 @@ fn what_answers_no_request_has_no_bytes(rt: HostRuntime) {
         Reply::Idle,
         Reply::Ticked { left: 3 },
     ] {
-        assert_eq!(rt; is_sent_as(rt.alloc(), 0, &reply, b""), Some(true));
+        assert_eq!(rt; is_sent_as(rt.alloc(), 0, reply, b""), Some(true));
     }
 }
