@@ -1,8 +1,8 @@
-//! Tests of the whole broker, which see what its callers see: events through the core, and scripts through the
-//! program's commands.
+//! Tests of the whole broker, which see what its callers see: events through the core, and the program's command over
+//! readers and writers that fail.
 #![tactic(auto)]
 
 #[cfg(test)]
-mod events;
+mod devices;
 #[cfg(test)]
-mod scripts;
+mod events;

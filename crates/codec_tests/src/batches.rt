@@ -3,6 +3,7 @@
 use bytes::Bytes;
 use record_batch::{Batch, BatchFault, Outcome, RecordAt, crc32c};
 use std::alloc::{AllocError, Global};
+use std::process::Abort;
 use wire_types::{ErrorCode, Items, write_varint};
 
 // One record with the value `a`.
@@ -57,6 +58,17 @@ fn fault_of(rt: &HostRuntime, bytes: &[u8], max: u32) -> Result<Option<BatchFaul
     })
 }
 
+/// The batch that the bytes are.
+fn batch_of(rt: &impl Abort, alloc: Global, bytes: &[u8]) -> Batch {
+    let bytes = Bytes::copy_from_slice(alloc, bytes).expect(rt, "memory");
+    Batch::check(bytes, 1_000).expect(rt, "a batch")
+}
+
+/// The marker of producer 7 in epoch 1 at the moment 1000.
+fn marker_of(rt: &impl Abort, alloc: Global, outcome: Outcome) -> Batch {
+    Batch::control(alloc, outcome, 7, 1, 1_000).expect(rt, "memory")
+}
+
 fn fault_of_change(
     rt: &HostRuntime,
     change: &[u8],
@@ -107,8 +119,7 @@ fn known_checksums(rt: HostRuntime) {
 
 #[test]
 fn one_record(rt: HostRuntime) {
-    let bytes = Bytes::copy_from_slice(rt.alloc(), &ONE).expect(&rt, "memory");
-    let batch = Batch::check(bytes, 69).expect(&rt, "a batch");
+    let batch = batch_of(&rt, rt.alloc(), &ONE);
     assert_eq!(rt; batch.batch_length(), 57);
     assert_eq!(rt; batch.magic(), 2);
     assert_eq!(rt; batch.crc(), 0xdbe9_c876);
@@ -118,6 +129,11 @@ fn one_record(rt: HostRuntime) {
     assert!(rt; !batch.is_control());
     assert!(rt; !batch.is_transactional());
     assert_eq!(rt; batch.marker(), None);
+}
+
+#[test]
+fn lengths(rt: HostRuntime) {
+    assert_eq!(rt; fault_of(&rt, &ONE, 69), Ok(None));
     assert_eq!(rt; fault_of(&rt, &ONE, 68), Ok(Some(BatchFault::TooLarge)));
     assert_eq!(rt; fault_of(&rt, &ONE[..68], 69), Ok(Some(BatchFault::Length)));
     assert_eq!(rt;
@@ -125,6 +141,10 @@ fn one_record(rt: HostRuntime) {
         Ok(Some(BatchFault::Invalid))
     );
     assert_eq!(rt; fault_of(&rt, &LONGER, 79), Ok(None));
+}
+
+#[test]
+fn codes(rt: HostRuntime) {
     assert_eq!(rt; BatchFault::Crc.code(), ErrorCode::CorruptMessage);
     assert_eq!(rt; BatchFault::Timestamp.code().number(), 32);
 }
@@ -260,8 +280,7 @@ fn record_parts(rt: HostRuntime) {
 
 #[test]
 fn fields(rt: HostRuntime) {
-    let bytes = Bytes::copy_from_slice(rt.alloc(), &RICH).expect(&rt, "memory");
-    let batch = Batch::check(bytes, 1_000).expect(&rt, "a batch");
+    let batch = batch_of(&rt, rt.alloc(), &RICH);
     assert_eq!(rt; batch.base_offset(), 40);
     assert_eq!(rt; batch.partition_leader_epoch(), 7);
     assert_eq!(rt; batch.last_offset_delta(), 2);
@@ -335,24 +354,34 @@ fn thousand_records(rt: HostRuntime) {
     }
 }
 
-#[test]
-fn another_offset(rt: HostRuntime) {
-    let bytes = Bytes::copy_from_slice(rt.alloc(), &ONE).expect(&rt, "memory");
-    let batch = Batch::check(bytes, 69).expect(&rt, "a batch");
-    let moved = batch.write_at(rt.alloc(), 5).expect(&rt, "memory");
+/// Whether the batch at offset 5 is `ONE` but for its offset.
+fn is_moved(alloc: Global, batch: &Batch) -> Result<bool, AllocError> {
+    let moved = batch.write_at(alloc, 5)?;
     let mut expected = ONE;
     expected[7] = 5;
-    assert_eq!(rt; moved.base_offset(), 5);
-    assert_eq!(rt; moved.bytes().as_slice(), expected.as_slice());
+    Ok(moved.base_offset() == 5 && moved.bytes().as_slice() == expected.as_slice())
+}
+
+#[test]
+fn another_offset(rt: HostRuntime) {
+    let batch = batch_of(&rt, rt.alloc(), &ONE);
+    assert_eq!(rt; is_moved(rt.alloc(), &batch), Ok(true));
+    let mut expected = ONE;
+    expected[7] = 5;
     assert_eq!(rt; fault_of(&rt, &expected, 69), Ok(None));
 }
 
 #[test]
 fn markers(rt: HostRuntime) {
-    let commit = Batch::control(rt.alloc(), Outcome::Commit, 7, 1, 1000).expect(&rt, "memory");
-    let abort = Batch::control(rt.alloc(), Outcome::Abort, 7, 1, 1000).expect(&rt, "memory");
+    let commit = marker_of(&rt, rt.alloc(), Outcome::Commit);
+    let abort = marker_of(&rt, rt.alloc(), Outcome::Abort);
     assert_eq!(rt; commit.bytes().as_slice(), COMMIT.as_slice());
     assert_eq!(rt; abort.bytes().as_slice(), ABORT.as_slice());
+    assert_eq!(rt; commit.marker(), Some(Outcome::Commit));
     assert_eq!(rt; abort.marker(), Some(Outcome::Abort));
+}
+
+#[test]
+fn a_marker_from_outside_is_invalid(rt: HostRuntime) {
     assert_eq!(rt; fault_of(&rt, &COMMIT, 78), Ok(Some(BatchFault::Invalid)));
 }

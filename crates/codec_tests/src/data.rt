@@ -1,27 +1,11 @@
 //! Bodies of the requests and replies for records and topics, as they travel.
 
+use crate::bodies::{read, written};
 use msg_data::{
     Isolation, ListOffsetsReply, ListOffsetsRequest, MetadataReply, ProduceRequest, TopicInfo,
 };
-use std::alloc::Global;
 use std::test::Fail;
-use wire_types::{Cursor, ErrorCode, Malformed, ReadFault, Wire, WriteFault};
-
-/// A value that fills the bytes, if they are one.
-fn read<T: Wire>(alloc: Global, bytes: &[u8]) -> Result<T, ReadFault> {
-    let mut cursor = Cursor::new(bytes);
-    let value = T::read(alloc, &mut cursor)?;
-    if cursor.len() != 0 {
-        return Err(ReadFault::Malformed(Malformed::Rest));
-    }
-    Ok(value)
-}
-
-fn written<T: Wire>(alloc: Global, value: &T) -> Result<Vec<u8>, WriteFault> {
-    let mut out = Vec::new(alloc);
-    value.write(&mut out)?;
-    Ok(out)
-}
+use wire_types::{ErrorCode, Malformed, ReadFault};
 
 #[test]
 fn metadata_of_one_topic(rt: HostRuntime) -> Result<(), Fail> {

@@ -7,6 +7,8 @@ mod acls;
 #[cfg(test)]
 mod batches;
 #[cfg(test)]
+mod bodies;
+#[cfg(test)]
 mod data;
 #[cfg(test)]
 mod frames;

@@ -5,9 +5,7 @@ use acl_binding::Caller;
 use audit_trail::Receipt;
 use bytes::Bytes;
 use msg_admin::{Reply, Request};
-use msg_data::{
-    FetchPartition, FetchRequest, FetchedRecords, Isolation, ProduceRequest, ProducedRecords,
-};
+use msg_data::{FetchPartition, FetchRequest, Isolation, ProduceRequest, ProducedRecords};
 use request_handlers::Core;
 use std::alloc::{AllocError, Global};
 use std::test::Fail;
@@ -77,7 +75,13 @@ fn produced(
         topics: only(alloc, name, part).ok()?,
     });
     let receipt = ask(core, root, request)?;
-    let Reply::Produce(reply) = receipt.reply.value() else {
+    let told = told_of_one(receipt.reply.value());
+    drop(receipt);
+    told
+}
+
+fn told_of_one(reply: &Reply) -> Option<(ErrorCode, i64)> {
+    let Reply::Produce(reply) = reply else {
         return None;
     };
     let part = reply.topics.get(0)?.partitions.get(0)?;
@@ -106,14 +110,17 @@ fn fetched(
         topics: only(alloc, "b", part).ok()?,
     });
     let receipt = ask(core, root, request)?;
-    let Reply::Fetch(reply) = receipt.reply.value() else {
-        return None;
-    };
-    Some(told(reply.topics.get(0)?.partitions.get(0)?))
+    let served = served_of_one(receipt.reply.value());
+    drop(receipt);
+    served
 }
 
-fn told(part: &FetchedRecords) -> (ErrorCode, i64, usize) {
-    (part.error, part.high_watermark, part.records.len())
+fn served_of_one(reply: &Reply) -> Option<(ErrorCode, i64, usize)> {
+    let Reply::Fetch(reply) = reply else {
+        return None;
+    };
+    let part = reply.topics.get(0)?.partitions.get(0)?;
+    Some((part.error, part.high_watermark, part.records.len()))
 }
 
 #[test]

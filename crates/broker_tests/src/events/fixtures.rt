@@ -73,6 +73,7 @@ pub(crate) fn asking(caller: Caller, request: Request) -> Option<Event>
     ensures { IfSome result EventFits }
 {
     if !request.fits() {
+        drop((caller, request));
         return None;
     }
     Some(Event::Ask {
@@ -88,6 +89,7 @@ pub(crate) fn asked(alloc: Global, caller: Caller, frame: &Bytes) -> Option<(i32
 {
     let (header, request) = read_request(alloc, frame).ok()?;
     if !request.fits() {
+        drop((caller, header, request));
         return None;
     }
     let client = header.client;
@@ -111,7 +113,9 @@ pub(crate) fn answer(
     let caller = caller(alloc, who, host).ok()?;
     let (correlation, event) = asked(alloc, caller, &frame)?;
     let receipt = core.step(event).ok()?;
-    write_reply(alloc, correlation, receipt.reply.value()).ok()
+    let frame = write_reply(alloc, correlation, receipt.reply.value());
+    drop(receipt);
+    frame.ok()
 }
 
 pub(crate) fn is(answer: Option<Bytes>, bytes: &[u8]) -> bool {

@@ -113,7 +113,9 @@ fn take_one(
 ) -> Result<bool, Fail> {
     let receipt = taken(alloc, core, line)?;
     draws.learn(&receipt);
-    seen.see(alloc, core, receipt.event.value(), receipt.reply.value())
+    let is_right = seen.see(alloc, core, receipt.event.value(), receipt.reply.value());
+    drop(receipt);
+    is_right
 }
 
 /// Draws a thousand lines and takes each, and tells which has an answer that is not right.

@@ -1,0 +1,96 @@
+#!/usr/bin/env python3
+"""Scripts of a line or two: what is read as a request, a mark or a tick, and how a run ends that ends early.
+
+What a run prints is compared byte for byte, with its status; and standard error says something where it ends early,
+and nothing else.
+"""
+
+import subprocess
+import sys
+
+from program import PROGRAM
+
+# Settings without topics, and a trail of two events.
+SETTINGS = b'node_id = 1\nhost = "h"\nport = 9092\ntrail_limit = 2\n'
+
+# A request for all topics, and its answer.
+ASK = b"req ann h 0000000e0003000100000001ffffffffffff\n"
+ANSWER = b"0000001d00000001000000010000000100016800002384ffff0000000100000000\n"
+CLOSED = b"closed\n"
+UNSENT = b"-\n"
+UNREADABLE = b"line 1: unreadable\n"
+
+# The lines behind the settings, and what is printed for them.
+ANSWERED = (
+    (b"", b""),
+    (b"---", b""),
+    (b"---\n", b""),
+    (b"---\nreq ann h 00000000\n", CLOSED),
+    (b"---\nreq ann h 00000001ff\n", CLOSED),
+    (b"---\nmark\n", UNSENT),
+    # moments are read up to the greatest number of 64 bits
+    (b"---\ntick 0\n", UNSENT),
+    (b"---\ntick 007\n", UNSENT),
+    (b"---\ntick 18446744073709551615\n", UNSENT),
+    # a last line without its feed, and digits in upper case
+    (b"---\n" + ASK.rstrip(), ANSWER),
+    (b"---\nreq ann h 0000000E0003000100000001FFFFffffffff\n", ANSWER),
+)
+
+# The same of runs that end early.
+ENDED = (
+    (b"---\n\n", UNREADABLE),
+    (b"---\nreq ann h 00\n", UNREADABLE),
+    (b"---\nreq ann h 0000000\n", UNREADABLE),
+    (b"---\nreq ann h 00000001\n", UNREADABLE),
+    (b"---\nreq ann h 0000000000\n", UNREADABLE),
+    (b"---\nreq ann  h 00000000\n", UNREADABLE),
+    (b"---\nreq ann h 00000000 \n", UNREADABLE),
+    (b"---\nmark 1\n", UNREADABLE),
+    (b"---\nmark \n", UNREADABLE),
+    (b"---\nMark\n", UNREADABLE),
+    (b"---\ntick\n", UNREADABLE),
+    (b"---\ntick \n", UNREADABLE),
+    (b"---\ntick 18446744073709551616\n", UNREADABLE),
+    (b"---\ntick -1\n", UNREADABLE),
+    (b"---\ntick +1\n", UNREADABLE),
+    (b"---\ntick 1x\n", UNREADABLE),
+    (b"---\ntick 1 2\n", UNREADABLE),
+    (b"---\ntick  1\n", UNREADABLE),
+    (b"---\ntick 1 \n", UNREADABLE),
+    (b"---\n" + ASK + b"req ann h 00", ANSWER + b"line 2: unreadable\n"),
+    # the trail is full
+    (b"---\n" + ASK + ASK + ASK, ANSWER + ANSWER + b"stop 2\n"),
+)
+
+# Settings with a fault, and the first one that is told.
+REFUSED = (
+    (b"", b"Key"),
+    (b"=", b"Toml"),
+    (b'host = "\xff"\n', b"Toml"),
+    (b'node_id = 1\nhost = "h"\nport = 0\n---\nreq', b"Range"),
+)
+
+
+def cases():
+    """Each input with what it prints and its status."""
+    for lines, printed in ANSWERED:
+        yield SETTINGS + lines, printed, 0
+    for lines, printed in ENDED:
+        yield SETTINGS + lines, printed, 1
+    for settings, fault in REFUSED:
+        yield settings, b"settings refused: " + fault + b"\n", 1
+
+
+def main():
+    seen = 0
+    for given, printed, status in cases():
+        run = subprocess.run([PROGRAM, "replay"], input=given, capture_output=True, timeout=60)
+        if (run.stdout, run.returncode, bool(run.stderr)) != (printed, status, status != 0):
+            sys.exit(f"lines: {given} printed {run.stdout} with {run.returncode}: {run.stderr}")
+        seen += 1
+    print(f"lines: {seen} scripts of a line or two are answered as they should be")
+
+
+if __name__ == "__main__":
+    main()
