@@ -57,11 +57,7 @@ fn step(alloc: Global, core: &mut Core, correlation: i32, event: Event) -> Resul
     ensures { IfOk result (Turns (step_turn core.old correlation event) core.new) }
 {
     match core.step(event) {
-        Ok(receipt) => {
-            let text = receipt_text(alloc, core, correlation, &receipt);
-            drop(receipt);
-            Ok(Turn::Goes(text?))
-        }
+        Ok(receipt) => Ok(Turn::Goes(receipt_text(alloc, core, correlation, &receipt)?)),
         Err(Stop::NoMemory) => Err(AllocError),
         Err(stop) => Ok(Turn::Ends(String::from_str(alloc, stop_text(stop))?, Cause::Stop(stop))),
     }
