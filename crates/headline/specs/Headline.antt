@@ -1,5 +1,6 @@
 -- The headline, joined: what one event comes to, behind any list of events.
 use Rattle.std.specs.Prelude.{◌≡◌, ℕ, pos, false, List, [], ◌∷◌, ◌++◌, length, Option, Some, slice_get}
+use Rattle.std.specs.List.{AllByRecursion}
 use Rattle.wire_types.specs.declared.error_code.ErrorCode.TheVariants as codes
 use Rattle.wire_types.specs.declared.topic.Topic.{Topic}
 use Rattle.acl_binding.specs.declared.question.Caller.{Caller}
@@ -20,14 +21,16 @@ use Rattle.request_handlers.specs.declared.stop.Stop.{Stop}
 use Rattle.broker_world.specs.World.{World, rules_of}
 use Rattle.broker_world.specs.First.{first_world}
 use Rattle.api_laws.specs.ReadLaws.{ShowsCommitted}
-use Rattle.request_handlers.specs.Step.{reply_to, refusals_of, reached}
+use Rattle.request_handlers.specs.Step.{refusals_of}
 use Rattle.request_handlers.specs.Core.{CoreValue, IsCore, entry_of, events_of, advanced, receipt_of, Ran}
 use Rattle.tenant_laws.specs.Laws.{request_refusals}
+use Rattle.plain_broker.specs.Events.{told, left_by}
+use Rattle.plain_broker.specs.Named.{IsRightRefusal}
 
--- the world in which an event is taken: where the events before it lead from the settings on. Its book is the binding
--- list in force.
+-- the world in which an event is taken: where the plain broker leads with the allowed part of each event before it, from
+-- the settings on. Its book is the binding list in force.
 abbrev pub behind : Settings → List Event → World
-behind s before = reached (first_world s) before
+behind s before = left_by (first_world s) before
 
 -- ---- a read_committed fetch
 
@@ -45,9 +48,11 @@ pub record IsAnswered (s : Settings) (before : List Event) (e : Event) (r : Rece
   pub place : r.place ≡ length before
   pub event : r.event ≡ e
   -- the plain broker's answer to exactly what the binding list in force allows, with each other part's code at its place
-  pub reply : r.reply ≡ reply_to (behind s before) e
+  pub reply : r.reply ≡ (told (behind s before) e).reply
   -- each part that isn't allowed is refused, in order, by the first of its questions that the binding list doesn't grant
   pub refused : (caller : Caller) (client : Option (List ℕ)) (request : Request) → e ≡ Ask caller client request → refusals_of (behind s before) e ≡ request_refusals (rules_of (behind s before)) caller request
+  -- and each refusal names the first of the bindings that deny its question, whatever allows it, or that nothing allowed it
+  pub named : (caller : Caller) (client : Option (List ℕ)) (request : Request) → e ≡ Ask caller client request → AllByRecursion (IsRightRefusal (rules_of (behind s before))) (refusals_of (behind s before) e)
   pub committed : FetchShowsCommitted (behind s before) e r.reply
 
 -- An event that a core takes: the answer, the world that is left, and the entry of the trail, in which the refusals stand.

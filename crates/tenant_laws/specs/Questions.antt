@@ -47,6 +47,34 @@ use Rattle.acl_handlers.specs.CreateAcls.{alter_questions}
 abbrev pub fetch_questions : Caller → List ℕ → List Question
 fetch_questions caller name = asked caller operations.Read kinds.Topic name ∷ []
 
+-- what the request itself asks; nothing, where its parts are asked for alone
+abbrev pub asks_itself : Caller → Request → List Question
+asks_itself caller (requests.OffsetFetch r) = group_question caller r.group ∷ []
+asks_itself caller (requests.FindCoordinator r) = find_questions caller (kind_of r.key_type) r.key
+asks_itself caller (requests.JoinGroup r) = read_question caller r.group ∷ []
+asks_itself caller (requests.Heartbeat r) = read_question caller r.group ∷ []
+asks_itself caller (requests.LeaveGroup r) = read_question caller r.group ∷ []
+asks_itself caller (requests.SyncGroup r) = read_question caller r.group ∷ []
+asks_itself caller (requests.InitProducerId r) = init_question caller r.transactional_id ∷ []
+asks_itself caller (requests.AddOffsetsToTxn r) = add_offsets_questions caller r.transactional_id r.group
+asks_itself caller (requests.EndTxn r) = id_question caller r.transactional_id ∷ []
+asks_itself caller (requests.DescribeAcls r) = describe_acls_questions caller
+asks_itself caller (requests.CreateAcls r) = alter_questions caller
+asks_itself caller (requests.DeleteAcls r) = alter_questions caller
+asks_itself caller request = []
+
+-- what each of its parts asks that is of the topic of this name: a partition, or in Metadata the topic
+abbrev pub asks_at : Caller → Request → List ℕ → List Question
+asks_at caller (requests.Produce r) name = produce_questions caller r.transactional_id name
+asks_at caller (requests.Fetch r) name = fetch_questions caller name
+asks_at caller (requests.ListOffsets r) name = topic_part caller name
+asks_at caller (requests.Metadata r) name = topic_part caller name
+asks_at caller (requests.OffsetCommit r) name = commit_questions caller r.group name
+asks_at caller (requests.OffsetFetch r) name = topic_part caller name
+asks_at caller (requests.AddPartitionsToTxn r) name = add_questions caller r.transactional_id name
+asks_at caller (requests.TxnOffsetCommit r) name = stage_questions caller (staging r) name
+asks_at caller request name = []
+
 -- each partition is a part, and asks by its topic
 abbrev pub partition_parts : {P : Type 0} → (List ℕ → List Question) → List (Topic P) → List (List Question)
 partition_parts {P} asks ts = flat_map (λ (t : Topic P). map (λ (p : P). asks t.name) t.partitions) ts
@@ -62,25 +90,15 @@ offset_parts caller (Some ts) = partition_parts (topic_part caller) ts
 
 -- what each part of the request asks, in order
 abbrev pub parts_of : Caller → Request → List (List Question)
-parts_of caller (requests.Produce r) = partition_parts (produce_questions caller r.transactional_id) r.topics
-parts_of caller (requests.Fetch r) = partition_parts (fetch_questions caller) r.topics
-parts_of caller (requests.ListOffsets r) = partition_parts (topic_part caller) r.topics
+parts_of caller (requests.Produce r) = partition_parts (asks_at caller (requests.Produce r)) r.topics
+parts_of caller (requests.Fetch r) = partition_parts (asks_at caller (requests.Fetch r)) r.topics
+parts_of caller (requests.ListOffsets r) = partition_parts (asks_at caller (requests.ListOffsets r)) r.topics
 parts_of caller (requests.Metadata r) = topic_parts caller r.topics
-parts_of caller (requests.OffsetCommit r) = partition_parts (commit_questions caller r.group) r.topics
-parts_of caller (requests.OffsetFetch r) = (group_question caller r.group ∷ []) ∷ offset_parts caller r.topics
-parts_of caller (requests.FindCoordinator r) = find_questions caller (kind_of r.key_type) r.key ∷ []
-parts_of caller (requests.JoinGroup r) = (read_question caller r.group ∷ []) ∷ []
-parts_of caller (requests.Heartbeat r) = (read_question caller r.group ∷ []) ∷ []
-parts_of caller (requests.LeaveGroup r) = (read_question caller r.group ∷ []) ∷ []
-parts_of caller (requests.SyncGroup r) = (read_question caller r.group ∷ []) ∷ []
-parts_of caller (requests.InitProducerId r) = (init_question caller r.transactional_id ∷ []) ∷ []
-parts_of caller (requests.AddPartitionsToTxn r) = partition_parts (add_questions caller r.transactional_id) r.topics
-parts_of caller (requests.AddOffsetsToTxn r) = add_offsets_questions caller r.transactional_id r.group ∷ []
-parts_of caller (requests.EndTxn r) = (id_question caller r.transactional_id ∷ []) ∷ []
-parts_of caller (requests.TxnOffsetCommit r) = partition_parts (stage_questions caller (staging r)) r.topics
-parts_of caller (requests.DescribeAcls r) = describe_acls_questions caller ∷ []
-parts_of caller (requests.CreateAcls r) = alter_questions caller ∷ []
-parts_of caller (requests.DeleteAcls r) = alter_questions caller ∷ []
+parts_of caller (requests.OffsetCommit r) = partition_parts (asks_at caller (requests.OffsetCommit r)) r.topics
+parts_of caller (requests.OffsetFetch r) = asks_itself caller (requests.OffsetFetch r) ∷ offset_parts caller r.topics
+parts_of caller (requests.AddPartitionsToTxn r) = partition_parts (asks_at caller (requests.AddPartitionsToTxn r)) r.topics
+parts_of caller (requests.TxnOffsetCommit r) = partition_parts (asks_at caller (requests.TxnOffsetCommit r)) r.topics
+parts_of caller request = asks_itself caller request ∷ []
 
 -- all questions of all parts
 abbrev pub questions_of : Caller → Request → List Question

@@ -1,0 +1,13 @@
+pub mod Terms
+pub mod Freed
+pub mod Walking
+pub mod Walks
+pub mod Wholes
+pub mod Nulls
+pub mod Cuts
+pub mod Together
+pub mod Listed
+pub mod Bare
+pub mod Exact
+pub mod Again
+pub mod Named
