@@ -1,5 +1,5 @@
 -- The allowed part holds exactly the parts whose questions are all granted, and what a refused one is answered.
-use Rattle.std.specs.Prelude.{◌≡◌, ℕ, ℤ, pos, negsuc, Bool, false, List, [], ◌∷◌, map, filter, Option, Some, None, is_none}
+use Rattle.std.specs.Prelude.{◌≡◌, ℕ, ℤ, pos, negsuc, Bool, false, List, [], ◌∷◌, map, filter, Some, None, is_none}
 use Rattle.acl_binding.specs.declared.question.Caller.{Caller}
 use Rattle.acl_binding.specs.declared.question.Question.{Question}
 use Rattle.authorizer.specs.declared.answer.Refusal.{Refusal}

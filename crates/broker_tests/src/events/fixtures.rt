@@ -6,7 +6,7 @@ ghost use Rattle.request_handlers.specs.Core.{EventFits};
 use acl_binding::{Binding, Caller, Kind, Operation, Pattern, Permission};
 use audit_trail::Event;
 use bytes::Bytes;
-use msg_admin::{Request, read_request, write_reply};
+use msg_admin::{Request, read_request};
 use request_handlers::Core;
 use settings::{OpenFault, Settings, TopicSetting};
 use std::alloc::{AllocError, Global};
@@ -99,28 +99,4 @@ pub(crate) fn asked(alloc: Global, caller: Caller, frame: &Bytes) -> Option<(i32
         request,
     };
     Some((header.correlation, event))
-}
-
-/// What the core answers to a frame, which is given without its size field.
-pub(crate) fn answer(
-    alloc: Global,
-    core: &mut Core,
-    who: &str,
-    host: &str,
-    frame: &[u8],
-) -> Option<Bytes> {
-    let frame = Bytes::copy_from_slice(alloc, frame).ok()?;
-    let caller = caller(alloc, who, host).ok()?;
-    let (correlation, event) = asked(alloc, caller, &frame)?;
-    let receipt = core.step(event).ok()?;
-    let frame = write_reply(alloc, correlation, receipt.reply.value());
-    drop(receipt);
-    frame.ok()
-}
-
-pub(crate) fn is(answer: Option<Bytes>, bytes: &[u8]) -> bool {
-    match answer {
-        Some(answer) => answer.as_slice() == bytes,
-        None => false,
-    }
 }
