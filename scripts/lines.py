@@ -20,6 +20,19 @@ CLOSED = b"closed\n"
 UNSENT = b"-\n"
 UNREADABLE = b"line 1: unreadable\n"
 
+# What is no frame of a request that is served, without its size field.
+UNSERVED = (
+    "0063",
+    "006300",
+    "00630001",  # no such api
+    "00030002",  # an api in a version that isn't served
+    "0003000100000001",  # without a client
+    "000300010000000100 01ff ffffffff",  # a client that is no UTF-8
+    "0003000100000001ffff 7fffffff 0000",  # a count above the bytes left
+    "0003000100000001ffff fffffffe",  # a count below that of no list
+    "0003000100000001ffff ffffffff 00",  # a byte behind the request
+)
+
 # The lines behind the settings, and what is printed for them.
 ANSWERED = (
     (b"", b""),
@@ -74,6 +87,10 @@ REFUSED = (
 
 def cases():
     """Each input with what it prints and its status."""
+    for words in UNSERVED:
+        frame = bytes.fromhex(words)
+        size = len(frame).to_bytes(4, "big")
+        yield SETTINGS + b"---\nreq ann h " + (size + frame).hex().encode(), CLOSED, 0
     for lines, printed in ANSWERED:
         yield SETTINGS + lines, printed, 0
     for lines, printed in ENDED:

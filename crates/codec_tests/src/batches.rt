@@ -1,31 +1,16 @@
 //! Vectors from outside: checksums of RFC 3720, and batches that another encoder made.
 
 use bytes::Bytes;
-use record_batch::{Batch, BatchFault, Outcome, RecordAt, crc32c};
+use record_batch::{Batch, Outcome, RecordAt, crc32c};
 use std::alloc::{AllocError, Global};
 use std::process::Abort;
-use wire_types::{ErrorCode, Items, write_varint};
+use wire_types::{Items, write_varint};
 
 // One record with the value `a`.
 const ONE: [u8; 69] = [
     0, 0, 0, 0, 0, 0, 0, 0, 0, 0, 0, 57, 0, 0, 0, 0, 2, 219, 233, 200, 118, 0, 0, 0, 0, 0, 0, 0, 0,
     0, 0, 0, 0, 0, 0, 0, 0, 0, 0, 0, 0, 0, 0, 255, 255, 255, 255, 255, 255, 255, 255, 255, 255,
     255, 255, 255, 255, 0, 0, 0, 1, 14, 0, 0, 0, 1, 2, 97, 0,
-];
-
-// The same, with a byte behind the record.
-const LEFT_OVER: [u8; 70] = [
-    0, 0, 0, 0, 0, 0, 0, 0, 0, 0, 0, 58, 0, 0, 0, 0, 2, 5, 159, 9, 124, 0, 0, 0, 0, 0, 0, 0, 0, 0,
-    0, 0, 0, 0, 0, 0, 0, 0, 0, 0, 0, 0, 0, 255, 255, 255, 255, 255, 255, 255, 255, 255, 255, 255,
-    255, 255, 255, 0, 0, 0, 1, 14, 0, 0, 0, 1, 2, 97, 0, 0,
-];
-
-// The same record, each of its numbers in more bytes than needed.
-const LONGER: [u8; 79] = [
-    0, 0, 0, 0, 0, 0, 0, 0, 0, 0, 0, 67, 0, 0, 0, 0, 2, 251, 240, 7, 213, 0, 0, 0, 0, 0, 0, 0, 0,
-    0, 0, 0, 0, 0, 0, 0, 0, 0, 0, 0, 0, 0, 0, 255, 255, 255, 255, 255, 255, 255, 255, 255, 255,
-    255, 255, 255, 255, 0, 0, 0, 1, 160, 0, 0, 128, 0, 128, 128, 0, 129, 128, 128, 128, 0, 130, 0,
-    97, 128, 0,
 ];
 
 // From offset 40: the key `k`, no value, headers `h` of `v` and ff of null; no key and an empty value; an empty key
@@ -50,14 +35,6 @@ const ABORT: [u8; 78] = [
     0, 0, 0, 1, 32, 0, 0, 0, 8, 0, 0, 0, 0, 12, 0, 0, 0, 0, 0, 0, 0,
 ];
 
-fn fault_of(rt: &HostRuntime, bytes: &[u8], max: u32) -> Result<Option<BatchFault>, AllocError> {
-    let bytes = Bytes::copy_from_slice(rt.alloc(), bytes)?;
-    Ok(match Batch::check(bytes, max) {
-        Ok(_) => None,
-        Err(fault) => Some(fault),
-    })
-}
-
 /// The batch that the bytes are.
 fn batch_of(rt: &impl Abort, alloc: Global, bytes: &[u8]) -> Batch {
     let bytes = Bytes::copy_from_slice(alloc, bytes).expect(rt, "memory");
@@ -69,36 +46,11 @@ fn marker_of(rt: &impl Abort, alloc: Global, outcome: Outcome) -> Batch {
     Batch::control(alloc, outcome, 7, 1, 1_000).expect(rt, "memory")
 }
 
-fn fault_of_change(
-    rt: &HostRuntime,
-    change: &[u8],
-    at: u8,
-    crc: u32,
-) -> Result<Option<BatchFault>, AllocError> {
-    fault_of(rt, &changed(change, at, crc), 69)
-}
-
 fn is_text(bytes: &Option<Bytes>, text: &[u8]) -> bool {
     match bytes {
         Some(bytes) => bytes.as_slice() == text,
         None => false,
     }
-}
-
-// `ONE` with some bytes changed from a place on, and with this checksum.
-fn changed(change: &[u8], at: u8, crc: u32) -> [u8; 69] {
-    let mut bytes = ONE;
-    for i in 0..change.len().min(69) {
-        if let Some(byte) = bytes.get_mut(usize::from(at) + i) {
-            *byte = change[i];
-        }
-    }
-    let crc = crc.to_be_bytes();
-    bytes[17] = crc[0];
-    bytes[18] = crc[1];
-    bytes[19] = crc[2];
-    bytes[20] = crc[3];
-    bytes
 }
 
 #[test]
@@ -129,153 +81,6 @@ fn one_record(rt: HostRuntime) {
     assert!(rt; !batch.is_control());
     assert!(rt; !batch.is_transactional());
     assert_eq!(rt; batch.marker(), None);
-}
-
-#[test]
-fn lengths(rt: HostRuntime) {
-    assert_eq!(rt; fault_of(&rt, &ONE, 69), Ok(None));
-    assert_eq!(rt; fault_of(&rt, &ONE, 68), Ok(Some(BatchFault::TooLarge)));
-    assert_eq!(rt; fault_of(&rt, &ONE[..68], 69), Ok(Some(BatchFault::Length)));
-    assert_eq!(rt;
-        fault_of(&rt, &LEFT_OVER, 70),
-        Ok(Some(BatchFault::Invalid))
-    );
-    assert_eq!(rt; fault_of(&rt, &LONGER, 79), Ok(None));
-}
-
-#[test]
-fn codes(rt: HostRuntime) {
-    assert_eq!(rt; BatchFault::Crc.code(), ErrorCode::CorruptMessage);
-    assert_eq!(rt; BatchFault::Timestamp.code().number(), 32);
-}
-
-#[test]
-fn each_byte_counts(rt: HostRuntime) {
-    let mut bytes = ONE;
-    for at in 21..69 {
-        bytes[at] ^= 1;
-        assert_eq!(rt; fault_of(&rt, &bytes, 69), Ok(Some(BatchFault::Crc)));
-        bytes[at] ^= 1;
-    }
-    bytes[16] = 1;
-    assert_eq!(rt; fault_of(&rt, &bytes, 69), Ok(Some(BatchFault::Magic)));
-}
-
-#[test]
-fn attribute_bits(rt: HostRuntime) {
-    // compression comes before the control bit, and that before the timestamp's type
-    assert_eq!(rt;
-        fault_of_change(&rt, &[0, 4], 21, 0xe225_a3f7),
-        Ok(Some(BatchFault::Compressed))
-    );
-    assert_eq!(rt;
-        fault_of_change(&rt, &[0, 33], 21, 0x5f6e_e5d3),
-        Ok(Some(BatchFault::Compressed))
-    );
-    assert_eq!(rt;
-        fault_of_change(&rt, &[0, 32], 21, 0x1066_e28f),
-        Ok(Some(BatchFault::Invalid))
-    );
-    assert_eq!(rt;
-        fault_of_change(&rt, &[0, 40], 21, 0x63fe_358d),
-        Ok(Some(BatchFault::Invalid))
-    );
-    assert_eq!(rt;
-        fault_of_change(&rt, &[0, 8], 21, 0xa871_1f74),
-        Ok(Some(BatchFault::Timestamp))
-    );
-    // the other bits say nothing
-    assert_eq!(rt;
-        fault_of_change(&rt, &[127, 192], 21, 0x832c_fc4b),
-        Ok(None)
-    );
-}
-
-#[test]
-fn counts(rt: HostRuntime) {
-    assert_eq!(rt;
-        fault_of_change(&rt, &[0, 0, 0, 1], 23, 0x49b2_e3e7),
-        Ok(Some(BatchFault::Invalid))
-    );
-    assert_eq!(rt;
-        fault_of_change(&rt, &[0, 0, 0, 2], 57, 0xc246_c45f),
-        Ok(Some(BatchFault::Invalid))
-    );
-    assert_eq!(rt;
-        fault_of_change(&rt, &[0, 0, 0, 0], 57, 0x2fd7_1e3e),
-        Ok(Some(BatchFault::Invalid))
-    );
-}
-
-#[test]
-fn producers(rt: HostRuntime) {
-    // below -1; none, but a transaction; without an epoch; without a sequence; whole
-    assert_eq!(rt;
-        fault_of_change(
-            &rt,
-            &[255, 255, 255, 255, 255, 255, 255, 254],
-            43,
-            0x62d2_8491
-        ),
-        Ok(Some(BatchFault::Invalid))
-    );
-    assert_eq!(rt;
-        fault_of_change(&rt, &[0, 16], 21, 0x3cd8_6672),
-        Ok(Some(BatchFault::Invalid))
-    );
-    assert_eq!(rt;
-        fault_of_change(
-            &rt,
-            &[0, 0, 0, 0, 0, 0, 0, 0, 255, 255, 0, 0, 0, 0],
-            43,
-            0x8480_02d0
-        ),
-        Ok(Some(BatchFault::Invalid))
-    );
-    assert_eq!(rt;
-        fault_of_change(
-            &rt,
-            &[0, 0, 0, 0, 0, 0, 0, 0, 0, 0, 255, 255, 255, 255],
-            43,
-            0x9177_b0d9
-        ),
-        Ok(Some(BatchFault::Invalid))
-    );
-    assert_eq!(rt;
-        fault_of_change(
-            &rt,
-            &[0, 0, 0, 0, 0, 0, 0, 0, 0, 0, 0, 0, 0, 0],
-            43,
-            0x2cf8_d5cc
-        ),
-        Ok(None)
-    );
-}
-
-#[test]
-fn record_parts(rt: HostRuntime) {
-    // attributes, offset delta, two lengths, a key of -2 bytes, -1 headers
-    assert_eq!(rt; fault_of_change(&rt, &[85], 62, 0xf0e6_dcb3), Ok(None));
-    assert_eq!(rt;
-        fault_of_change(&rt, &[2], 64, 0xabcb_172e),
-        Ok(Some(BatchFault::Invalid))
-    );
-    assert_eq!(rt;
-        fault_of_change(&rt, &[12], 61, 0x4991_3238),
-        Ok(Some(BatchFault::Invalid))
-    );
-    assert_eq!(rt;
-        fault_of_change(&rt, &[16], 61, 0xaec1_bd3b),
-        Ok(Some(BatchFault::Invalid))
-    );
-    assert_eq!(rt;
-        fault_of_change(&rt, &[3], 65, 0x648e_ebf7),
-        Ok(Some(BatchFault::Invalid))
-    );
-    assert_eq!(rt;
-        fault_of_change(&rt, &[1], 68, 0x2982_4b75),
-        Ok(Some(BatchFault::Invalid))
-    );
 }
 
 #[test]
@@ -354,23 +159,6 @@ fn thousand_records(rt: HostRuntime) {
     }
 }
 
-/// Whether the batch at offset 5 is `ONE` but for its offset.
-fn is_moved(alloc: Global, batch: &Batch) -> Result<bool, AllocError> {
-    let moved = batch.write_at(alloc, 5)?;
-    let mut expected = ONE;
-    expected[7] = 5;
-    Ok(moved.base_offset() == 5 && moved.bytes().as_slice() == expected.as_slice())
-}
-
-#[test]
-fn another_offset(rt: HostRuntime) {
-    let batch = batch_of(&rt, rt.alloc(), &ONE);
-    assert_eq!(rt; is_moved(rt.alloc(), &batch), Ok(true));
-    let mut expected = ONE;
-    expected[7] = 5;
-    assert_eq!(rt; fault_of(&rt, &expected, 69), Ok(None));
-}
-
 #[test]
 fn markers(rt: HostRuntime) {
     let commit = marker_of(&rt, rt.alloc(), Outcome::Commit);
@@ -379,9 +167,4 @@ fn markers(rt: HostRuntime) {
     assert_eq!(rt; abort.bytes().as_slice(), ABORT.as_slice());
     assert_eq!(rt; commit.marker(), Some(Outcome::Commit));
     assert_eq!(rt; abort.marker(), Some(Outcome::Abort));
-}
-
-#[test]
-fn a_marker_from_outside_is_invalid(rt: HostRuntime) {
-    assert_eq!(rt; fault_of(&rt, &COMMIT, 78), Ok(Some(BatchFault::Invalid)));
 }

@@ -18,3 +18,19 @@ pub(crate) fn written<T: Wire>(alloc: Global, value: &T) -> Result<Vec<u8>, Writ
     value.write(&mut out)?;
     Ok(out)
 }
+
+/// Whether the bytes are a value that is written as the same bytes.
+pub(crate) fn comes_back<T: Wire>(alloc: Global, bytes: &[u8]) -> bool {
+    comes_back_as::<T>(alloc, bytes, bytes)
+}
+
+/// Whether the bytes are a value that is written as these other bytes.
+pub(crate) fn comes_back_as<T: Wire>(alloc: Global, bytes: &[u8], wanted: &[u8]) -> bool {
+    let Ok(value) = read::<T>(alloc, bytes) else {
+        return false;
+    };
+    match written(alloc, &value) {
+        Ok(again) => again.as_slice() == wanted,
+        Err(_) => false,
+    }
+}

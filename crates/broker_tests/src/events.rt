@@ -1,7 +1,0 @@
-//! Events through the core, and each public call once.
-
-mod cores;
-mod draws;
-mod fixtures;
-mod histories;
-mod plain;

@@ -1,5 +1,0 @@
-//! Groups by a super user, step by step.
-
-mod fixtures;
-mod members;
-mod offsets;

@@ -1,0 +1,9 @@
+//! Tests of what no script of `tests/` can show, since no request that is served asks for it.
+#![tactic(auto)]
+
+#[cfg(test)]
+mod defaults;
+#[cfg(test)]
+mod permission;
+#[cfg(test)]
+mod transactions;
