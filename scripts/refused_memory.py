@@ -1,69 +1,95 @@
 #!/usr/bin/env python3
-"""Refuses each allocation of `kbroker replay` in turn, over the program's stored run.
+"""Refuses each allocation in turn: of `kbroker replay` over the program's stored run and each script of examples/, and
+of `kbroker check` over the settings of each.
 
 A run that goes on without the memory, as where a buffer that can't grow ahead grows by what is needed, writes what the
 whole run writes. Any other ends with status 1, and has written the front of that, behind which at most one of the
 lines `stop 1` and `settings refused: NoMemory` stands, the second only where nothing else was written. Each of the two
-has to be seen. A command line that could not be taken in ends with status 2 and writes nothing.
+has to be seen, and of `check` the second. A command line that could not be taken in ends with status 2 and writes
+nothing.
 """
 
 import os
 import subprocess
 import sys
 import tempfile
+from concurrent.futures import ThreadPoolExecutor
 from pathlib import Path
 
 ROOT = Path(__file__).resolve().parent.parent
 PROGRAM = ROOT / "crates/kbroker/out/kbroker"
-SCRIPT = (ROOT / "crates/kbroker/stdin").read_bytes()
-LAST_LINES = (b"stop 1\n", b"settings refused: NoMemory\n", b"")
+STOP, SETTINGS = b"stop 1\n", b"settings refused: NoMemory\n"
+FEWEST = 30
 
 
-def replay(library, refused_at):
-    """The program's run, in which this allocation is refused."""
+def run(library, command, text, refused_at):
+    """The program's run, in which this allocation is refused, or none for 0."""
     environment = {"LD_PRELOAD": str(library), "REFUSE_AT": str(refused_at)}
     return subprocess.run(
-        [PROGRAM, "replay"], input=SCRIPT, capture_output=True, env=environment, timeout=60
+        [PROGRAM, command], input=text, capture_output=True, env=environment, timeout=60
     )
 
 
 def last_line(output, whole):
     """The last line of an output that is a front of the whole one and at most such a line, or None."""
-    for line in LAST_LINES:
+    for line in (STOP, SETTINGS, b""):
         front = output[: len(output) - len(line)]
         if output.endswith(line) and whole.startswith(front):
             return line
     return None
 
 
+def last_words(name, ran, whole):
+    """How a run ended early, or None where it didn't."""
+    if ran.returncode == whole.returncode and ran.stdout == whole.stdout:
+        return None
+    if ran.returncode == 2 and ran.stdout == b"":
+        return None  # the command line was not taken in
+    line = last_line(ran.stdout, whole.stdout)
+    if ran.returncode != 1 or line is None:
+        sys.exit(f"refused memory: {name}: {ran}")
+    if line == SETTINGS and ran.stdout != line:
+        sys.exit(f"refused memory: {name}: settings after the script")
+    return line
+
+
+def refuse_each(library, name, command, text):
+    """Refuses each allocation of a command in turn, and returns how many there are."""
+    whole = run(library, command, text, 0)
+    if whole.returncode != 0 or b"allocations: " not in whole.stderr:
+        sys.exit(f"refused memory: {name}: the whole run failed")
+    count = int(whole.stderr.split(b"allocations: ")[1])
+    if count < FEWEST:
+        sys.exit(f"refused memory: {name}: only {count} allocations were seen")
+    with ThreadPoolExecutor(os.cpu_count()) as workers:
+        runs = workers.map(lambda at: run(library, command, text, at), range(1, count + 1))
+        seen = {
+            last_words(f"{name}, allocation {at} of {count}", ran, whole)
+            for at, ran in enumerate(runs, 1)
+        }
+    if not seen >= ({STOP, SETTINGS} if command == "replay" else {SETTINGS}):
+        sys.exit(f"refused memory: {name}: the last lines were only {seen}")
+    return count
+
+
 def main():
+    scripts = {"the stored run": ROOT / "crates/kbroker/stdin"}
+    scripts |= {it.stem: it for it in sorted((ROOT / "examples").glob("*.txt"))}
     with tempfile.TemporaryDirectory() as folder:
         library = Path(folder) / "refuse_memory.so"
         source = ROOT / "scripts/refuse_memory.c"
         compiler = os.environ.get("CC", "cc")
         subprocess.run([compiler, "-O2", "-shared", "-fPIC", "-o", library, source], check=True)
-        whole = replay(library, 0)
-        if whole.returncode != 0 or b"allocations: " not in whole.stderr:
-            sys.exit("refused memory: the whole run failed")
-        count = int(whole.stderr.split(b"allocations: ")[1])
-        if count < 100:
-            sys.exit(f"refused memory: only {count} allocations were seen")
-        seen = set()
-        for refused_at in range(1, count + 1):
-            run = replay(library, refused_at)
-            if run.returncode == 0 and run.stdout == whole.stdout:
-                continue
-            if run.returncode == 2 and run.stdout == b"":
-                continue  # the command line was not taken in
-            line = last_line(run.stdout, whole.stdout)
-            if run.returncode != 1 or line is None:
-                sys.exit(f"refused memory: allocation {refused_at} of {count}: {run}")
-            if line == LAST_LINES[1] and run.stdout != line:
-                sys.exit(f"refused memory: allocation {refused_at}: settings after the script")
-            seen.add(line)
-        if not seen.issuperset(LAST_LINES[:2]):
-            sys.exit(f"refused memory: the last lines were only {seen}")
-        print(f"refused memory: each of {count} allocations was refused in turn")
+        count = 0
+        for name, file in scripts.items():
+            text = file.read_bytes()
+            settings = text.partition(b"---\n")[0]
+            count += refuse_each(library, f"replay of {name}", "replay", text)
+            count += refuse_each(library, f"check of {name}", "check", settings)
+    print(
+        f"refused memory: each of {count} allocations was refused in turn, over {len(scripts)} scripts"
+        " and their settings"
+    )
 
 
 if __name__ == "__main__":

@@ -17,11 +17,10 @@ use Rattle.acl_binding.proofs.Same.{same_itself}
 use Rattle.authorizer.specs.declared.answer.Refusal.{Refusal}
 use Rattle.authorizer.specs.Asking.{Rules, part_refusal}
 use Rattle.broker_world.specs.World.{World, rules_of}
-use Rattle.broker_world.specs.Outcome.{Outcome}
 use Rattle.broker_world.specs.Whole.{Served, whole_by, whole}
-use Rattle.acl_handlers.specs.DescribeAcls.{describe_acls_questions, describe_acls_error, describe_acls_reply}
-use Rattle.acl_handlers.specs.CreateAcls.{alter_questions, book_with, book_created, created_with, created, create_acls_reply}
-use Rattle.acl_handlers.specs.DeleteAcls.{book_without, book_deleted, deleted_error, deleted, delete_acls_reply}
+use Rattle.acl_handlers.specs.DescribeAcls.{describe_acls_questions, describe_acls_reply}
+use Rattle.acl_handlers.specs.CreateAcls.{alter_questions, book_with, book_created}
+use Rattle.acl_handlers.specs.DeleteAcls.{book_without, book_deleted, deleted, delete_acls_reply}
 use Rattle.api_laws.specs.AclLaws.{CreatesEach, DeletesEach, IsRefusedWhole, RefusedEditNothing, SameEdit, AclsDependOnTheBook, AclsKeepTopics}
 use Rattle.acl_handlers.proofs.BookBounds.{whole_topics}
 

@@ -1,7 +1,7 @@
 -- The requests about groups: what their answers depend on, and what they leave as it was.
-use Rattle.std.proofs.Common.{◌≡◌, ◌⊎◌, inl, inr, ℕ, ℤ, Bool, true, false, cond, List, [], ◌∷◌, ◌++◌, length, Option, Some, None, Err, refl, sym, ap, subst, ◌∙◌}
+use Rattle.std.proofs.Common.{◌≡◌, ◌⊎◌, inl, inr, ℕ, ℤ, Bool, true, false, cond, List, [], ◌∷◌, length, Option, Some, None, Err, refl, sym, ap, subst, ◌∙◌}
 use Rattle.std.specs.Prelude.{is_none, unwrap_or}
-use Rattle.std.specs.List.{filter, filter_map, cons_option}
+use Rattle.std.specs.List.{filter_map, cons_option}
 use Rattle.std.specs.Str.{bytes_eq}
 use Rattle.std.proofs.lemmas.Slice.Eq.{bytes_eq-Decides}
 use Rattle.acl_binding.specs.declared.question.Caller.{Caller}
@@ -29,7 +29,7 @@ use Rattle.msg_group.specs.declared.offset_fetch.FetchedOffset.{FetchedOffset}
 use Rattle.msg_admin.specs.declared.reply.Reply.{Reply}
 use Rattle.msg_admin.specs.declared.reply.Reply.TheVariants as replies
 use Rattle.walk.specs.Walk.{answers, refusals}
-use Rattle.walk.specs.Alike.{AllParts, AllTopics, AreAlike, AnswerAlike}
+use Rattle.walk.specs.Alike.{AllParts, AllTopics, AreAlike}
 use Rattle.walk.specs.Steps.{world_by, part_world, parts_world, topics_world}
 use Rattle.walk.proofs.Alikeness.{answer_alike}
 use Rattle.walk.proofs.Weaving.{woven}
@@ -38,12 +38,11 @@ use Rattle.group_offsets.specs.declared.group.Group.{Group}
 use Rattle.group_offsets.specs.Turn.{answered}
 use Rattle.group_offsets.specs.Group.{fresh_group, sync_group, beat_group, leave_group, commit_group}
 use Rattle.group_offsets.specs.Joining.{join_group}
-use Rattle.group_offsets.specs.Groups.{find_group, group_of, turned, join, sync, beat, leave, commit}
-use Rattle.group_offsets.specs.Laws.{Call, Call as calls, called, all_called, concerns, concerning}
+use Rattle.group_offsets.specs.Groups.{find_group, group_of, join, sync, beat}
+use Rattle.group_offsets.specs.Laws.{Call, Call as calls, called, all_called, concerns}
 use Rattle.group_offsets.proofs.Apart.{groups_are_apart}
 use Rattle.broker_world.specs.declared.node.Node.{Node}
-use Rattle.broker_world.specs.World.{World, TopicValue, LogValue, rules_of, find_topic}
-use Rattle.broker_world.specs.Outcome.{Outcome}
+use Rattle.broker_world.specs.World.{World, TopicValue, LogValue, rules_of}
 use Rattle.broker_world.specs.Logs.{log_at}
 use Rattle.broker_world.specs.Questions.{topic_refusal}
 use Rattle.broker_world.specs.Whole.{Served, whole_by}
@@ -52,14 +51,13 @@ use Rattle.broker_world.specs.Codes.{code_in}
 use Rattle.group_handlers.specs.Members.{join_error, join_reply, joined, join_group_outcome, sync_reply, synced, sync_group_outcome, beat_reply, heard, heartbeat_outcome, leave_reply, left, leave_group_outcome}
 use Rattle.group_handlers.specs.FindCoordinator.{kind_of, find_questions, find_error, find_reply, find_coordinator_outcome}
 use Rattle.group_handlers.specs.OffsetCommit.{Committing, committing, commit_questions, committed_code, offset_of, code_by, groups_by, commit_rule, committing_rule, offset_commit_outcome}
-use Rattle.group_handlers.specs.OffsetFetch.{group_question, offset_rule, told_from, told_as, told_topic, told_topics, fetch_reply, offsets_of, fetched_outcome, offset_fetch_by, offset_fetch_outcome}
+use Rattle.group_handlers.specs.OffsetFetch.{group_question, offset_rule, told_from, told_as, told_topics, fetch_reply, offsets_of, fetched_outcome, offset_fetch_by, offset_fetch_outcome}
 use Rattle.api_laws.specs.Tenants.{SameBase, SameGranted}
 use Rattle.api_laws.specs.DataTenants.{SameForParts, SameAnswer}
 use Rattle.api_laws.specs.AclLaws.{IsRefusedWhole}
 use Rattle.api_laws.specs.GroupLaws.{described_slots, SameWanted, GroupsDependOnGrants, KeepsOtherGroups, GroupsKeepTheRest}
 use Rattle.api_laws.proofs.Initials.{yes_alone, same_refusal}
 use Rattle.api_laws.proofs.DataGrants.{same_topic, same_log, rest_of, yes_of}
-use Rattle.acl_handlers.proofs.BookBounds.{whole_topics}
 
 -- ---- a group that is the same
 

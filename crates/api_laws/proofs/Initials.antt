@@ -1,5 +1,5 @@
 -- What an InitProducerId gives out, and what its answer depends on.
-use Rattle.std.proofs.Common.{◌≡◌, ℕ, zero, suc, ℤ, pos, negsuc, Bool, true, false, cond, List, [], ◌∷◌, ◌++◌, length, Option, Some, None, refl, sym, ap, subst, ◌∙◌}
+use Rattle.std.proofs.Common.{◌≡◌, ℕ, zero, suc, ℤ, pos, negsuc, List, [], ◌∷◌, ◌++◌, length, Option, Some, None, refl, sym, ap, subst, ◌∙◌}
 use Rattle.std.specs.Prelude.{slice_get}
 use Rattle.acl_binding.specs.declared.question.Caller.{Caller}
 use Rattle.acl_binding.specs.declared.question.Question.{Question}
@@ -11,16 +11,14 @@ use Rattle.authorizer.specs.Policy.{verdict}
 use Rattle.authorizer.specs.Asking.{Rules, refusal_by, first_of, part_refusal}
 use Rattle.msg_txn.specs.declared.init_producer_id.InitProducerIdRequest.{InitProducerIdRequest}
 use Rattle.msg_admin.specs.declared.reply.Reply.TheVariants as replies
-use Rattle.txn_coordinator.specs.declared.pair.Given.TheVariants.{Never, Free}
-use Rattle.txn_coordinator.specs.declared.transaction.Transaction.{Transaction}
 use Rattle.txn_coordinator.specs.declared.turn.Turn.{Turn}
-use Rattle.txn_coordinator.specs.Coordinator.{CoordinatorValue, recorded, owner, given_by, given_free, fresh, turned, turn_code, turn_answer, pair_answer}
+use Rattle.txn_coordinator.specs.Coordinator.{CoordinatorValue, recorded, owner, given_by, given_free, fresh, turn_answer}
 use Rattle.txn_coordinator.specs.InitProducerId.{init}
 use Rattle.broker_world.specs.declared.node.Node.{Node}
 use Rattle.broker_world.specs.World.{World, rules_of}
 use Rattle.broker_world.specs.Outcome.{Outcome}
 use Rattle.broker_world.specs.Whole.{whole_by}
-use Rattle.txn_handlers.specs.InitProducerId.{init_question, init_given, init_error, init_answered, coordinator_for, reply_for, init_reply, initialized, init_producer_id_outcome}
+use Rattle.txn_handlers.specs.InitProducerId.{init_question, init_given, init_error, init_answered, coordinator_for, reply_for, initialized, init_producer_id_outcome}
 use Rattle.api_laws.specs.Tenants.{SameBase, SameGranted}
 use Rattle.api_laws.specs.DataTenants.{SameAnswer}
 use Rattle.api_laws.specs.AclLaws.{IsRefusedWhole}

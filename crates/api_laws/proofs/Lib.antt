@@ -5,7 +5,6 @@ pub mod DataGrants
 pub mod DataPartitions
 pub mod DataAnswers
 pub mod DataFetches
-pub mod Committed
 pub mod AclEdits
 pub mod Groups
 pub mod Recorded

@@ -1,5 +1,5 @@
 -- Coordinators that agree on a transactional id, and on the producer ids given out, answer a call for it alike.
-use Rattle.std.proofs.Common.{◌≡◌, ℕ, ℤ, pos, Bool, true, false, cond, List, [], ◌∷◌, ◌++◌, length, Option, Some, None, Err, refl, sym, ap, ◌∙◌}
+use Rattle.std.proofs.Common.{◌≡◌, ℕ, ℤ, pos, Bool, true, false, cond, List, [], ◌∷◌, length, Option, Some, Err, refl, sym, ap, ◌∙◌}
 use Rattle.std.specs.Str.{bytes_eq}
 use Rattle.std.proofs.lemmas.Slice.Eq.{bytes_eq-Decides}
 use Rattle.wire_types.specs.declared.error_code.ErrorCode.TheVariants as codes
@@ -11,9 +11,9 @@ use Rattle.txn_coordinator.specs.declared.ending.EndForm.{EndForm}
 use Rattle.txn_coordinator.specs.declared.turn.Turn.{Turn}
 use Rattle.txn_coordinator.specs.declared.turn.Turn.TheVariants.{Stays, Puts}
 use Rattle.txn_coordinator.specs.Words.{is_empty}
-use Rattle.txn_coordinator.specs.Coordinator.{CoordinatorValue, has_id, recorded, put, fresh, turned, turn_code, turn_answer, pair_answer}
+use Rattle.txn_coordinator.specs.Coordinator.{CoordinatorValue, has_id, recorded, put, fresh, turn_answer, pair_answer}
 use Rattle.txn_coordinator.specs.InitProducerId.{timeout_within, init_for, init}
-use Rattle.txn_coordinator.specs.Adding.{open_found, open_transaction, grown, with_partitions, with_group, add_partitions, add_group}
+use Rattle.txn_coordinator.specs.Adding.{open_found, grown, with_partitions, with_group, add_partitions, add_group}
 use Rattle.txn_coordinator.specs.EndTxn.{end_found, end}
 
 -- ---- a record that was put

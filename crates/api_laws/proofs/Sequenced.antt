@@ -1,6 +1,6 @@
 -- Each log that events reach took in only what was the next batch of its producer.
-use Rattle.std.proofs.Common.{◌≡◌, ℕ, zero, suc, ℤ, pos, negsuc, Bool, true, false, cond, List, [], ◌∷◌, ◌++◌, Option, Some, None, Result, Ok, Err, refl, sym, ap, subst, ◌∙◌}
-use Rattle.std.specs.Prelude.{slice_get, slice_set, replicate}
+use Rattle.std.proofs.Common.{◌≡◌, ℕ, zero, suc, ℤ, pos, negsuc, Bool, true, false, cond, List, [], ◌∷◌, Option, Some, None, Result, Ok, Err, refl, sym, ap, subst}
+use Rattle.std.specs.Prelude.{slice_get, slice_set}
 use Rattle.std.specs.Option.{option_and_then}
 use Rattle.std.specs.Str.{bytes_eq}
 use Rattle.acl_binding.specs.declared.question.Caller.{Caller}
@@ -8,7 +8,6 @@ use Rattle.authorizer.specs.declared.answer.Refusal.{Refusal}
 use Rattle.authorizer.specs.Asking.{Rules, part_refusal}
 use Rattle.wire_types.specs.declared.error_code.ErrorCode.{ErrorCode}
 use Rattle.wire_types.specs.declared.topic.Topic.{Topic}
-use Rattle.settings.specs.declared.settings.Settings.{Settings}
 use Rattle.settings.specs.declared.settings.TopicSetting.{TopicSetting}
 use Rattle.record_batch.specs.Batch.{BatchData}
 use Rattle.producer_state.specs.declared.judgment.Judgment.{Judgment}
@@ -18,7 +17,6 @@ use Rattle.producer_state.specs.Laws.{IsAccepted}
 use Rattle.producer_state.proofs.Accepting.{accepted_once}
 use Rattle.partition_log.specs.Log.{end_of, at_end}
 use Rattle.partition_log.proofs.Accepted.{accepted_none, accepted_push, follows_written}
-use Rattle.msg_data.specs.declared.produce.ProduceRequest.{ProduceRequest}
 use Rattle.msg_data.specs.declared.produce.ProducedRecords.{ProducedRecords}
 use Rattle.msg_admin.specs.declared.request.Request.TheVariants.{Produce, Fetch, ListOffsets, Metadata, OffsetCommit, OffsetFetch, FindCoordinator, JoinGroup, Heartbeat, LeaveGroup, SyncGroup, InitProducerId, AddPartitionsToTxn, AddOffsetsToTxn, EndTxn, TxnOffsetCommit, DescribeAcls, CreateAcls, DeleteAcls}
 use Rattle.audit_trail.specs.declared.event.Event.{Event}
@@ -34,10 +32,9 @@ use Rattle.data_handlers.specs.Produce.{produce_questions, produce_rule, produci
 use Rattle.acl_handlers.specs.DescribeAcls.{describe_acls_questions}
 use Rattle.acl_handlers.specs.CreateAcls.{alter_questions}
 use Rattle.txn_handlers.specs.InitProducerId.{init_question}
-use Rattle.request_handlers.specs.Step.{outcome, step, reached}
+use Rattle.api_dispatch.specs.Step.{outcome, step, reached}
 use Rattle.api_laws.specs.ProducerLaws.{HoldsOnce}
 use Rattle.acl_handlers.proofs.BookBounds.{whole_topics}
-use Rattle.producer_state.specs.Sequences.{is_data}
 use Rattle.txn_coordinator.specs.declared.marker.OwedMarker.{OwedMarker}
 use Rattle.txn_coordinator.specs.declared.target.Target.{Target}
 use Rattle.txn_coordinator.specs.declared.target.Target.TheVariants.{Partition, Group}
@@ -46,7 +43,7 @@ use Rattle.broker_world.specs.Questions.{id_question}
 use Rattle.txn_handlers.specs.AddOffsets.{add_offsets_questions}
 use Rattle.broker_world.specs.Markers.{marker_batch, log_marked, marked_by}
 use Rattle.txn_handlers.specs.Marks.{marked_at, mark_by}
-use Rattle.request_handlers.proofs.Wholes.{offsets_keep}
+use Rattle.api_dispatch.proofs.Wholes.{offsets_keep}
 use Rattle.broker_world.specs.Questions.{read_question}
 use Rattle.group_handlers.specs.FindCoordinator.{kind_of, find_questions}
 use Rattle.txn_handlers.proofs.Adds.{add_keeps}

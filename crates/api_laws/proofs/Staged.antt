@@ -1,5 +1,5 @@
 -- AddOffsetsToTxn and TxnOffsetCommit: what their answers depend on, and what they leave as it was.
-use Rattle.std.proofs.Common.{◌≡◌, ◌⊎◌, inl, inr, ℕ, ℤ, List, [], ◌∷◌, Option, Some, None, pos, refl, sym, ap, subst, ◌∙◌}
+use Rattle.std.proofs.Common.{◌≡◌, ◌⊎◌, inl, inr, ℕ, List, [], ◌∷◌, Option, Some, None, pos, refl, sym, ap, subst, ◌∙◌}
 use Rattle.acl_binding.specs.declared.question.Caller.{Caller}
 use Rattle.acl_binding.specs.declared.question.Verdict.TheVariants.{Yes}
 use Rattle.acl_binding.specs.declared.words.Kind.TheVariants as kinds
@@ -24,8 +24,7 @@ use Rattle.txn_coordinator.specs.declared.pair.Pair.{Pair}
 use Rattle.txn_coordinator.specs.declared.target.Target.TheVariants as targets
 use Rattle.txn_coordinator.specs.declared.transaction.Transaction.{Transaction}
 use Rattle.txn_coordinator.specs.declared.turn.Turn.{Turn as CoordinatorTurn}
-use Rattle.txn_coordinator.specs.Coordinator.{CoordinatorValue, recorded, turned as coordinator_turned, turn_code}
-use Rattle.txn_coordinator.specs.Adding.{add_group}
+use Rattle.txn_coordinator.specs.Coordinator.{recorded, turn_code}
 use Rattle.txn_coordinator.specs.Holding.{holds_found}
 use Rattle.group_offsets.specs.declared.event.PartitionOffset.{PartitionOffset}
 use Rattle.group_offsets.specs.declared.group.Group.{Group}
@@ -33,7 +32,7 @@ use Rattle.group_offsets.specs.Turn.{answered}
 use Rattle.group_offsets.specs.Group.{stage_group}
 use Rattle.group_offsets.specs.Groups.{find_group, turned}
 use Rattle.group_offsets.specs.Laws.{Call as calls}
-use Rattle.broker_world.specs.World.{World, TopicValue, LogValue, rules_of, find_topic}
+use Rattle.broker_world.specs.World.{World, TopicValue, LogValue, rules_of}
 use Rattle.broker_world.specs.Logs.{log_at}
 use Rattle.broker_world.specs.Whole.{whole_by}
 use Rattle.broker_world.specs.Codes.{refused_by}
@@ -41,7 +40,7 @@ use Rattle.broker_world.specs.Questions.{read_question}
 use Rattle.broker_world.specs.Codes.{code_in}
 use Rattle.broker_world.specs.Questions.{id_question}
 use Rattle.txn_handlers.specs.AddOffsets.{add_offsets_questions, add_offsets_reply, add_offsets_turn, offsets_added, add_offsets_outcome}
-use Rattle.txn_handlers.specs.TxnOffsetCommit.{Staging, staging, stage_questions, offset_staged, staged_code, turn_by, staging_refusal, stage_turn, stage_rule, staging_rule, txn_offset_commit_outcome}
+use Rattle.txn_handlers.specs.TxnOffsetCommit.{Staging, staging, stage_questions, offset_staged, staged_code, turn_by, staging_refusal, stage_rule, staging_rule, txn_offset_commit_outcome}
 use Rattle.api_laws.specs.Tenants.{SameBase, SameGranted}
 use Rattle.api_laws.specs.DataTenants.{SameForParts, SameAnswer}
 use Rattle.api_laws.specs.AclLaws.{IsRefusedWhole}
@@ -51,7 +50,7 @@ use Rattle.api_laws.specs.StagingLaws.{StagingDependsOnGrants, StagingKeepsTheRe
 use Rattle.api_laws.proofs.DataGrants.{same_topic, same_log, rest_of, yes_of}
 use Rattle.api_laws.proofs.Recorded.{AreSame, same_add_group}
 use Rattle.api_laws.proofs.Together.{add_group_id, other_kept, whole_kept}
-use Rattle.api_laws.proofs.Grouped.{same_group, own_name, other_name, kept_call, same_call, whole_same, refused_alone}
+use Rattle.api_laws.proofs.Grouped.{same_group, own_name, other_name, kept_call, same_call, whole_same}
 use Rattle.acl_handlers.proofs.BookBounds.{whole_topics}
 
 -- ---- AddOffsetsToTxn: what its answer depends on

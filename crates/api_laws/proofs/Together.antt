@@ -1,31 +1,26 @@
 -- AddPartitionsToTxn and EndTxn: all or none, by what was granted, and for one transactional id alone.
-use Rattle.std.proofs.Common.{◌≡◌, ◌⊎◌, inl, inr, ℕ, ℤ, Bool, true, false, cond, List, [], ◌∷◌, ◌++◌, Option, Some, None, Result, Ok, Err, refl, sym, ap, subst, ◌∙◌}
+use Rattle.std.proofs.Common.{◌≡◌, ◌⊎◌, inl, inr, ℕ, ℤ, Bool, true, false, cond, List, [], ◌∷◌, ◌++◌, Option, Some, None, Err, refl, sym, ap, subst, ◌∙◌}
 use Rattle.std.specs.Prelude.{is_none, ◌||◌}
-use Rattle.std.specs.List.{list_any, filter_map, cons_option}
+use Rattle.std.specs.List.{cons_option}
 use Rattle.std.specs.Str.{bytes_eq}
 use Rattle.std.proofs.lemmas.Slice.Eq.{bytes_eq-Decides}
 use Rattle.acl_binding.specs.declared.question.Caller.{Caller}
-use Rattle.acl_binding.specs.declared.question.Question.{Question}
-use Rattle.acl_binding.specs.declared.question.Verdict.{Verdict}
-use Rattle.acl_binding.specs.declared.question.Verdict.TheVariants.{Yes}
 use Rattle.acl_binding.specs.declared.words.Kind.TheVariants as kinds
 use Rattle.acl_binding.specs.declared.words.Operation.TheVariants as operations
 use Rattle.acl_binding.specs.Verdict.{asked}
 use Rattle.authorizer.specs.declared.answer.Refusal.{Refusal}
 use Rattle.authorizer.specs.Policy.{verdict}
-use Rattle.authorizer.specs.Asking.{Rules, refusal_by, first_of, part_refusal, question_refusal}
+use Rattle.authorizer.specs.Asking.{Rules, first_of, part_refusal, question_refusal}
 use Rattle.wire_types.specs.declared.error_code.ErrorCode.{ErrorCode}
 use Rattle.wire_types.specs.declared.error_code.ErrorCode.TheVariants as codes
 use Rattle.wire_types.specs.declared.topic.Topic.{Topic}
 use Rattle.msg_txn.specs.declared.init_producer_id.InitProducerIdRequest.{InitProducerIdRequest}
 use Rattle.msg_txn.specs.declared.add_partitions.AddPartitionsToTxnRequest.{AddPartitionsToTxnRequest}
-use Rattle.msg_txn.specs.declared.add_partitions.AddedPartition.{AddedPartition}
 use Rattle.msg_txn.specs.declared.end_txn.EndTxnRequest.{EndTxnRequest}
 use Rattle.msg_admin.specs.declared.reply.Reply.{Reply}
 use Rattle.msg_admin.specs.declared.reply.Reply.TheVariants as replies
-use Rattle.walk.specs.Rule.{PartRule, refusal_of}
 use Rattle.walk.specs.Walk.{plain_topics, answers, parts_refused, refusals}
-use Rattle.walk.specs.Woven.{has_any, has_part}
+use Rattle.walk.specs.Woven.{has_any}
 use Rattle.walk.specs.Alike.{AllParts, AllTopics, AreAlike, AnswerAlike}
 use Rattle.walk.proofs.Alikeness.{answer_alike}
 use Rattle.txn_coordinator.specs.declared.pair.Pair.{Pair}
@@ -40,23 +35,23 @@ use Rattle.txn_coordinator.specs.declared.turn.Turn.{Turn}
 use Rattle.txn_coordinator.specs.declared.turn.Turn.TheVariants.{Stays, Puts}
 use Rattle.txn_coordinator.specs.Words.{is_empty}
 use Rattle.txn_coordinator.specs.Preparing.{pair_refusal}
-use Rattle.txn_coordinator.specs.Coordinator.{CoordinatorValue, has_id, recorded, put, fresh, turned, turn_code}
+use Rattle.txn_coordinator.specs.Coordinator.{CoordinatorValue, recorded, fresh, turned, turn_code}
 use Rattle.txn_coordinator.specs.InitProducerId.{timeout_within, init_in, init_for, init}
 use Rattle.txn_coordinator.specs.Adding.{open_in, open_by, open_found, open_transaction, grown, with_partitions, with_group, add_partitions, add_group}
 use Rattle.txn_coordinator.specs.EndTxn.{end_in, end_by, end_found, end}
 use Rattle.txn_coordinator.proofs.Table.{recorded_id}
-use Rattle.broker_world.specs.World.{World, TopicValue, LogValue, rules_of, find_topic}
+use Rattle.broker_world.specs.World.{World, LogValue, rules_of, find_topic}
 use Rattle.broker_world.specs.Outcome.{Outcome}
 use Rattle.broker_world.specs.Logs.{log_at}
 use Rattle.broker_world.specs.Whole.{Served, whole_by}
-use Rattle.txn_handlers.specs.InitProducerId.{init_question, init_error, initialized, coordinator_for, init_producer_id_outcome}
+use Rattle.txn_handlers.specs.InitProducerId.{init_question, initialized, coordinator_for, init_producer_id_outcome}
 use Rattle.broker_world.specs.Questions.{id_question}
 use Rattle.txn_handlers.specs.EndTxn.{end_reply, end_turn, ended, ending, end_txn_outcome}
 use Rattle.txn_handlers.specs.AddPartitions.{add_questions, added_partition, cut_code, cut_rule, told_rule, is_missing_in, is_missing, is_cut, add_turn, add_reply, cut_outcome, added_outcome, add_partitions_outcome, partitions_in, partitions_of}
 use Rattle.api_laws.specs.Tenants.{SameBase, SameGranted}
 use Rattle.api_laws.specs.DataTenants.{SameForParts, SameAnswer}
 use Rattle.api_laws.specs.AclLaws.{IsRefusedWhole}
-use Rattle.api_laws.specs.TxnLaws.{IsAddable, IsCut, IsWhole, AddsAllOrNone, TransactionsDependOnGrants, KeepsOtherIds, TransactionsKeepTheRest}
+use Rattle.api_laws.specs.TxnLaws.{IsAddable, IsCut, IsWhole, AddsAllOrNone, TransactionsDependOnGrants, TransactionsKeepTheRest}
 use Rattle.api_laws.proofs.Recorded.{AreSame, recorded_put, same_end, same_add}
 use Rattle.api_laws.proofs.Initials.{yes_alone, same_refusal}
 use Rattle.api_laws.proofs.DataGrants.{same_topic, same_log, rest_of, yes_of}

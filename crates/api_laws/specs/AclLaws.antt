@@ -7,7 +7,6 @@ use Rattle.msg_acl.specs.declared.create_acls.CreateAclsRequest.{CreateAclsReque
 use Rattle.msg_acl.specs.declared.delete_acls.DeleteAclsRequest.{DeleteAclsRequest}
 use Rattle.msg_acl.specs.declared.describe_acls.DescribeAclsRequest.{DescribeAclsRequest}
 use Rattle.acl_binding.specs.declared.question.Caller.{Caller}
-use Rattle.acl_binding.specs.declared.binding.Binding.{Binding}
 use Rattle.acl_binding.specs.Entries.{binding_of, filter_of}
 use Rattle.acl_binding.specs.Book.{BookValue, number_of}
 use Rattle.acl_binding.specs.Filter.{matching}

@@ -3,7 +3,6 @@ pub mod Headline
 pub mod Tenants
 pub mod DataLaws
 pub mod DataTenants
-pub mod ReadLaws
 pub mod AclLaws
 pub mod ProducerLaws
 pub mod TxnLaws

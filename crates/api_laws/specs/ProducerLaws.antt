@@ -1,5 +1,5 @@
 -- What holds of producer ids, and of what producers wrote.
-use Rattle.std.specs.Prelude.{◌≡◌, ◌≤ℤ◌, ℕ, ℤ, pos, List, [], ◌∷◌, Option, Some, None}
+use Rattle.std.specs.Prelude.{◌≡◌, ◌≤ℤ◌, ℕ, ℤ, pos, List, [], ◌∷◌, Some, None}
 use Rattle.acl_binding.specs.declared.question.Caller.{Caller}
 use Rattle.authorizer.specs.declared.answer.Refusal.{Refusal}
 use Rattle.authorizer.specs.Asking.{part_refusal}
@@ -16,7 +16,7 @@ use Rattle.broker_world.specs.First.{first_world}
 use Rattle.broker_world.specs.Logs.{log_at}
 use Rattle.broker_world.specs.Outcome.{Outcome}
 use Rattle.txn_handlers.specs.InitProducerId.{init_question, init_given, init_producer_id_outcome}
-use Rattle.request_handlers.specs.Step.{reached}
+use Rattle.api_dispatch.specs.Step.{reached}
 use Rattle.api_laws.specs.Tenants.{SameBase, SameGranted}
 use Rattle.api_laws.specs.DataTenants.{SameAnswer}
 use Rattle.api_laws.specs.AclLaws.{IsRefusedWhole}

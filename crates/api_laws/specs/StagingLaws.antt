@@ -1,5 +1,5 @@
 -- What holds of AddOffsetsToTxn and TxnOffsetCommit.
-use Rattle.std.specs.Prelude.{◌≡◌, ℕ, List, [], ◌∷◌, Option, Some}
+use Rattle.std.specs.Prelude.{◌≡◌, [], ◌∷◌, Some}
 use Rattle.acl_binding.specs.declared.question.Caller.{Caller}
 use Rattle.authorizer.specs.declared.answer.Refusal.{Refusal}
 use Rattle.authorizer.specs.Asking.{part_refusal}

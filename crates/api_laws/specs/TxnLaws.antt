@@ -1,5 +1,5 @@
 -- What holds of AddPartitionsToTxn and EndTxn, and of InitProducerId for a transactional id.
-use Rattle.std.specs.Prelude.{◌≡◌, ◌⊎◌, ℕ, ℤ, Bool, true, false, is_none, List, [], ◌∷◌, Option, Some, None}
+use Rattle.std.specs.Prelude.{◌≡◌, ◌⊎◌, ℕ, ℤ, false, is_none, List, [], ◌∷◌, Some, None}
 use Rattle.acl_binding.specs.declared.question.Caller.{Caller}
 use Rattle.authorizer.specs.declared.answer.Refusal.{Refusal}
 use Rattle.authorizer.specs.Asking.{part_refusal}
@@ -12,10 +12,10 @@ use Rattle.txn_coordinator.specs.Coordinator.{recorded, turned, turn_code}
 use Rattle.broker_world.specs.World.{World, rules_of}
 use Rattle.broker_world.specs.Outcome.{Outcome}
 use Rattle.broker_world.specs.Logs.{log_at}
-use Rattle.txn_handlers.specs.InitProducerId.{init_question, init_producer_id_outcome}
+use Rattle.txn_handlers.specs.InitProducerId.{init_producer_id_outcome}
 use Rattle.broker_world.specs.Questions.{id_question}
 use Rattle.txn_handlers.specs.EndTxn.{end_txn_outcome}
-use Rattle.txn_handlers.specs.AddPartitions.{add_questions, cut_rule, told_rule, is_cut, add_turn, add_reply, add_partitions_outcome}
+use Rattle.txn_handlers.specs.AddPartitions.{add_questions, cut_rule, told_rule, add_turn, add_reply, add_partitions_outcome}
 use Rattle.api_laws.specs.Tenants.{SameBase, SameGranted}
 use Rattle.api_laws.specs.DataTenants.{SameForParts, SameAnswer}
 use Rattle.api_laws.specs.AclLaws.{IsRefusedWhole}

@@ -4,7 +4,6 @@ ghost use Rattle.api_laws.specs.Runs.{WholeRuns};
 ghost use Rattle.api_laws.specs.Headline.{AnswersEachTopic, RefusesEachTopic};
 ghost use Rattle.api_laws.specs.Tenants.{DependsOnGrants};
 ghost use Rattle.api_laws.specs.DataLaws.{ProducesAsAnswered, FetchesRuns, ListsEnds};
-ghost use Rattle.api_laws.specs.ReadLaws.{ReadsCommitted, FetchesCommitted};
 ghost use Rattle.api_laws.specs.ProducerLaws.{HoldsOnce, InitsOnce, InitDependsOnGrants};
 ghost use Rattle.api_laws.specs.TxnLaws.{AddsAllOrNone, TransactionsDependOnGrants, TransactionsKeepTheRest};
 ghost use Rattle.api_laws.specs.GroupLaws.{GroupsDependOnGrants, GroupsKeepTheRest};
@@ -42,17 +41,6 @@ pub fn produces_as_answered()
 /// An allowed partition of a Fetch is served a run of its log's batches, which is taken off the room that is left.
 pub fn fetches_runs()
     ensures { FetchesRuns }
-{}
-
-/// Where the topics hold logs, a partition that is answered without an error shows a consumer with read_committed the
-/// committed records of the served run, and no others.
-pub fn reads_committed()
-    ensures { ReadsCommitted }
-{}
-
-/// Each read_committed Fetch of a core shows consumers exactly the committed records of what was served.
-pub fn fetches_committed()
-    ensures { FetchesCommitted }
 {}
 
 /// An allowed partition of a ListOffsets is told the end of its log as far as the reader sees, or the start.

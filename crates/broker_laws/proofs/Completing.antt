@@ -30,7 +30,7 @@ use Rattle.txn_handlers.specs.AddPartitions.{is_cut, partitions_of}
 use Rattle.txn_handlers.specs.AddOffsets.{add_offsets_questions}
 use Rattle.broker_world.specs.Questions.{id_question}
 use Rattle.broker_world.specs.Clock.{moment_after}
-use Rattle.request_handlers.specs.Step.{step, reached}
+use Rattle.api_dispatch.specs.Step.{step, reached}
 use Rattle.broker_laws.specs.Entries.{entries_in}
 use Rattle.broker_laws.specs.Moves.{unless_refused, initializing, moves_of, moves_of_all, marks}
 use Rattle.broker_laws.specs.Laws.{InReached, IsPreparedBy, CompletesPrepared, CompletesWaiting}

@@ -26,7 +26,7 @@ use Rattle.txn_laws.specs.Laws.{IsNotOf, IsEnded, IsDone}
 use Rattle.txn_laws.specs.Kept.{kept_pair}
 use Rattle.txn_laws.proofs.Base.{each_weaker}
 use Rattle.broker_world.specs.World.{World}
-use Rattle.request_handlers.specs.Step.{step, reached}
+use Rattle.api_dispatch.specs.Step.{step, reached}
 use Rattle.broker_laws.specs.Entries.{in_group, event_entry, entries_in}
 use Rattle.broker_laws.specs.Laws.{InReached, IsNotBy, shown_by, IsDecided, DecidesPrepared, DecidesWaiting}
 use Rattle.broker_laws.proofs.Noted.{Follows, GoOn}

@@ -14,7 +14,7 @@ use Rattle.txn_laws.specs.Laws.{up_to_last}
 use Rattle.txn_laws.proofs.Moves.{move_sound}
 use Rattle.txn_laws.proofs.Completed.{StillWaits, move_waits, mark_waits, some_owed, one_more}
 use Rattle.broker_world.specs.World.{World}
-use Rattle.request_handlers.specs.Step.{step}
+use Rattle.api_dispatch.specs.Step.{step}
 use Rattle.broker_laws.specs.Moves.{moves_of, mark_count, marks}
 use Rattle.broker_laws.specs.Laws.{InReached, IsCompletedBy, EndsComplete}
 use Rattle.broker_laws.proofs.Reached.{full, IsGood, good_step, good_moved, good, event_marks}

@@ -29,7 +29,7 @@ use Rattle.producer_state.proofs.Numbers.{lt_is}
 use Rattle.broker_world.specs.World.{World}
 use Rattle.data_handlers.specs.Judged.{pair_of, held_code, given_code, producer_code}
 use Rattle.txn_handlers.specs.TxnOffsetCommit.{Staging, staging, staging_refusal}
-use Rattle.request_handlers.specs.Step.{reached}
+use Rattle.api_dispatch.specs.Step.{reached}
 use Rattle.broker_laws.specs.Entries.{entries_in}
 use Rattle.broker_laws.specs.Moves.{moves_of_all}
 use Rattle.broker_laws.specs.Laws.{InReached, TurnsAway, FencedWriteNothing, NoDataBehindAGreaterMarker}

@@ -32,8 +32,8 @@ use Rattle.acl_handlers.specs.DescribeAcls.{describe_acls_questions}
 use Rattle.acl_handlers.specs.CreateAcls.{alter_questions}
 use Rattle.txn_handlers.specs.Marks.{decided_at, mark_by}
 use Rattle.broker_world.specs.Clock.{moment_after}
-use Rattle.request_handlers.specs.Step.{step, reached}
-use Rattle.request_handlers.proofs.Wholes.{offsets_keep}
+use Rattle.api_dispatch.specs.Step.{step, reached}
+use Rattle.api_dispatch.proofs.Wholes.{offsets_keep}
 use Rattle.broker_laws.specs.Laws.{ComesBy, GroupsGoOn}
 use Rattle.broker_laws.proofs.Offsets.{join_keeps, sync_keeps, beat_keeps, leave_keeps, expiry_keeps}
 use Rattle.broker_laws.proofs.Noted.{GoOn, go_same, go_kept, go_joined, go_noted, go_commits, go_stages}

@@ -42,7 +42,7 @@ use Rattle.txn_handlers.specs.InitProducerId.{init_question, init_answered, init
 use Rattle.broker_world.specs.Questions.{id_question}
 use Rattle.txn_handlers.specs.EndTxn.{ending, end_reply, end_turn, ended}
 use Rattle.broker_world.specs.Clock.{moment_after}
-use Rattle.request_handlers.specs.Step.{step}
+use Rattle.api_dispatch.specs.Step.{step}
 use Rattle.broker_laws.specs.Laws.{InReached, Prepares, HasPair, Fences}
 use Rattle.broker_laws.proofs.Passing.{never_none}
 use Rattle.broker_laws.proofs.Completing.{recorded_expired}

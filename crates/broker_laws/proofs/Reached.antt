@@ -40,7 +40,7 @@ use Rattle.txn_handlers.specs.InitProducerId.{init_question}
 use Rattle.txn_handlers.specs.AddPartitions.{is_cut, partitions_of}
 use Rattle.txn_handlers.specs.AddOffsets.{add_offsets_questions}
 use Rattle.broker_world.specs.Questions.{id_question}
-use Rattle.request_handlers.specs.Step.{step, reached}
+use Rattle.api_dispatch.specs.Step.{step, reached}
 use Rattle.broker_laws.specs.Entries.{log_entries, entries_in, small}
 use Rattle.broker_laws.specs.Moves.{topics_moves, storing, appending, moves_by, batch_moves, produced_moves, initializing, moves_of, moves_of_all, mark_count, marks}
 use Rattle.broker_laws.specs.Targets.{HasTargets}

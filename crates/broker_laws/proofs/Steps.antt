@@ -39,7 +39,7 @@ use Rattle.group_offsets.specs.Group.{expired}
 use Rattle.broker_world.specs.Questions.{read_question}
 use Rattle.group_handlers.specs.Members.{joined, synced, heard, left}
 use Rattle.group_handlers.specs.FindCoordinator.{kind_of, find_questions}
-use Rattle.request_handlers.proofs.Wholes.{offsets_keep}
+use Rattle.api_dispatch.proofs.Wholes.{offsets_keep}
 use Rattle.broker_world.specs.World.{World, TopicValue, LogValue, rules_of}
 use Rattle.broker_world.specs.First.{magnitude}
 use Rattle.broker_world.specs.Logs.{log_at, log_after, appended_by}
@@ -58,8 +58,8 @@ use Rattle.acl_handlers.specs.CreateAcls.{alter_questions}
 use Rattle.broker_world.specs.Markers.{marker_batch, log_marked, marked_by}
 use Rattle.txn_handlers.specs.Marks.{marked_at, decided_at, mark_by}
 use Rattle.broker_world.specs.Clock.{moment_after}
-use Rattle.request_handlers.specs.Step.{step}
-use Rattle.broker_laws.specs.Entries.{entry_of, in_group, entries_at, small}
+use Rattle.api_dispatch.specs.Step.{step}
+use Rattle.broker_laws.specs.Entries.{entry_of, entries_at, small}
 use Rattle.broker_laws.specs.Moves.{unless_refused, initializing, moves_of}
 use Rattle.broker_laws.specs.Targets.{is_there, IsThere, TakesInExisting, IsOwedToExisting, AllExist, HasTargets}
 use Rattle.broker_laws.proofs.Logs.{entries_with, places_kept}

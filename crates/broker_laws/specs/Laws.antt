@@ -52,7 +52,7 @@ use Rattle.txn_handlers.specs.InitProducerId.{init_answered, init_error}
 use Rattle.txn_handlers.specs.EndTxn.{ending, end_reply}
 use Rattle.txn_handlers.specs.TxnOffsetCommit.{Staging, staging, staging_refusal}
 use Rattle.broker_world.specs.Clock.{moment_after}
-use Rattle.request_handlers.specs.Step.{step, reply_to, reached, refusals_of}
+use Rattle.api_dispatch.specs.Step.{step, reply_to, reached, refusals_of}
 use Rattle.request_handlers.specs.Core.{CoreValue, IsCore}
 use Rattle.broker_laws.specs.Entries.{entry_of, event_entry, entries_in, small}
 use Rattle.broker_laws.specs.Moves.{moves_of, moves_of_all, marks}

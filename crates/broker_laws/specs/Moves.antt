@@ -50,7 +50,7 @@ use Rattle.txn_handlers.specs.EndTxn.{ending}
 use Rattle.group_handlers.specs.OffsetCommit.{Committing, committing, offset_of, committing_rule}
 use Rattle.txn_handlers.specs.TxnOffsetCommit.{staging, staging_refusal, stage_turn, staging_rule}
 use Rattle.broker_world.specs.Clock.{moment_after}
-use Rattle.request_handlers.specs.Step.{step}
+use Rattle.api_dispatch.specs.Step.{step}
 
 -- what is refused moves nothing
 abbrev pub unless_refused : Option Refusal → List Move → List Move

@@ -5,7 +5,8 @@ use Rattle.std.proofs.lemmas.Bool.{eqb-true}
 use Rattle.std.proofs.lemmas.List.{nil_from_length}
 use Rattle.std.proofs.KnownBytes.{Appends-nil, Appends-trans}
 use Rattle.wire_types.specs.Device.{Wrote}
-use Rattle.request_handlers.specs.Core.{CoreValue}
+use Rattle.settings.specs.declared.settings.Settings.{Settings as SettingsValue}
+use Rattle.audit_trail.specs.declared.event.Event.{Event}
 use Rattle.commands.specs.Lines.{lines_of}
 use Rattle.commands.specs.Replay.{Answer, Turn, goes, ends, line_turn, after, after_turn, script_answer}
 use Rattle.commands.specs.declared.cause.Early.{Early}
@@ -17,36 +18,39 @@ after-after : (a b : List ℕ) (x : Answer) → after a (after b x) ≡ after (a
 after-after a b x = ap (λ (t : List ℕ). let y : Answer = record { text = t; status = x.status } in y) (sym (append_assoc a b x.text))
 
 -- a line that goes on, and one that ends the script
-goes_on : (w v : CoreValue) (n : ℕ) (line t : List ℕ) (lines : List (List ℕ)) → line_turn w n line ≡ goes v t
-    → script_answer w n (line ∷ lines) ≡ after t (script_answer v (n + 1) lines)
-goes_on w v n line t lines h = ap (λ (x : Turn). after_turn x (λ u. script_answer u (n + 1) lines)) h
+goes_on : (s : SettingsValue) (w v : List Event) (n : ℕ) (line t : List ℕ) (lines : List (List ℕ)) → line_turn s w n line ≡ goes v t
+    → script_answer s w n (line ∷ lines) ≡ after t (script_answer s v (n + 1) lines)
+goes_on s w v n line t lines h = ap (λ (x : Turn). after_turn x (λ u. script_answer s u (n + 1) lines)) h
 
-ends_here : (w : CoreValue) (n : ℕ) (line t : List ℕ) (lines : List (List ℕ)) → line_turn w n line ≡ ends t
-    → script_answer w n (line ∷ lines) ≡ record { text = t; status = 1 }
-ends_here w n line t lines h = ap (λ (x : Turn). after_turn x (λ u. script_answer u (n + 1) lines)) h
+ends_here : (s : SettingsValue) (w : List Event) (n : ℕ) (line t : List ℕ) (lines : List (List ℕ)) → line_turn s w n line ≡ ends t
+    → script_answer s w n (line ∷ lines) ≡ record { text = t; status = 1 }
+ends_here s w n line t lines h = ap (λ (x : Turn). after_turn x (λ u. script_answer s u (n + 1) lines)) h
 
-module _ (w : CoreValue) (n : ℕ) (rest line more done t : List ℕ) (all : Answer)
-    (so_far : all ≡ after done (script_answer w n (lines_of rest))) (first : lines_of rest ≡ line ∷ lines_of more) where
+module _ (s own : SettingsValue) (is : own ≡ s) (w : List Event) (n : ℕ) (rest line more done t : List ℕ) (all : Answer)
+    (so_far : all ≡ after done (script_answer s w n (lines_of rest))) (first : lines_of rest ≡ line ∷ lines_of more) where
+  same_turn : line_turn s w n line ≡ line_turn own w n line
+  same_turn = ap (λ (x : SettingsValue). line_turn x w n line) (sym is)
+
   -- one line further
-  pub line_further : (v : CoreValue) → line_turn w n line ≡ goes v t → all ≡ after (done ++ t) (script_answer v (n + 1) (lines_of more))
+  pub line_further : (v : List Event) → line_turn own w n line ≡ goes v t → all ≡ after (done ++ t) (script_answer s v (n + 1) (lines_of more))
   line_further v turn =
-      so_far ∙ ap (λ (ls : List (List ℕ)). after done (script_answer w n ls)) first
-      ∙ ap (after done) (goes_on w v n line t (lines_of more) turn) ∙ after-after done t _
+      so_far ∙ ap (λ (ls : List (List ℕ)). after done (script_answer s w n ls)) first
+      ∙ ap (after done) (goes_on s w v n line t (lines_of more) (same_turn ∙ turn)) ∙ after-after done t _
 
   -- the last line
-  pub line_last : line_turn w n line ≡ ends t → all ≡ after done (record { text = t; status = 1 })
+  pub line_last : line_turn own w n line ≡ ends t → all ≡ after done (record { text = t; status = 1 })
   line_last turn =
-      so_far ∙ ap (λ (ls : List (List ℕ)). after done (script_answer w n ls)) first
-      ∙ ap (after done) (ends_here w n line t (lines_of more) turn)
+      so_far ∙ ap (λ (ls : List (List ℕ)). after done (script_answer s w n ls)) first
+      ∙ ap (after done) (ends_here s w n line t (lines_of more) (same_turn ∙ turn))
 
 -- a text whose test says so is empty
 pub empty_of : (text : List ℕ) (b : Bool) → b ≡ (length text == 0) → b ≡ true → text ≡ []
 empty_of text b is holds = nil_from_length text (eqb-true (length text) 0 (sym is ∙ holds))
 
 -- no line is left
-pub script_over : (w : CoreValue) (n : ℕ) (rest done : List ℕ) (all : Answer) → rest ≡ [] → all ≡ after done (script_answer w n (lines_of rest)) → (all.text ≡ done) × (all.status ≡ 0)
-script_over w n rest done all empty so_far =
-    let over : all ≡ after done (record { text = []; status = 0 }) = so_far ∙ ap (λ (l : List ℕ). after done (script_answer w n (lines_of l))) empty in
+pub script_over : (s : SettingsValue) (w : List Event) (n : ℕ) (rest done : List ℕ) (all : Answer) → rest ≡ [] → all ≡ after done (script_answer s w n (lines_of rest)) → (all.text ≡ done) × (all.status ≡ 0)
+script_over s w n rest done all empty so_far =
+    let over : all ≡ after done (record { text = []; status = 0 }) = so_far ∙ ap (λ (l : List ℕ). after done (script_answer s w n (lines_of l))) empty in
     (ap (λ (a : Answer). a.text) over ∙ append-nil done, ap (λ (a : Answer). a.status) over)
 
 -- an Ok write appended the whole text

@@ -1,35 +1,47 @@
 -- What is printed for an event that the core took.
-use Rattle.std.proofs.Common.{◌≡◌, ℕ, ℤ, List, [], ◌∷◌, ◌++◌, length, Option, Some, None, true, nat_lt, refl, sym, ap, ◌∙◌}
+use Rattle.std.proofs.Common.{◌≡◌, ℕ, ℤ, List, [], ◌∷◌, ◌++◌, length, Some, true, nat_lt, refl, sym, ap, ◌∙◌}
 use Rattle.std.specs.Prelude.{slice_get}
+use Rattle.std.proofs.lemmas.List.{length-map}
 use Rattle.std.proofs.lemmas.Bool.Decides.{Decides-ltb}
 use Rattle.audit_trail.specs.declared.event.Event.{Event}
 use Rattle.audit_trail.specs.declared.trail.Entry.{Entry}
 use Rattle.audit_trail.specs.declared.trail.Receipt.{Receipt}
-use Rattle.request_handlers.specs.declared.stop.Stop.{Stop}
-use Rattle.request_handlers.specs.Core.{CoreValue, IsReady, trail_limit, advanced, entry_of, receipt_of}
-use Rattle.request_handlers.specs.Step.{reply_to}
-use Rattle.commands.specs.Replay.{goes, stop_of, stepped, step_turn, entry_text, reply_line, audit_lines, refusals_in, refusals_at}
+use Rattle.request_handlers.specs.Core.{CoreValue, IsReady, trail_limit, events_of}
+use Rattle.request_handlers.specs.Headline.{behind, entry_told, IsTaken}
+use Rattle.request_handlers.proofs.Histories.{events_push}
+use Rattle.plain_broker.specs.Events.{told}
+use Rattle.commands.specs.Replay.{goes, step_turn, event_text, reply_line, audit_lines, refusals_in, refusals_at, IsUp}
 
 last_kept : {A : Type 0} (xs : List A) (x : A) → slice_get (xs ++ x ∷ []) (length xs) ≡ Some x
 last_kept [] x = refl
 last_kept (y ∷ ys) x = last_kept ys x
 
--- a core that can take an event takes it
-ready_turn : (core : CoreValue) (correlation : ℤ) (e : Event) → IsReady core → step_turn core correlation e ≡ goes (advanced core e) (entry_text correlation (entry_of core.world e))
-ready_turn core correlation e ready = ap (λ (o : Option Stop). stepped core correlation e o) goes_on where
-  room : nat_lt (length core.trail) (trail_limit core.settings) ≡ true
-  room = (Decides-ltb (length core.trail) (trail_limit core.settings)).1 ready.room
+events_number : (core : CoreValue) → length (events_of core.trail) ≡ length core.trail
+events_number core = length-map core.trail (λ (x : Entry). x.event)
 
-  goes_on : stop_of core ≡ None
-  goes_on = rw (ready.up, room) refl
+module _ (core : CoreValue) (correlation : ℤ) (e : Event) where
+  abbrev before : List Event
+  before = events_of core.trail
 
-pub printed : (core : CoreValue) (correlation : ℤ) (e : Event) (new : CoreValue) (receipt : Receipt) (text : List ℕ)
-    → IsReady core → receipt ≡ receipt_of core e → new ≡ advanced core e
-    → text ≡ reply_line correlation receipt.reply ++ audit_lines (refusals_at new.trail receipt.place)
-    → step_turn core correlation e ≡ goes new text
-printed core correlation e new receipt text ready is after shown = ready_turn core correlation e ready ∙ (λ i. goes (sym after i) (sym whole i)) where
-  whole : text ≡ entry_text correlation (entry_of core.world e)
-  whole =
-      shown ∙ ap (λ (r : Receipt). reply_line correlation r.reply ++ audit_lines (refusals_at new.trail r.place)) is
-      ∙ ap (λ (c : CoreValue). reply_line correlation (receipt_of core e).reply ++ audit_lines (refusals_at c.trail (receipt_of core e).place)) after
-      ∙ ap (λ (o : Option Entry). reply_line correlation (reply_to core.world e) ++ audit_lines (refusals_in o)) (last_kept core.trail (entry_of core.world e))
+  -- a core that can take an event takes it
+  ready_turn : IsReady core → step_turn core.settings before correlation e ≡ goes (before ++ e ∷ []) (event_text correlation (told (behind core.settings before) e))
+  ready_turn ready = rw room refl where
+    room : nat_lt (length before) (trail_limit core.settings) ≡ true
+    room = ap (λ (n : ℕ). nat_lt n (trail_limit core.settings)) (events_number core) ∙ (Decides-ltb (length core.trail) (trail_limit core.settings)).1 ready.room
+
+  pub printed : (new : CoreValue) (receipt : Receipt) (text : List ℕ)
+      → IsReady core → IsTaken core e receipt new
+      → text ≡ reply_line correlation receipt.reply ++ audit_lines (refusals_at new.trail receipt.place)
+      → (step_turn core.settings before correlation e ≡ goes (events_of new.trail) text) × IsUp core.settings new
+  printed new receipt text ready is shown = (ready_turn ready ∙ (λ i. goes (sym events i) (sym whole i)), (is.settings, is.up)) where
+    events : events_of new.trail ≡ before ++ e ∷ []
+    events = ap events_of is.entry ∙ events_push core.trail (entry_told (behind core.settings before) e)
+
+    kept : refusals_at new.trail receipt.place ≡ (told (behind core.settings before) e).refusals
+    kept =
+        ap (λ (n : ℕ). refusals_at new.trail n) (is.answered.place ∙ events_number core)
+        ∙ ap (λ (l : List Entry). refusals_at l (length core.trail)) is.entry
+        ∙ ap refusals_in (last_kept core.trail (entry_told (behind core.settings before) e))
+
+    whole : text ≡ event_text correlation (told (behind core.settings before) e)
+    whole = shown ∙ (λ i. reply_line correlation (is.answered.reply i) ++ audit_lines (kept i))

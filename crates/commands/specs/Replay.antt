@@ -1,5 +1,5 @@
 -- What `replay` answers to its input.
-use Rattle.std.specs.Prelude.{◌≡◌, ℕ, ℤ, pos, ◌+◌, nat_lt, if◌then◌else◌, List, [], ◌∷◌, ◌++◌, codes, decimal, length, slice_get, Option, Some, None, Result, Ok, Err}
+use Rattle.std.specs.Prelude.{◌≡◌, ℕ, ℤ, pos, false, ◌+◌, nat_lt, if◌then◌else◌, List, [], ◌∷◌, ◌++◌, codes, decimal, length, slice_get, Option, Some, None, Result, Ok, Err}
 use Rattle.std.specs.Io.BufRead.{strip_last}
 use Rattle.std.specs.List.{flat_map}
 use Rattle.hex.specs.Hex.{encode_lower}
@@ -18,7 +18,11 @@ use Rattle.audit_trail.specs.declared.trail.Entry.{Entry}
 use Rattle.audit_trail.specs.Line.{line_of}
 use Rattle.request_handlers.specs.declared.stop.Stop.{Stop}
 use Rattle.request_handlers.specs.declared.stop.Stop.TheVariants.{NoMemory, TrailFull, Down}
-use Rattle.request_handlers.specs.Core.{CoreValue, trail_limit, opened, advanced, entry_of}
+use Rattle.request_handlers.specs.Core.{CoreValue, trail_limit, events_of}
+use Rattle.request_handlers.specs.Headline.{behind}
+use Rattle.settings.specs.declared.settings.Settings.{Settings}
+use Rattle.broker_world.specs.Outcome.{Outcome}
+use Rattle.plain_broker.specs.Events.{told}
 use Rattle.settings_text.specs.declared.document.Document.{Document}
 use Rattle.settings_text.specs.declared.fault.SettingsFault.{SettingsFault}
 use Rattle.settings_text.specs.Document.{document_of_text, fault_name}
@@ -72,8 +76,8 @@ abbrev pub refusals_at : List Entry → ℕ → List Refusal
 refusals_at trail place = refusals_in (slice_get trail place)
 
 -- what is printed for an event: the response, and one audit line for each refusal
-abbrev pub entry_text : ℤ → Entry → List ℕ
-entry_text correlation entry = reply_line correlation entry.reply ++ audit_lines entry.refusals
+abbrev pub event_text : ℤ → Outcome → List ℕ
+event_text correlation o = reply_line correlation o.reply ++ audit_lines o.refusals
 
 abbrev pub unreadable : ℕ → List ℕ
 unreadable number = codes "line " ++ (decimal number ++ (codes ": unreadable" ++ feed))
@@ -85,62 +89,59 @@ stop_line Down = codes "stop 3" ++ feed
 
 -- ---- a script
 
--- what a line does: the script goes on with a core after a text, or ends with a text
+-- what a line does: the script goes on behind these events after a text, or ends with a text
 pub data Turn : Type 0 where
-  goes : CoreValue → List ℕ → Turn
+  goes : List Event → List ℕ → Turn
   ends : List ℕ → Turn
 
--- why a core takes no event, memory aside
-abbrev pub stop_of : CoreValue → Option Stop
-stop_of core = if core.down then Some Down else if nat_lt (length core.trail) (trail_limit core.settings) then None else Some TrailFull
-
-abbrev pub stepped : CoreValue → ℤ → Event → Option Stop → Turn
-stepped core correlation e (Some stop) = ends (stop_line stop)
-stepped core correlation e None = goes (advanced core e) (entry_text correlation (entry_of core.world e))
-
--- the step of an event
-abbrev pub step_turn : CoreValue → ℤ → Event → Turn
-step_turn core correlation e = stepped core correlation e (stop_of core)
+-- An event behind others, from the settings on, prints the plain broker's answer to exactly what the binding list in force
+-- allows of it, with each other part's code at its place and its refusal in a line of its own.
+abbrev pub step_turn : Settings → List Event → ℤ → Event → Turn
+step_turn s before correlation e = if nat_lt (length before) (trail_limit s) then goes (before ++ e ∷ []) (event_text correlation (told (behind s before) e)) else ends (stop_line TrailFull)
 
 -- what is no request closes, and is no event
-abbrev pub request_turn : CoreValue → Sent → Result (Header × Request) Malformed → Turn
-request_turn core sent (Err fault) = goes core closed
-request_turn core sent (Ok x) = step_turn core x.0.correlation (events.Ask sent.caller x.0.client x.1)
+abbrev pub request_turn : Settings → List Event → Sent → Result (Header × Request) Malformed → Turn
+request_turn s before sent (Err fault) = goes before closed
+request_turn s before sent (Ok x) = step_turn s before x.0.correlation (events.Ask sent.caller x.0.client x.1)
 
 -- a frame above the limit closes before it is read
-abbrev pub frame_turn : CoreValue → Sent → Turn
-frame_turn core sent = if nat_lt FRAME_LIMIT (length sent.frame) then goes core closed else request_turn core sent (request_at sent.frame)
+abbrev pub frame_turn : Settings → List Event → Sent → Turn
+frame_turn s before sent = if nat_lt FRAME_LIMIT (length sent.frame) then goes before closed else request_turn s before sent (request_at sent.frame)
 
 -- the step of an event that no one asked for: what it is answered is not sent, so no correlation id stands in it
-abbrev pub unasked_turn : CoreValue → Event → Turn
-unasked_turn core e = step_turn core (pos 0) e
+abbrev pub unasked_turn : Settings → List Event → Event → Turn
+unasked_turn s before e = step_turn s before (pos 0) e
 
-abbrev pub order_turn : CoreValue → Order → Turn
-order_turn core (Ask sent) = frame_turn core sent
-order_turn core Mark = unasked_turn core events.Mark
-order_turn core (Tick moment) = unasked_turn core (events.Tick moment)
+abbrev pub order_turn : Settings → List Event → Order → Turn
+order_turn s before (Ask sent) = frame_turn s before sent
+order_turn s before Mark = unasked_turn s before events.Mark
+order_turn s before (Tick moment) = unasked_turn s before (events.Tick moment)
 
-abbrev pub read_turn : CoreValue → ℕ → Option Order → Turn
-read_turn core number None = ends (unreadable number)
-read_turn core number (Some order) = order_turn core order
+abbrev pub read_turn : Settings → List Event → ℕ → Option Order → Turn
+read_turn s before number None = ends (unreadable number)
+read_turn s before number (Some order) = order_turn s before order
 
--- what the line of this number does
-abbrev pub line_turn : CoreValue → ℕ → List ℕ → Turn
-line_turn core number line = read_turn core number (order_of (strip_last 10 line))
+-- what the line of this number does, behind these events
+abbrev pub line_turn : Settings → List Event → ℕ → List ℕ → Turn
+line_turn s before number line = read_turn s before number (order_of (strip_last 10 line))
 
-abbrev pub after_turn : Turn → (CoreValue → Answer) → Answer
-after_turn (goes core text) rest = after text (rest core)
+abbrev pub after_turn : Turn → (List Event → Answer) → Answer
+after_turn (goes events text) rest = after text (rest events)
 after_turn (ends text) rest = record { text = text; status = 1 }
 
--- the answer to the lines from this number on
-abbrev pub script_answer : CoreValue → ℕ → List (List ℕ) → Answer
-script_answer core number [] = record { text = []; status = 0 }
-script_answer core number (line ∷ lines) = after_turn (line_turn core number line) (λ c. script_answer c (number + 1) lines)
+-- the answer to the lines from this number on, behind these events
+abbrev pub script_answer : Settings → List Event → ℕ → List (List ℕ) → Answer
+script_answer s before number [] = record { text = []; status = 0 }
+script_answer s before number (line ∷ lines) = after_turn (line_turn s before number line) (λ more. script_answer s more (number + 1) lines)
 
--- the turn that a call gave is the one that is due, and leaves this core
-abbrev pub Turns : Turn → CoreValue → code.Turn → Type 0
-Turns due new (Goes text) = due ≡ goes new (string_bytes text)
-Turns due new (Ends text cause) = due ≡ ends (string_bytes text)
+-- the core is up, with these settings
+abbrev pub IsUp : Settings → CoreValue → Type 0
+IsUp s core = (core.settings ≡ s) × (core.down ≡ false)
+
+-- the turn that a call gave is the one that is due, and where the script goes on it leaves a core that is up behind its events
+abbrev pub Turns : Turn → Settings → CoreValue → code.Turn → Type 0
+Turns due s new (Goes text) = (due ≡ goes (events_of new.trail) (string_bytes text)) × IsUp s new
+Turns due s new (Ends text cause) = due ≡ ends (string_bytes text)
 
 -- ---- an input
 
@@ -150,10 +151,10 @@ refused fault = codes "settings refused: " ++ (fault_name fault ++ feed)
 abbrev pub refused_answer : SettingsFault → Answer
 refused_answer fault = record { text = refused fault; status = 1 }
 
--- a core of the settings, line by line
+-- a broker of the settings, line by line
 abbrev pub opened_answer : Result Document SettingsFault → List (List ℕ) → Answer
 opened_answer (Err fault) lines = refused_answer fault
-opened_answer (Ok d) lines = script_answer (opened d.settings) 1 lines
+opened_answer (Ok d) lines = script_answer d.settings [] 1 lines
 
 -- settings up to a line `---` or the end, and a script behind it
 abbrev pub input_answer : List ℕ → Answer

@@ -1,7 +1,7 @@
 //! The commands `replay` and `check`: settings and a script in, what the broker answers out; settings in, what is
 //! wrong with them out.
 
-ghost use Rattle.std.specs.Prelude.{◌≡◌, IfSome, IfErr};
+ghost use Rattle.std.specs.Prelude.{◌≡◌, [], IfSome, IfErr};
 ghost use Rattle.wire_types.specs.Device.{Wrote};
 ghost use Rattle.request_handlers.specs.Core.{opened};
 ghost use Rattle.commands.specs.Lines.{lines_of};
@@ -60,7 +60,8 @@ fn run_script<W: Write, E: Write>(
     writer: &mut W,
     errors: &mut E,
 ) -> Result<u8, Early>
-    ensures { Printed (W.contents writer.old) (W.contents writer.new) (script_answer core 1 (lines_of script.now)) result }
+    requires { core ≡ opened core.settings }
+    ensures { Printed (W.contents writer.old) (W.contents writer.new) (script_answer core.settings [] 1 (lines_of script.now)) result }
 {
     let mut rest = script;
     let mut number: u64 = 1;

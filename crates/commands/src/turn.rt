@@ -1,9 +1,10 @@
 //! What a line of a script does.
 
-ghost use Rattle.std.specs.Prelude.{◌≡◌, ◌≤◌, ◌++◌, length, IfOk, string_bytes};
+ghost use Rattle.std.specs.Prelude.{◌≡◌, ◌≤◌, ◌++◌, false, length, IfOk, string_bytes};
 ghost use Rattle.msg_admin.specs.Request.{request_at, Fits};
 ghost use Rattle.audit_trail.specs.declared.event.Event.TheVariants as events;
-ghost use Rattle.request_handlers.specs.Core.{EventFits};
+ghost use Rattle.api_dispatch.specs.Bounds.{EventFits};
+ghost use Rattle.request_handlers.specs.Core.{events_of};
 ghost use Rattle.commands.specs.Replay.{refusals_at, reply_line, audit_lines, Turns, step_turn, request_turn, frame_turn, unasked_turn, order_turn, line_turn};
 
 use crate::cause::Cause;
@@ -53,8 +54,9 @@ fn receipt_text(
 
 /// Makes the step of an event.
 fn step(alloc: Global, core: &mut Core, correlation: i32, event: Event) -> Result<Turn, AllocError>
-    requires { EventFits event }
-    ensures { IfOk result (Turns (step_turn core.old correlation event) core.new) }
+    requires up { core.old.down ≡ false }
+    requires fits { EventFits event }
+    ensures { IfOk result (Turns (step_turn core.old.settings (events_of core.old.trail) correlation event) core.old.settings core.new) }
 {
     match core.step(event) {
         Ok(receipt) => Ok(Turn::Goes(receipt_text(alloc, core, correlation, &receipt)?)),
@@ -71,8 +73,9 @@ fn ask(
     header: Header,
     request: Request,
 ) -> Result<Turn, AllocError>
-    requires { Fits request }
-    ensures { IfOk result (Turns (step_turn core.old header.correlation (events.Ask caller header.client request)) core.new) }
+    requires up { core.old.down ≡ false }
+    requires fits { Fits request }
+    ensures { IfOk result (Turns (step_turn core.old.settings (events_of core.old.trail) header.correlation (events.Ask caller header.client request)) core.old.settings core.new) }
 {
     let correlation = header.correlation;
     let event = Event::Ask {
@@ -85,8 +88,9 @@ fn ask(
 
 /// Answers a frame within the limit.
 fn request_turn(alloc: Global, core: &mut Core, sent: Sent) -> Result<Turn, AllocError>
-    requires { length sent.frame ≤ FRAME_LIMIT }
-    ensures { IfOk result (Turns (request_turn core.old sent (request_at sent.frame)) core.new) }
+    requires up { core.old.down ≡ false }
+    requires fits { length sent.frame ≤ FRAME_LIMIT }
+    ensures { IfOk result (Turns (request_turn core.old.settings (events_of core.old.trail) sent (request_at sent.frame)) core.old.settings core.new) }
 {
     let Sent { caller, frame } = sent;
     match read_request(alloc, &frame) {
@@ -98,7 +102,8 @@ fn request_turn(alloc: Global, core: &mut Core, sent: Sent) -> Result<Turn, Allo
 
 /// Answers a frame.
 fn frame_turn(alloc: Global, core: &mut Core, sent: Sent) -> Result<Turn, AllocError>
-    ensures { IfOk result (Turns (frame_turn core.old sent) core.new) }
+    requires up { core.old.down ≡ false }
+    ensures { IfOk result (Turns (frame_turn core.old.settings (events_of core.old.trail) sent) core.old.settings core.new) }
 {
     if sent.frame.len() > FRAME_LIMIT {
         return Ok(Turn::Goes(closed_text(alloc)?));
@@ -108,15 +113,17 @@ fn frame_turn(alloc: Global, core: &mut Core, sent: Sent) -> Result<Turn, AllocE
 
 /// Makes the step of an event that no one asked for: its reply isn't sent.
 fn unasked_turn(alloc: Global, core: &mut Core, event: Event) -> Result<Turn, AllocError>
-    requires { EventFits event }
-    ensures { IfOk result (Turns (unasked_turn core.old event) core.new) }
+    requires up { core.old.down ≡ false }
+    requires fits { EventFits event }
+    ensures { IfOk result (Turns (unasked_turn core.old.settings (events_of core.old.trail) event) core.old.settings core.new) }
 {
     step(alloc, core, 0, event)
 }
 
 /// Does what was asked for.
 fn order_turn(alloc: Global, core: &mut Core, order: Order) -> Result<Turn, AllocError>
-    ensures { IfOk result (Turns (order_turn core.old order) core.new) }
+    requires up { core.old.down ≡ false }
+    ensures { IfOk result (Turns (order_turn core.old.settings (events_of core.old.trail) order) core.old.settings core.new) }
 {
     match order {
         Order::Ask(sent) => frame_turn(alloc, core, sent),
@@ -132,7 +139,8 @@ pub(crate) fn line_turn(
     number: u64,
     line: &[u8],
 ) -> Result<Turn, AllocError>
-    ensures { IfOk result (Turns (line_turn core.old number line.now) core.new) }
+    requires up { core.old.down ≡ false }
+    ensures { IfOk result (Turns (line_turn core.old.settings (events_of core.old.trail) number line.now) core.old.settings core.new) }
 {
     match parse_order(alloc, content(line))? {
         Ok(order) => order_turn(alloc, core, order),

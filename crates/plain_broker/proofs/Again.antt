@@ -12,8 +12,8 @@ use Rattle.msg_admin.specs.declared.request.Request.TheVariants.{Produce, Fetch,
 use Rattle.walk.specs.Codes.{refusal_code}
 use Rattle.audit_trail.specs.declared.event.Event.TheVariants.{Ask}
 use Rattle.broker_world.specs.World.{World, rules_of}
-use Rattle.request_handlers.specs.Step.{counted, step}
-use Rattle.tenant_laws.specs.Laws.{request_refusals}
+use Rattle.api_dispatch.specs.Step.{counted, step}
+use Rattle.api_dispatch.specs.Refusals.{request_refusals}
 use Rattle.plain_broker.specs.Allowed.{Allowed, Rest, Cut, Nothing, refused_itself, refused_at, kept_names, kept_topic, kept_topics, kept, rest_or_nothing, whole_or_cut, allowed}
 use Rattle.plain_broker.specs.Plain.{put_together}
 use Rattle.plain_broker.specs.Without.{RefusedChangesNothing}

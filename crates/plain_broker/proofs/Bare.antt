@@ -45,7 +45,7 @@ use Rattle.acl_binding.specs.Entries.{filter_of}
 use Rattle.acl_handlers.specs.DescribeAcls.{describe_acls_questions, describe_acls_reply}
 use Rattle.acl_handlers.specs.CreateAcls.{alter_questions, book_created, created, create_acls_reply}
 use Rattle.acl_handlers.specs.DeleteAcls.{book_deleted, deleted, delete_acls_reply}
-use Rattle.tenant_laws.specs.Questions.{fetch_questions}
+use Rattle.api_dispatch.specs.Questions.{fetch_questions}
 use Rattle.plain_broker.specs.Plain.{unbound, plain}
 use Rattle.plain_broker.specs.Plainness.{is_about_bindings, RefusesNothing, SameForAll, LooksAtNoBook}
 use Rattle.plain_broker.proofs.Freed.{freed}

@@ -21,10 +21,10 @@ use Rattle.broker_world.specs.Logs.{log_at}
 use Rattle.broker_world.specs.Outcome.{Outcome}
 use Rattle.broker_world.specs.Whole.{Served}
 use Rattle.txn_handlers.specs.AddPartitions.{add_questions, added_partition, cut_code, cut_rule, is_missing, add_reply, cut_outcome, added_outcome, add_partitions_outcome}
-use Rattle.request_handlers.specs.Step.{counted}
-use Rattle.tenant_laws.specs.Questions.{partition_parts}
-use Rattle.tenant_laws.specs.Laws.{refusals_in}
-use Rattle.tenant_laws.proofs.Told.{walk_told}
+use Rattle.api_dispatch.specs.Step.{counted}
+use Rattle.api_dispatch.specs.Questions.{partition_parts}
+use Rattle.api_dispatch.specs.Refusals.{refusals_in}
+use Rattle.api_dispatch.proofs.Told.{walk_told}
 use Rattle.plain_broker.specs.Allowed.{kept_topics, whole_or_cut}
 use Rattle.plain_broker.specs.PutBack.{put_topics, put_back}
 use Rattle.plain_broker.specs.Exactly.{is_granted}

@@ -18,8 +18,8 @@ use Rattle.group_handlers.specs.OffsetCommit.{commit_questions}
 use Rattle.group_handlers.specs.OffsetFetch.{group_question}
 use Rattle.txn_handlers.specs.AddPartitions.{add_questions}
 use Rattle.txn_handlers.specs.TxnOffsetCommit.{staging, stage_questions}
-use Rattle.tenant_laws.specs.Questions.{fetch_questions, partition_parts, topic_parts, offset_parts, parts_of}
-use Rattle.tenant_laws.specs.Laws.{refusals_in, told_alone, request_refusals}
+use Rattle.api_dispatch.specs.Questions.{fetch_questions, partition_parts, topic_parts, offset_parts, parts_of}
+use Rattle.api_dispatch.specs.Refusals.{refusals_in, told_alone, request_refusals}
 use Rattle.std.specs.Option.{option_map}
 use Rattle.plain_broker.specs.Allowed.{allowed, kept_names, kept_topics, whole_or_cut, rest_or_nothing}
 use Rattle.plain_broker.specs.Exactly.{is_granted, IsExact, AllowedIsExact, RefusedAnswers}

@@ -1,7 +1,9 @@
 -- In the plain broker's world each question of the caller is granted.
-use Rattle.std.proofs.Common.{◌≡◌, Bool, true, false, cond, List, [], ◌∷◌, Option, None, refl, ap, ◌∙◌}
+use Rattle.std.proofs.Common.{◌≡◌, ℕ, Bool, true, false, cond, List, [], ◌∷◌, Option, None, refl, ap, ◌∙◌}
 use Rattle.std.specs.Prelude.{◌||◌}
 use Rattle.std.specs.List.{AllByRecursion}
+use Rattle.std.specs.Str.{bytes_eq}
+use Rattle.std.proofs.lemmas.Slice.Eq.{bytes_eq-Decides}
 use Rattle.acl_binding.specs.declared.question.Caller.{Caller}
 use Rattle.acl_binding.specs.declared.question.Question.{Question}
 use Rattle.acl_binding.specs.declared.question.Verdict.TheVariants.{Yes}
@@ -10,8 +12,10 @@ use Rattle.authorizer.specs.Policy.{is_super}
 use Rattle.authorizer.specs.declared.answer.Refusal.{Refusal}
 use Rattle.authorizer.specs.Asking.{refusal_by, first_of, part_refusal, question_refusal}
 use Rattle.broker_world.specs.World.{World, rules_of}
-use Rattle.api_laws.proofs.Grouped.{own_name}
 use Rattle.plain_broker.specs.Plain.{unbound}
+
+own_name : (name : List ℕ) → bytes_eq name name ≡ true
+own_name name = (bytes_eq-Decides name name).1 refl
 
 module _ (w : World) (caller : Caller) where
   question_freed : (q : Question) → q.who ≡ caller.who → question_refusal (rules_of (unbound w caller)) q ≡ None

@@ -11,3 +11,4 @@ pub mod Bare
 pub mod Exact
 pub mod Again
 pub mod Named
+pub mod Committed

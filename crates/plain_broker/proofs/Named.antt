@@ -10,8 +10,8 @@ use Rattle.authorizer.specs.declared.answer.Refusal.{Refusal}
 use Rattle.authorizer.specs.Policy.{is_super}
 use Rattle.authorizer.specs.Asking.{Rules, refusal_by, question_refusal, first_of, part_refusal}
 use Rattle.msg_admin.specs.declared.request.Request.TheVariants.{Produce, Fetch, ListOffsets, Metadata, OffsetCommit, OffsetFetch, FindCoordinator, JoinGroup, Heartbeat, LeaveGroup, SyncGroup, InitProducerId, AddPartitionsToTxn, AddOffsetsToTxn, EndTxn, TxnOffsetCommit, DescribeAcls, CreateAcls, DeleteAcls}
-use Rattle.tenant_laws.specs.Questions.{asks_itself, offset_parts, parts_of}
-use Rattle.tenant_laws.specs.Laws.{refusals_in, told_alone}
+use Rattle.api_dispatch.specs.Questions.{asks_itself, offset_parts, parts_of}
+use Rattle.api_dispatch.specs.Refusals.{refusals_in, told_alone}
 use Rattle.plain_broker.specs.Named.{IsRightRefusal, RefusalsAreRight}
 
 module _ (rules : Rules) where

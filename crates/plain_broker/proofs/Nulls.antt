@@ -22,7 +22,7 @@ use Rattle.broker_world.specs.Outcome.{Outcome}
 use Rattle.broker_world.specs.Questions.{topic_part, topic_refusal}
 use Rattle.data_handlers.specs.Metadata.{topic_error, topic_found, plain_topic, describable, refused_topic, metadata_topics, broker_info}
 use Rattle.group_handlers.specs.OffsetFetch.{group_question, fetched_code, offset_rule, told_from, told_as, told_topics, fetch_reply, offsets_of, fetched_outcome, offset_fetch_by}
-use Rattle.request_handlers.specs.Step.{counted}
+use Rattle.api_dispatch.specs.Step.{counted}
 use Rattle.plain_broker.specs.Allowed.{kept_names, kept_topics, rest_or_nothing}
 use Rattle.plain_broker.specs.Exactly.{is_granted}
 use Rattle.plain_broker.specs.PutBack.{put_infos, put_offsets, put_back}

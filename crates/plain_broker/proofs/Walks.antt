@@ -24,8 +24,8 @@ use Rattle.data_handlers.specs.Fetch.{fetched_error, fetch_rule, whole_room}
 use Rattle.data_handlers.specs.ListOffsets.{listed_error, list_rule}
 use Rattle.group_handlers.specs.OffsetCommit.{commit_questions, committed_code, committing_rule}
 use Rattle.txn_handlers.specs.TxnOffsetCommit.{staging, stage_questions, staged_code, staging_rule}
-use Rattle.request_handlers.specs.Step.{counted}
-use Rattle.tenant_laws.specs.Questions.{fetch_questions}
+use Rattle.api_dispatch.specs.Step.{counted}
+use Rattle.api_dispatch.specs.Questions.{fetch_questions}
 use Rattle.plain_broker.specs.PutBack.{put_topics, put_back}
 use Rattle.plain_broker.specs.Plain.{unbound, IsPlainOfAllowed}
 use Rattle.plain_broker.proofs.Freed.{freed}

@@ -30,7 +30,7 @@ use Rattle.txn_handlers.specs.AddOffsets.{add_offsets_questions}
 use Rattle.broker_world.specs.Questions.{id_question}
 use Rattle.acl_handlers.specs.DescribeAcls.{describe_acls_questions}
 use Rattle.acl_handlers.specs.CreateAcls.{alter_questions}
-use Rattle.request_handlers.specs.Step.{request_outcome, counted}
+use Rattle.api_dispatch.specs.Step.{request_outcome, counted}
 use Rattle.plain_broker.specs.Allowed.{allowed, rest_or_nothing}
 use Rattle.plain_broker.specs.PutBack.{put_back, refused_whole}
 use Rattle.plain_broker.specs.Plain.{unbound, plain, put_together, IsPlainOfAllowed}

@@ -10,8 +10,8 @@ use Rattle.msg_txn.specs.declared.add_partitions.AddPartitionsToTxnRequest.{AddP
 use Rattle.msg_admin.specs.declared.request.Request.{Request}
 use Rattle.msg_admin.specs.declared.request.Request.TheVariants as requests
 use Rattle.walk.specs.Codes.{refusal_code}
-use Rattle.tenant_laws.specs.Questions.{asks_itself, asks_at}
-use Rattle.tenant_laws.specs.Laws.{request_refusals}
+use Rattle.api_dispatch.specs.Questions.{asks_itself, asks_at}
+use Rattle.api_dispatch.specs.Refusals.{request_refusals}
 
 -- What is left of a request.
 pub data Allowed : Type 0 where

@@ -37,8 +37,8 @@ use Rattle.group_handlers.specs.OffsetCommit.{committed_code}
 use Rattle.group_handlers.specs.OffsetFetch.{fetched_code}
 use Rattle.txn_handlers.specs.AddPartitions.{added_partition}
 use Rattle.txn_handlers.specs.TxnOffsetCommit.{staged_code}
-use Rattle.tenant_laws.specs.Questions.{parts_of}
-use Rattle.tenant_laws.specs.Laws.{request_refusals}
+use Rattle.api_dispatch.specs.Questions.{parts_of}
+use Rattle.api_dispatch.specs.Refusals.{request_refusals}
 use Rattle.plain_broker.specs.Allowed.{Allowed, Rest, Cut, Nothing, allowed}
 
 -- each of the questions has the verdict Yes

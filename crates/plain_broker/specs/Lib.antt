@@ -2,7 +2,8 @@ pub mod Allowed
 pub mod PutBack
 pub mod Plain
 pub mod Plainness
+pub mod Named
 pub mod Events
 pub mod Exactly
 pub mod Without
-pub mod Named
+pub mod ReadCommitted

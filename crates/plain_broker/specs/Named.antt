@@ -11,7 +11,7 @@ use Rattle.authorizer.specs.declared.answer.Refusal.{Refusal}
 use Rattle.authorizer.specs.Policy.{is_super}
 use Rattle.authorizer.specs.Asking.{Rules}
 use Rattle.msg_admin.specs.declared.request.Request.{Request}
-use Rattle.tenant_laws.specs.Laws.{request_refusals}
+use Rattle.api_dispatch.specs.Refusals.{request_refusals}
 
 -- a binding of this creation number denies it, and no older one, whatever allows it; or none denies it and none allows it
 abbrev pub IsNamed : List Numbered → Question → Why → Type 0

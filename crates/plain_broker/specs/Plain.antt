@@ -14,7 +14,7 @@ use Rattle.broker_world.specs.Logs.{log_at}
 use Rattle.broker_world.specs.Outcome.{Outcome}
 use Rattle.broker_world.specs.Whole.{Served}
 use Rattle.txn_handlers.specs.AddPartitions.{added_partition, cut_code}
-use Rattle.request_handlers.specs.Step.{request_outcome, counted, step, reply_to}
+use Rattle.api_dispatch.specs.Step.{request_outcome, counted, step, reply_to}
 use Rattle.plain_broker.specs.Allowed.{Allowed, Rest, Cut, Nothing, allowed}
 use Rattle.plain_broker.specs.PutBack.{put_back, refused_whole}
 

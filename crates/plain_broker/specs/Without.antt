@@ -6,7 +6,7 @@ use Rattle.msg_txn.specs.declared.add_partitions.AddPartitionsToTxnRequest.{AddP
 use Rattle.msg_admin.specs.declared.request.Request.{Request}
 use Rattle.audit_trail.specs.declared.event.Event.TheVariants.{Ask}
 use Rattle.broker_world.specs.World.{World, rules_of}
-use Rattle.request_handlers.specs.Step.{counted, step}
+use Rattle.api_dispatch.specs.Step.{counted, step}
 use Rattle.plain_broker.specs.Allowed.{Rest, Cut, Nothing, allowed}
 
 pub record RefusedChangesNothing : Type 0 where

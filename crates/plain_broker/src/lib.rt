@@ -4,5 +4,6 @@
 mod laws;
 
 pub use laws::{
-    allowed_is_exact, plain_knows_no_permission, plain_of_allowed, refused_changes_nothing,
+    allowed_is_exact, plain_knows_no_permission, plain_of_allowed, reads_committed,
+    refusals_are_of_parts, refused_changes_nothing,
 };

@@ -1,5 +1,4 @@
 pub mod TrailLimit
-pub mod Wholes
 pub mod Histories
-pub mod Generations
-pub mod Bounds
+pub mod Kept
+pub mod Joined

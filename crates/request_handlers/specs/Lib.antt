@@ -1,3 +1,2 @@
-pub mod Ticks
-pub mod Step
 pub mod Core
+pub mod Headline

@@ -2,12 +2,8 @@
 //! keeps what it answered and refused in a trail.
 #![tactic(auto)]
 
-mod dispatch;
 mod machine;
-mod reading;
 mod stop;
-mod tick;
 
 pub use machine::Core;
-pub use reading::is_reading;
 pub use stop::Stop;

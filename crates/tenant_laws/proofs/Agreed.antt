@@ -1,18 +1,12 @@
 -- Worlds that agree on what requests are granted go on agreeing, and so leave the same history.
-use Rattle.std.proofs.Common.{◌≡◌, ℕ, ◌+◌, Bool, true, false, List, [], ◌∷◌, Option, refl, sym, ap, ◌∙◌}
-use Rattle.std.specs.List.{AllByRecursion}
+use Rattle.std.proofs.Common.{◌≡◌, ℕ, ◌+◌, List, ap}
 use Rattle.acl_binding.specs.declared.question.Caller.{Caller}
-use Rattle.acl_binding.specs.declared.question.Question.{Question}
-use Rattle.acl_binding.specs.declared.question.Verdict.TheVariants.{Yes}
 use Rattle.acl_binding.specs.declared.words.Kind.{Kind}
 use Rattle.acl_binding.specs.declared.words.Kind.TheVariants.{Topic, Group, Cluster, TransactionalId}
 use Rattle.acl_binding.specs.Book.{BookValue}
-use Rattle.authorizer.specs.Policy.{verdict}
 use Rattle.authorizer.specs.Asking.{Rules}
 use Rattle.msg_admin.specs.declared.request.Request.{Request}
 use Rattle.msg_admin.specs.declared.request.Request.TheVariants.{Produce, Fetch, ListOffsets, Metadata, OffsetCommit, OffsetFetch, FindCoordinator, JoinGroup, Heartbeat, LeaveGroup, SyncGroup, InitProducerId, AddPartitionsToTxn, AddOffsetsToTxn, EndTxn, TxnOffsetCommit, DescribeAcls, CreateAcls, DeleteAcls}
-use Rattle.audit_trail.specs.declared.event.Event.{Event}
-use Rattle.audit_trail.specs.declared.event.Event.TheVariants.{Ask, Mark, Tick}
 use Rattle.broker_world.specs.World.{World}
 use Rattle.data_handlers.specs.Produce.{produce_questions}
 use Rattle.group_handlers.specs.OffsetCommit.{commit_questions}
@@ -20,13 +14,11 @@ use Rattle.txn_handlers.specs.TxnOffsetCommit.{staging, stage_questions}
 use Rattle.txn_handlers.specs.AddPartitions.{add_questions}
 use Rattle.acl_handlers.specs.CreateAcls.{alter_questions, book_created}
 use Rattle.acl_handlers.specs.DeleteAcls.{book_deleted}
-use Rattle.request_handlers.specs.Step.{request_outcome, counted, step}
-use Rattle.request_handlers.specs.Core.{entry_of, history}
-use Rattle.api_laws.specs.Tenants.{SameBase, SameOn, SameGranted}
-use Rattle.request_handlers.proofs.Wholes.{describe_keeps, find_keeps, offsets_keep}
-use Rattle.tenant_laws.specs.Questions.{questions_of}
-use Rattle.tenant_laws.specs.Laws.{SameForRequest, AgreementGoesOn, AgreeAmong, IsAmong, AreAmong, HistoriesDependOnGrants}
-use Rattle.tenant_laws.proofs.Answered.{each, by_partitions, answers_depend}
+use Rattle.api_dispatch.specs.Step.{request_outcome, counted}
+use Rattle.api_laws.specs.Tenants.{SameBase, SameOn}
+use Rattle.api_dispatch.proofs.Wholes.{describe_keeps, find_keeps, offsets_keep}
+use Rattle.tenant_laws.specs.Laws.{SameForRequest, AgreementGoesOn}
+use Rattle.tenant_laws.proofs.Answered.{each, by_partitions}
 use Rattle.tenant_laws.proofs.Agreeing.{AgreeBehind, unchanged, unchanged_as, by_book, by_whole}
 use Rattle.tenant_laws.proofs.AgreedLogs.{produce_agrees}
 use Rattle.tenant_laws.proofs.AgreedGroups.{join_agrees, sync_agrees, beat_agrees, leave_agrees, commit_agrees, stage_agrees}
@@ -66,10 +58,10 @@ module _ (v w : World) (caller : Caller) where
 
 -- ---- one event
 
-counted_base : (x y : World) → SameBase x y → SameBase (counted x) (counted y)
+pub counted_base : (x y : World) → SameBase x y → SameBase (counted x) (counted y)
 counted_base x y base = record { node = base.node; rules = base.rules; moment = base.moment; events = ap (λ (n : ℕ). n + 1) base.events; given = base.given }
 
-counted_on : (x y : World) (kind : Kind) (name : List ℕ) → SameOn x y kind name → SameOn (counted x) (counted y) kind name
+pub counted_on : (x y : World) (kind : Kind) (name : List ℕ) → SameOn x y kind name → SameOn (counted x) (counted y) kind name
 counted_on x y Topic name same = same
 counted_on x y Group name same = same
 counted_on x y Cluster name same = same
@@ -81,33 +73,3 @@ agreement_goes_on v w caller client request same =
     let x : World = (request_outcome v caller request).world in
     let y : World = (request_outcome w caller request).world in
     record { base = counted_base x y behind.base; resources = λ kind name on. counted_on x y kind name (behind.resources kind name on) }
-
--- ---- a list of requests
-
-module _ (among : Kind → List ℕ → Bool) where
-  granted_among : (v w : World) → ((kind : Kind) (name : List ℕ) → among kind name ≡ true → SameOn v w kind name) → (qs : List Question) → AllByRecursion (λ (q : Question). verdict w.book w.supers q ≡ Yes → among q.kind q.name ≡ true) qs → SameGranted v w qs
-  granted_among v w agree [] within = tt
-  granted_among v w agree (q ∷ qs) within = (λ yes. agree q.kind q.name (within.0 yes), granted_among v w agree qs within.1)
-
-  pub for_request : (v w : World) (caller : Caller) (client : Option (List ℕ)) (request : Request) → AgreeAmong among v w → IsAmong among w (Ask caller client request) → SameForRequest v w caller request
-  for_request v w caller client request agree within = record {
-    base = agree.base;
-    granted = granted_among v w agree.resources (questions_of caller request) within.1;
-    described = λ all. absurd (let clash : false ≡ true = sym within.0 ∙ all in cc);
-  }
-
-  histories : (v w : World) (events : List Event) → AgreeAmong among v w → AreAmong among w events → history v events ≡ history w events
-  histories v w [] agree within = refl
-  histories v w (Ask caller client request ∷ es) agree within =
-      let e : Event = Ask caller client request in
-      let same = for_request v w caller client request agree within.0 in
-      let told = answers_depend v w caller client request same in
-      let goes = agreement_goes_on v w caller client request same in
-      let entry : entry_of v e ≡ entry_of w e = λ i. record { event = Ask caller client request; reply = told.reply i; refusals = told.refusals i } in
-      let rest = histories (step v e) (step w e) es (record { base = goes.base; resources = λ kind name is. goes.resources kind name (agree.resources kind name is) }) within.1 in
-      λ i. entry i ∷ rest i
-  histories v w (Mark ∷ es) agree within = absurd within.0
-  histories v w (Tick told ∷ es) agree within = absurd within.0
-
-pub histories_depend : HistoriesDependOnGrants
-histories_depend among v w events agree within = histories among v w events agree within

@@ -38,7 +38,7 @@ use Rattle.tenant_laws.proofs.Agreeing.{Goes, walk_goes, AgreeBehind, by_groups,
 use Rattle.tenant_laws.proofs.Parts.{more_topics}
 
 -- one call on two lists of groups
-call_goes : (us vs : List Group) (call : Call) (name : List ℕ) → find_group us name ≡ find_group vs name → find_group (called us call) name ≡ find_group (called vs call) name
+pub call_goes : (us vs : List Group) (call : Call) (name : List ℕ) → find_group us name ≡ find_group vs name → find_group (called us call) name ≡ find_group (called vs call) name
 call_goes us vs call name same = groups_are_apart us vs (call ∷ []) name same ∙ sym (groups_are_apart vs vs (call ∷ []) name refl)
 
 module _ (v w : World) (caller : Caller) (base : SameBase v w) where

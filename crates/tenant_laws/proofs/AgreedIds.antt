@@ -39,7 +39,7 @@ use Rattle.api_laws.specs.Tenants.{SameBase, SameGranted}
 use Rattle.api_laws.proofs.DataGrants.{yes_of, rest_of, same_topic, same_log}
 use Rattle.api_laws.proofs.Recorded.{AreSame, recorded_put, same_init, same_end, same_add, same_add_group}
 use Rattle.tenant_laws.proofs.Agreeing.{AgreeBehind, unchanged, by_coordinator, by_whole}
-use Rattle.tenant_laws.proofs.Told.{walk_told}
+use Rattle.api_dispatch.proofs.Told.{walk_told}
 
 -- ---- one turn on two coordinators
 

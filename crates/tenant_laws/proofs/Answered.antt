@@ -1,5 +1,5 @@
 -- Each api is answered by what its questions were granted.
-use Rattle.std.proofs.Common.{◌≡◌, ℕ, ℤ, true, List, [], ◌∷◌, map, length, Option, Some, None, refl, sym, ap, ◌∙◌}
+use Rattle.std.proofs.Common.{◌≡◌, ℕ, ℤ, true, List, [], ◌∷◌, map, Option, Some, None, refl, ap}
 use Rattle.std.specs.Prelude.{is_none}
 use Rattle.std.specs.List.{AllByRecursion}
 use Rattle.acl_binding.specs.declared.question.Caller.{Caller}
@@ -18,7 +18,7 @@ use Rattle.data_handlers.specs.Produce.{produce_questions}
 use Rattle.group_handlers.specs.OffsetCommit.{commit_questions}
 use Rattle.txn_handlers.specs.AddPartitions.{add_questions}
 use Rattle.txn_handlers.specs.TxnOffsetCommit.{staging, stage_questions}
-use Rattle.request_handlers.specs.Step.{request_outcome}
+use Rattle.api_dispatch.specs.Step.{request_outcome}
 use Rattle.api_laws.specs.Tenants.{SameBase, SameGranted, SameForMetadata, topic_questions}
 use Rattle.api_laws.specs.DataTenants.{SameAnswer}
 use Rattle.api_laws.specs.GroupLaws.{described_slots, SameWanted}
@@ -29,8 +29,8 @@ use Rattle.api_laws.proofs.Initials.{init_depends}
 use Rattle.api_laws.proofs.Together.{transactions_depend}
 use Rattle.api_laws.proofs.Staged.{staging_depends}
 use Rattle.api_laws.proofs.AclEdits.{acls_depend}
-use Rattle.tenant_laws.specs.Questions.{fetch_questions, partition_parts, topic_parts, parts_of}
-use Rattle.tenant_laws.specs.Laws.{SameForRequest, AnswersDependOnGrants, ReceiptsDependOnGrants}
+use Rattle.api_dispatch.specs.Questions.{fetch_questions, partition_parts, topic_parts, parts_of}
+use Rattle.tenant_laws.specs.Laws.{SameForRequest, SameTold}
 use Rattle.tenant_laws.proofs.Parts.{granted_each, each_partition}
 use Rattle.tenant_laws.proofs.Described.{same_listed}
 
@@ -85,15 +85,6 @@ module _ (v w : World) (caller : Caller) where
   answered (CreateAcls r) same = (acls_depend.create v w caller r same.base).answer
   answered (DeleteAcls r) same = (acls_depend.delete v w caller r same.base).answer
 
-pub answers_depend : AnswersDependOnGrants
-answers_depend v w caller client request same = let told = answered v w caller request same in record { reply = told.reply; refusals = told.refusals }
-
--- the number of events is the place of the next one
-pub receipts_depend : ReceiptsDependOnGrants
-receipts_depend a b caller client request ia ib up_a up_b same =
-    let told = answered a.world b.world caller request same in
-    let place : length a.trail ≡ length b.trail = sym (ia.bounded.events up_a) ∙ same.base.events ∙ ib.bounded.events up_b in
-    record {
-      receipt = λ i. record { place = place i; event = Ask caller client request; reply = told.reply i };
-      entry = λ i. record { event = Ask caller client request; reply = told.reply i; refusals = told.refusals i };
-    }
+-- in worlds that are the same in all but topics, groups and ids
+pub agreed_answers : (v w : World) (caller : Caller) (client : Option (List ℕ)) (request : Request) → SameForRequest v w caller request → SameTold v w (Ask caller client request)
+agreed_answers v w caller client request same = let told = answered v w caller request same in record { reply = told.reply; refusals = told.refusals }

@@ -24,13 +24,13 @@ use Rattle.broker_world.specs.Questions.{id_question}
 use Rattle.txn_handlers.specs.EndTxn.{ended}
 use Rattle.acl_handlers.specs.CreateAcls.{alter_questions, book_created}
 use Rattle.acl_handlers.specs.DeleteAcls.{book_deleted}
-use Rattle.request_handlers.specs.Step.{request_outcome, counted, step, reached}
+use Rattle.api_dispatch.specs.Step.{request_outcome, counted, step, reached}
 use Rattle.api_laws.specs.Tenants.{SameOn}
 use Rattle.api_laws.proofs.Grouped.{groups_keep}
 use Rattle.txn_handlers.proofs.Adds.{add_keeps}
 use Rattle.api_laws.proofs.AclEdits.{refused_edit_nothing}
-use Rattle.request_handlers.proofs.Wholes.{describe_keeps, find_keeps, offsets_keep}
-use Rattle.tenant_laws.specs.Questions.{parts_of, questions_of}
+use Rattle.api_dispatch.proofs.Wholes.{describe_keeps, find_keeps, offsets_keep}
+use Rattle.api_dispatch.specs.Questions.{parts_of, questions_of}
 use Rattle.tenant_laws.specs.Laws.{NoPartIsGranted, NoQuestionIsGranted, AreUngranted, owed_by, KeepsSettings, UngrantedStays}
 use Rattle.tenant_laws.proofs.Parts.{no_part_granted}
 use Rattle.tenant_laws.proofs.Settled.{whole_keeps, settings_kept}

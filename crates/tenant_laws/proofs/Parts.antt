@@ -10,7 +10,7 @@ use Rattle.walk.specs.Alike.{AllParts, AllTopics}
 use Rattle.broker_world.specs.World.{World, rules_of}
 use Rattle.api_laws.specs.Tenants.{SameGranted}
 use Rattle.api_laws.proofs.DataGrants.{yes_of, rest_of}
-use Rattle.tenant_laws.specs.Questions.{partition_parts}
+use Rattle.api_dispatch.specs.Questions.{partition_parts}
 use Rattle.tenant_laws.specs.Laws.{AsksAbout, NoPartIsGranted, NoQuestionIsGranted}
 
 -- ---- lists behind one another

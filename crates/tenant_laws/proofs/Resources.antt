@@ -17,7 +17,7 @@ use Rattle.broker_world.specs.World.{World, TopicValue, rules_of, find_topic}
 use Rattle.broker_world.specs.Outcome.{Outcome}
 use Rattle.broker_world.specs.Whole.{Served, whole_by}
 use Rattle.broker_world.specs.Questions.{read_question}
-use Rattle.request_handlers.specs.Step.{counted}
+use Rattle.api_dispatch.specs.Step.{counted}
 use Rattle.api_laws.specs.Tenants.{SameOn}
 use Rattle.api_laws.specs.TxnLaws.{KeepsOtherIds}
 use Rattle.api_laws.specs.GroupLaws.{KeepsOtherGroups}

@@ -5,7 +5,7 @@ use Rattle.acl_binding.specs.declared.words.Kind.TheVariants as kinds
 use Rattle.acl_binding.specs.declared.words.Operation.TheVariants as operations
 use Rattle.acl_binding.specs.Verdict.{asked}
 use Rattle.msg_admin.specs.declared.request.Request.TheVariants as requests
-use Rattle.tenant_laws.specs.Questions.{parts_of, questions_of, wants_all}
+use Rattle.api_dispatch.specs.Questions.{parts_of, questions_of, wants_all}
 
 module _ (caller : Caller) where
   -- ---- a Produce with the id `t` to partitions 0 and 1 of `a` and to partition 2 of `b`

@@ -32,9 +32,9 @@ use Rattle.txn_handlers.specs.EndTxn.{ended}
 use Rattle.txn_handlers.specs.TxnOffsetCommit.{txn_offset_commit_outcome}
 use Rattle.acl_handlers.specs.CreateAcls.{alter_questions, book_created}
 use Rattle.acl_handlers.specs.DeleteAcls.{book_deleted}
-use Rattle.request_handlers.specs.Step.{request_outcome}
+use Rattle.api_dispatch.specs.Step.{request_outcome}
 use Rattle.txn_handlers.proofs.Adds.{add_keeps}
-use Rattle.request_handlers.proofs.Wholes.{describe_keeps, find_keeps, offsets_keep}
+use Rattle.api_dispatch.proofs.Wholes.{describe_keeps, find_keeps, offsets_keep}
 use Rattle.tenant_laws.specs.Laws.{KeepsSettings}
 use Rattle.tenant_laws.proofs.Walks.{Leaves, walk_leaves}
 

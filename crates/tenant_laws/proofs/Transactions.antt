@@ -38,7 +38,7 @@ use Rattle.txn_handlers.proofs.Added.{nothing_added}
 use Rattle.api_laws.proofs.Together.{keep_the_rest}
 use Rattle.api_laws.proofs.Staged.{staging_keeps}
 use Rattle.txn_handlers.proofs.Adds.{add_keeps}
-use Rattle.tenant_laws.specs.Questions.{partition_parts}
+use Rattle.api_dispatch.specs.Questions.{partition_parts}
 use Rattle.tenant_laws.specs.Laws.{NoPartIsGranted, owed_by}
 use Rattle.tenant_laws.proofs.Parts.{each_partition}
 use Rattle.tenant_laws.proofs.Owed.{other_owed, init_owes, end_owes, add_owes, add_group_owes}

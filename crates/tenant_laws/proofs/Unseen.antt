@@ -15,14 +15,13 @@ use Rattle.group_offsets.specs.Groups.{find_group}
 use Rattle.group_offsets.proofs.Apart.{find_expired}
 use Rattle.broker_world.specs.World.{World}
 use Rattle.broker_world.specs.Clock.{moment_after}
-use Rattle.request_handlers.specs.Step.{step}
+use Rattle.api_dispatch.specs.Step.{step}
 use Rattle.request_handlers.specs.Core.{entry_of}
 use Rattle.api_laws.specs.Tenants.{SameBase, SameOn}
-use Rattle.tenant_laws.specs.Laws.{AgreeAmong, IsAmong, IsUngranted}
-use Rattle.tenant_laws.specs.Runs.{Round, Round as rounds, told_first, told_second, AreApart, OthersAreUnseen}
-use Rattle.tenant_laws.proofs.Agreed.{for_request, agreement_goes_on}
-use Rattle.tenant_laws.proofs.Answered.{answers_depend}
-use Rattle.tenant_laws.proofs.Kept.{by_questions}
+use Rattle.tenant_laws.specs.Laws.{AgreeAmong}
+use Rattle.tenant_laws.specs.Runs.{Round, Round as rounds, told_first, told_second, IsWithin, AreApart, OthersAreUnseen}
+use Rattle.tenant_laws.proofs.Within.{told_alike, agree_behind}
+use Rattle.tenant_laws.proofs.Marked.{marks_agree}
 use Rattle.tenant_laws.proofs.Resources.{same_then, same_back}
 
 -- ---- a tick
@@ -63,27 +62,16 @@ module _ (v w : World) (told : ℕ) (base : SameBase v w) where
       ∙ ap (λ (n : ℕ). option_map (expired n) (recorded w.coordinator.transactions name)) same_moment
       ∙ sym (recorded_expired (moment_after w.moment told) w.coordinator.transactions name)
 
--- ---- an event of others
-
-left_alone : (w : World) (kind : Kind) (name : List ℕ) (e : Event) → IsUngranted w kind name e → SameOn w (step w e) kind name
-left_alone w kind name (Ask caller client request) none = by_questions w caller client request kind name none
-left_alone w kind name Mark none = absurd none
-left_alone w kind name (Tick told) none = absurd none
-
--- ---- the tenant's event
+-- ---- the rounds
 
 module _ (among : Kind → List ℕ → Bool) where
-  asked_entry : (v w : World) (e : Event) → AgreeAmong among v w → IsAmong among w e → entry_of v e ≡ entry_of w e
-  asked_entry v w (Ask caller client request) agree within =
-      let told = answers_depend v w caller client request (for_request among v w caller client request agree within) in
-      λ i. record { event = Ask caller client request; reply = told.reply i; refusals = told.refusals i }
+  asked_entry : (v w : World) (e : Event) → AgreeAmong among v w → IsWithin among v w e → entry_of v e ≡ entry_of w e
+  asked_entry v w (Ask caller client request) agree within = told_alike among v w caller client request agree within
   asked_entry v w Mark agree within = absurd within
   asked_entry v w (Tick told) agree within = absurd within
 
-  asked_on : (v w : World) (e : Event) → AgreeAmong among v w → IsAmong among w e → AgreeAmong among (step v e) (step w e)
-  asked_on v w (Ask caller client request) agree within =
-      let goes = agreement_goes_on v w caller client request (for_request among v w caller client request agree within) in
-      record { base = goes.base; resources = λ kind name is. goes.resources kind name (agree.resources kind name is) }
+  asked_on : (v w : World) (e : Event) → AgreeAmong among v w → IsWithin among v w e → AgreeAmong among (step v e) (step w e)
+  asked_on v w (Ask caller client request) agree within = agree_behind among v w caller client request agree within
   asked_on v w Mark agree within = absurd within
   asked_on v w (Tick told) agree within = absurd within
 
@@ -98,14 +86,15 @@ module _ (among : Kind → List ℕ → Bool) where
       (record {
         base = apart.2;
         resources = λ kind name is.
-            same_then (step v e) v (step w f) kind name (same_back v (step v e) kind name (left_alone v kind name e (apart.0 kind name is)))
-            (same_then v w (step w f) kind name (agree.resources kind name is) (left_alone w kind name f (apart.1 kind name is)));
+            same_then (step v e) v (step w f) kind name (same_back v (step v e) kind name (apart.0 kind name is))
+            (same_then v w (step w f) kind name (agree.resources kind name is) (apart.1 kind name is));
       })
       apart.3
   unseen v w (rounds.Ticks told ∷ rs) agree apart =
       unseen (step v (Tick told)) (step w (Tick told)) rs
       (record { base = tick_base v w told agree.base; resources = λ kind name is. tick_on v w told agree.base kind name (agree.resources kind name is) })
       apart
+  unseen v w (rounds.Marks ∷ rs) agree apart = unseen (step v Mark) (step w Mark) rs (marks_agree among v w agree apart.0) apart.1
 
 pub others_are_unseen : OthersAreUnseen
 others_are_unseen among v w rs agree apart = unseen among v w rs agree apart

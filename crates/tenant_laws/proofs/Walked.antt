@@ -24,7 +24,7 @@ use Rattle.api_laws.specs.Tenants.{SameOn}
 use Rattle.api_laws.proofs.DataGrants.{find_other}
 use Rattle.api_laws.proofs.Grouped.{groups_keep}
 use Rattle.api_laws.proofs.Staged.{staging_keeps}
-use Rattle.tenant_laws.specs.Questions.{partition_parts}
+use Rattle.api_dispatch.specs.Questions.{partition_parts}
 use Rattle.tenant_laws.specs.Laws.{AsksAbout, NoPartIsGranted}
 use Rattle.tenant_laws.proofs.Parts.{each_partition}
 use Rattle.tenant_laws.proofs.Walks.{Leaves, walk_leaves}

@@ -1,7 +1,6 @@
--- Tenants are apart: whatever a request is, its answer depends on nothing but what its questions were granted, what they
--- were not granted it leaves as it was, and it is refused for each part that isn't granted, and for nothing else.
-use Rattle.std.specs.Prelude.{◌≡◌, ◌⊎◌, ℕ, Bool, true, false, List, [], ◌∷◌, Option, Some, None}
-use Rattle.std.specs.List.{AllByRecursion, filter, filter_map}
+-- What a request leaves: worlds that agree on what it is granted go on agreeing, and what it isn't granted is as before.
+use Rattle.std.specs.Prelude.{◌≡◌, ◌⊎◌, ℕ, Bool, true, List, [], ◌∷◌, Option, None}
+use Rattle.std.specs.List.{AllByRecursion, filter}
 use Rattle.std.specs.Str.{bytes_eq}
 use Rattle.acl_binding.specs.declared.question.Caller.{Caller}
 use Rattle.acl_binding.specs.declared.question.Question.{Question}
@@ -10,20 +9,17 @@ use Rattle.acl_binding.specs.declared.words.Kind.{Kind}
 use Rattle.acl_binding.specs.declared.words.Kind.TheVariants.{Cluster, TransactionalId}
 use Rattle.acl_binding.specs.Creatable.{cluster_name}
 use Rattle.authorizer.specs.Policy.{verdict}
-use Rattle.authorizer.specs.declared.answer.Refusal.{Refusal}
-use Rattle.authorizer.specs.Asking.{Rules, part_refusal}
+use Rattle.authorizer.specs.Asking.{part_refusal}
 use Rattle.msg_admin.specs.declared.request.Request.{Request}
-use Rattle.msg_admin.specs.declared.request.Request.TheVariants.{OffsetFetch}
 use Rattle.audit_trail.specs.declared.event.Event.{Event}
 use Rattle.audit_trail.specs.declared.event.Event.TheVariants.{Ask, Mark, Tick}
 use Rattle.txn_coordinator.specs.declared.marker.OwedMarker.{OwedMarker}
 use Rattle.broker_world.specs.World.{World, rules_of, topic_names}
-use Rattle.request_handlers.specs.Step.{step, reply_to, refusals_of, reached}
-use Rattle.group_handlers.specs.OffsetFetch.{group_question}
-use Rattle.request_handlers.specs.Core.{CoreValue, IsCore, entry_of, history, receipt_of}
+use Rattle.api_dispatch.specs.Step.{step, reply_to, refusals_of, reached}
+use Rattle.request_handlers.specs.Core.{CoreValue, entry_of, receipt_of}
 use Rattle.api_laws.specs.Tenants.{SameBase, SameOn, SameGranted}
 use Rattle.api_laws.specs.GroupLaws.{described_slots}
-use Rattle.tenant_laws.specs.Questions.{offset_parts, parts_of, questions_of, wants_all}
+use Rattle.api_dispatch.specs.Questions.{parts_of, questions_of, wants_all}
 
 -- ---- what answers depend on
 
@@ -41,18 +37,10 @@ pub record SameTold (v w : World) (e : Event) : Type 0 where
   pub reply : reply_to v e ≡ reply_to w e
   pub refusals : refusals_of v e ≡ refusals_of w e
 
-abbrev pub AnswersDependOnGrants : Type 0
-AnswersDependOnGrants = (v w : World) (caller : Caller) (client : Option (List ℕ)) (request : Request)
-    → SameForRequest v w caller request → SameTold v w (Ask caller client request)
-
 -- cores that are up give the same receipt for it, and keep the same entry of it
 pub record SameReceipt (a b : CoreValue) (e : Event) : Type 0 where
   pub receipt : receipt_of a e ≡ receipt_of b e
   pub entry : entry_of a.world e ≡ entry_of b.world e
-
-abbrev pub ReceiptsDependOnGrants : Type 0
-ReceiptsDependOnGrants = (a b : CoreValue) (caller : Caller) (client : Option (List ℕ)) (request : Request) → IsCore a → IsCore b → a.down ≡ false → b.down ≡ false
-    → SameForRequest a.world b.world caller request → SameReceipt a b (Ask caller client request)
 
 -- ---- what goes on
 
@@ -69,22 +57,6 @@ AgreementGoesOn = (v w : World) (caller : Caller) (client : Option (List ℕ)) (
 pub record AgreeAmong (among : Kind → List ℕ → Bool) (v w : World) : Type 0 where
   pub base : SameBase v w
   pub resources : (kind : Kind) (name : List ℕ) → among kind name ≡ true → SameOn v w kind name
-
--- the event is a request that names its topics, and what is granted of it is among the resources
-abbrev pub IsAmong : (Kind → List ℕ → Bool) → World → Event → Type 0
-IsAmong among w (Ask caller client request) = (wants_all request ≡ false) × AllByRecursion (λ (q : Question). verdict w.book w.supers q ≡ Yes → among q.kind q.name ≡ true) (questions_of caller request)
-IsAmong among w Mark = ⊥
-IsAmong among w (Tick told) = ⊥
-
--- so is each of the events, by the book that is then in force
-abbrev pub AreAmong : (Kind → List ℕ → Bool) → World → List Event → Type 0
-AreAmong among w [] = Unit {0}
-AreAmong among w (e ∷ es) = IsAmong among w e × AreAmong among (step w e) es
-
--- such requests leave the same history in both worlds: each has its reply and its refusals
-abbrev pub HistoriesDependOnGrants : Type 0
-HistoriesDependOnGrants = (among : Kind → List ℕ → Bool) (v w : World) (events : List Event)
-    → AgreeAmong among v w → AreAmong among w events → history v events ≡ history w events
 
 -- ---- what stays as it was
 
@@ -142,24 +114,3 @@ pub record UngrantedStays : Type 0 where
       → NoQuestionIsGranted w Cluster cluster_name (questions_of caller request) → (step w (Ask caller client request)).book ≡ w.book
   -- and whatever was granted
   pub settings : (w : World) (caller : Caller) (client : Option (List ℕ)) (request : Request) → KeepsSettings w (step w (Ask caller client request))
-
--- ---- what is refused
-
--- the refusals of these parts, in order
-abbrev pub refusals_in : Rules → List (List Question) → List Refusal
-refusals_in rules parts = filter_map (part_refusal rules) parts
-
--- where the part that stands for the request is refused, it comes to no other
-abbrev pub told_alone : Option Refusal → List Refusal → List Refusal
-told_alone (Some r) rest = r ∷ []
-told_alone None rest = rest
-
--- the refusals of a request: those of its parts
-abbrev pub request_refusals : Rules → Caller → Request → List Refusal
-request_refusals rules caller (OffsetFetch r) = told_alone (part_refusal rules (group_question caller r.group ∷ [])) (refusals_in rules (offset_parts caller r.topics))
-request_refusals rules caller request = refusals_in rules (parts_of caller request)
-
--- so the parts and questions above are those that are asked, whatever the book is
-abbrev pub RefusalsAreOfParts : Type 0
-RefusalsAreOfParts = (w : World) (caller : Caller) (client : Option (List ℕ)) (request : Request)
-    → refusals_of w (Ask caller client request) ≡ request_refusals (rules_of w) caller request

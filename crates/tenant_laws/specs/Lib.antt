@@ -1,3 +1,4 @@
-pub mod Questions
 pub mod Laws
+pub mod Replies
+pub mod NullLists
 pub mod Runs

@@ -1,22 +1,37 @@
 -- Two runs of the broker side by side. In both a tenant asks the same; meanwhile others ask in each what they like, but
 -- for what is the tenant's. The tenant is told the same.
-use Rattle.std.specs.Prelude.{◌≡◌, ℕ, Bool, true, List, [], ◌∷◌}
+use Rattle.std.specs.Prelude.{◌≡◌, ℕ, Bool, true, List, [], ◌∷◌, map, filter, None}
+use Rattle.std.specs.List.{AllByRecursion}
+use Rattle.acl_binding.specs.declared.question.Caller.{Caller}
+use Rattle.acl_binding.specs.declared.question.Question.{Question}
+use Rattle.acl_binding.specs.declared.question.Verdict.TheVariants.{Yes}
 use Rattle.acl_binding.specs.declared.words.Kind.{Kind}
+use Rattle.acl_binding.specs.declared.words.Kind.TheVariants as kinds
+use Rattle.authorizer.specs.Policy.{verdict}
+use Rattle.authorizer.specs.Asking.{Rules}
 use Rattle.audit_trail.specs.declared.event.Event.{Event}
-use Rattle.audit_trail.specs.declared.event.Event.TheVariants.{Tick}
+use Rattle.audit_trail.specs.declared.event.Event.TheVariants.{Ask, Mark, Tick}
 use Rattle.audit_trail.specs.declared.trail.Entry.{Entry}
-use Rattle.broker_world.specs.World.{World}
-use Rattle.request_handlers.specs.Step.{step}
+use Rattle.txn_coordinator.specs.declared.marker.OwedMarker.{OwedMarker}
+use Rattle.txn_coordinator.specs.declared.target.Target.{Target}
+use Rattle.txn_coordinator.specs.declared.target.Target.TheVariants.{Partition, Group}
+use Rattle.txn_coordinator.specs.Warrants.{owes}
+use Rattle.broker_world.specs.World.{World, TopicValue, rules_of}
+use Rattle.broker_world.specs.Questions.{topic_refusal}
+use Rattle.api_dispatch.specs.Questions.{questions_of}
+use Rattle.api_dispatch.specs.Step.{step}
 use Rattle.request_handlers.specs.Core.{entry_of}
-use Rattle.api_laws.specs.Tenants.{SameBase}
-use Rattle.tenant_laws.specs.Laws.{AgreeAmong, IsAmong, IsUngranted}
+use Rattle.api_laws.specs.Tenants.{SameBase, SameOn}
+use Rattle.tenant_laws.specs.Laws.{AgreeAmong}
+use Rattle.tenant_laws.specs.Replies.{Sized, sized, comes_to_all}
 
--- In a round each run takes an event: the tenant's request, the same in both; one of others in each; or a tick of the
--- clock, which both see.
+-- In a round each run takes an event: the tenant's request, the same in both; one of others in each; a tick of the clock,
+-- which both see; or the marker step of a marker that is owed first in both.
 pub data Round : Type 0 where
   Asks : Event → Round
   Others : Event → Event → Round
   Ticks : ℕ → Round
+  Marks : Round
 
 -- what the tenant is told in the one run, and in the other
 abbrev pub told_first : World → List Round → List Entry
@@ -24,24 +39,76 @@ told_first w [] = []
 told_first w (Asks e ∷ rounds) = entry_of w e ∷ told_first (step w e) rounds
 told_first w (Others e f ∷ rounds) = told_first (step w e) rounds
 told_first w (Ticks told ∷ rounds) = told_first (step w (Tick told)) rounds
+told_first w (Marks ∷ rounds) = told_first (step w Mark) rounds
 
 abbrev pub told_second : World → List Round → List Entry
 told_second w [] = []
 told_second w (Asks e ∷ rounds) = entry_of w e ∷ told_second (step w e) rounds
 told_second w (Others e f ∷ rounds) = told_second (step w f) rounds
 told_second w (Ticks told ∷ rounds) = told_second (step w (Tick told)) rounds
+told_second w (Marks ∷ rounds) = told_second (step w Mark) rounds
 
--- a request that isn't granted anything of these resources
-abbrev pub IsApart : (Kind → List ℕ → Bool) → World → Event → Type 0
-IsApart among w e = (kind : Kind) (name : List ℕ) → among kind name ≡ true → IsUngranted w kind name e
+-- ---- the tenant's request
 
--- By the book that is in force in each round the tenant is granted nothing but these resources, and others nothing of
--- them. What others do leaves the same book in both runs, and as many producer ids given out.
+-- those of these topics that are among the resources, in order
+abbrev pub sizes_among : (Kind → List ℕ → Bool) → List TopicValue → List Sized
+sizes_among among topics = filter (λ (s : Sized). among kinds.Topic s.name) (map sized topics)
+
+-- of these topics, those that may be described are among the resources
+abbrev pub DescribedAmong : (Kind → List ℕ → Bool) → Rules → Caller → List TopicValue → Type 0
+DescribedAmong among rules caller topics = AllByRecursion (λ (t : TopicValue). topic_refusal rules caller t.name ≡ None → among kinds.Topic t.name ≡ true) topics
+
+-- where a request comes to all topics that may be described: these are among the resources in both worlds, whose topics
+-- among them stand in the same order
+pub record DescribeAlike (among : Kind → List ℕ → Bool) (v w : World) (caller : Caller) : Type 0 where
+  pub first : DescribedAmong among (rules_of v) caller v.topics
+  pub second : DescribedAmong among (rules_of w) caller w.topics
+  pub order : sizes_among among v.topics ≡ sizes_among among w.topics
+
+-- the event is a request, and what is granted of it is among the resources
+abbrev pub IsWithin : (Kind → List ℕ → Bool) → World → World → Event → Type 0
+IsWithin among v w (Ask caller client request) =
+    AllByRecursion (λ (q : Question). verdict w.book w.supers q ≡ Yes → among q.kind q.name ≡ true) (questions_of caller request)
+    × (comes_to_all (rules_of w) caller request ≡ true → DescribeAlike among v w caller)
+IsWithin among v w Mark = ⊥
+IsWithin among v w (Tick told) = ⊥
+
+-- ---- what others ask
+
+-- the event leaves each of the resources as it is, as a request does that is granted nothing of them, or only to read, and
+-- the marker step of another's marker
+abbrev pub LeavesAlone : (Kind → List ℕ → Bool) → World → Event → Type 0
+LeavesAlone among w e = (kind : Kind) (name : List ℕ) → among kind name ≡ true → SameOn w (step w e) kind name
+
+-- ---- a marker
+
+-- where a marker goes is among the resources
+abbrev pub GoesAmong : (Kind → List ℕ → Bool) → Target → Type 0
+GoesAmong among (Partition p) = among kinds.Topic p.topic ≡ true
+GoesAmong among (Group name) = among kinds.Group name ≡ true
+
+-- the same marker is owed first in both, of an id and to a place among the resources, and the id owes more in both or in
+-- neither
+pub record OweAlike (among : Kind → List ℕ → Bool) (v w : World) : Type 0 where
+  pub marker : OwedMarker
+  pub own : among kinds.TransactionalId marker.id ≡ true
+  pub target : GoesAmong among marker.target
+  pub first : List OwedMarker
+  pub second : List OwedMarker
+  pub in_first : v.coordinator.warrants ≡ marker ∷ first
+  pub in_second : w.coordinator.warrants ≡ marker ∷ second
+  pub more : owes first marker.id ≡ owes second marker.id
+
+-- ---- the runs
+
+-- By the book that is in force in each round the tenant is granted nothing but these resources, which others leave as they
+-- are. What others do leaves the same book in both runs, and as many producer ids given out.
 abbrev pub AreApart : (Kind → List ℕ → Bool) → World → World → List Round → Type 0
 AreApart among v w [] = Unit {0}
-AreApart among v w (Asks e ∷ rounds) = IsAmong among w e × AreApart among (step v e) (step w e) rounds
-AreApart among v w (Others e f ∷ rounds) = IsApart among v e × IsApart among w f × SameBase (step v e) (step w f) × AreApart among (step v e) (step w f) rounds
+AreApart among v w (Asks e ∷ rounds) = IsWithin among v w e × AreApart among (step v e) (step w e) rounds
+AreApart among v w (Others e f ∷ rounds) = LeavesAlone among v e × LeavesAlone among w f × SameBase (step v e) (step w f) × AreApart among (step v e) (step w f) rounds
 AreApart among v w (Ticks told ∷ rounds) = AreApart among (step v (Tick told)) (step w (Tick told)) rounds
+AreApart among v w (Marks ∷ rounds) = OweAlike among v w × AreApart among (step v Mark) (step w Mark) rounds
 
 abbrev pub OthersAreUnseen : Type 0
 OthersAreUnseen = (among : Kind → List ℕ → Bool) (v w : World) (rounds : List Round)

@@ -1,5 +1,8 @@
-use Rattle.tenant_laws.proofs.Answered.{answers_depend, receipts_depend}
+use Rattle.tenant_laws.proofs.Apart.{replies_depend, answers_depend, receipts_depend}
 use Rattle.tenant_laws.proofs.laws.answers_depend_on_grants.Goals as goal
+
+pub returns-clause-replies : goal.returns-clause-replies
+returns-clause-replies c = replies_depend
 
 pub returns-clause-worlds : goal.returns-clause-worlds
 returns-clause-worlds c = answers_depend

@@ -1,0 +1,97 @@
+//! One event by its kind, and one request by its api.
+
+ghost use Rattle.std.specs.Prelude.{◌≡◌, ◌+◌, ◌<◌, ◌^◌, ◌≤◌, true, IfOk, OnOk, OnErr};
+ghost use Rattle.msg_admin.specs.Request.{Fits};
+ghost use Rattle.broker_world.specs.Logs.{room_of};
+ghost use Rattle.api_dispatch.specs.Bounds.{EventFits, most_parts, most_events, GenerationsWithin};
+ghost use Rattle.api_dispatch.specs.Step.{request_outcome, outcome, reply_to, refusals_of, counted, is_reading, is_reading_request};
+
+use crate::tick::answer_tick;
+use acl_binding::Caller;
+use acl_handlers::{answer_create_acls, answer_delete_acls, answer_describe_acls};
+use audit_trail::Event;
+use broker_world::{Outcome, State};
+use data_handlers::{answer_fetch, answer_list_offsets, answer_metadata, answer_produce};
+use group_handlers::{
+    answer_find_coordinator, answer_heartbeat, answer_join_group, answer_leave_group,
+    answer_offset_commit, answer_offset_fetch, answer_sync_group,
+};
+use msg_admin::Request;
+use std::alloc::{AllocError, Global};
+use txn_handlers::{
+    answer_add_offsets, answer_add_partitions, answer_end_txn, answer_init_producer_id,
+    answer_mark, answer_txn_offset_commit,
+};
+
+/// What an event does and is answered. It isn't counted yet.
+pub fn apply(alloc: Global, state: &mut State, event: &Event) -> Result<Outcome, AllocError>
+    requires fits { EventFits event.now }
+    requires room { most_parts ≤ room_of state.old.topics }
+    requires numbers { state.old.book.next + most_parts < 2 ^ 63 }
+    requires generations { GenerationsWithin most_events state.old.groups }
+    ensures world { OnOk result (state.new ≡ (outcome state.old event.now).world) }
+    ensures reply { IfOk result (λ o. o.reply ≡ reply_to state.old event.now) }
+    ensures refusals { IfOk result (λ o. o.refusals ≡ refusals_of state.old event.now) }
+    ensures reading { OnErr result (is_reading event.now ≡ true → state.new ≡ state.old) }
+{
+    match event {
+        Event::Ask {
+            caller,
+            request,
+            ..
+        } => answer(alloc, state, caller, request),
+        Event::Mark => answer_mark(alloc, state),
+        Event::Tick(told) => answer_tick(alloc, state, *told),
+    }
+}
+
+/// What a request does and is answered.
+fn answer(
+    alloc: Global,
+    state: &mut State,
+    caller: &Caller,
+    request: &Request,
+) -> Result<Outcome, AllocError>
+    requires fits { Fits request.now }
+    requires room { most_parts ≤ room_of state.old.topics }
+    requires numbers { state.old.book.next + most_parts < 2 ^ 63 }
+    requires generations { GenerationsWithin most_events state.old.groups }
+    ensures world { OnOk result (state.new ≡ (request_outcome state.old caller.now request.now).world) }
+    ensures reply { IfOk result (λ o. o.reply ≡ (request_outcome state.old caller.now request.now).reply) }
+    ensures refusals { IfOk result (λ o. o.refusals ≡ (request_outcome state.old caller.now request.now).refusals) }
+    ensures reading { OnErr result (is_reading_request request.now ≡ true → state.new ≡ state.old) }
+{
+    match request {
+        Request::Produce(request) => answer_produce(alloc, state, caller, request),
+        Request::Fetch(request) => answer_fetch(alloc, state, caller, request),
+        Request::ListOffsets(request) => answer_list_offsets(alloc, state, caller, request),
+        Request::DescribeAcls(request) => answer_describe_acls(alloc, state, caller, request),
+        Request::CreateAcls(request) => answer_create_acls(alloc, state, caller, request),
+        Request::DeleteAcls(request) => answer_delete_acls(alloc, state, caller, request),
+        Request::OffsetCommit(request) => answer_offset_commit(alloc, state, caller, request),
+        Request::OffsetFetch(request) => answer_offset_fetch(alloc, state, caller, request),
+        Request::FindCoordinator(request) => answer_find_coordinator(alloc, state, caller, request),
+        Request::JoinGroup(request) => answer_join_group(alloc, state, caller, request),
+        Request::Heartbeat(request) => answer_heartbeat(alloc, state, caller, request),
+        Request::LeaveGroup(request) => answer_leave_group(alloc, state, caller, request),
+        Request::SyncGroup(request) => answer_sync_group(alloc, state, caller, request),
+        Request::InitProducerId(request) => answer_init_producer_id(alloc, state, caller, request),
+        Request::AddPartitionsToTxn(request) => answer_add_partitions(
+            alloc, state, caller, request,
+        ),
+        Request::AddOffsetsToTxn(request) => answer_add_offsets(alloc, state, caller, request),
+        Request::EndTxn(request) => answer_end_txn(alloc, state, caller, request),
+        Request::TxnOffsetCommit(request) => answer_txn_offset_commit(
+            alloc, state, caller, request,
+        ),
+        Request::Metadata(request) => answer_metadata(alloc, state, caller, request),
+    }
+}
+
+/// One event more.
+pub fn count(state: &mut State)
+    requires { state.old.events + 1 < 2 ^ 64 }
+    ensures { state.new ≡ counted state.old }
+{
+    state.events += 1;
+}

@@ -1,0 +1,43 @@
+//! Events that only read.
+
+ghost use Rattle.std.specs.Prelude.{◌≡◌};
+ghost use Rattle.api_dispatch.specs.Step.{is_reading, is_reading_request};
+
+use audit_trail::Event;
+use msg_admin::Request;
+
+fn is_reading_request(request: &Request) -> bool
+    ensures { result ≡ is_reading_request request.now }
+{
+    match request {
+        Request::Produce(_) => false,
+        Request::Fetch(_) => true,
+        Request::ListOffsets(_) => true,
+        Request::Metadata(_) => true,
+        Request::OffsetCommit(_) => false,
+        Request::OffsetFetch(_) => true,
+        Request::FindCoordinator(_) => true,
+        Request::JoinGroup(_) => false,
+        Request::Heartbeat(_) => false,
+        Request::LeaveGroup(_) => false,
+        Request::SyncGroup(_) => false,
+        Request::InitProducerId(_) => false,
+        Request::AddPartitionsToTxn(_) => false,
+        Request::AddOffsetsToTxn(_) => false,
+        Request::EndTxn(_) => false,
+        Request::TxnOffsetCommit(_) => false,
+        Request::DescribeAcls(_) => true,
+        Request::CreateAcls(_) => false,
+        Request::DeleteAcls(_) => false,
+    }
+}
+
+/// The event changes nothing but the trail and the number of events.
+pub fn is_reading(event: &Event) -> bool
+    ensures { result ≡ is_reading event.now }
+{
+    match event {
+        Event::Ask { request, .. } => is_reading_request(request),
+        Event::Mark | Event::Tick(_) => false,
+    }
+}

@@ -1,0 +1,55 @@
+-- The plain broker's reply to a request depends on what the request asks about alone.
+use Rattle.std.proofs.Common.{◌≡◌, ℕ, Bool, true, false, List, [], ◌∷◌, ◌++◌, None, refl, sym, ap, ◌∙◌}
+use Rattle.std.specs.List.{AllByRecursion, flat_map}
+use Rattle.acl_binding.specs.declared.question.Caller.{Caller}
+use Rattle.acl_binding.specs.declared.question.Question.{Question}
+use Rattle.acl_binding.specs.declared.words.Kind.{Kind}
+use Rattle.acl_binding.specs.declared.words.Kind.TheVariants.{Topic, Group, Cluster, TransactionalId}
+use Rattle.acl_binding.specs.Book.{BookValue}
+use Rattle.msg_admin.specs.declared.request.Request.{Request}
+use Rattle.broker_world.specs.World.{World}
+use Rattle.api_laws.specs.Tenants.{SameOn, SameGranted}
+use Rattle.api_dispatch.specs.Questions.{parts_of, wants_all}
+use Rattle.tenant_laws.proofs.Answered.{agreed_answers}
+use Rattle.plain_broker.specs.Plain.{unbound, plain}
+use Rattle.plain_broker.specs.Plainness.{is_about_bindings}
+use Rattle.plain_broker.proofs.Bare.{looks_at_no_book}
+use Rattle.tenant_laws.specs.Replies.{SameNumbers, SameAbout}
+use Rattle.tenant_laws.proofs.Moved.{moved, moved_same}
+
+module _ (v w : World) (caller : Caller) where
+  -- the first world with the second's book, at its moment and with its owners
+  abbrev near : World
+  near = record v { book = w.book }
+
+  abbrev nearer : World
+  nearer = moved near w.moment w.coordinator.given
+
+  same_on : (kind : Kind) (name : List ℕ) → SameOn v w kind name → SameOn (unbound nearer caller) (unbound w caller) kind name
+  same_on Topic name same = same
+  same_on Group name same = same
+  same_on Cluster name same = same
+  same_on TransactionalId name same = same
+
+  granted_both : (qs rest : List Question) → SameAbout v w qs → SameGranted (unbound nearer caller) (unbound w caller) rest → SameGranted (unbound nearer caller) (unbound w caller) (qs ++ rest)
+  granted_both [] rest about same = same
+  granted_both (q ∷ qs) rest about same = (λ yes. same_on q.kind q.name about.0, granted_both qs rest about.1 same)
+
+  granted_all : (parts : List (List Question)) → AllByRecursion (SameAbout v w) parts → SameGranted (unbound nearer caller) (unbound w caller) (flat_map (λ part. part) parts)
+  granted_all [] about = tt
+  granted_all (part ∷ parts) about = granted_both part (flat_map (λ part. part) parts) about.0 (granted_all parts about.1)
+
+  booked : (request : Request) (b : Bool) → is_about_bindings request ≡ b → (is_about_bindings request ≡ true → v.book ≡ w.book) → (plain v caller request).reply ≡ (plain near caller request).reply
+  booked request true is same = ap (λ (book : BookValue). (plain (record v { book = book }) caller request).reply) (same is)
+  booked request false is same = sym (looks_at_no_book v w.book caller request is).reply
+
+  pub plain_same : (request : Request) → SameNumbers v w → wants_all request ≡ false → (is_about_bindings request ≡ true → v.book ≡ w.book) → AllByRecursion (SameAbout v w) (parts_of caller request)
+      → (plain v caller request).reply ≡ (plain w caller request).reply
+  plain_same request numbers named bindings about =
+      booked request (is_about_bindings request) refl bindings
+      ∙ sym (moved_same near caller w.moment w.coordinator.given (sym numbers.given) request)
+      ∙ (agreed_answers (unbound nearer caller) (unbound w caller) caller None request (record {
+        base = record { node = numbers.node; rules = refl; moment = refl; events = numbers.events; given = refl };
+        granted = granted_all (parts_of caller request) about;
+        described = λ all. absurd (let clash : false ≡ true = sym named ∙ all in cc);
+      })).reply
