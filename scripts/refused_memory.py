@@ -19,7 +19,7 @@ from pathlib import Path
 ROOT = Path(__file__).resolve().parent.parent
 PROGRAM = ROOT / "crates/kbroker/out/kbroker"
 STOP, SETTINGS = b"stop 1\n", b"settings refused: NoMemory\n"
-FEWEST = 30
+FEWEST = 10
 
 
 def run(library, command, text, refused_at):
