@@ -25,6 +25,7 @@ UNUSABLE = re.compile(r"^rattle: error\[unusable-built-library\]: the rlib of `(
 RUNS_PROGRAM = re.compile(r"^rt: running ", re.M)
 SHARE_OF_MEMORY = 0.85
 MOST_JOBS = 4
+LEAST_OF_FIRST = 2  # for which the longest chain of crates waits
 NEED_OF_JOB = 0.6  # of another job in the same crate
 TOLD_EVERY = 10  # seconds
 
@@ -183,7 +184,8 @@ def start_next(rt, left, running, memory, needs):
         room, need = memory - sum(it.need for it in running), needs[crate]
         if idle < 1 or running and need > room:
             continue
-        spare = min(MOST_JOBS, idle // (len(ready) - at), 1 + int((room / need - 1) / NEED_OF_JOB))
+        share = max(idle // (len(ready) - at), LEAST_OF_FIRST if at == 0 else 1)
+        spare = min(MOST_JOBS, share, 1 + int((room / need - 1) / NEED_OF_JOB))
         lock = lock_of(crate)
         if lock is not None:
             left.remove(crate)

@@ -1,5 +1,6 @@
 -- What the edits of the book come to, and what the answers about it depend on.
 use Rattle.std.proofs.Common.{◌≡◌, Bool, true, false, cond, not, is_some, List, [], ◌∷◌, ◌++◌, filter, Option, Some, None, IfSome, refl, sym, ap, subst, ◌∙◌}
+use Rattle.std.specs.List.{AllByRecursion}
 use Rattle.wire_types.specs.declared.error_code.ErrorCode.{ErrorCode}
 use Rattle.msg_acl.specs.declared.entries.BindingEntry.{BindingEntry}
 use Rattle.msg_acl.specs.declared.entries.FilterEntry.{FilterEntry}
@@ -61,12 +62,24 @@ created_keeps : (book : BookValue) (es : List BindingEntry) (b : Binding) → is
 created_keeps book [] b there = there
 created_keeps book (e ∷ es) b there = created_keeps (book_with book (binding_of e)) es b (with_keeps book (binding_of e) b there)
 
-pub creates_each : CreatesEach
-creates_each book [] = tt
-creates_each book (e ∷ es) = (by_binding (binding_of e), creates_each (book_with book (binding_of e)) es) where
+abbrev AllStand : BookValue → List BindingEntry → Type 0
+AllStand book es = AllByRecursion (λ e. IfSome (binding_of e) (λ b. is_some (number_of book.entries b) ≡ true)) es
+
+created_stand : (book : BookValue) (es : List BindingEntry) → AllStand (book_created book es) es
+created_stand book [] = tt
+created_stand book (e ∷ es) = (by_binding (binding_of e), created_stand (book_with book (binding_of e)) es) where
   by_binding : (o : Option Binding) → IfSome o (λ b. is_some (number_of (book_created (book_with book o) es).entries b) ≡ true)
   by_binding None = tt
   by_binding (Some b) = created_keeps (added book b) es b (added_stands book b)
+
+-- the book of a request that is one part and is granted
+book_granted : (o : Option Refusal) (w : World) (refused : ErrorCode → Reply) (served : Served) → o ≡ None → served.world.book ≡ (whole_by o w refused served).world.book
+book_granted None w refused served is = refl
+book_granted (Some r) w refused served is = absurd (let clash : Some r ≡ None = is in cc)
+
+pub creates_each : CreatesEach
+creates_each w caller r granted =
+    subst (λ (book : BookValue). AllStand book r.creations) (book_granted (part_refusal (rules_of w) (alter_questions caller)) w _ _ granted) (created_stand w.book r.creations)
 
 -- ---- bindings that a filter picks are gone
 
@@ -98,12 +111,19 @@ deleted_none : (book : BookValue) (es : List FilterEntry) (f : Filter) → match
 deleted_none book [] f none = none
 deleted_none book (e ∷ es) f none = deleted_none (book_without book (filter_of e)) es f (without_none book (filter_of e) f none)
 
-pub deletes_each : DeletesEach
-deletes_each book [] = tt
-deletes_each book (e ∷ es) = (by_filter (filter_of e), deletes_each (book_without book (filter_of e)) es) where
+abbrev NonePicked : BookValue → List FilterEntry → Type 0
+NonePicked book es = AllByRecursion (λ e. IfSome (filter_of e) (λ f. matching book.entries f ≡ [])) es
+
+deleted_picked : (book : BookValue) (es : List FilterEntry) → NonePicked (book_deleted book es) es
+deleted_picked book [] = tt
+deleted_picked book (e ∷ es) = (by_filter (filter_of e), deleted_picked (book_without book (filter_of e)) es) where
   by_filter : (o : Option Filter) → IfSome o (λ f. matching (book_deleted (book_without book o) es).entries f ≡ [])
   by_filter None = tt
   by_filter (Some f) = deleted_none (book_without book (Some f)) es f (none_removed book.entries f)
+
+pub deletes_each : DeletesEach
+deletes_each w caller r granted =
+    subst (λ (book : BookValue). NonePicked book r.filters) (book_granted (part_refusal (rules_of w) (alter_questions caller)) w _ _ granted) (deleted_picked w.book r.filters)
 
 -- ---- a request that is one part
 

@@ -32,7 +32,7 @@ use Rattle.data_handlers.specs.RoomLaws.{IsGoodBatch, judged_batch}
 use Rattle.data_handlers.specs.Produce.{produced_to, produced_by, produced}
 use Rattle.data_handlers.specs.ListOffsets.{listed_by, listed_at, listed_error}
 use Rattle.api_laws.proofs.DataGrants.{find_same}
-use Rattle.api_laws.specs.DataLaws.{IsAppended, IsRepeated, IsUnchanged, ProducesAsAnswered, ListsEnds}
+use Rattle.api_laws.specs.DataLaws.{IsAppended, IsRepeated, IsAgain, IsUnchanged, ProducesAsAnswered, ListsEnds}
 
 -- ---- ListOffsets
 
@@ -263,6 +263,41 @@ module _ (topics : List TopicValue) (name : List ℕ) (p : ProducedRecords) wher
   kept_at (Err code) o there kept = subst (λ (x : Option LogValue). IsUnchanged topics topics (produced_by (Err code) p x)) (sym there) kept
   kept_at (Ok b) o there kept = subst (λ (x : Option LogValue). IsUnchanged topics (appended_by topics name p.index b x) (produced_by (Ok b) p x)) (sym there) kept
 
+  -- ---- where the log decides
+
+  abbrev Appended : Result BatchData ErrorCode → Type 0
+  Appended r = ((produced r topics name p).error ≡ codes.None) × IsAppended topics (topics_produced r topics name p.index) name p (produced r topics name p)
+
+  next_by : (b : BatchData) (log : LogValue) (j : Judgment) → IsGoodBatch p.records b → log_at topics name p.index ≡ Some log → judged_by_log log b ≡ j → j ≡ Next
+      → ((produced_to p (offset_by j log)).error ≡ codes.None) × IsAppended topics (with_log topics name p.index (log_by j log b)) name p (produced_to p (offset_by j log))
+  next_by b log Next good there is next = (refl, record {
+    log = log;
+    batch = b;
+    there = there;
+    is_batch = good.batch;
+    sent = good.sent;
+    next = is;
+    offset = refl;
+    goes_on = log_at_with topics name p.index log (log ++ at_end log b ∷ []) there;
+  })
+  next_by b log (Repeat offset) good there is next = absurd (let clash : Repeat offset ≡ Next = next in cc)
+  next_by b log (Refused code) good there is next = absurd (let clash : Refused code ≡ Next = next in cc)
+
+  next_appended : (r : Result BatchData ErrorCode) (b : BatchData) (log : LogValue) → IsGoodBatch p.records b → log_at topics name p.index ≡ Some log → r ≡ Ok b → judged_by_log log b ≡ Next → Appended r
+  next_appended r b log good there is next = subst Appended (sym is)
+      (subst (λ (o : Option LogValue). ((produced_by (Ok b) p o).error ≡ codes.None) × IsAppended topics (appended_by topics name p.index b o) name p (produced_by (Ok b) p o)) (sym there)
+      (next_by b log (judged_by_log log b) good there refl next))
+
+  again_by : (b : BatchData) (log : LogValue) (j : Judgment) (offset : ℤ) → log_at topics name p.index ≡ Some log → j ≡ Repeat offset → IsAgain topics (with_log topics name p.index (log_by j log b)) offset (produced_to p (offset_by j log))
+  again_by b log Next offset there again = absurd (let clash : Next ≡ Repeat offset = again in cc)
+  again_by b log (Repeat at) offset there again = record { error = refl; at = let same : at ≡ offset = cc in same; same = log_again topics name p.index log there }
+  again_by b log (Refused code) offset there again = absurd (let clash : Refused code ≡ Repeat offset = again in cc)
+
+  repeat_again : (r : Result BatchData ErrorCode) (b : BatchData) (log : LogValue) (offset : ℤ) → log_at topics name p.index ≡ Some log → r ≡ Ok b → judged_by_log log b ≡ Repeat offset → IsAgain topics (topics_produced r topics name p.index) offset (produced r topics name p)
+  repeat_again r b log offset there is again = subst (λ (x : Result BatchData ErrorCode). IsAgain topics (topics_produced x topics name p.index) offset (produced x topics name p)) (sym is)
+      (subst (λ (o : Option LogValue). IsAgain topics (appended_by topics name p.index b o) offset (produced_by (Ok b) p o)) (sym there)
+      (again_by b log (judged_by_log log b) offset there again))
+
 pub produces_as_answered : ProducesAsAnswered
 produces_as_answered = record {
   appends = λ most c id acks topics name p none.
@@ -271,4 +306,8 @@ produces_as_answered = record {
   refuses = λ most c id acks topics name p some.
       kept_at topics name p (judged most c id acks (partition_at name p.index) p.records) (log_at topics name p.index) refl
       (refuses topics name p (judged most c id acks (partition_at name p.index) p.records) (log_at topics name p.index) refl some);
+  next = λ most c id acks topics name p log batch there is next.
+      next_appended topics name p (judged most c id acks (partition_at name p.index) p.records) batch log (judged_batch most c id acks (partition_at name p.index) p.records batch is) there is next;
+  repeat = λ most c id acks topics name p log batch offset there is again.
+      repeat_again topics name p (judged most c id acks (partition_at name p.index) p.records) batch log offset there is again;
 }

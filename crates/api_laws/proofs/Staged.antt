@@ -24,7 +24,7 @@ use Rattle.txn_coordinator.specs.declared.pair.Pair.{Pair}
 use Rattle.txn_coordinator.specs.declared.target.Target.TheVariants as targets
 use Rattle.txn_coordinator.specs.declared.transaction.Transaction.{Transaction}
 use Rattle.txn_coordinator.specs.declared.turn.Turn.{Turn as CoordinatorTurn}
-use Rattle.txn_coordinator.specs.Coordinator.{recorded, turn_code}
+use Rattle.txn_coordinator.specs.Coordinator.{turn_code}
 use Rattle.txn_coordinator.specs.Holding.{holds_found}
 use Rattle.group_offsets.specs.declared.event.PartitionOffset.{PartitionOffset}
 use Rattle.group_offsets.specs.declared.group.Group.{Group}

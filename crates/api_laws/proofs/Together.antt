@@ -106,19 +106,44 @@ module _ (w : World) (caller : Caller) (id : List ℕ) where
         topics_addable ts (none_rest first rest none) (or_right (is_missing_in w.topics t.name t.partitions) (is_missing w.topics ts) there),
       )
 
+  -- ---- and the other way round
+
+  parts_granted : (name : List ℕ) (indices : List ℤ) → AllParts (IsAddable w caller id) name indices → parts_refused (cut_rule caller id w.topics) (rules_of w) name indices ≡ []
+  parts_granted name [] all = refl
+  parts_granted name (index ∷ indices) all =
+      ap (λ (o : Option Refusal). cons_option o (parts_refused (cut_rule caller id w.topics) (rules_of w) name indices)) all.0.granted ∙ parts_granted name indices all.1
+
+  topics_granted : (ts : List (Topic ℤ)) → AllTopics (IsAddable w caller id) ts → refusals (cut_rule caller id w.topics) (rules_of w) ts ≡ []
+  topics_granted [] all = refl
+  topics_granted (t ∷ ts) all =
+      ap (λ (rs : List Refusal). rs ++ refusals (cut_rule caller id w.topics) (rules_of w) ts) (parts_granted t.name t.partitions all.0) ∙ topics_granted ts all.1
+
+  parts_there : (name : List ℕ) (indices : List ℤ) → AllParts (IsAddable w caller id) name indices → is_missing_in w.topics name indices ≡ false
+  parts_there name [] all = refl
+  parts_there name (index ∷ indices) all = ap (λ (b : Bool). b || is_missing_in w.topics name indices) all.0.there ∙ parts_there name indices all.1
+
+  topics_there : (ts : List (Topic ℤ)) → AllTopics (IsAddable w caller id) ts → is_missing w.topics ts ≡ false
+  topics_there [] all = refl
+  topics_there (t ∷ ts) all = ap (λ (b : Bool). b || is_missing w.topics ts) (parts_there t.name t.partitions all.0) ∙ topics_there ts all.1
+
+  never_cut : (ts : List (Topic ℤ)) → AllTopics (IsAddable w caller id) ts → is_cut caller id w.topics (rules_of w) ts ≡ false
+  never_cut ts all = ap (λ (rs : List Refusal). has_any rs || is_missing w.topics ts) (topics_granted ts all) ∙ topics_there ts all
+
+whole_where_all : (b : Bool) (w : World) (caller : Caller) (r : AddPartitionsToTxnRequest) → b ≡ false → IsWhole w r (cond b (cut_outcome w caller r) (added_outcome w r))
+whole_where_all true w caller r is = absurd (let clash : true ≡ false = is in cc)
+whole_where_all false w caller r is = record { coordinator = refl; topics = refl; reply = refl; refusals = refl }
+
+cut_where_one : (b : Bool) (w : World) (caller : Caller) (r : AddPartitionsToTxnRequest) → (b ≡ false → ⊥) → IsCut w caller r (cond b (cut_outcome w caller r) (added_outcome w r))
+cut_where_one true w caller r is = record { world = refl; reply = refl; refusals = refl }
+cut_where_one false w caller r is = absurd (is refl)
+
 pub adds_all_or_none : AddsAllOrNone
-adds_all_or_none w caller r = by_cut (is_cut caller r.transactional_id w.topics (rules_of w) r.topics) refl where
-  by_cut : (b : Bool) → is_cut caller r.transactional_id w.topics (rules_of w) r.topics ≡ b → IsCut w caller r (cond b (cut_outcome w caller r) (added_outcome w r)) ⊎ IsWhole w caller r (cond b (cut_outcome w caller r) (added_outcome w r))
-  by_cut true is = inl (record { world = refl; reply = refl; refusals = refl })
-  by_cut false is = inr (record {
-    all = topics_addable w caller r.transactional_id r.topics
-        (or_left (has_any (refusals (cut_rule caller r.transactional_id w.topics) (rules_of w) r.topics)) (is_missing w.topics r.topics) is)
-        (or_right (has_any (refusals (cut_rule caller r.transactional_id w.topics) (rules_of w) r.topics)) (is_missing w.topics r.topics) is);
-    coordinator = refl;
-    topics = refl;
-    reply = refl;
-    refusals = refl;
-  })
+adds_all_or_none = record {
+  all = λ w caller r all. whole_where_all (is_cut caller r.transactional_id w.topics (rules_of w) r.topics) w caller r (never_cut w caller r.transactional_id r.topics all);
+  none = λ w caller r one. cut_where_one (is_cut caller r.transactional_id w.topics (rules_of w) r.topics) w caller r (λ is. one (topics_addable w caller r.transactional_id r.topics
+      (or_left (has_any (refusals (cut_rule caller r.transactional_id w.topics) (rules_of w) r.topics)) (is_missing w.topics r.topics) is)
+      (or_right (has_any (refusals (cut_rule caller r.transactional_id w.topics) (rules_of w) r.topics)) (is_missing w.topics r.topics) is)));
+}
 
 -- ---- a call puts the record of its id, or none
 

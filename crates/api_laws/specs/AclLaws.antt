@@ -1,32 +1,32 @@
 -- What the edits of the book come to, in the subject's words, and what the three answers depend on.
-use Rattle.std.specs.Prelude.{◌≡◌, true, is_some, List, [], ◌∷◌, Some, IfSome}
+use Rattle.std.specs.Prelude.{◌≡◌, true, is_some, [], ◌∷◌, Some, None, IfSome}
 use Rattle.std.specs.List.{AllByRecursion}
-use Rattle.msg_acl.specs.declared.entries.BindingEntry.{BindingEntry}
-use Rattle.msg_acl.specs.declared.entries.FilterEntry.{FilterEntry}
 use Rattle.msg_acl.specs.declared.create_acls.CreateAclsRequest.{CreateAclsRequest}
 use Rattle.msg_acl.specs.declared.delete_acls.DeleteAclsRequest.{DeleteAclsRequest}
 use Rattle.msg_acl.specs.declared.describe_acls.DescribeAclsRequest.{DescribeAclsRequest}
 use Rattle.acl_binding.specs.declared.question.Caller.{Caller}
 use Rattle.acl_binding.specs.Entries.{binding_of, filter_of}
-use Rattle.acl_binding.specs.Book.{BookValue, number_of}
+use Rattle.acl_binding.specs.Book.{number_of}
 use Rattle.acl_binding.specs.Filter.{matching}
 use Rattle.authorizer.specs.declared.answer.Refusal.{Refusal}
 use Rattle.authorizer.specs.Asking.{part_refusal}
 use Rattle.broker_world.specs.World.{World, rules_of}
 use Rattle.broker_world.specs.Outcome.{Outcome}
-use Rattle.acl_handlers.specs.CreateAcls.{alter_questions, book_created, create_acls_outcome}
-use Rattle.acl_handlers.specs.DeleteAcls.{book_deleted, delete_acls_outcome}
+use Rattle.acl_handlers.specs.CreateAcls.{alter_questions, create_acls_outcome}
+use Rattle.acl_handlers.specs.DeleteAcls.{delete_acls_outcome}
 use Rattle.acl_handlers.specs.DescribeAcls.{describe_acls_outcome}
 use Rattle.api_laws.specs.Tenants.{SameBase}
 use Rattle.api_laws.specs.DataTenants.{SameAnswer}
 
--- after a CreateAcls each entry that is a binding stands in the book, whatever the other entries are
+-- after a CreateAcls that is granted each entry that is a binding stands in the book, whatever the other entries are
 abbrev pub CreatesEach : Type 0
-CreatesEach = (book : BookValue) (es : List BindingEntry) → AllByRecursion (λ e. IfSome (binding_of e) (λ b. is_some (number_of (book_created book es).entries b) ≡ true)) es
+CreatesEach = (w : World) (caller : Caller) (r : CreateAclsRequest) → part_refusal (rules_of w) (alter_questions caller) ≡ None
+    → AllByRecursion (λ e. IfSome (binding_of e) (λ b. is_some (number_of (create_acls_outcome w caller r).world.book.entries b) ≡ true)) r.creations
 
--- after a DeleteAcls none of its filters picks anything any more
+-- after a DeleteAcls that is granted none of its filters picks anything any more
 abbrev pub DeletesEach : Type 0
-DeletesEach = (book : BookValue) (es : List FilterEntry) → AllByRecursion (λ e. IfSome (filter_of e) (λ f. matching (book_deleted book es).entries f ≡ [])) es
+DeletesEach = (w : World) (caller : Caller) (r : DeleteAclsRequest) → part_refusal (rules_of w) (alter_questions caller) ≡ None
+    → AllByRecursion (λ e. IfSome (filter_of e) (λ f. matching (delete_acls_outcome w caller r).world.book.entries f ≡ [])) r.filters
 
 -- a request that is refused by the book of before changes nothing, and its refusal is the only one
 pub record IsRefusedWhole (w : World) (r : Refusal) (outcome : Outcome) : Type 0 where

@@ -1,5 +1,5 @@
 -- What a Produce, a Fetch and a ListOffsets do with one partition that is allowed, in the subject's words.
-use Rattle.std.specs.Prelude.{◌≡◌, ◌≤◌, ◌⊎◌, ℕ, ℤ, pos, negsuc, int_le, Bool, true, false, List, [], ◌∷◌, ◌++◌, length, Option, Some, None}
+use Rattle.std.specs.Prelude.{◌≡◌, ◌≤◌, ◌⊎◌, ℕ, ℤ, pos, negsuc, int_le, Bool, true, false, List, [], ◌∷◌, ◌++◌, length, Option, Some, None, Ok}
 use Rattle.std.specs.List.{AllByRecursion}
 use Rattle.wire_types.specs.declared.error_code.ErrorCode.TheVariants as codes
 use Rattle.record_batch.specs.Batch.{BatchData, IsBatch, next_offset}
@@ -45,12 +45,19 @@ pub record IsRepeated (topics after : List TopicValue) (name : List ℕ) (p : Pr
   pub again : judged_by_log log batch ≡ Repeat answer.base_offset
   pub same : after ≡ topics
 
+-- no error and this offset is answered, and nothing is changed
+pub record IsAgain (topics after : List TopicValue) (offset : ℤ) (answer : ProducedOffset) : Type 0 where
+  pub error : answer.error ≡ codes.None
+  pub at : answer.base_offset ≡ offset
+  pub same : after ≡ topics
+
 -- nothing is changed, and no offset is answered
 pub record IsUnchanged (topics after : List TopicValue) (answer : ProducedOffset) : Type 0 where
   pub same : after ≡ topics
   pub offset : answer.base_offset ≡ negsuc 0
 
--- a partition is answered no error exactly where its batch was appended, now or before
+-- A partition is answered no error exactly where its batch was appended, now or before; and of a batch that passes the
+-- other checks the log decides: one that is next is appended, and a repeat is answered the offset at which it stands.
 pub record ProducesAsAnswered : Type 0 where
   pub appends : (most : ℕ) (c : CoordinatorValue) (id : Option (List ℕ)) (acks : ℤ) (topics : List TopicValue) (name : List ℕ) (p : ProducedRecords)
       → (produced (judged most c id acks (partition_at name p.index) p.records) topics name p).error ≡ codes.None
@@ -59,6 +66,14 @@ pub record ProducesAsAnswered : Type 0 where
   pub refuses : (most : ℕ) (c : CoordinatorValue) (id : Option (List ℕ)) (acks : ℤ) (topics : List TopicValue) (name : List ℕ) (p : ProducedRecords)
       → ((produced (judged most c id acks (partition_at name p.index) p.records) topics name p).error ≡ codes.None → ⊥)
       → IsUnchanged topics (topics_produced (judged most c id acks (partition_at name p.index) p.records) topics name p.index) (produced (judged most c id acks (partition_at name p.index) p.records) topics name p)
+
+  pub next : (most : ℕ) (c : CoordinatorValue) (id : Option (List ℕ)) (acks : ℤ) (topics : List TopicValue) (name : List ℕ) (p : ProducedRecords) (log : LogValue) (batch : BatchData)
+      → log_at topics name p.index ≡ Some log → judged most c id acks (partition_at name p.index) p.records ≡ Ok batch → judged_by_log log batch ≡ Next
+      → ((produced (judged most c id acks (partition_at name p.index) p.records) topics name p).error ≡ codes.None)
+      × IsAppended topics (topics_produced (judged most c id acks (partition_at name p.index) p.records) topics name p.index) name p (produced (judged most c id acks (partition_at name p.index) p.records) topics name p)
+  pub repeat : (most : ℕ) (c : CoordinatorValue) (id : Option (List ℕ)) (acks : ℤ) (topics : List TopicValue) (name : List ℕ) (p : ProducedRecords) (log : LogValue) (batch : BatchData) (offset : ℤ)
+      → log_at topics name p.index ≡ Some log → judged most c id acks (partition_at name p.index) p.records ≡ Ok batch → judged_by_log log batch ≡ Repeat offset
+      → IsAgain topics (topics_produced (judged most c id acks (partition_at name p.index) p.records) topics name p.index) offset (produced (judged most c id acks (partition_at name p.index) p.records) topics name p)
 
 -- ---- ListOffsets
 

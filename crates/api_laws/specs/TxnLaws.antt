@@ -1,5 +1,5 @@
 -- What holds of AddPartitionsToTxn and EndTxn, and of InitProducerId for a transactional id.
-use Rattle.std.specs.Prelude.{◌≡◌, ◌⊎◌, ℕ, ℤ, false, is_none, List, [], ◌∷◌, Some, None}
+use Rattle.std.specs.Prelude.{◌≡◌, ℕ, ℤ, false, is_none, List, [], ◌∷◌, Some, None}
 use Rattle.acl_binding.specs.declared.question.Caller.{Caller}
 use Rattle.authorizer.specs.declared.answer.Refusal.{Refusal}
 use Rattle.authorizer.specs.Asking.{part_refusal}
@@ -34,16 +34,17 @@ pub record IsCut (w : World) (caller : Caller) (r : AddPartitionsToTxnRequest) (
   pub reply : o.reply ≡ add_reply (answers (cut_rule caller r.transactional_id w.topics) (rules_of w) tt r.topics)
   pub refusals : o.refusals ≡ refusals (cut_rule caller r.transactional_id w.topics) (rules_of w) r.topics
 
--- each partition may be added; the coordinator decides, and all are told its code
-pub record IsWhole (w : World) (caller : Caller) (r : AddPartitionsToTxnRequest) (o : Outcome) : Type 0 where
-  pub all : AllTopics (IsAddable w caller r.transactional_id) r.topics
+-- the coordinator decides, and all are told its code
+pub record IsWhole (w : World) (r : AddPartitionsToTxnRequest) (o : Outcome) : Type 0 where
   pub coordinator : o.world.coordinator ≡ turned w.coordinator (add_turn w.coordinator w.moment r)
   pub topics : o.world.topics ≡ w.topics
   pub reply : o.reply ≡ add_reply (plain_topics (told_rule (turn_code (add_turn w.coordinator w.moment r))) tt r.topics)
   pub refusals : o.refusals ≡ []
 
-abbrev pub AddsAllOrNone : Type 0
-AddsAllOrNone = (w : World) (caller : Caller) (r : AddPartitionsToTxnRequest) → IsCut w caller r (add_partitions_outcome w caller r) ⊎ IsWhole w caller r (add_partitions_outcome w caller r)
+-- where each partition may be added it is whole, and where one may not be, it is cut
+pub record AddsAllOrNone : Type 0 where
+  pub all : (w : World) (caller : Caller) (r : AddPartitionsToTxnRequest) → AllTopics (IsAddable w caller r.transactional_id) r.topics → IsWhole w r (add_partitions_outcome w caller r)
+  pub none : (w : World) (caller : Caller) (r : AddPartitionsToTxnRequest) → (AllTopics (IsAddable w caller r.transactional_id) r.topics → ⊥) → IsCut w caller r (add_partitions_outcome w caller r)
 
 -- ---- what the answers depend on
 

@@ -33,7 +33,8 @@ pub fn metadata_depends_on_grants()
     ensures { DependsOnGrants }
 {}
 
-/// An allowed partition of a Produce is answered no error exactly where its batch was appended.
+/// An allowed partition of a Produce is answered no error exactly where its batch was appended, now or before; and of a
+/// batch that passes the other checks the log decides: the next is appended, and a repeat is answered its offset.
 pub fn produces_as_answered()
     ensures { ProducesAsAnswered }
 {}
@@ -73,12 +74,12 @@ pub fn list_offsets_depends_on_grants()
     ensures { ListOffsetsDependsOnGrants }
 {}
 
-/// After a CreateAcls each entry that is a binding stands in the book.
+/// After a CreateAcls that is granted each entry that is a binding stands in the book.
 pub fn creates_each()
     ensures { CreatesEach }
 {}
 
-/// After a DeleteAcls none of its filters picks anything.
+/// After a DeleteAcls that is granted none of its filters picks anything.
 pub fn deletes_each()
     ensures { DeletesEach }
 {}
@@ -118,7 +119,7 @@ pub fn init_depends_on_grants()
     ensures { InitDependsOnGrants }
 {}
 
-/// An AddPartitionsToTxn adds all its partitions or none.
+/// An AddPartitionsToTxn adds all its partitions where each may be added, and else none.
 pub fn adds_all_or_none()
     ensures { AddsAllOrNone }
 {}

@@ -21,7 +21,7 @@ use std::alloc::Global;
 use wire_types::WriteFault;
 
 /// What an event is answered. Only an answer to a request is sent.
-#[derive(Clone, Debug, Drop, PartialEq, Eq)]
+#[derive(Clone, Debug, PartialEq, Eq)]
 pub enum Reply {
     Produce(ProduceReply),
     /// What a Produce is answered that wants no answer: it is kept, and no bytes are sent.
@@ -50,6 +50,35 @@ pub enum Reply {
     Idle,
     /// The moment was set, and so many markers are owed.
     Ticked { left: u64 },
+}
+
+/// Written out, so that a crate which lets a reply go calls this once, and proves nothing of the bodies.
+impl Drop for Reply {
+    fn drop(self) {
+        match self {
+            Reply::Produce(body) => drop(body),
+            Reply::SilentProduce(body) => drop(body),
+            Reply::Fetch(body) => drop(body),
+            Reply::ListOffsets(body) => drop(body),
+            Reply::Metadata(body) => drop(body),
+            Reply::OffsetCommit(body) => drop(body),
+            Reply::OffsetFetch(body) => drop(body),
+            Reply::FindCoordinator(body) => drop(body),
+            Reply::JoinGroup(body) => drop(body),
+            Reply::Heartbeat(body) => drop(body),
+            Reply::LeaveGroup(body) => drop(body),
+            Reply::SyncGroup(body) => drop(body),
+            Reply::InitProducerId(body) => drop(body),
+            Reply::AddPartitionsToTxn(body) => drop(body),
+            Reply::AddOffsetsToTxn(body) => drop(body),
+            Reply::EndTxn(body) => drop(body),
+            Reply::TxnOffsetCommit(body) => drop(body),
+            Reply::DescribeAcls(body) => drop(body),
+            Reply::CreateAcls(body) => drop(body),
+            Reply::DeleteAcls(body) => drop(body),
+            Reply::Marked { left: _ } | Reply::Idle | Reply::Ticked { left: _ } => {}
+        }
+    }
 }
 
 /// The whole response, with its size field; no bytes for a reply that isn't sent.

@@ -31,7 +31,7 @@ use wire_types::{Cursor, Malformed, ReadFault, Wire, WriteFault};
 pub const FRAME_LIMIT: usize = 104_857_600;
 
 /// What a client asks for.
-#[derive(Clone, Debug, Drop, PartialEq, Eq)]
+#[derive(Clone, Debug, PartialEq, Eq)]
 pub enum Request {
     Produce(ProduceRequest),
     Fetch(FetchRequest),
@@ -52,6 +52,33 @@ pub enum Request {
     DescribeAcls(DescribeAclsRequest),
     CreateAcls(CreateAclsRequest),
     DeleteAcls(DeleteAclsRequest),
+}
+
+/// Written out, so that a crate which lets a request go calls this once, and proves nothing of the bodies.
+impl Drop for Request {
+    fn drop(self) {
+        match self {
+            Request::Produce(body) => drop(body),
+            Request::Fetch(body) => drop(body),
+            Request::ListOffsets(body) => drop(body),
+            Request::Metadata(body) => drop(body),
+            Request::OffsetCommit(body) => drop(body),
+            Request::OffsetFetch(body) => drop(body),
+            Request::FindCoordinator(body) => drop(body),
+            Request::JoinGroup(body) => drop(body),
+            Request::Heartbeat(body) => drop(body),
+            Request::LeaveGroup(body) => drop(body),
+            Request::SyncGroup(body) => drop(body),
+            Request::InitProducerId(body) => drop(body),
+            Request::AddPartitionsToTxn(body) => drop(body),
+            Request::AddOffsetsToTxn(body) => drop(body),
+            Request::EndTxn(body) => drop(body),
+            Request::TxnOffsetCommit(body) => drop(body),
+            Request::DescribeAcls(body) => drop(body),
+            Request::CreateAcls(body) => drop(body),
+            Request::DeleteAcls(body) => drop(body),
+        }
+    }
 }
 
 impl Request {

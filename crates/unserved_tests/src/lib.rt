@@ -1,8 +1,10 @@
-//! Tests of what no script of `tests/` can show, since no request that is served asks for it.
+//! Tests of what no script of `tests/` can show, since no request that is served asks for it, or no line prints it.
 #![tactic(auto)]
 
 #[cfg(test)]
 mod defaults;
+#[cfg(test)]
+mod left;
 #[cfg(test)]
 mod permission;
 #[cfg(test)]
