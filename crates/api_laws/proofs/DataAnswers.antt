@@ -270,16 +270,19 @@ module _ (topics : List TopicValue) (name : List ℕ) (p : ProducedRecords) wher
 
   next_by : (b : BatchData) (log : LogValue) (j : Judgment) → IsGoodBatch p.records b → log_at topics name p.index ≡ Some log → judged_by_log log b ≡ j → j ≡ Next
       → ((produced_to p (offset_by j log)).error ≡ codes.None) × IsAppended topics (with_log topics name p.index (log_by j log b)) name p (produced_to p (offset_by j log))
-  next_by b log Next good there is next = (refl, record {
-    log = log;
-    batch = b;
-    there = there;
-    is_batch = good.batch;
-    sent = good.sent;
-    next = is;
-    offset = refl;
-    goes_on = log_at_with topics name p.index log (log ++ at_end log b ∷ []) there;
-  })
+  next_by b log Next good there is next = (
+    refl,
+    record {
+      log = log;
+      batch = b;
+      there = there;
+      is_batch = good.batch;
+      sent = good.sent;
+      next = is;
+      offset = refl;
+      goes_on = log_at_with topics name p.index log (log ++ at_end log b ∷ []) there;
+    },
+  )
   next_by b log (Repeat offset) good there is next = absurd (let clash : Repeat offset ≡ Next = next in cc)
   next_by b log (Refused code) good there is next = absurd (let clash : Refused code ≡ Next = next in cc)
 

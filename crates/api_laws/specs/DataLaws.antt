@@ -66,7 +66,6 @@ pub record ProducesAsAnswered : Type 0 where
   pub refuses : (most : ℕ) (c : CoordinatorValue) (id : Option (List ℕ)) (acks : ℤ) (topics : List TopicValue) (name : List ℕ) (p : ProducedRecords)
       → ((produced (judged most c id acks (partition_at name p.index) p.records) topics name p).error ≡ codes.None → ⊥)
       → IsUnchanged topics (topics_produced (judged most c id acks (partition_at name p.index) p.records) topics name p.index) (produced (judged most c id acks (partition_at name p.index) p.records) topics name p)
-
   pub next : (most : ℕ) (c : CoordinatorValue) (id : Option (List ℕ)) (acks : ℤ) (topics : List TopicValue) (name : List ℕ) (p : ProducedRecords) (log : LogValue) (batch : BatchData)
       → log_at topics name p.index ≡ Some log → judged most c id acks (partition_at name p.index) p.records ≡ Ok batch → judged_by_log log batch ≡ Next
       → ((produced (judged most c id acks (partition_at name p.index) p.records) topics name p).error ≡ codes.None)
