@@ -165,7 +165,7 @@ batch_called most c id target (Some records) e = by_length (eqb (length records)
   by_length true h = let clash : Err codes.InvalidRecord ≡ Err codes.None = h in cc
   by_length false h = passed_called c id target (sent most records) h
 
-judged_called : (most : ℕ) (c : CoordinatorValue) (id : Option (List ℕ)) (acks : ℤ) (target : Target) (records : Option (List ℕ)) → IsCalled (judged most c id acks target records)
+pub judged_called : (most : ℕ) (c : CoordinatorValue) (id : Option (List ℕ)) (acks : ℤ) (target : Target) (records : Option (List ℕ)) → IsCalled (judged most c id acks target records)
 judged_called most c id acks target records e = by_acks (are_acks acks) e where
   by_acks : (b : Bool) → cond b (batch_in most c id target records) (Err codes.InvalidRequiredAcks) ≡ Err codes.None → ⊥
   by_acks true h = batch_called most c id target records h

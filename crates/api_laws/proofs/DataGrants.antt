@@ -1,6 +1,6 @@
 -- The answers to Produce, Fetch and ListOffsets depend on what the questions of their parts were granted.
 use Rattle.std.proofs.Common.{◌≡◌, ℕ, ℤ, pos, negsuc, length, eqb, ◌⊎◌, inl, inr, Bool, true, false, cond, List, [], ◌∷◌, Option, Some, None, Result, Ok, Err, refl, sym, ap, subst, ◌∙◌}
-use Rattle.std.specs.Prelude.{slice_get, int_lt}
+use Rattle.std.specs.Prelude.{int_lt, map, is_some}
 use Rattle.std.specs.Option.{option_map, option_and_then}
 use Rattle.std.specs.Str.{bytes_eq}
 use Rattle.std.proofs.lemmas.Slice.Eq.{bytes_eq-Decides}
@@ -38,6 +38,7 @@ use Rattle.broker_world.specs.declared.node.Node.{Node}
 use Rattle.broker_world.specs.First.{magnitude}
 use Rattle.broker_world.specs.Logs.{log_after, log_of, log_at, logs_with, with_log, appended_by, appended}
 use Rattle.txn_coordinator.specs.declared.pair.Pair.{Pair}
+use Rattle.txn_coordinator.specs.declared.pair.Given.{Given}
 use Rattle.txn_coordinator.specs.declared.target.Target.{Target}
 use Rattle.txn_coordinator.specs.declared.transaction.Transaction.{Transaction}
 use Rattle.txn_coordinator.specs.Coordinator.{CoordinatorValue, recorded, owner, given_by}
@@ -48,6 +49,7 @@ use Rattle.data_handlers.specs.Sent.{sent}
 use Rattle.data_handlers.specs.Produce.{produce_questions, produced, produced_by, produce_rule, producing, produce_reply}
 use Rattle.data_handlers.specs.Fetch.{served_by, served_at, fetched, room_after, fetch_rule, whole_room}
 use Rattle.data_handlers.specs.ListOffsets.{listed_by, list_rule}
+use Rattle.api_laws.proofs.Recorded.{same_owner}
 use Rattle.api_laws.specs.Tenants.{SameGranted, SameOn}
 use Rattle.api_laws.specs.DataTenants.{FetchDependsOnGrants, ListOffsetsDependsOnGrants, ProduceDependsOnGrants, ProduceKeepsTheRest}
 
@@ -213,36 +215,32 @@ find_after (Err code) us vs name other index here there = there
 find_after (Ok b) us vs name other index here there = find_appended us vs name other index b here there
 
 -- a batch is judged the same by coordinators that agree on its id and on the producer ids given out
-same_owner : (a b : CoordinatorValue) (producer : ℤ) → a.given ≡ b.given → owner a producer ≡ owner b producer
-same_owner a b (pos n) same = ap (λ (g : List (Option (List ℕ))). slice_get g n) same
-same_owner a b (negsuc n) same = refl
-
 same_held : (a b : CoordinatorValue) (id : Option (List ℕ)) (pair : Pair) (target : Target) → AgreeOnId a b id → held_code a id pair target ≡ held_code b id pair target
 unfolding AgreeOnId
 same_held a b None pair target agree = refl
 same_held a b (Some id) pair target agree = ap (λ (o : Option Transaction). refused_by (holds_found o pair target)) agree
 
-same_code : (a b : CoordinatorValue) (id : Option (List ℕ)) (target : Target) (h : BatchHeader) → a.given ≡ b.given → AgreeOnId a b id → producer_code a id target h ≡ producer_code b id target h
+same_code : (a b : CoordinatorValue) (id : Option (List ℕ)) (target : Target) (h : BatchHeader) → map is_some a.given ≡ map is_some b.given → AgreeOnId a b id → producer_code a id target h ≡ producer_code b id target h
 same_code a b id target h given agree =
     ap (λ (o : Option ErrorCode). cond (is_transactional h) o (cond (int_lt h.producer_id (pos 0)) None (given_code (given_by (owner a h.producer_id))))) (same_held a b id (pair_of h) target agree)
-    ∙ ap (λ (o : Option (Option (List ℕ))). cond (is_transactional h) (held_code b id (pair_of h) target) (cond (int_lt h.producer_id (pos 0)) None (given_code (given_by o)))) (same_owner a b h.producer_id given)
+    ∙ ap (λ (g : Given). cond (is_transactional h) (held_code b id (pair_of h) target) (cond (int_lt h.producer_id (pos 0)) None (given_code g))) (same_owner a b h.producer_id given)
 
-same_passed : (a b : CoordinatorValue) (id : Option (List ℕ)) (target : Target) (r : Result BatchData BatchFault) → a.given ≡ b.given → AgreeOnId a b id → passed a id target r ≡ passed b id target r
+same_passed : (a b : CoordinatorValue) (id : Option (List ℕ)) (target : Target) (r : Result BatchData BatchFault) → map is_some a.given ≡ map is_some b.given → AgreeOnId a b id → passed a id target r ≡ passed b id target r
 same_passed a b id target (Err fault) given agree = refl
 same_passed a b id target (Ok x) given agree = ap (λ (o : Option ErrorCode). passed_by o x) (same_code a b id target x.header given agree)
 
-same_batch : (most : ℕ) (a b : CoordinatorValue) (id : Option (List ℕ)) (target : Target) (records : Option (List ℕ)) → a.given ≡ b.given → AgreeOnId a b id → batch_in most a id target records ≡ batch_in most b id target records
+same_batch : (most : ℕ) (a b : CoordinatorValue) (id : Option (List ℕ)) (target : Target) (records : Option (List ℕ)) → map is_some a.given ≡ map is_some b.given → AgreeOnId a b id → batch_in most a id target records ≡ batch_in most b id target records
 same_batch most a b id target None given agree = refl
 same_batch most a b id target (Some records) given agree = ap (λ r. cond (eqb (length records) 0) (Err codes.InvalidRecord) r) (same_passed a b id target (sent most records) given agree)
 
-same_judged : (most : ℕ) (a b : CoordinatorValue) (id : Option (List ℕ)) (acks : ℤ) (target : Target) (records : Option (List ℕ)) → a.given ≡ b.given → AgreeOnId a b id → judged most a id acks target records ≡ judged most b id acks target records
+same_judged : (most : ℕ) (a b : CoordinatorValue) (id : Option (List ℕ)) (acks : ℤ) (target : Target) (records : Option (List ℕ)) → map is_some a.given ≡ map is_some b.given → AgreeOnId a b id → judged most a id acks target records ≡ judged most b id acks target records
 same_judged most a b id acks target records given agree = ap (λ r. cond (are_acks acks) r (Err codes.InvalidRequiredAcks)) (same_batch most a b id target records given agree)
 
 -- the same worlds of topics, and the same grants, are answered alike by coordinators that agree where it is granted
 abbrev AgreeBoth : Rules → Caller → Option (List ℕ) → CoordinatorValue → CoordinatorValue → List (Topic ProducedRecords) → List TopicValue → List TopicValue → Type 0
 AgreeBoth rules caller id a b ts us vs = (name : List ℕ) → Named name ts → part_refusal rules (produce_questions caller id name) ≡ None → (find_topic us name ≡ find_topic vs name) × AgreeOnId a b id
 
-produce_alike : (rules : Rules) (caller : Caller) (most : ℕ) (a b : CoordinatorValue) (id : Option (List ℕ)) (acks : ℤ) (ts : List (Topic ProducedRecords)) → a.given ≡ b.given
+produce_alike : (rules : Rules) (caller : Caller) (most : ℕ) (a b : CoordinatorValue) (id : Option (List ℕ)) (acks : ℤ) (ts : List (Topic ProducedRecords)) → map is_some a.given ≡ map is_some b.given
     → AreAlike (produce_rule caller most a id acks) (produce_rule caller most b id acks) rules (λ name p. Named name ts) (AgreeBoth rules caller id a b ts)
 produce_alike rules caller most a b id acks ts given = record {
   questions = λ name p. refl;

@@ -1,8 +1,14 @@
 -- Coordinators that agree on a transactional id, and on the producer ids given out, answer a call for it alike.
-use Rattle.std.proofs.Common.{◌≡◌, ℕ, ℤ, pos, Bool, true, false, cond, List, [], ◌∷◌, length, Option, Some, Err, refl, sym, ap, ◌∙◌}
+use Rattle.std.proofs.Common.{◌≡◌, ℕ, ℤ, pos, negsuc, Bool, true, false, cond, List, [], ◌∷◌, ◌++◌, map, length, Option, Some, None, Err, refl, sym, ap, ◌∙◌}
+use Rattle.std.specs.Prelude.{slice_get, is_some}
+use Rattle.std.specs.Option.{option_map}
+use Rattle.std.proofs.lemmas.Option.{slice_get-map}
+use Rattle.std.proofs.lemmas.List.{length-map, map-append}
 use Rattle.std.specs.Str.{bytes_eq}
 use Rattle.std.proofs.lemmas.Slice.Eq.{bytes_eq-Decides}
 use Rattle.wire_types.specs.declared.error_code.ErrorCode.TheVariants as codes
+use Rattle.txn_coordinator.specs.declared.pair.Given.{Given}
+use Rattle.txn_coordinator.specs.declared.pair.Given.TheVariants.{Never, Free, Owned}
 use Rattle.txn_coordinator.specs.declared.pair.Pair.{Pair}
 use Rattle.txn_coordinator.specs.declared.target.TopicPartition.{TopicPartition}
 use Rattle.txn_coordinator.specs.declared.transaction.Transaction.{Transaction}
@@ -11,7 +17,7 @@ use Rattle.txn_coordinator.specs.declared.ending.EndForm.{EndForm}
 use Rattle.txn_coordinator.specs.declared.turn.Turn.{Turn}
 use Rattle.txn_coordinator.specs.declared.turn.Turn.TheVariants.{Stays, Puts}
 use Rattle.txn_coordinator.specs.Words.{is_empty}
-use Rattle.txn_coordinator.specs.Coordinator.{CoordinatorValue, has_id, recorded, put, fresh, turn_answer, pair_answer}
+use Rattle.txn_coordinator.specs.Coordinator.{CoordinatorValue, has_id, recorded, put, owner, given_by, fresh, turn_answer, pair_answer}
 use Rattle.txn_coordinator.specs.InitProducerId.{timeout_within, init_for, init}
 use Rattle.txn_coordinator.specs.Adding.{open_found, grown, with_partitions, with_group, add_partitions, add_group}
 use Rattle.txn_coordinator.specs.EndTxn.{end_found, end}
@@ -35,14 +41,39 @@ recorded_put (t ∷ ts) r id = by_same (has_id r.id t) refl (recorded_put ts r i
   by_same true e rest = other (bytes_eq r.id id) refl ((bytes_eq-Decides t.id r.id).0 e)
   by_same false e rest = ap (λ (o : Option Transaction). cond (bytes_eq t.id id) (Some t) o) rest ∙ swapped (bytes_eq r.id id) (bytes_eq t.id id) (Some r) (Some t) refl refl e
 
+-- ---- producer ids given out: as many, each of them free in both or owned in both
+
+abbrev given_of : Option Bool → Given
+given_of None = Never
+given_of (Some false) = Free
+given_of (Some true) = Owned
+
+of_kind : (o : Option (Option (List ℕ))) → given_by o ≡ given_of (option_map is_some o)
+of_kind None = refl
+of_kind (Some None) = refl
+of_kind (Some (Some id)) = refl
+
+is_owned : (xs ys : List (Option (List ℕ))) → map is_some xs ≡ map is_some ys → (n : ℕ) → given_by (slice_get xs n) ≡ given_by (slice_get ys n)
+is_owned xs ys same n =
+    of_kind (slice_get xs n)
+    ∙ ap given_of (sym (slice_get-map is_some xs n) ∙ ap (λ (l : List Bool). slice_get l n) same ∙ slice_get-map is_some ys n)
+    ∙ sym (of_kind (slice_get ys n))
+
+pub same_owner : (c d : CoordinatorValue) (producer : ℤ) → map is_some c.given ≡ map is_some d.given → given_by (owner c producer) ≡ given_by (owner d producer)
+same_owner c d (pos n) same = is_owned c.given d.given same n
+same_owner c d (negsuc n) same = refl
+
+pub given_more : (xs ys more : List (Option (List ℕ))) → map is_some xs ≡ map is_some ys → map is_some (xs ++ more) ≡ map is_some (ys ++ more)
+given_more xs ys more same = map-append is_some xs more ∙ ap (λ (l : List Bool). l ++ map is_some more) same ∙ sym (map-append is_some ys more)
+
+pub same_fresh : (c d : CoordinatorValue) → map is_some c.given ≡ map is_some d.given → fresh c ≡ fresh d
+same_fresh c d same = ap (λ (n : ℕ). pos n) (sym (length-map c.given is_some) ∙ ap (λ (l : List Bool). length l) same ∙ length-map d.given is_some)
+
 -- ---- coordinators that agree
 
 pub record AreSame (c d : CoordinatorValue) (id : List ℕ) : Type 0 where
-  pub given : c.given ≡ d.given
+  pub given : map is_some c.given ≡ map is_some d.given
   pub recorded : recorded c.transactions id ≡ recorded d.transactions id
-
-pub same_fresh : (c d : CoordinatorValue) → c.given ≡ d.given → fresh c ≡ fresh d
-same_fresh c d same = ap (λ (g : List (Option (List ℕ))). pos (length g)) same
 
 pub same_init : (c d : CoordinatorValue) (id : List ℕ) (timeout greatest : ℤ) → AreSame c d id → init c id timeout greatest ≡ init d id timeout greatest
 same_init c d id timeout greatest same =

@@ -1,5 +1,5 @@
 -- What a request's answer depends on: beside the book and the numbers, only what its questions were granted.
-use Rattle.std.specs.Prelude.{◌≡◌, ℕ, List, [], ◌∷◌, Option, Some, None}
+use Rattle.std.specs.Prelude.{◌≡◌, ℕ, List, [], ◌∷◌, map, Option, Some, None, is_some}
 use Rattle.acl_binding.specs.declared.question.Caller.{Caller}
 use Rattle.acl_binding.specs.declared.question.Question.{Question}
 use Rattle.acl_binding.specs.declared.words.Kind.{Kind}
@@ -14,13 +14,14 @@ use Rattle.group_offsets.specs.Groups.{find_group}
 use Rattle.broker_world.specs.World.{World, rules_of, find_topic, topic_names}
 use Rattle.data_handlers.specs.Metadata.{describable, metadata_answer, metadata_refusals}
 
--- the same settings but for topics, book, moment, number of events and producer ids given out
+-- the same settings but for topics, book, moment and number of events, and as many producer ids given out, each of them
+-- free in both or owned in both, by whatever id
 pub record SameBase (v w : World) : Type 0 where
   pub node : v.node ≡ w.node
   pub rules : rules_of v ≡ rules_of w
   pub moment : v.moment ≡ w.moment
   pub events : v.events ≡ w.events
-  pub given : v.coordinator.given ≡ w.coordinator.given
+  pub given : map is_some v.coordinator.given ≡ map is_some w.coordinator.given
 
 -- whether the resource is there, and all that it holds
 abbrev pub SameOn : World → World → Kind → List ℕ → Type 0

@@ -35,6 +35,7 @@ use Rattle.broker_laws.specs.Moves.{moves_of_all}
 use Rattle.broker_laws.specs.Laws.{InReached, TurnsAway, FencedWriteNothing, NoDataBehindAGreaterMarker}
 use Rattle.broker_laws.proofs.Passing.{held_holds, owner_free}
 use Rattle.broker_laws.proofs.Noted.{stages_nothing}
+use Rattle.broker_laws.proofs.Failing.{requests_fail}
 use Rattle.broker_laws.proofs.Reached.{full, IsGood, good_reached, good, reached_moved}
 
 -- ---- no check lets it in
@@ -178,6 +179,7 @@ fenced w good more after id pair had left =
       stages_nothing = λ caller client r same. stages_nothing end caller client r (both.turned_away.stagings (staging r) same);
       refused = record { in_transaction = both.refused.in_transaction; without_id = both.refused.without_id };
       turned_away = both.turned_away;
+      fails = requests_fail end pair both.turned_away;
     }
 
 pub fenced_write_nothing : InReached FencedWriteNothing

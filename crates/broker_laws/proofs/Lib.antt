@@ -11,6 +11,7 @@ pub mod Steps
 pub mod Reached
 pub mod Completing
 pub mod Deciding
+pub mod Failing
 pub mod Fencing
 pub mod Ending
 pub mod Cores

@@ -1,19 +1,27 @@
 -- What holds in each world that the broker's events reach: each transaction that is prepared is completed, and what is
 -- fenced stays out, whatever is asked, granted and refused meanwhile (KIP-98, 'Transaction Coordinator', 'Fencing').
-use Rattle.std.specs.Prelude.{◌≡◌, true, false, ℕ, ℤ, ◌≤◌, List, [], ◌∷◌, ◌++◌, map, Option, Some, None}
+use Rattle.std.specs.Prelude.{◌≡◌, true, false, ℕ, ℤ, ◌≤◌, List, [], ◌∷◌, ◌++◌, map, Option, Some, None, Ok}
 use Rattle.std.specs.Option.{option_map}
 use Rattle.wire_types.specs.declared.error_code.ErrorCode.TheVariants as codes
 use Rattle.wire_types.specs.declared.topic.Topic.{Topic}
 use Rattle.acl_binding.specs.declared.question.Caller.{Caller}
 use Rattle.settings.specs.declared.settings.Settings.{Settings}
 use Rattle.record_batch.specs.declared.header.BatchHeader.{BatchHeader}
+use Rattle.record_batch.specs.Batch.{BatchData}
+use Rattle.msg_data.specs.declared.produce.ProducedRecords.{ProducedRecords}
 use Rattle.msg_group.specs.declared.offset_commit.OffsetCommitRequest.{OffsetCommitRequest}
 use Rattle.msg_txn.specs.declared.init_producer_id.InitProducerIdRequest.{InitProducerIdRequest}
+use Rattle.msg_txn.specs.declared.add_offsets.AddOffsetsToTxnRequest.{AddOffsetsToTxnRequest}
+use Rattle.msg_txn.specs.declared.add_offsets.AddOffsetsToTxnReply.{AddOffsetsToTxnReply}
+use Rattle.msg_txn.specs.declared.add_partitions.AddPartitionsToTxnRequest.{AddPartitionsToTxnRequest}
+use Rattle.msg_txn.specs.declared.add_partitions.AddPartitionsToTxnReply.{AddPartitionsToTxnReply}
+use Rattle.msg_txn.specs.declared.add_partitions.AddedPartition.{AddedPartition}
 use Rattle.msg_txn.specs.declared.end_txn.EndTxnRequest.{EndTxnRequest}
+use Rattle.msg_txn.specs.declared.end_txn.EndTxnReply.{EndTxnReply}
 use Rattle.msg_txn.specs.declared.txn_offset_commit.TxnOffsetCommitRequest.{TxnOffsetCommitRequest}
 use Rattle.msg_txn.specs.declared.txn_offset_commit.TxnOffsetCommitReply.{TxnOffsetCommitReply}
 use Rattle.msg_txn.specs.declared.txn_offset_commit.StagedOffset.{StagedOffset}
-use Rattle.msg_admin.specs.declared.request.Request.TheVariants.{OffsetCommit, InitProducerId, EndTxn, TxnOffsetCommit}
+use Rattle.msg_admin.specs.declared.request.Request.TheVariants.{OffsetCommit, InitProducerId, AddPartitionsToTxn, AddOffsetsToTxn, EndTxn, TxnOffsetCommit}
 use Rattle.msg_admin.specs.declared.reply.Reply.TheVariants as replies
 use Rattle.audit_trail.specs.declared.event.Event.{Event}
 use Rattle.audit_trail.specs.declared.event.Event.TheVariants.{Ask, Mark, Tick}
@@ -44,10 +52,12 @@ use Rattle.txn_laws.specs.Small.{first_world as first_small_world, moved_all}
 use Rattle.txn_laws.specs.Sound.{Each, IsOrdered}
 use Rattle.txn_laws.specs.Laws.{IsEnded, IsDone, IsSilent, Refuses, up_to_last}
 use Rattle.txn_laws.specs.Kept.{kept_pair, kept_world, kept_moved_all}
-use Rattle.broker_world.specs.World.{World, LogValue}
+use Rattle.broker_world.specs.World.{World, LogValue, TopicValue}
 use Rattle.broker_world.specs.First.{first_world}
 use Rattle.broker_world.specs.Logs.{log_at}
-use Rattle.data_handlers.specs.Judged.{pair_of, producer_code}
+use Rattle.data_handlers.specs.Sent.{sent}
+use Rattle.data_handlers.specs.Judged.{pair_of, partition_at, producer_code, judged}
+use Rattle.data_handlers.specs.Produce.{produced}
 use Rattle.txn_handlers.specs.InitProducerId.{init_answered, init_error}
 use Rattle.txn_handlers.specs.EndTxn.{ending, end_reply}
 use Rattle.txn_handlers.specs.TxnOffsetCommit.{Staging, staging, staging_refusal}
@@ -246,6 +256,9 @@ pub record Fences (w : World) : Type 0 where
       → reply_to w (Ask caller client (InitProducerId r)) ≡ replies.InitProducerId (init_error codes.ConcurrentTransactions) → HasPair (step w (Ask caller client (InitProducerId r))) id t.pair → ⊥
   pub timed_out : (told : ℕ) (id : List ℕ) (t : Transaction) → recorded w.coordinator.transactions id ≡ Some t → is_due (moment_after w.moment told) t ≡ true → HasPair (step w (Tick told)) id t.pair → ⊥
 
+abbrev pub pair_with : ℤ → ℤ → Pair
+pair_with producer epoch = record { producer = producer; epoch = epoch }
+
 -- no batch of the pair passes Produce's check, no offset of it that of TxnOffsetCommit, and no call that comes with the
 -- pair is told that there is no error
 pub record TurnsAway (c : CoordinatorValue) (pair : Pair) : Type 0 where
@@ -260,6 +273,17 @@ pub record StagesNothing (w : World) (e : Event) : Type 0 where
   pub groups : (step w e).groups ≡ w.groups
   pub fails : (reply : TxnOffsetCommitReply) → reply_to w e ≡ replies.TxnOffsetCommit reply → Each (λ (t : Topic StagedOffset). Each (λ (p : StagedOffset). p.error ≡ codes.None → ⊥) t.partitions) reply.topics
 
+-- each request that comes with the pair is answered an error, for each partition where it names partitions; and so is a
+-- partition of a Produce for which a batch of the pair was sent
+pub record RequestsFail (w : World) (pair : Pair) : Type 0 where
+  pub endings : (caller : Caller) (client : Option (List ℕ)) (r : EndTxnRequest) (reply : EndTxnReply) → pair_with r.producer r.epoch ≡ pair → reply_to w (Ask caller client (EndTxn r)) ≡ replies.EndTxn reply → reply.error ≡ codes.None → ⊥
+  pub group_additions : (caller : Caller) (client : Option (List ℕ)) (r : AddOffsetsToTxnRequest) (reply : AddOffsetsToTxnReply) → pair_with r.producer r.epoch ≡ pair
+      → reply_to w (Ask caller client (AddOffsetsToTxn r)) ≡ replies.AddOffsetsToTxn reply → reply.error ≡ codes.None → ⊥
+  pub additions : (caller : Caller) (client : Option (List ℕ)) (r : AddPartitionsToTxnRequest) (reply : AddPartitionsToTxnReply) → pair_with r.producer r.epoch ≡ pair
+      → reply_to w (Ask caller client (AddPartitionsToTxn r)) ≡ replies.AddPartitionsToTxn reply → Each (λ (t : Topic AddedPartition). Each (λ (p : AddedPartition). p.error ≡ codes.None → ⊥) t.partitions) reply.topics
+  pub batches : (most : ℕ) (id : Option (List ℕ)) (acks : ℤ) (topics : List TopicValue) (name : List ℕ) (p : ProducedRecords) (records : List ℕ) (b : BatchData) → p.records ≡ Some records → sent most records ≡ Ok b → pair_of b.header ≡ pair
+      → (produced (judged most w.coordinator id acks (partition_at name p.index) p.records) topics name p).error ≡ codes.None → ⊥
+
 -- no log gets data of the pair and no group an offset, and it is refused for each partition and each group, and by each
 -- request
 pub record IsShutOut (pair : Pair) (w later : World) : Type 0 where
@@ -268,6 +292,7 @@ pub record IsShutOut (pair : Pair) (w later : World) : Type 0 where
   pub stages_nothing : (caller : Caller) (client : Option (List ℕ)) (r : TxnOffsetCommitRequest) → (staging r).pair ≡ pair → StagesNothing later (Ask caller client (TxnOffsetCommit r))
   pub refused : Refuses (small later) pair
   pub turned_away : TurnsAway later.coordinator pair
+  pub fails : RequestsFail later pair
 
 -- once events have made an id's record leave a pair, it is shut out for good
 abbrev pub FencedWriteNothing : World → Type 0

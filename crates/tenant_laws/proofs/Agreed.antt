@@ -1,5 +1,5 @@
 -- Worlds that agree on what requests are granted go on agreeing, and so leave the same history.
-use Rattle.std.proofs.Common.{◌≡◌, ℕ, ◌+◌, List, ap}
+use Rattle.std.proofs.Common.{◌≡◌, ℕ, ◌+◌, List, Option, ap}
 use Rattle.acl_binding.specs.declared.question.Caller.{Caller}
 use Rattle.acl_binding.specs.declared.words.Kind.{Kind}
 use Rattle.acl_binding.specs.declared.words.Kind.TheVariants.{Topic, Group, Cluster, TransactionalId}
@@ -7,6 +7,7 @@ use Rattle.acl_binding.specs.Book.{BookValue}
 use Rattle.authorizer.specs.Asking.{Rules}
 use Rattle.msg_admin.specs.declared.request.Request.{Request}
 use Rattle.msg_admin.specs.declared.request.Request.TheVariants.{Produce, Fetch, ListOffsets, Metadata, OffsetCommit, OffsetFetch, FindCoordinator, JoinGroup, Heartbeat, LeaveGroup, SyncGroup, InitProducerId, AddPartitionsToTxn, AddOffsetsToTxn, EndTxn, TxnOffsetCommit, DescribeAcls, CreateAcls, DeleteAcls}
+use Rattle.audit_trail.specs.declared.event.Event.TheVariants.{Ask}
 use Rattle.broker_world.specs.World.{World}
 use Rattle.data_handlers.specs.Produce.{produce_questions}
 use Rattle.group_handlers.specs.OffsetCommit.{commit_questions}
@@ -14,11 +15,10 @@ use Rattle.txn_handlers.specs.TxnOffsetCommit.{staging, stage_questions}
 use Rattle.txn_handlers.specs.AddPartitions.{add_questions}
 use Rattle.acl_handlers.specs.CreateAcls.{alter_questions, book_created}
 use Rattle.acl_handlers.specs.DeleteAcls.{book_deleted}
-use Rattle.api_dispatch.specs.Step.{request_outcome, counted}
+use Rattle.api_dispatch.specs.Step.{request_outcome, counted, step}
 use Rattle.api_laws.specs.Tenants.{SameBase, SameOn}
 use Rattle.api_dispatch.proofs.Wholes.{describe_keeps, find_keeps, offsets_keep}
-use Rattle.tenant_laws.specs.Laws.{SameForRequest, AgreementGoesOn}
-use Rattle.tenant_laws.proofs.Answered.{each, by_partitions}
+use Rattle.tenant_laws.proofs.Answered.{IsSame, each, by_partitions}
 use Rattle.tenant_laws.proofs.Agreeing.{AgreeBehind, unchanged, unchanged_as, by_book, by_whole}
 use Rattle.tenant_laws.proofs.AgreedLogs.{produce_agrees}
 use Rattle.tenant_laws.proofs.AgreedGroups.{join_agrees, sync_agrees, beat_agrees, leave_agrees, commit_agrees, stage_agrees}
@@ -33,7 +33,7 @@ module _ (v w : World) (caller : Caller) where
   same_book : SameBase v w → v.book ≡ w.book
   same_book base = ap (λ (rules : Rules). rules.book) base.rules
 
-  agreed : (request : Request) → SameForRequest v w caller request → AgreeBehind v w (request_outcome v caller request).world (request_outcome w caller request).world
+  agreed : (request : Request) → IsSame v w caller request → AgreeBehind v w (request_outcome v caller request).world (request_outcome w caller request).world
   agreed (Produce r) same = produce_agrees v w caller r same.base (by_partitions v w caller (produce_questions caller r.transactional_id) r.topics (each v w caller (Produce r) same))
   agreed (Fetch r) same = unchanged v w same.base
   agreed (ListOffsets r) same = unchanged v w same.base
@@ -67,8 +67,8 @@ counted_on x y Group name same = same
 counted_on x y Cluster name same = same
 counted_on x y TransactionalId name same = same
 
-pub agreement_goes_on : AgreementGoesOn
-agreement_goes_on v w caller client request same =
+pub agreement : (v w : World) (caller : Caller) (client : Option (List ℕ)) (request : Request) → IsSame v w caller request → AgreeBehind v w (step v (Ask caller client request)) (step w (Ask caller client request))
+agreement v w caller client request same =
     let behind = agreed v w caller request same in
     let x : World = (request_outcome v caller request).world in
     let y : World = (request_outcome w caller request).world in

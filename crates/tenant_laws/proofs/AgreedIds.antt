@@ -1,7 +1,7 @@
 -- Worlds that agree on what a request for a transactional id is granted go on agreeing on each id, and in the producer
 -- ids given out.
 use Rattle.std.proofs.Common.{◌≡◌, ◌⊎◌, inl, inr, ℕ, ℤ, Bool, true, false, cond, List, [], ◌∷◌, ◌++◌, Option, Some, None, refl, sym, ap, subst, ◌∙◌}
-use Rattle.std.specs.Prelude.{is_none, ◌||◌}
+use Rattle.std.specs.Prelude.{is_none, is_some, map, ◌||◌}
 use Rattle.std.specs.List.{cons_option}
 use Rattle.acl_binding.specs.declared.question.Caller.{Caller}
 use Rattle.acl_binding.specs.declared.words.Kind.TheVariants as kinds
@@ -37,15 +37,15 @@ use Rattle.txn_handlers.specs.AddPartitions.{add_questions, cut_rule, is_missing
 use Rattle.broker_world.specs.Questions.{read_question}
 use Rattle.api_laws.specs.Tenants.{SameBase, SameGranted}
 use Rattle.api_laws.proofs.DataGrants.{yes_of, rest_of, same_topic, same_log}
-use Rattle.api_laws.proofs.Recorded.{AreSame, recorded_put, same_init, same_end, same_add, same_add_group}
+use Rattle.api_laws.proofs.Recorded.{AreSame, recorded_put, given_more, same_init, same_end, same_add, same_add_group}
 use Rattle.tenant_laws.proofs.Agreeing.{AgreeBehind, unchanged, by_coordinator, by_whole}
 use Rattle.api_dispatch.proofs.Told.{walk_told}
 
 -- ---- one turn on two coordinators
 
-turned_given : (c d : CoordinatorValue) (t : Turn) → c.given ≡ d.given → (turned c t).given ≡ (turned d t).given
+turned_given : (c d : CoordinatorValue) (t : Turn) → map is_some c.given ≡ map is_some d.given → map is_some (turned c t).given ≡ map is_some (turned d t).given
 turned_given c d (Stays code) same = same
-turned_given c d (Puts code t given owed) same = ap (λ (g : List (Option (List ℕ))). g ++ given) same
+turned_given c d (Puts code t given owed) same = given_more c.given d.given given same
 
 turned_record : (c d : CoordinatorValue) (t : Turn) (name : List ℕ) → recorded c.transactions name ≡ recorded d.transactions name → recorded (turned c t).transactions name ≡ recorded (turned d t).transactions name
 turned_record c d (Stays code) name same = same
@@ -62,7 +62,7 @@ module _ (v w : World) (caller : Caller) (base : SameBase v w) where
 
   init_by : (id : Option (List ℕ)) (timeout : ℤ) → SameGranted v w (init_question caller id ∷ []) → part_refusal (rules_of w) (init_question caller id ∷ []) ≡ None
       → AgreeBehind v w (record v { coordinator = coordinator_for id v.coordinator v.node.max_txn_timeout timeout }) (record w { coordinator = coordinator_for id w.coordinator w.node.max_txn_timeout timeout })
-  init_by None timeout same none = by_coordinator v w base _ _ (ap (λ (g : List (Option (List ℕ))). g ++ None ∷ []) base.given) (λ name agree. agree)
+  init_by None timeout same none = by_coordinator v w base _ _ (given_more v.coordinator.given w.coordinator.given (None ∷ []) base.given) (λ name agree. agree)
   init_by (Some id) timeout same none =
       let q = init_question caller (Some id) in
       let agree : AreSame v.coordinator w.coordinator id = record { given = base.given; recorded = same.0 (yes_of (verdict w.book w.supers q) q None none) } in

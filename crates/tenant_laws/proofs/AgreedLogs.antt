@@ -1,6 +1,6 @@
 -- Worlds that agree on what a Produce is granted go on agreeing on each topic.
-use Rattle.std.proofs.Common.{◌≡◌, ℕ, ℤ, pos, negsuc, length, eqb, Bool, true, false, cond, List, [], ◌∷◌, Option, Some, None, Result, Ok, Err, refl, sym, ap, subst, ◌∙◌}
-use Rattle.std.specs.Prelude.{slice_get, int_lt}
+use Rattle.std.proofs.Common.{◌≡◌, ℕ, ℤ, pos, length, eqb, Bool, true, false, cond, List, [], ◌∷◌, Option, Some, None, Result, Ok, Err, refl, sym, ap, subst, ◌∙◌}
+use Rattle.std.specs.Prelude.{int_lt, map, is_some}
 use Rattle.std.specs.Option.{option_map}
 use Rattle.std.specs.Str.{bytes_eq}
 use Rattle.std.proofs.lemmas.Slice.Eq.{bytes_eq-Decides}
@@ -21,6 +21,7 @@ use Rattle.msg_data.specs.declared.produce.ProducedRecords.{ProducedRecords}
 use Rattle.walk.specs.Walk.{world_after}
 use Rattle.walk.specs.Alike.{AllTopics}
 use Rattle.txn_coordinator.specs.declared.pair.Pair.{Pair}
+use Rattle.txn_coordinator.specs.declared.pair.Given.{Given}
 use Rattle.txn_coordinator.specs.declared.target.Target.{Target}
 use Rattle.txn_coordinator.specs.declared.transaction.Transaction.{Transaction}
 use Rattle.txn_coordinator.specs.Coordinator.{CoordinatorValue, recorded, owner, given_by}
@@ -33,6 +34,7 @@ use Rattle.data_handlers.specs.Judged.{partition_at, pair_of, held_code, given_c
 use Rattle.broker_world.specs.Codes.{refused_by}
 use Rattle.data_handlers.specs.Sent.{sent}
 use Rattle.data_handlers.specs.Produce.{produce_questions, producing, produce_outcome}
+use Rattle.api_laws.proofs.Recorded.{same_owner}
 use Rattle.api_laws.specs.Tenants.{SameBase, SameGranted}
 use Rattle.api_laws.proofs.DataGrants.{yes_of, same_log, find_same}
 use Rattle.tenant_laws.proofs.Agreeing.{Goes, walk_goes, AgreeBehind, by_topics}
@@ -41,15 +43,11 @@ use Rattle.tenant_laws.proofs.Walked.{other_topic}
 
 -- ---- a batch is judged the same
 
-module _ (c d : CoordinatorValue) (given : c.given ≡ d.given) where
+module _ (c d : CoordinatorValue) (given : map is_some c.given ≡ map is_some d.given) where
   -- they agree on the transactional id, if there is one
   abbrev pub SameRecord : Option (List ℕ) → Type 0
   SameRecord None = Unit {0}
   SameRecord (Some id) = recorded c.transactions id ≡ recorded d.transactions id
-
-  same_owner : (producer : ℤ) → owner c producer ≡ owner d producer
-  same_owner (pos n) = ap (λ (g : List (Option (List ℕ))). slice_get g n) given
-  same_owner (negsuc n) = refl
 
   same_held : (id : Option (List ℕ)) (pair : Pair) (target : Target) → SameRecord id → held_code c id pair target ≡ held_code d id pair target
   same_held None pair target agree = refl
@@ -58,7 +56,7 @@ module _ (c d : CoordinatorValue) (given : c.given ≡ d.given) where
   same_code : (id : Option (List ℕ)) (target : Target) (h : BatchHeader) → SameRecord id → producer_code c id target h ≡ producer_code d id target h
   same_code id target h agree =
       ap (λ (o : Option ErrorCode). cond (is_transactional h) o (cond (int_lt h.producer_id (pos 0)) None (given_code (given_by (owner c h.producer_id))))) (same_held id (pair_of h) target agree)
-      ∙ ap (λ (o : Option (Option (List ℕ))). cond (is_transactional h) (held_code d id (pair_of h) target) (cond (int_lt h.producer_id (pos 0)) None (given_code (given_by o)))) (same_owner h.producer_id)
+      ∙ ap (λ (g : Given). cond (is_transactional h) (held_code d id (pair_of h) target) (cond (int_lt h.producer_id (pos 0)) None (given_code g))) (same_owner c d h.producer_id given)
 
   same_passed : (id : Option (List ℕ)) (target : Target) (r : Result BatchData BatchFault) → SameRecord id → passed c id target r ≡ passed d id target r
   same_passed id target (Err fault) agree = refl

@@ -1,5 +1,6 @@
 -- Worlds that agree after a walk, and after a request that is one part.
 use Rattle.std.proofs.Common.{◌≡◌, ℕ, List, [], ◌∷◌, Option, Some, None, refl, sym, subst}
+use Rattle.std.specs.Prelude.{map, is_some}
 use Rattle.acl_binding.specs.declared.question.Question.{Question}
 use Rattle.acl_binding.specs.declared.words.Kind.{Kind}
 use Rattle.acl_binding.specs.declared.words.Kind.TheVariants.{Topic, Group, Cluster, TransactionalId}
@@ -80,7 +81,7 @@ module _ (v w : World) (base : SameBase v w) where
     on Cluster name same = same
     on TransactionalId name same = same
 
-  pub by_coordinator : (c d : CoordinatorValue) → c.given ≡ d.given → ((name : List ℕ) → recorded v.coordinator.transactions name ≡ recorded w.coordinator.transactions name → recorded c.transactions name ≡ recorded d.transactions name)
+  pub by_coordinator : (c d : CoordinatorValue) → map is_some c.given ≡ map is_some d.given → ((name : List ℕ) → recorded v.coordinator.transactions name ≡ recorded w.coordinator.transactions name → recorded c.transactions name ≡ recorded d.transactions name)
       → AgreeBehind v w (record v { coordinator = c }) (record w { coordinator = d })
   by_coordinator c d given goes = record { base = record { node = base.node; rules = base.rules; moment = base.moment; events = base.events; given = given }; resources = on } where
     on : (kind : Kind) (name : List ℕ) → SameOn v w kind name → SameOn (record v { coordinator = c }) (record w { coordinator = d }) kind name

@@ -29,13 +29,21 @@ use Rattle.api_laws.proofs.Initials.{init_depends}
 use Rattle.api_laws.proofs.Together.{transactions_depend}
 use Rattle.api_laws.proofs.Staged.{staging_depends}
 use Rattle.api_laws.proofs.AclEdits.{acls_depend}
-use Rattle.api_dispatch.specs.Questions.{fetch_questions, partition_parts, topic_parts, parts_of}
-use Rattle.tenant_laws.specs.Laws.{SameForRequest, SameTold}
+use Rattle.api_dispatch.specs.Questions.{fetch_questions, partition_parts, topic_parts, parts_of, questions_of, wants_all}
+use Rattle.api_laws.specs.GroupLaws.{described_slots}
+use Rattle.tenant_laws.specs.Laws.{SameTold}
 use Rattle.tenant_laws.proofs.Parts.{granted_each, each_partition}
 use Rattle.tenant_laws.proofs.Described.{same_listed}
 
+-- worlds of one book that agree on all that the request is granted
+pub record IsSame (v w : World) (caller : Caller) (request : Request) : Type 0 where
+  pub base : SameBase v w
+  pub granted : SameGranted v w (questions_of caller request)
+  -- where the list of topics is null, on the topics that may be described, in order
+  pub described : wants_all request ≡ true → described_slots (rules_of v) caller v.topics ≡ described_slots (rules_of w) caller w.topics
+
 module _ (v w : World) (caller : Caller) where
-  pub each : (request : Request) → SameForRequest v w caller request → AllByRecursion (SameGranted v w) (parts_of caller request)
+  pub each : (request : Request) → IsSame v w caller request → AllByRecursion (SameGranted v w) (parts_of caller request)
   each request same = granted_each v w (parts_of caller request) same.granted
 
   pub by_partitions : {P : Type 0} (asks : List ℕ → List Question) (ts : List (Topic P)) → AllByRecursion (SameGranted v w) (partition_parts asks ts) → AllTopics (λ name p. SameGranted v w (asks name)) ts
@@ -51,7 +59,7 @@ module _ (v w : World) (caller : Caller) where
   by_list None base all described = same_listed v w caller base.rules (described refl)
   by_list (Some names) base all described = by_names names all
 
-  metadata_answered : (r : MetadataRequest) → SameForRequest v w caller (Metadata r) → SameAnswer (metadata_outcome v caller r) (metadata_outcome w caller r)
+  metadata_answered : (r : MetadataRequest) → IsSame v w caller (Metadata r) → SameAnswer (metadata_outcome v caller r) (metadata_outcome w caller r)
   metadata_answered r same =
       let both = depends_on_grants v w caller r same.base (by_list r.topics same.base (each (Metadata r) same) same.described) in
       record { reply = ap (λ m. replies.Metadata m) both.0; refusals = both.1 }
@@ -64,7 +72,7 @@ module _ (v w : World) (caller : Caller) where
 
   -- ---- each api
 
-  answered : (request : Request) → SameForRequest v w caller request → SameAnswer (request_outcome v caller request) (request_outcome w caller request)
+  answered : (request : Request) → IsSame v w caller request → SameAnswer (request_outcome v caller request) (request_outcome w caller request)
   answered (Produce r) same = produce_depends v w caller r same.base (by_partitions (produce_questions caller r.transactional_id) r.topics (each (Produce r) same))
   answered (Fetch r) same = fetch_depends v w caller r same.base (by_partitions (fetch_questions caller) r.topics (each (Fetch r) same))
   answered (ListOffsets r) same = list_offsets_depends v w caller r same.base (by_partitions (topic_part caller) r.topics (each (ListOffsets r) same))
@@ -86,5 +94,5 @@ module _ (v w : World) (caller : Caller) where
   answered (DeleteAcls r) same = (acls_depend.delete v w caller r same.base).answer
 
 -- in worlds that are the same in all but topics, groups and ids
-pub agreed_answers : (v w : World) (caller : Caller) (client : Option (List ℕ)) (request : Request) → SameForRequest v w caller request → SameTold v w (Ask caller client request)
+pub agreed_answers : (v w : World) (caller : Caller) (client : Option (List ℕ)) (request : Request) → IsSame v w caller request → SameTold v w (Ask caller client request)
 agreed_answers v w caller client request same = let told = answered v w caller request same in record { reply = told.reply; refusals = told.refusals }

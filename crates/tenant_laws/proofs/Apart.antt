@@ -71,7 +71,8 @@ use Rattle.plain_broker.specs.Plainness.{is_about_bindings}
 use Rattle.plain_broker.specs.Exactly.{IsExact}
 use Rattle.plain_broker.proofs.Together.{plain_of_allowed}
 use Rattle.plain_broker.proofs.Exact.{allowed_is_exact}
-use Rattle.tenant_laws.specs.Replies.{SameNumbers, SameAbout, granted_parts, Sized, described_sizes, is_yes, SameVerdicts, SameGrants, SameForReply, SameForParts, RepliesDependOnGrantedParts, AnswersDependOnGrantedParts, ReceiptsDependOnGrantedParts}
+use Rattle.tenant_laws.specs.Laws.{SameVerdicts}
+use Rattle.tenant_laws.specs.Replies.{SameNumbers, SameAbout, granted_parts, Sized, described_sizes, is_yes, SameGrants, SameForReply, SameForParts, RepliesDependOnGrantedParts, AnswersDependOnGrantedParts, ReceiptsDependOnGrantedParts}
 use Rattle.tenant_laws.proofs.Decided.{SameRefusal, SameCode, all_front, all_back, each_part, each_code, any_same, refusals_same, granted_same, put_same, names_same, infos_same}
 use Rattle.tenant_laws.proofs.Core.{plain_same}
 use Rattle.tenant_laws.proofs.Sizes.{told_sized, infos_of, told_by_sizes, infos_by_sizes}
@@ -357,7 +358,7 @@ module _ (v w : World) (caller : Caller) (client : Option (List ℕ)) where
 pub replies_depend : RepliesDependOnGrantedParts
 replies_depend v w caller client request same = replied v w caller client request same
 
-same_grants : (v w : World) (qs : List Question) → SameVerdicts v w qs → SameGrants v w qs
+pub same_grants : (v w : World) (qs : List Question) → SameVerdicts v w qs → SameGrants v w qs
 same_grants v w [] same = tt
 same_grants v w (q ∷ qs) same = (ap (λ (x : Verdict). is_yes x) same.0, same_grants v w qs same.1)
 

@@ -25,7 +25,8 @@ use Rattle.plain_broker.specs.Exactly.{is_granted}
 use Rattle.plain_broker.specs.Allowed.{kept_topic, kept_topics, kept_names}
 use Rattle.plain_broker.proofs.Terms.{refused_by, refused_answer}
 use Rattle.plain_broker.specs.PutBack.{put_topics, put_infos}
-use Rattle.tenant_laws.specs.Replies.{SameVerdicts, SameGrants, is_yes}
+use Rattle.tenant_laws.specs.Laws.{SameVerdicts}
+use Rattle.tenant_laws.specs.Replies.{SameGrants, is_yes}
 
 -- ---- lists behind one another
 

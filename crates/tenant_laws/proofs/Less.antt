@@ -1,12 +1,12 @@
 -- Worlds that agree in all that the older law asks for agree in what this one asks for.
-use Rattle.std.proofs.Common.{◌≡◌, Bool, true, false, cond, List, [], ◌∷◌, Option, Some, None, refl, ap}
+use Rattle.std.proofs.Common.{◌≡◌, Bool, true, false, cond, List, [], ◌∷◌, Option, Some, None, refl}
 use Rattle.std.specs.Prelude.{is_none, filter, ◌&&◌}
 use Rattle.std.specs.List.{AllByRecursion}
 use Rattle.acl_binding.specs.declared.question.Caller.{Caller}
 use Rattle.acl_binding.specs.declared.question.Question.{Question}
 use Rattle.authorizer.specs.declared.answer.Refusal.{Refusal}
 use Rattle.authorizer.specs.Policy.{verdict}
-use Rattle.authorizer.specs.Asking.{Rules, part_refusal}
+use Rattle.authorizer.specs.Asking.{part_refusal}
 use Rattle.msg_admin.specs.declared.request.Request.{Request}
 use Rattle.msg_admin.specs.declared.request.Request.TheVariants.{Produce, Fetch, ListOffsets, Metadata, OffsetCommit, OffsetFetch, FindCoordinator, JoinGroup, Heartbeat, LeaveGroup, SyncGroup, InitProducerId, AddPartitionsToTxn, AddOffsetsToTxn, EndTxn, TxnOffsetCommit, DescribeAcls, CreateAcls, DeleteAcls}
 use Rattle.broker_world.specs.World.{World, rules_of}
@@ -15,17 +15,13 @@ use Rattle.api_laws.specs.Tenants.{SameGranted}
 use Rattle.api_laws.proofs.DataGrants.{yes_of, rest_of}
 use Rattle.api_dispatch.specs.Questions.{parts_of}
 use Rattle.plain_broker.specs.Exactly.{is_granted}
-use Rattle.tenant_laws.specs.Replies.{SameVerdicts, SameAbout, granted_parts}
+use Rattle.tenant_laws.specs.Replies.{SameAbout, granted_parts}
 
 front : (a b : Bool) → (a && b) ≡ true → a ≡ true
 front true b h = refl
 front false b h = h
 
 module _ (v w : World) (caller : Caller) where
-  pub verdicts_same : rules_of v ≡ rules_of w → (qs : List Question) → SameVerdicts v w qs
-  verdicts_same rules [] = tt
-  verdicts_same rules (q ∷ qs) = (ap (λ (r : Rules). verdict r.book r.supers q) rules, verdicts_same rules qs)
-
   about_of : (qs : List Question) → SameGranted v w qs → part_refusal (rules_of w) qs ≡ None → SameAbout v w qs
   about_of [] same none = tt
   about_of (q ∷ qs) same none =

@@ -21,6 +21,8 @@ pub mod Sizes
 pub mod Less
 pub mod Telling
 pub mod Apart
+pub mod Booked
+pub mod Going
 pub mod Within
 pub mod Marked
 pub mod Unseen

@@ -102,7 +102,7 @@ module _ (among : Kind → List ℕ → Bool) (v w : World) (agree : AgreeAmong 
 
   both : AgreeAmong among (written_world v owe.marker owe.first) (written_world w owe.marker owe.second)
   both = record {
-    base = record { node = agree.base.node; rules = agree.base.rules; moment = agree.base.moment; events = ap (λ (n : ℕ). n + 1) agree.base.events; given = agree.base.given };
+    base = record { node = agree.base.node; supers = agree.base.supers; moment = agree.base.moment; events = ap (λ (n : ℕ). n + 1) agree.base.events; given = agree.base.given };
     resources = resources;
   }
 

@@ -1,7 +1,6 @@
 -- The plain broker's reply depends neither on the moment nor on whose the producer ids are.
-use Rattle.std.proofs.Common.{◌≡◌, ℕ, ℤ, pos, negsuc, Bool, true, false, cond, eqb, List, [], ◌∷◌, map, length, Option, Some, None, Result, Ok, Err, refl, sym, ap, ◌∙◌}
-use Rattle.std.specs.Prelude.{slice_get, int_lt, is_some}
-use Rattle.std.specs.Option.{option_map}
+use Rattle.std.proofs.Common.{◌≡◌, ℕ, ℤ, pos, Bool, true, false, cond, eqb, List, [], ◌∷◌, map, length, Option, Some, None, Result, Ok, Err, refl, ap, ◌∙◌}
+use Rattle.std.specs.Prelude.{int_lt, is_some}
 use Rattle.acl_binding.specs.declared.question.Caller.{Caller}
 use Rattle.acl_binding.specs.declared.question.Question.{Question}
 use Rattle.authorizer.specs.declared.answer.Refusal.{Refusal}
@@ -33,10 +32,6 @@ use Rattle.group_offsets.specs.Group as group
 use Rattle.group_offsets.specs.Groups.{group_of}
 use Rattle.group_offsets.specs.Turn.{Turn as GroupTurn, Stays as Stops, answered}
 use Rattle.group_offsets.specs.Joining.{session_timeout, chosen, entry_refusal, let_in, join_under, join_within}
-use Rattle.std.proofs.lemmas.Option.{slice_get-map}
-use Rattle.std.proofs.lemmas.List.{length-map}
-use Rattle.txn_coordinator.specs.declared.pair.Given.{Given}
-use Rattle.txn_coordinator.specs.declared.pair.Given.TheVariants.{Never, Free, Owned}
 use Rattle.txn_coordinator.specs.declared.pair.Pair.{Pair}
 use Rattle.txn_coordinator.specs.declared.marker.OwedMarker.{OwedMarker}
 use Rattle.txn_coordinator.specs.declared.pair.PairAnswer.{PairAnswer}
@@ -73,32 +68,12 @@ use Rattle.broker_world.specs.Questions.{id_question}
 use Rattle.txn_handlers.specs.EndTxn.{ended, end_reply, ending}
 use Rattle.acl_handlers.specs.DescribeAcls.{describe_acls_questions}
 use Rattle.acl_handlers.specs.CreateAcls.{alter_questions}
+use Rattle.api_laws.proofs.Recorded.{same_owner as owner_same, same_fresh as fresh_same}
 use Rattle.plain_broker.specs.Plain.{unbound, plain}
 
 -- the world at another moment, with other owners of the producer ids
 abbrev pub moved : World → ℕ → List (Option (List ℕ)) → World
 moved w moment given = record w { moment = moment; coordinator = record w.coordinator { given = given } }
-
--- ---- producer ids
-
-abbrev given_of : Option Bool → Given
-given_of None = Never
-given_of (Some false) = Free
-given_of (Some true) = Owned
-
-of_kind : (o : Option (Option (List ℕ))) → given_by o ≡ given_of (option_map is_some o)
-of_kind None = refl
-of_kind (Some None) = refl
-of_kind (Some (Some id)) = refl
-
-is_owned : (xs ys : List (Option (List ℕ))) → map is_some xs ≡ map is_some ys → (n : ℕ) → given_by (slice_get xs n) ≡ given_by (slice_get ys n)
-is_owned xs ys same n =
-    of_kind (slice_get xs n)
-    ∙ ap given_of (sym (slice_get-map is_some xs n) ∙ ap (λ (l : List Bool). slice_get l n) same ∙ slice_get-map is_some ys n)
-    ∙ sym (of_kind (slice_get ys n))
-
-same_length : (xs ys : List (Option (List ℕ))) → map is_some xs ≡ map is_some ys → length xs ≡ length ys
-same_length xs ys same = sym (length-map xs is_some) ∙ ap (λ (l : List Bool). length l) same ∙ length-map ys is_some
 
 -- ---- a coordinator with other owners
 
@@ -107,8 +82,7 @@ module _ (c : CoordinatorValue) (given : List (Option (List ℕ))) (same : map i
   with_given = record c { given = given }
 
   same_owner : (producer : ℤ) → given_by (owner with_given producer) ≡ given_by (owner c producer)
-  same_owner (pos n) = is_owned given c.given same n
-  same_owner (negsuc n) = refl
+  same_owner producer = owner_same with_given c producer same
 
   same_code : (id : Option (List ℕ)) (target : Target) (h : BatchHeader) → producer_code with_given id target h ≡ producer_code c id target h
   same_code None target h = ap (λ g. cond (is_transactional h) (Some codes.InvalidTxnState) (cond (int_lt h.producer_id (pos 0)) None (given_code g))) (same_owner h.producer_id)
@@ -126,7 +100,7 @@ module _ (c : CoordinatorValue) (given : List (Option (List ℕ))) (same : map i
   same_judged most id acks target records = ap (λ r. cond (are_acks acks) r (Err codes.InvalidRequiredAcks)) (same_batch most id target records)
 
   pub same_fresh : fresh with_given ≡ fresh c
-  same_fresh = ap (λ (n : ℕ). pos n) (same_length given c.given same)
+  same_fresh = fresh_same with_given c same
 
   same_turn : (id : List ℕ) (turn : Turn) → turn_answer with_given id turn ≡ turn_answer c id turn
   same_turn id (Stays code) = refl

@@ -17,8 +17,8 @@ use Rattle.broker_world.specs.World.{World}
 use Rattle.broker_world.specs.Clock.{moment_after}
 use Rattle.api_dispatch.specs.Step.{step}
 use Rattle.request_handlers.specs.Core.{entry_of}
-use Rattle.api_laws.specs.Tenants.{SameBase, SameOn}
-use Rattle.tenant_laws.specs.Laws.{AgreeAmong}
+use Rattle.api_laws.specs.Tenants.{SameOn}
+use Rattle.tenant_laws.specs.Laws.{SameButForBook, AgreeAmong}
 use Rattle.tenant_laws.specs.Runs.{Round, Round as rounds, told_first, told_second, IsWithin, AreApart, OthersAreUnseen}
 use Rattle.tenant_laws.proofs.Within.{told_alike, agree_behind}
 use Rattle.tenant_laws.proofs.Marked.{marks_agree}
@@ -41,12 +41,12 @@ recorded_expired moment (t ∷ ts) id =
       by_id true rest = refl
       by_id false rest = rest
 
-module _ (v w : World) (told : ℕ) (base : SameBase v w) where
+module _ (v w : World) (told : ℕ) (base : SameButForBook v w) where
   same_moment : moment_after v.moment told ≡ moment_after w.moment told
   same_moment = ap (λ (n : ℕ). moment_after n told) base.moment
 
-  tick_base : SameBase (step v (Tick told)) (step w (Tick told))
-  tick_base = record { node = base.node; rules = base.rules; moment = same_moment; events = ap (λ (n : ℕ). n + 1) base.events; given = base.given }
+  tick_base : SameButForBook (step v (Tick told)) (step w (Tick told))
+  tick_base = record { node = base.node; supers = base.supers; moment = same_moment; events = ap (λ (n : ℕ). n + 1) base.events; given = base.given }
 
   tick_on : (kind : Kind) (name : List ℕ) → SameOn v w kind name → SameOn (step v (Tick told)) (step w (Tick told)) kind name
   tick_on Topic name same = same

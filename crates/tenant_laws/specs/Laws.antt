@@ -1,5 +1,5 @@
 -- What a request leaves: worlds that agree on what it is granted go on agreeing, and what it isn't granted is as before.
-use Rattle.std.specs.Prelude.{◌≡◌, ◌⊎◌, ℕ, Bool, true, List, [], ◌∷◌, Option, None}
+use Rattle.std.specs.Prelude.{◌≡◌, ◌⊎◌, ℕ, Bool, true, List, [], ◌∷◌, map, Option, None, is_some}
 use Rattle.std.specs.List.{AllByRecursion, filter}
 use Rattle.std.specs.Str.{bytes_eq}
 use Rattle.acl_binding.specs.declared.question.Caller.{Caller}
@@ -17,20 +17,11 @@ use Rattle.txn_coordinator.specs.declared.marker.OwedMarker.{OwedMarker}
 use Rattle.broker_world.specs.World.{World, rules_of, topic_names}
 use Rattle.api_dispatch.specs.Step.{step, reply_to, refusals_of, reached}
 use Rattle.request_handlers.specs.Core.{CoreValue, entry_of, receipt_of}
-use Rattle.api_laws.specs.Tenants.{SameBase, SameOn, SameGranted}
-use Rattle.api_laws.specs.GroupLaws.{described_slots}
-use Rattle.api_dispatch.specs.Questions.{parts_of, questions_of, wants_all}
+use Rattle.plain_broker.specs.Plainness.{is_about_bindings}
+use Rattle.api_laws.specs.Tenants.{SameOn, SameGranted}
+use Rattle.api_dispatch.specs.Questions.{parts_of, questions_of}
 
--- ---- what answers depend on
-
--- the worlds agree on all that the request is granted
-pub record SameForRequest (v w : World) (caller : Caller) (request : Request) : Type 0 where
-  -- in the settings but for topics, the book, the moment, the number of events and the producer ids given out
-  pub base : SameBase v w
-  -- on each topic, group and transactional id on which a question is granted: whether it is there, and all that it holds
-  pub granted : SameGranted v w (questions_of caller request)
-  -- and where the list of topics is null, on the topics that may be described, in order
-  pub described : wants_all request ≡ true → described_slots (rules_of v) caller v.topics ≡ described_slots (rules_of w) caller w.topics
+-- ---- what is told
 
 -- the event is answered the same, and refused the same
 pub record SameTold (v w : World) (e : Event) : Type 0 where
@@ -44,9 +35,31 @@ pub record SameReceipt (a b : CoreValue) (e : Event) : Type 0 where
 
 -- ---- what goes on
 
--- after the event the worlds agree in what they agreed before it: their base, and each resource
+-- the same settings but for topics, moment and number of events, and as many producer ids given out, each of them free in
+-- both or owned in both; whatever the books are
+pub record SameButForBook (v w : World) : Type 0 where
+  pub node : v.node ≡ w.node
+  pub supers : v.supers ≡ w.supers
+  pub moment : v.moment ≡ w.moment
+  pub events : v.events ≡ w.events
+  pub given : map is_some v.coordinator.given ≡ map is_some w.coordinator.given
+
+-- each of the questions has the same verdict
+abbrev pub SameVerdicts : World → World → List Question → Type 0
+SameVerdicts v w questions = AllByRecursion (λ (q : Question). verdict v.book v.supers q ≡ verdict w.book w.supers q) questions
+
+-- the worlds agree on all that the request is granted
+pub record SameForRequest (v w : World) (caller : Caller) (request : Request) : Type 0 where
+  pub base : SameButForBook v w
+  pub verdicts : SameVerdicts v w (questions_of caller request)
+  -- on each topic, group and transactional id on which a question is granted: whether it is there, and all that it holds
+  pub granted : SameGranted v w (questions_of caller request)
+  -- and where it is about the book of bindings: on the book
+  pub bindings : is_about_bindings request ≡ true → v.book ≡ w.book
+
+-- after the event the worlds agree in what they agreed before it, but for the book: their base, and each resource
 pub record GoOnAgreeing (v w : World) (e : Event) : Type 0 where
-  pub base : SameBase (step v e) (step w e)
+  pub base : SameButForBook (step v e) (step w e)
   pub resources : (kind : Kind) (name : List ℕ) → SameOn v w kind name → SameOn (step v e) (step w e) kind name
 
 abbrev pub AgreementGoesOn : Type 0
@@ -55,7 +68,7 @@ AgreementGoesOn = (v w : World) (caller : Caller) (client : Option (List ℕ)) (
 
 -- the worlds agree in their base, and on each of these resources
 pub record AgreeAmong (among : Kind → List ℕ → Bool) (v w : World) : Type 0 where
-  pub base : SameBase v w
+  pub base : SameButForBook v w
   pub resources : (kind : Kind) (name : List ℕ) → among kind name ≡ true → SameOn v w kind name
 
 -- ---- what stays as it was

@@ -18,7 +18,7 @@ use Rattle.request_handlers.specs.Core.{CoreValue, IsCore}
 use Rattle.api_laws.specs.Tenants.{SameOn}
 use Rattle.api_laws.specs.GroupLaws.{described_slots}
 use Rattle.api_dispatch.specs.Questions.{parts_of, questions_of}
-use Rattle.tenant_laws.specs.Laws.{SameTold, SameReceipt}
+use Rattle.tenant_laws.specs.Laws.{SameVerdicts, SameTold, SameReceipt}
 use Rattle.plain_broker.specs.Exactly.{is_granted}
 use Rattle.plain_broker.specs.Plainness.{is_about_bindings}
 
@@ -28,10 +28,6 @@ pub record SameNumbers (v w : World) : Type 0 where
   pub node : v.node ≡ w.node
   pub events : v.events ≡ w.events
   pub given : map is_some v.coordinator.given ≡ map is_some w.coordinator.given
-
--- each of the questions has the same verdict
-abbrev pub SameVerdicts : World → World → List Question → Type 0
-SameVerdicts v w questions = AllByRecursion (λ (q : Question). verdict v.book v.supers q ≡ verdict w.book w.supers q) questions
 
 abbrev pub is_yes : Verdict → Bool
 is_yes Yes = true

@@ -1,6 +1,6 @@
 -- Two runs of the broker side by side. In both a tenant asks the same; meanwhile others ask in each what they like, but
 -- for what is the tenant's. The tenant is told the same.
-use Rattle.std.specs.Prelude.{◌≡◌, ℕ, Bool, true, List, [], ◌∷◌, map, filter, None}
+use Rattle.std.specs.Prelude.{◌≡◌, ℕ, Bool, true, List, [], ◌∷◌}
 use Rattle.std.specs.List.{AllByRecursion}
 use Rattle.acl_binding.specs.declared.question.Caller.{Caller}
 use Rattle.acl_binding.specs.declared.question.Question.{Question}
@@ -8,7 +8,7 @@ use Rattle.acl_binding.specs.declared.question.Verdict.TheVariants.{Yes}
 use Rattle.acl_binding.specs.declared.words.Kind.{Kind}
 use Rattle.acl_binding.specs.declared.words.Kind.TheVariants as kinds
 use Rattle.authorizer.specs.Policy.{verdict}
-use Rattle.authorizer.specs.Asking.{Rules}
+use Rattle.msg_admin.specs.declared.request.Request.{Request}
 use Rattle.audit_trail.specs.declared.event.Event.{Event}
 use Rattle.audit_trail.specs.declared.event.Event.TheVariants.{Ask, Mark, Tick}
 use Rattle.audit_trail.specs.declared.trail.Entry.{Entry}
@@ -16,14 +16,14 @@ use Rattle.txn_coordinator.specs.declared.marker.OwedMarker.{OwedMarker}
 use Rattle.txn_coordinator.specs.declared.target.Target.{Target}
 use Rattle.txn_coordinator.specs.declared.target.Target.TheVariants.{Partition, Group}
 use Rattle.txn_coordinator.specs.Warrants.{owes}
-use Rattle.broker_world.specs.World.{World, TopicValue, rules_of}
-use Rattle.broker_world.specs.Questions.{topic_refusal}
+use Rattle.broker_world.specs.World.{World, rules_of}
 use Rattle.api_dispatch.specs.Questions.{questions_of}
 use Rattle.api_dispatch.specs.Step.{step}
 use Rattle.request_handlers.specs.Core.{entry_of}
-use Rattle.api_laws.specs.Tenants.{SameBase, SameOn}
-use Rattle.tenant_laws.specs.Laws.{AgreeAmong}
-use Rattle.tenant_laws.specs.Replies.{Sized, sized, comes_to_all}
+use Rattle.plain_broker.specs.Plainness.{is_about_bindings}
+use Rattle.api_laws.specs.Tenants.{SameOn}
+use Rattle.tenant_laws.specs.Laws.{SameButForBook, SameVerdicts, AgreeAmong}
+use Rattle.tenant_laws.specs.Replies.{described_sizes, comes_to_all}
 
 -- In a round each run takes an event: the tenant's request, the same in both; one of others in each; a tick of the clock,
 -- which both see; or the marker step of a marker that is owed first in both.
@@ -50,26 +50,20 @@ told_second w (Marks ∷ rounds) = told_second (step w Mark) rounds
 
 -- ---- the tenant's request
 
--- those of these topics that are among the resources, in order
-abbrev pub sizes_among : (Kind → List ℕ → Bool) → List TopicValue → List Sized
-sizes_among among topics = filter (λ (s : Sized). among kinds.Topic s.name) (map sized topics)
+-- By the books that are in force in the two runs.
+pub record AsksWithin (among : Kind → List ℕ → Bool) (v w : World) (caller : Caller) (request : Request) : Type 0 where
+  -- what is granted of the request is among the resources
+  pub granted : AllByRecursion (λ (q : Question). verdict w.book w.supers q ≡ Yes → among q.kind q.name ≡ true) (questions_of caller request)
+  -- each of its questions has the same verdict
+  pub verdicts : SameVerdicts v w (questions_of caller request)
+  -- where it comes to all topics that may be described: these are the same, with as many partitions
+  pub described : comes_to_all (rules_of w) caller request ≡ true → described_sizes (rules_of v) caller v.topics ≡ described_sizes (rules_of w) caller w.topics
+  -- where it is about the book: that is the same
+  pub bindings : is_about_bindings request ≡ true → v.book ≡ w.book
 
--- of these topics, those that may be described are among the resources
-abbrev pub DescribedAmong : (Kind → List ℕ → Bool) → Rules → Caller → List TopicValue → Type 0
-DescribedAmong among rules caller topics = AllByRecursion (λ (t : TopicValue). topic_refusal rules caller t.name ≡ None → among kinds.Topic t.name ≡ true) topics
-
--- where a request comes to all topics that may be described: these are among the resources in both worlds, whose topics
--- among them stand in the same order
-pub record DescribeAlike (among : Kind → List ℕ → Bool) (v w : World) (caller : Caller) : Type 0 where
-  pub first : DescribedAmong among (rules_of v) caller v.topics
-  pub second : DescribedAmong among (rules_of w) caller w.topics
-  pub order : sizes_among among v.topics ≡ sizes_among among w.topics
-
--- the event is a request, and what is granted of it is among the resources
+-- the event is such a request
 abbrev pub IsWithin : (Kind → List ℕ → Bool) → World → World → Event → Type 0
-IsWithin among v w (Ask caller client request) =
-    AllByRecursion (λ (q : Question). verdict w.book w.supers q ≡ Yes → among q.kind q.name ≡ true) (questions_of caller request)
-    × (comes_to_all (rules_of w) caller request ≡ true → DescribeAlike among v w caller)
+IsWithin among v w (Ask caller client request) = AsksWithin among v w caller request
 IsWithin among v w Mark = ⊥
 IsWithin among v w (Tick told) = ⊥
 
@@ -101,12 +95,12 @@ pub record OweAlike (among : Kind → List ℕ → Bool) (v w : World) : Type 0 
 
 -- ---- the runs
 
--- By the book that is in force in each round the tenant is granted nothing but these resources, which others leave as they
--- are. What others do leaves the same book in both runs, and as many producer ids given out.
+-- By the books that are in force in each round the tenant is granted nothing but these resources, which others leave as they
+-- are. What others do leaves the same moment in both runs, and as many producer ids given out.
 abbrev pub AreApart : (Kind → List ℕ → Bool) → World → World → List Round → Type 0
 AreApart among v w [] = Unit {0}
 AreApart among v w (Asks e ∷ rounds) = IsWithin among v w e × AreApart among (step v e) (step w e) rounds
-AreApart among v w (Others e f ∷ rounds) = LeavesAlone among v e × LeavesAlone among w f × SameBase (step v e) (step w f) × AreApart among (step v e) (step w f) rounds
+AreApart among v w (Others e f ∷ rounds) = LeavesAlone among v e × LeavesAlone among w f × SameButForBook (step v e) (step w f) × AreApart among (step v e) (step w f) rounds
 AreApart among v w (Ticks told ∷ rounds) = AreApart among (step v (Tick told)) (step w (Tick told)) rounds
 AreApart among v w (Marks ∷ rounds) = OweAlike among v w × AreApart among (step v Mark) (step w Mark) rounds
 
