@@ -1,10 +1,9 @@
 //! The policy in force: the book of bindings and the super users.
 
-ghost use Rattle.std.specs.Prelude.{◌≡◌, ◌+◌, ◌^◌, ◌<◌, ◌≤◌, true, length, IfOk, OnOk, OnErr};
-ghost use Rattle.std.specs.Str.{chars};
+ghost use Rattle.std.specs.Prelude.{◌≡◌, ◌+◌, ◌^◌, ◌<◌, ◌≤◌, length, IfOk, OnOk, OnErr};
 ghost use Rattle.acl_binding.specs.Adding.{adding_answer};
 ghost use Rattle.acl_binding.specs.Filter.{matching};
-ghost use Rattle.authorizer.specs.Policy.{first_policy, policy_verdict, policy_added, policy_removed, is_super};
+ghost use Rattle.authorizer.specs.Policy.{first_policy, policy_verdict, look_ups, policy_added, policy_removed, is_super};
 ghost use Rattle.authorizer.specs.Asking.{asking_answer};
 
 use crate::answer::{Answer, Refusal, Why};
@@ -101,12 +100,10 @@ impl Policy {
         self.verdict_counted(question).0
     }
 
-    /// The verdict, and how often a name was looked up for it among the bindings: for a super user never, else at most
-    /// once for each character of the question's name, once for the whole name and once for `*`.
+    /// The verdict, and how often a name was looked up for it among the bindings.
     pub fn verdict_counted(&self, question: &Question) -> (Verdict, u64)
         ensures verdict { result.0 ≡ policy_verdict self.now question.now }
-        ensures looked { result.1 ≤ length (chars question.now.name) + 2 }
-        ensures super_user { is_super self.now.supers question.now.who ≡ true → result.1 ≡ 0 }
+        ensures looked { result.1 ≡ look_ups self.now question.now }
     {
         if self.is_super(&question.who) {
             return (Verdict::Yes, 0);

@@ -63,13 +63,13 @@ fn operations_that_nothing_is_asked_for(rt: HostRuntime) -> Result<(), Fail> {
     Ok(())
 }
 
-/// Each character of a name is looked up once, however many bytes it has.
+/// A name is looked up for each of its characters, however many bytes they have, and as a whole, and `*` once.
 #[test]
 fn look_ups(rt: HostRuntime) -> Result<(), Fail> {
     let alloc = rt.alloc();
     let mut policy = policy(alloc)?;
     policy.add(alloc, allow(alloc, Operation::Read, "pay.x")?)?;
-    for (who, name, most) in [
+    for (who, name, wanted) in [
         (ANN, "pay.x", 7),
         (ANN, "zoë", 5),
         (ANN, "", 2),
@@ -77,7 +77,7 @@ fn look_ups(rt: HostRuntime) -> Result<(), Fail> {
     ] {
         let question = asked(alloc, who, Operation::Read, name)?;
         let (_, looked) = policy.verdict_counted(&question);
-        assert!(rt; looked <= most, "{who} {name}");
+        assert_eq!(rt; looked, wanted, "{who} {name}");
     }
     Ok(())
 }
