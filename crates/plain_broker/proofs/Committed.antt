@@ -1,5 +1,5 @@
 -- What a consumer with read_committed is shown.
-use Rattle.std.proofs.Common.{◌≡◌, ℕ, ℤ, pos, ◌-◌, ◌<◌, Bool, true, false, not, cond, List, [], ◌∷◌, length, take, Option, Some, None, Result, Ok, Err, refl, sym, ap, subst, ◌∙◌, arith}
+use Rattle.std.proofs.Common.{◌≡◌, ℕ, ℤ, pos, ◌-◌, ◌<◌, ◌≤◌, le_trans, Bool, true, false, not, cond, List, [], ◌∷◌, length, take, Option, Some, None, Result, Ok, Err, refl, sym, ap, subst, ◌∙◌, arith}
 use Rattle.std.specs.Prelude.{nat_le, int_le, ◌≤ℤ◌}
 use Rattle.std.specs.List.{AllByRecursion}
 use Rattle.std.proofs.lemmas.Bool.Decides.{nat_tests}
@@ -14,6 +14,7 @@ use Rattle.wire_types.specs.declared.topic.Topic.{Topic}
 use Rattle.partition_log.specs.declared.served.Served.{Served}
 use Rattle.partition_log.specs.Log.{IsLog, stable}
 use Rattle.partition_log.specs.Fetch.{reaching, below, fitting, at_least_one, served_of, run_of, list_of}
+use Rattle.partition_log.proofs.Longest.{fitting_longest}
 use Rattle.partition_log.proofs.Numbers.{le_is}
 use Rattle.partition_log.proofs.Fetched.{filtered_committed}
 use Rattle.msg_data.specs.declared.isolation.Isolation.{Isolation}
@@ -82,6 +83,11 @@ none_fits given room b rest h = by_test (nat_le (length b.bytes) room) refl h wh
   by_test true is h = absurd (let clash : b ∷ fitting (room - length b.bytes) rest ≡ [] = h in cc)
   by_test false is h = (by_given given h, has_no_room (length b.bytes) room is)
 
+-- what is served is no shorter than what fits
+no_shorter : (forced : Bool) (candidates run : List BatchData) → length run ≤ length (at_least_one forced candidates run)
+no_shorter forced candidates [] = omega arith
+no_shorter forced candidates (b ∷ run) = omega arith
+
 -- ---- a partition
 
 module _ (topics : List TopicValue) (name : List ℕ) (p : FetchPartition) (room : Room) where
@@ -98,6 +104,9 @@ module _ (topics : List TopicValue) (name : List ℕ) (p : FetchPartition) (room
     ends = served_ends (stable log) (not room.given) (below (stable log) (reaching p.offset log)) (fitting (room_for room p) (below (stable log) (reaching p.offset log))) (below_ends (stable log) (reaching p.offset log))
         (fitting_ends (stable log) (room_for room p) (below (stable log) (reaching p.offset log)) (below_ends (stable log) (reaching p.offset log)));
     none = λ empty b rest are. none_fits room.given (room_for room p) b rest (ap (λ (l : List BatchData). at_least_one (not room.given) l (fitting (room_for room p) l)) (sym are) ∙ empty);
+    most = λ longer rest parts fits.
+        let candidates = below (stable log) (reaching p.offset log) in
+        le_trans ((fitting_longest (room_for room p) candidates).1 longer rest parts fits) (no_shorter (not room.given) candidates (fitting (room_for room p) candidates));
     records = refl;
     aborted = refl;
     high = refl;

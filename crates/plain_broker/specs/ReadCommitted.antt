@@ -1,5 +1,5 @@
 -- What a consumer with read_committed is shown of a Fetch (KIP-98, "Consumer"; Kafka protocol guide, isolation_level 1).
-use Rattle.std.specs.Prelude.{◌≡◌, ◌<◌, ◌≤ℤ◌, ℕ, ℤ, pos, true, not, List, [], ◌∷◌, length, Option, Some}
+use Rattle.std.specs.Prelude.{◌≡◌, ◌<◌, ◌≤◌, ◌≤ℤ◌, ℕ, pos, true, not, List, [], ◌∷◌, ◌++◌, length, Option, Some}
 use Rattle.std.specs.List.{AllByRecursion}
 use Rattle.wire_types.specs.declared.error_code.ErrorCode.TheVariants as codes
 use Rattle.wire_types.specs.declared.topic.Topic.{Topic}
@@ -8,6 +8,7 @@ use Rattle.record_batch.specs.Batch.{BatchData, next_offset}
 use Rattle.partition_log.specs.Log.{end_from, end_of, stable, committed}
 use Rattle.partition_log.specs.Fetch.{reaching, below, run_of}
 use Rattle.partition_log.specs.Filter.{filtered}
+use Rattle.partition_log.specs.Laws.{total_bytes}
 use Rattle.msg_data.specs.declared.isolation.Isolation.TheVariants.{ReadCommitted}
 use Rattle.msg_data.specs.declared.fetch.AbortedTransaction.{AbortedTransaction}
 use Rattle.msg_data.specs.declared.fetch.FetchRequest.{FetchRequest}
@@ -40,6 +41,8 @@ pub record ShowsCommitted (topics : List TopicValue) (name : List ℕ) (p : Fetc
   -- room, and something was served already
   pub none : batches ≡ [] → (b : BatchData) (rest : List BatchData) → below (stable log) (reaching p.offset log) ≡ b ∷ rest
       → (room.given ≡ true) × (room_for room p < length b.bytes)
+  -- they are as many as there is room for: of the whole batches that stand there from the offset on, no longer beginning fits
+  pub most : (longer rest : List BatchData) → below (stable log) (reaching p.offset log) ≡ longer ++ rest → total_bytes longer ≤ room_for room p → length longer ≤ length batches
   pub records : a.records ≡ batch_bytes batches
   pub aborted : a.aborted ≡ Some list
   pub high : a.high_watermark ≡ end_of log
