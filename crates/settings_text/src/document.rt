@@ -12,15 +12,23 @@ use crate::rows::document;
 use crate::users::are_users;
 use settings::{Settings, first_fault};
 use std::alloc::Global;
+use std::fmt;
 use std::str::from_utf8;
 use toml::Table;
 use wire_types::{Items, Text};
 
 /// A user who may log in.
-#[derive(Debug, Drop)]
+#[derive(Drop)]
 pub struct User {
     pub name: Text,
     pub password: Text,
+}
+
+/// Written out, so that no password is shown.
+impl fmt::Debug for User {
+    fn fmt<W: fmt::Write>(&self, f: &mut fmt::Formatter<W>) -> fmt::Result {
+        write!(f, "User {{ name: {:?}, .. }}", self.name)
+    }
 }
 
 /// What a settings text sets: the users, and the settings of the core.
