@@ -11,6 +11,7 @@ use bytes::Bytes;
 use hex::FromHexError;
 use std::alloc::{AllocError, Global};
 use std::str::from_utf8;
+use thiserror::Error;
 use wire_types::{Cursor, Text};
 
 /// The bytes of a frame's size field.
@@ -35,17 +36,22 @@ pub(crate) enum Order {
 }
 
 /// Why a line of a script can't be read.
-#[derive(Clone, Copy, Debug, PartialEq, Eq)]
+#[derive(Clone, Copy, Debug, PartialEq, Eq, Error)]
 pub(crate) enum Unreadable {
     /// It is not UTF-8.
+    #[error("the line is not UTF-8")]
     Text,
     /// It is not `mark`, nor `req` or `tick` and their words, parted by one blank each.
+    #[error("a line is `req USER HOST HEX`, `mark` or `tick N`, its words parted by one blank each")]
     Words,
     /// The frame is not written in pairs of hexadecimal digits.
+    #[error("the frame is not written in pairs of hexadecimal digits")]
     Digits,
     /// The frame's size field isn't the number of bytes behind it.
+    #[error("the first four bytes of the frame are not the number of bytes behind them")]
     Size,
     /// The moment is not written in decimal digits, or is above the greatest number of 64 bits.
+    #[error("the moment is not written in decimal digits, or is above 18,446,744,073,709,551,615")]
     Moment,
 }
 

@@ -18,6 +18,7 @@ use crate::turn::{Turn, line_turn};
 use request_handlers::{Core, Stop};
 use settings_text::{SettingsFault, document_of_text};
 use std::alloc::Global;
+use std::fmt::Display;
 use std::io::{Read, Write, sink};
 use wire_types::{InputFault, read_input, write_whole};
 
@@ -41,7 +42,7 @@ enum Place {
 }
 
 /// Says what went wrong, and where. If that fails, nothing else does.
-fn explain<E: Write>(alloc: Global, errors: &mut E, place: Place, sentence: &str) {
+fn explain<E: Write, D: Display + Drop>(alloc: Global, errors: &mut E, place: Place, sentence: D) {
     let text = match place {
         Place::Settings => format!(in alloc; "kbroker: settings: {sentence}\n"),
         Place::Line(number) => format!(in alloc; "kbroker: line {number}: {sentence}\n"),
@@ -77,7 +78,7 @@ fn run_script<W: Write, E: Write>(
                 if write_text(writer, text.as_str()).is_err() {
                     return Err(Early::Write);
                 }
-                explain(alloc, errors, Place::Line(number), cause.sentence());
+                explain(alloc, errors, Place::Line(number), cause);
                 return Ok(1);
             }
             Err(_) => return Err(Early::Script),
@@ -215,7 +216,7 @@ fn run_and_explain<R: Read, W: Write, E: Write>(
         Ok(status) => status,
         Err(early) => {
             end_early(writer, early);
-            explain(alloc, errors, Place::Run, early.sentence());
+            explain(alloc, errors, Place::Run, early);
             1
         }
     }

@@ -1,12 +1,17 @@
 //! Why a step did not happen.
 
+use thiserror::Error;
+
 /// Why a step did not happen.
-#[derive(Clone, Copy, Debug, PartialEq, Eq)]
+#[derive(Clone, Copy, Debug, PartialEq, Eq, Error)]
 pub enum Stop {
     /// Memory was refused. After an event that only reads the core is unchanged, after any other it is down.
+    #[error("there is not enough memory")]
     NoMemory = 1,
     /// The trail has as many entries as the settings allow. The core is unchanged.
+    #[error("the trail holds as many events as `trail_limit` allows")]
     TrailFull = 2,
     /// An earlier event put the core down. The core is unchanged.
+    #[error("an earlier event put the broker down")]
     Down = 3,
 }

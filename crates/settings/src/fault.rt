@@ -10,23 +10,30 @@ ghost use Rattle.settings.specs.Names.{is_topic_name};
 use crate::names::is_topic_name;
 use crate::settings::{Settings, TopicSetting};
 use acl_binding::{Binding, is_principal};
+use thiserror::Error;
 use wire_types::Text;
 
 /// Why settings are refused: the first in this order that holds.
-#[derive(Clone, Copy, Debug, PartialEq, Eq)]
+#[derive(Clone, Copy, Debug, PartialEq, Eq, Error)]
 pub enum OpenFault {
     /// A number, a length or a count is out of range.
+    #[error("a number, a length or a count is out of its range")]
     Range,
     /// A topic has a name that none may have.
+    #[error("`name` is none that a topic may have")]
     TopicName,
     /// A topic stands twice.
+    #[error("`name` stands twice")]
     Twice,
     /// A binding that may not be created: an empty name or host, another name of the cluster, or a
     /// principal that is no user.
+    #[error("the binding has no name or host, another name of the cluster, or a principal that is no user")]
     Acl,
     /// A super user that isn't `User:` and at least one character.
+    #[error("is not `User:` and at least one character")]
     Super,
     /// Memory was refused, which may come in place of any.
+    #[error("there is not enough memory")]
     NoMemory,
 }
 

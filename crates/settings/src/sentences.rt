@@ -1,4 +1,5 @@
-//! Where settings have a fault, in words for a reader. No contract speaks of them.
+//! Where settings have a fault, in words for a reader: the place, and then the fault's own sentence. No contract
+//! speaks of them.
 
 use crate::fault::{
     Limits, MAX_BATCH, MAX_TXN_TIMEOUT, NODE_ID, OpenFault, PARTITIONS, PORT, TRAIL_LIMIT,
@@ -8,13 +9,14 @@ use crate::names::is_topic_name;
 use crate::settings::{Settings, TopicSetting};
 use acl_binding::is_principal;
 use std::alloc::{AllocError, Global};
+use std::fmt::Display;
 
 /// Says what is wrong with an entry of a list, which is told by its number from 1.
-fn of_entry(
+fn of_entry<D: Display + Drop>(
     alloc: Global,
     list: &str,
     place: Option<usize>,
-    what: &str,
+    what: D,
 ) -> Result<String, AllocError> {
     match place {
         Some(place) => {
@@ -107,34 +109,19 @@ pub fn explain(alloc: Global, settings: &Settings, fault: OpenFault) -> Result<S
             let place = topics
                 .iter()
                 .position(|topic| !is_topic_name(topic.name.as_str()));
-            of_entry(
-                alloc,
-                "topic",
-                place,
-                "`name` is none that a topic may have",
-            )
+            of_entry(alloc, "topic", place, fault)
         }
-        OpenFault::Twice => of_entry(alloc, "topic", repeated(topics), "`name` stands twice"),
+        OpenFault::Twice => of_entry(alloc, "topic", repeated(topics), fault),
         OpenFault::Acl => {
             let place = acls.iter().position(|binding| !binding.is_creatable());
-            of_entry(
-                alloc,
-                "acl",
-                place,
-                "the binding has no name or host, or its principal is no user",
-            )
+            of_entry(alloc, "acl", place, fault)
         }
         OpenFault::Super => {
             let place = supers
                 .iter()
                 .position(|principal| !is_principal(principal.as_str()));
-            of_entry(
-                alloc,
-                "supers",
-                place,
-                "is not `User:` and at least one character",
-            )
+            of_entry(alloc, "supers", place, fault)
         }
-        OpenFault::NoMemory => String::from_str(alloc, "there is not enough memory"),
+        OpenFault::NoMemory => format!(in alloc; "{fault}"),
     }
 }

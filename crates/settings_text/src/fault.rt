@@ -4,27 +4,37 @@ ghost use Rattle.std.specs.Prelude.{◌≡◌};
 ghost use Rattle.settings_text.specs.Document.{fault_name, text_fault};
 
 use settings::OpenFault;
+use thiserror::Error;
 
 /// Why a settings text is refused: the first in this order that holds, over the whole document.
-#[derive(Clone, Copy, Debug, PartialEq, Eq)]
+#[derive(Clone, Copy, Debug, PartialEq, Eq, Error)]
 pub enum SettingsFault {
     /// The text is no TOML document.
+    #[error("the settings are no TOML document")]
     Toml,
     /// A key is missing, unknown or of another kind, or a word of a binding is unknown.
+    #[error("a key is missing, unknown or of another kind, or a word of a binding is unknown")]
     Key,
     /// A user's name or password is empty or holds a NUL, or a name stands twice.
+    #[error("a user's name or password is empty or holds a NUL, or a name stands twice")]
     User,
     /// A number, a length or a count is out of range.
+    #[error("{}", OpenFault::Range)]
     Range,
     /// A topic has a name that none may have.
+    #[error("{}", OpenFault::TopicName)]
     TopicName,
     /// A topic stands twice.
+    #[error("{}", OpenFault::Twice)]
     Twice,
     /// A binding that may not be created.
+    #[error("{}", OpenFault::Acl)]
     Acl,
     /// A super user that isn't `User:` and at least one character.
+    #[error("{}", OpenFault::Super)]
     Super,
     /// Memory was refused, which may come in place of any.
+    #[error("{}", OpenFault::NoMemory)]
     NoMemory,
 }
 

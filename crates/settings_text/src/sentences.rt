@@ -214,6 +214,6 @@ pub fn explain(alloc: Global, text: &[u8], fault: SettingsFault) -> Result<Strin
     }
     match document(alloc, &table) {
         Ok(document) => value_fault(alloc, &document, fault),
-        Err(_) => String::from_str(alloc, "there is not enough memory"),
+        Err(_) => format!(in alloc; "{}", SettingsFault::NoMemory),
     }
 }

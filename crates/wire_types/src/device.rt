@@ -8,6 +8,7 @@ ghost use Rattle.wire_types.specs.Device.{Wrote};
 use std::alloc::{AllocError, Global};
 use std::io;
 use std::io::{ErrorKind, Read, Write};
+use thiserror::Error;
 
 /// The greatest number of bytes that an input may have.
 pub const INPUT_LIMIT: usize = 1_073_741_824;
@@ -18,13 +19,16 @@ const RETRIES: u32 = 1_000;
 const PIECE: usize = 16_384;
 
 /// Why an input could not be read whole.
-#[derive(Clone, Copy, Debug, PartialEq, Eq)]
+#[derive(Clone, Copy, Debug, PartialEq, Eq, Error)]
 pub enum InputFault {
     /// A read failed.
+    #[error("the input can't be read")]
     Read,
     /// The input goes on behind the limit.
+    #[error("the input has more than 1,073,741,824 bytes")]
     TooLong,
     /// Memory was refused.
+    #[error("there is not enough memory")]
     NoMemory,
 }
 
