@@ -4,10 +4,12 @@ ghost use Rattle.std.specs.Prelude.{◌≡◌, ◌+◌, ◌<◌, ◌≤◌, ◌^
 ghost use Rattle.acl_binding.specs.Entries.{binding_of};
 ghost use Rattle.msg_acl.specs.declared.entries.BindingEntry.{BindingEntry as Entry};
 ghost use Rattle.walk.specs.Codes.{refusal_code};
-ghost use Rattle.acl_handlers.specs.CreateAcls.{book_with, book_created, created_with, created, create_acls_reply, create_acls_outcome};
+ghost use Rattle.authorizer.specs.Asking.{part_paid};
+ghost use Rattle.broker_world.specs.World.{rules_of};
+ghost use Rattle.acl_handlers.specs.CreateAcls.{alter_questions, book_with, book_created, created_with, created, create_acls_reply, create_acls_outcome};
 
 use acl_binding::{BadEntry, Binding, Caller, Operation};
-use authorizer::{Policy, Refusal, ask_one};
+use authorizer::{Paid, Policy, Refusal, ask_one};
 use broker_world::{Outcome, State, asks_cluster, refused_whole, served_whole};
 use msg_acl::{BindingEntry, CreateAclsReply, CreateAclsRequest, CreatedAcl};
 use msg_admin::Reply;
@@ -99,14 +101,15 @@ pub fn answer_create_acls(
     ensures world { OnOk result (state.new ≡ (create_acls_outcome state.old caller.now request.now).world) }
     ensures reply { IfOk result (λ o. o.reply ≡ (create_acls_outcome state.old caller.now request.now).reply) }
     ensures refusals { IfOk result (λ o. o.refusals ≡ (create_acls_outcome state.old caller.now request.now).refusals) }
+    ensures paid { IfOk result (λ o. o.paid ≡ part_paid (rules_of state.old) (alter_questions caller.now)) }
 {
     let question = asks_cluster(alloc, caller, Operation::Alter)?;
     let creations = request.creations.as_slice();
     match ask_one(&state.policy, question) {
         Ok(permit) => {
-            permit.spend(&state.policy);
+            let paid = Paid::one(permit.spend(&state.policy));
             let results = create_all(alloc, &mut state.policy, creations)?;
-            Ok(served_whole(alloc, create_acls_reply(results)))
+            Ok(served_whole(alloc, create_acls_reply(results), paid))
         }
         Err(refusal) => {
             let reply = created_none(alloc, &refusal, creations)?;

@@ -4,11 +4,14 @@ ghost use Rattle.std.specs.Prelude.{◌≡◌, ◌+◌, ◌<◌, ◌≤◌, ◌^
 ghost use Rattle.acl_binding.specs.Entries.{filter_of};
 ghost use Rattle.msg_acl.specs.declared.entries.FilterEntry.{FilterEntry as Entry};
 ghost use Rattle.walk.specs.Codes.{refusal_code};
+ghost use Rattle.authorizer.specs.Asking.{part_paid};
+ghost use Rattle.acl_handlers.specs.CreateAcls.{alter_questions};
+ghost use Rattle.broker_world.specs.World.{rules_of};
 ghost use Rattle.acl_handlers.specs.DeleteAcls.{book_without, book_deleted, deleted_acl, deleted_error, deleted_by, deleted, delete_acls_reply, delete_acls_outcome};
 
 use crate::filters::filter_in;
 use acl_binding::{Binding, Caller, Operation};
-use authorizer::{Policy, Refusal, ask_one};
+use authorizer::{Paid, Policy, Refusal, ask_one};
 use broker_world::{Outcome, State, asks_cluster, refused_whole, served_whole};
 use msg_acl::{
     BindingEntry, DeleteAclsReply, DeleteAclsRequest, DeletedAcl, DeletedAcls, FilterEntry,
@@ -134,14 +137,15 @@ pub fn answer_delete_acls(
     ensures world { OnOk result (state.new ≡ (delete_acls_outcome state.old caller.now request.now).world) }
     ensures reply { IfOk result (λ o. o.reply ≡ (delete_acls_outcome state.old caller.now request.now).reply) }
     ensures refusals { IfOk result (λ o. o.refusals ≡ (delete_acls_outcome state.old caller.now request.now).refusals) }
+    ensures paid { IfOk result (λ o. o.paid ≡ part_paid (rules_of state.old) (alter_questions caller.now)) }
 {
     let question = asks_cluster(alloc, caller, Operation::Alter)?;
     let filters = request.filters.as_slice();
     match ask_one(&state.policy, question) {
         Ok(permit) => {
-            permit.spend(&state.policy);
+            let paid = Paid::one(permit.spend(&state.policy));
             let results = delete_all(alloc, &mut state.policy, filters)?;
-            Ok(served_whole(alloc, delete_acls_reply(results)))
+            Ok(served_whole(alloc, delete_acls_reply(results), paid))
         }
         Err(refusal) => {
             let reply = deleted_none(alloc, &refusal, filters)?;

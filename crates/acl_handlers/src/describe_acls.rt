@@ -3,11 +3,13 @@
 ghost use Rattle.std.specs.Prelude.{◌≡◌, ◌≤◌, length, take, map, filter, IfOk};
 ghost use Rattle.std.specs.List.{list_any};
 ghost use Rattle.acl_binding.specs.Entries.{filter_of};
-ghost use Rattle.acl_handlers.specs.DescribeAcls.{same_resource, described_acl, described_resource, described, describe_acls_error, describe_acls_reply, describe_acls_outcome};
+ghost use Rattle.authorizer.specs.Asking.{part_paid};
+ghost use Rattle.broker_world.specs.World.{rules_of};
+ghost use Rattle.acl_handlers.specs.DescribeAcls.{describe_acls_questions, same_resource, described_acl, described_resource, described, describe_acls_error, describe_acls_reply, describe_acls_outcome};
 
 use crate::filters::filter_in;
 use acl_binding::{Binding, Caller, Operation};
-use authorizer::ask_one;
+use authorizer::{Paid, ask_one};
 use broker_world::{Outcome, State, asks_cluster, refused_whole, served_whole};
 use msg_acl::{
     DescribeAclsReply, DescribeAclsRequest, DescribedAcl, DescribedResource, FilterEntry,
@@ -108,14 +110,15 @@ pub fn answer_describe_acls(
 ) -> Result<Outcome, AllocError>
     ensures reply { IfOk result (λ o. o.reply ≡ (describe_acls_outcome state.now caller.now request.now).reply) }
     ensures refusals { IfOk result (λ o. o.refusals ≡ (describe_acls_outcome state.now caller.now request.now).refusals) }
+    ensures paid { IfOk result (λ o. o.paid ≡ part_paid (rules_of state.now) (describe_acls_questions caller.now)) }
 {
     let question = asks_cluster(alloc, caller, Operation::Describe)?;
     let policy = state.policy();
     match ask_one(policy, question) {
         Ok(permit) => {
-            permit.spend(policy);
+            let paid = Paid::one(permit.spend(policy));
             let reply = described_by(alloc, state, &request.filter)?;
-            Ok(served_whole(alloc, Reply::DescribeAcls(reply)))
+            Ok(served_whole(alloc, Reply::DescribeAcls(reply), paid))
         }
         Err(refusal) => {
             let reply = describe_acls_error(alloc, refusal_code(&refusal));

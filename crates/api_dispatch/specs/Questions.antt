@@ -29,6 +29,8 @@ use Rattle.acl_binding.specs.Verdict.{asked}
 use Rattle.wire_types.specs.declared.topic.Topic.{Topic}
 use Rattle.msg_admin.specs.declared.request.Request.{Request}
 use Rattle.msg_admin.specs.declared.request.Request.TheVariants as requests
+use Rattle.audit_trail.specs.declared.event.Event.{Event}
+use Rattle.audit_trail.specs.declared.event.Event.TheVariants.{Ask, Mark, Tick}
 use Rattle.broker_world.specs.Questions.{topic_part}
 use Rattle.data_handlers.specs.Produce.{produce_questions}
 use Rattle.broker_world.specs.Questions.{read_question}
@@ -62,6 +64,12 @@ asks_itself caller (requests.DescribeAcls r) = describe_acls_questions caller
 asks_itself caller (requests.CreateAcls r) = alter_questions caller
 asks_itself caller (requests.DeleteAcls r) = alter_questions caller
 asks_itself caller request = []
+
+-- what an event asks for itself: a marker step and a tick of the clock ask nothing
+abbrev pub event_asks : Event → List Question
+event_asks (Ask caller client request) = asks_itself caller request
+event_asks Mark = []
+event_asks (Tick told) = []
 
 -- what each of its parts asks that is of the topic of this name: a partition, or in Metadata the topic
 abbrev pub asks_at : Caller → Request → List ℕ → List Question

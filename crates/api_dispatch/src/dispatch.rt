@@ -3,6 +3,9 @@
 ghost use Rattle.std.specs.Prelude.{◌≡◌, ◌+◌, ◌<◌, ◌^◌, ◌≤◌, true, IfOk, OnOk, OnErr};
 ghost use Rattle.msg_admin.specs.Request.{Fits};
 ghost use Rattle.broker_world.specs.Logs.{room_of};
+ghost use Rattle.authorizer.specs.Asking.{part_paid};
+ghost use Rattle.broker_world.specs.World.{rules_of};
+ghost use Rattle.api_dispatch.specs.Questions.{asks_itself, event_asks};
 ghost use Rattle.api_dispatch.specs.Bounds.{EventFits, most_parts, most_events, GenerationsWithin};
 ghost use Rattle.api_dispatch.specs.Step.{request_outcome, outcome, reply_to, refusals_of, counted, is_reading, is_reading_request};
 
@@ -32,6 +35,7 @@ pub fn apply(alloc: Global, state: &mut State, event: &Event) -> Result<Outcome,
     ensures world { OnOk result (state.new ≡ (outcome state.old event.now).world) }
     ensures reply { IfOk result (λ o. o.reply ≡ reply_to state.old event.now) }
     ensures refusals { IfOk result (λ o. o.refusals ≡ refusals_of state.old event.now) }
+    ensures paid { IfOk result (λ o. o.paid ≡ part_paid (rules_of state.old) (event_asks event.now)) }
     ensures reading { OnErr result (is_reading event.now ≡ true → state.new ≡ state.old) }
 {
     match event {
@@ -59,6 +63,7 @@ fn answer(
     ensures world { OnOk result (state.new ≡ (request_outcome state.old caller.now request.now).world) }
     ensures reply { IfOk result (λ o. o.reply ≡ (request_outcome state.old caller.now request.now).reply) }
     ensures refusals { IfOk result (λ o. o.refusals ≡ (request_outcome state.old caller.now request.now).refusals) }
+    ensures paid { IfOk result (λ o. o.paid ≡ part_paid (rules_of state.old) (asks_itself caller.now request.now)) }
     ensures reading { OnErr result (is_reading_request request.now ≡ true → state.new ≡ state.old) }
 {
     match request {

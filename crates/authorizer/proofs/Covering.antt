@@ -41,10 +41,10 @@ and_true : (a b : Bool) → a ≡ true → b ≡ true → (a && b) ≡ true
 and_true true b h k = k
 and_true false b h k = h
 
-covered : (k : Bool) (pattern : Pattern) (own name : List ℕ) → 0 < length own → (k && name_covers pattern own name) ≡ true →
+covered : (k : Bool) (pattern : Pattern) (own name : List ℕ) → (pattern ≡ Prefixed → 0 < length own) → (k && name_covers pattern own name) ≡ true →
     ((k && ((pattern_number pattern == 3) && bytes_eq own name)) || ((k && ((pattern_number pattern == 3) && bytes_eq own star)) || (k && ((pattern_number pattern == 4) && (starts_with nat_eq name own && nat_lt 0 (length own)))))) ≡ true
 covered true Literal own name some h = with_false (bytes_eq own name) (bytes_eq own star) h
-covered true Prefixed own name some h = and_true (starts_with nat_eq name own) (nat_lt 0 (length own)) h ((Decides-ltb 0 (length own)).1 some)
+covered true Prefixed own name some h = and_true (starts_with nat_eq name own) (nat_lt 0 (length own)) h ((Decides-ltb 0 (length own)).1 (some refl))
 covered false pattern own name some h = h
 
 pub found_all : (k : KindIndex) (es : List Numbered) (q : Question) → IsKindIndexed k q.kind es → AllByRecursion IsNamed es →

@@ -48,6 +48,14 @@ abbrev pub part_refusal : Rules → List Question → Option Refusal
 part_refusal rules [] = None
 part_refusal rules (q ∷ qs) = first_of (question_refusal rules q) (part_refusal rules qs)
 
+-- what is spent for the questions of a part, by its refusal if it is refused: a permit for each of them, or none at all
+abbrev pub paid_by : Option Refusal → List Question → List Question
+paid_by None qs = qs
+paid_by (Some r) qs = []
+
+abbrev pub part_paid : Rules → List Question → List Question
+part_paid rules qs = paid_by (part_refusal rules qs) qs
+
 -- under this policy each of the questions is granted
 abbrev pub AreYes : PolicyValue → List Question → Type 0
 AreYes policy qs = part_refusal (policy_rules policy) qs ≡ None

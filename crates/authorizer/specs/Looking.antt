@@ -44,10 +44,10 @@ kind_index index Group = index.groups
 kind_index index Cluster = index.cluster
 kind_index index TransactionalId = index.ids
 
--- the binding's name is a text, and not the empty one
+-- the binding's name is a text, and not the empty one where it is a prefix: that would be looked up for every name
 pub record IsNamed (e : Numbered) : Type 0 where
   pub text : IsUtf8 e.binding.name
-  pub some : 0 < length e.binding.name
+  pub some : e.binding.pattern ≡ Prefixed → 0 < length e.binding.name
 
 -- ---- what some bindings say of a question
 

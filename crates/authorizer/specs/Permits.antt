@@ -5,7 +5,7 @@ use Rattle.authorizer.specs.declared.permit.Permit.{Permit}
 use Rattle.authorizer.specs.declared.asking.TwoPermits.{TwoPermits}
 use Rattle.authorizer.specs.declared.asking.ThreePermits.{ThreePermits}
 use Rattle.authorizer.specs.declared.asking.GivenPermits.{GivenPermits}
-use Rattle.authorizer.specs.Policy.{PolicyValue, IsGood, IsGranted}
+use Rattle.authorizer.specs.Policy.{PolicyValue, PermitValue, IsGood, IsGranted}
 
 -- both may be spent
 pub record AreBothGood (policy : PolicyValue) (permits : TwoPermits) : Type 0 where
@@ -28,6 +28,11 @@ pub record AreThreeGranted (policy : PolicyValue) (one two three : Question) (pe
   pub first : IsGranted policy one permits.first
   pub second : IsGranted policy two permits.second
   pub third : IsGranted policy three permits.third
+
+-- the question of a permit that may be absent
+abbrev pub given_question : Option PermitValue → Option Question
+given_question None = None
+given_question (Some permit) = Some permit.question
 
 -- a permit for the question, where there is one, and none where there is none
 abbrev pub IsGrantedIfGiven : PolicyValue → Option Question → Option Permit → Type 0

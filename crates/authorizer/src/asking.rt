@@ -4,10 +4,11 @@ ghost use Rattle.std.specs.Prelude.{◌≡◌, [], ◌∷◌, IfOk, IfErr, IfSom
 ghost use Rattle.std.specs.List.{cons_option};
 ghost use Rattle.authorizer.specs.Policy.{IsGood, IsGranted};
 ghost use Rattle.authorizer.specs.Asking.{AreYes, IsRefusalOf};
-ghost use Rattle.authorizer.specs.Permits.{AreBothGood, AreBothGranted, AreThreeGood, AreThreeGranted, AreGivenGranted};
+ghost use Rattle.authorizer.specs.Permits.{AreBothGood, AreBothGranted, AreThreeGood, AreThreeGranted, AreGivenGranted, given_question};
 
 use crate::answer::{Answer, Refusal};
-use crate::permit::Permit;
+use crate::paid::Paid;
+use crate::permit::{Permit, Spent};
 use crate::policy::Policy;
 use acl_binding::Question;
 
@@ -111,41 +112,55 @@ pub fn ask_given(
 
 impl TwoPermits {
     /// Uses both permits up.
-    pub fn spend(self, policy: &Policy)
+    pub fn spend(self, policy: &Policy) -> Paid
         requires { AreBothGood policy.now self }
+        ensures { result ≡ self.first.question ∷ self.second.question ∷ [] }
     {
         let TwoPermits { first, second } = self;
-        first.spend(policy);
-        second.spend(policy);
+        Paid::two(first.spend(policy), second.spend(policy))
     }
 }
 
 impl ThreePermits {
     /// Uses all three permits up.
-    pub fn spend(self, policy: &Policy)
+    pub fn spend(self, policy: &Policy) -> Paid
         requires { AreThreeGood policy.now self }
+        ensures { result ≡ self.first.question ∷ self.second.question ∷ self.third.question ∷ [] }
     {
         let ThreePermits {
             first,
             second,
             third,
         } = self;
-        first.spend(policy);
-        second.spend(policy);
-        third.spend(policy);
+        Paid::three(
+            first.spend(policy),
+            second.spend(policy),
+            third.spend(policy),
+        )
     }
 }
 
 impl GivenPermits {
     /// Uses up the permit of the first question, where there is one, and hands on the last.
-    pub fn last(self, policy: &Policy) -> Permit
+    pub fn last(self, policy: &Policy) -> (Option<Spent>, Permit)
         requires { IfSome self.given (IsGood policy.now) }
-        ensures { result ≡ self.last }
+        ensures given { result.0 ≡ given_question self.given }
+        ensures last { result.1 ≡ self.last }
     {
         let GivenPermits { given, last } = self;
-        if let Some(given) = given {
-            given.spend(policy);
+        match given {
+            Some(given) => (Some(given.spend(policy)), last),
+            None => (None, last),
         }
-        last
+    }
+
+    /// Uses both permits up.
+    pub fn spend(self, policy: &Policy) -> Paid
+        requires given { IfSome self.given (IsGood policy.now) }
+        requires last { IsGood policy.now self.last }
+        ensures { result ≡ cons_option (given_question self.given) (self.last.question ∷ []) }
+    {
+        let (given, last) = self.last(policy);
+        Paid::given(given, last.spend(policy))
     }
 }

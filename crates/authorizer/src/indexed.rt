@@ -8,6 +8,7 @@ ghost use Rattle.acl_binding.specs.Book.{empty_book, number_of, added, appended}
 ghost use Rattle.acl_binding.specs.Filter.{matching, removed};
 ghost use Rattle.acl_binding.specs.Verdict.{verdict_of};
 ghost use Rattle.authorizer.specs.Looking.{finding};
+ghost use Rattle.acl_binding.specs.declared.words.Pattern.TheVariants.{Prefixed};
 
 use crate::index::Index;
 use crate::looking::{Finding, look, look_prefixes};
@@ -59,7 +60,7 @@ impl IndexedBook {
     /// Adds a binding under the next creation number, unless an equal one is there.
     pub(crate) fn add(&mut self, alloc: Global, binding: Binding) -> Result<Added, AllocError>
         requires next { self.old.next + 1 < 2 ^ 64 }
-        requires named { 0 < length binding.name }
+        requires named { binding.pattern ≡ Prefixed → 0 < length binding.name }
         ensures ok { OnOk result (self.new ≡ added self.old binding) }
         ensures number { IfOk result (λ answer. answer ≡ adding_answer self.old binding) }
         ensures grows { self.new.next ≤ self.old.next + 1 }
@@ -74,7 +75,7 @@ impl IndexedBook {
     /// Takes a new binding under the next number.
     fn insert(&mut self, alloc: Global, binding: Binding) -> Result<Added, AllocError>
         requires next { self.old.next + 1 < 2 ^ 64 }
-        requires named { 0 < length binding.name }
+        requires named { binding.pattern ≡ Prefixed → 0 < length binding.name }
         requires absent { number_of self.old.entries binding ≡ None }
         ensures ok { OnOk result (self.new ≡ appended self.old binding) }
         ensures number { IfOk result (λ answer. answer ≡ answers.Added self.old.next) }

@@ -12,11 +12,13 @@ mod indexed;
 mod laws;
 mod looking;
 mod names;
+mod paid;
 mod permit;
 mod policy;
 
 pub use answer::{Answer, Refusal, Why};
 pub use asking::{GivenPermits, ThreePermits, TwoPermits, ask_given, ask_one, ask_three, ask_two};
 pub use laws::permit_ends_with_edit;
-pub use permit::Permit;
+pub use paid::Paid;
+pub use permit::{Permit, Spent};
 pub use policy::Policy;

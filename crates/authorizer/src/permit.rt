@@ -21,6 +21,28 @@ impl Model for Permit {
     ghost view = { λ p. record { edit = p.edit; question = p.question } };
 }
 
+/// That the permit of a question was spent. It is made by [`Permit::spend`] alone, and can't be copied.
+pub struct Spent {
+    question: Question,
+}
+
+/// Written out, so that a crate which lets it go calls this once, and proves nothing of its question.
+impl Drop for Spent {
+    fn drop(self) {
+        let Spent {
+            question: _question,
+        } = self;
+    }
+}
+
+impl Model for Spent {
+    ghost use Rattle.acl_binding.specs.declared.question.Question.{Question};
+
+    ghost Value = { Question };
+
+    ghost view = { λ s. s.question };
+}
+
 impl Permit {
     pub(crate) fn new(edit: u64, question: Question) -> Permit
         ensures { result ≡ record { edit = edit; question = question } }
@@ -36,12 +58,14 @@ impl Permit {
     }
 
     /// Uses the permit up, under the policy that gave it and before any change of the book since.
-    pub fn spend(self, policy: &Policy)
+    pub fn spend(self, policy: &Policy) -> Spent
         requires { IsGood policy.now self }
+        ensures { result ≡ self.question }
     {
-        let is_current = self.edit == policy.edit();
+        let Permit { edit, question } = self;
+        let is_current = edit == policy.edit();
         prove!(is_current);
-        self.decline();
+        Spent { question }
     }
 
     /// Gives the permit up.

@@ -5,6 +5,7 @@ ghost use Rattle.acl_binding.specs.Adding.{adding_answer};
 ghost use Rattle.acl_binding.specs.Filter.{matching};
 ghost use Rattle.authorizer.specs.Policy.{first_policy, policy_verdict, look_ups, policy_added, policy_removed, is_super};
 ghost use Rattle.authorizer.specs.Asking.{asking_answer};
+ghost use Rattle.acl_binding.specs.declared.words.Pattern.TheVariants.{Prefixed};
 
 use crate::answer::{Answer, Refusal, Why};
 use crate::indexed::IndexedBook;
@@ -56,7 +57,7 @@ impl Policy {
     /// Adds a binding. The edit number rises where the book changes.
     pub fn add(&mut self, alloc: Global, binding: Binding) -> Result<Added, AllocError>
         requires next { self.old.book.next + 1 < 2 ^ 63 }
-        requires named { 0 < length binding.name }
+        requires named { binding.pattern ≡ Prefixed → 0 < length binding.name }
         ensures ok { OnOk result (self.new ≡ policy_added self.old binding) }
         ensures number { IfOk result (λ answer. answer ≡ adding_answer self.old.book binding) }
         ensures err { OnErr result (self.new ≡ self.old) }

@@ -23,4 +23,4 @@ pub use questions::{asks_cluster, id_question, read_question};
 pub use slot::Slot;
 pub use state::State;
 pub use topics::Topics;
-pub use whole::{refused_whole, served_whole};
+pub use whole::{refused_whole, served_in_parts, served_whole};

@@ -1,28 +1,40 @@
-//! Requests that are one part: they are served whole or refused whole.
+//! Requests that are one part: they are served whole or refused whole. Requests that ask for their parts alone.
 
 ghost use Rattle.std.specs.Prelude.{◌≡◌, ◌∷◌, [], IfOk};
 
 use crate::outcome::Outcome;
-use authorizer::Refusal;
+use authorizer::{Paid, Refusal};
 use msg_admin::Reply;
 use std::alloc::{AllocError, Global};
 use wire_types::Items;
 
-/// What a request that was served comes to.
-pub fn served_whole(alloc: Global, reply: Reply) -> Outcome
-    ensures { result ≡ record { reply = reply; refusals = [] } }
+/// What a request that was served comes to, for which this was spent.
+pub fn served_whole(alloc: Global, reply: Reply, paid: Paid) -> Outcome
+    ensures { result ≡ record { reply = reply; refusals = []; paid = paid } }
 {
     Outcome {
         reply,
         refusals: Items::new(alloc),
+        paid,
+    }
+}
+
+/// What a request comes to that asks nothing for itself, of whose parts these were refused.
+pub fn served_in_parts(reply: Reply, refusals: Items<Refusal>) -> Outcome
+    ensures { result ≡ record { reply = reply; refusals = refusals; paid = [] } }
+{
+    Outcome {
+        reply,
+        refusals,
+        paid: Paid::nothing(),
     }
 }
 
 /// What a request that was refused comes to.
 pub fn refused_whole(alloc: Global, reply: Reply, refusal: Refusal) -> Result<Outcome, AllocError>
-    ensures { IfOk result (λ o. o ≡ record { reply = reply; refusals = refusal ∷ [] }) }
+    ensures { IfOk result (λ o. o ≡ record { reply = reply; refusals = refusal ∷ []; paid = [] }) }
 {
     let mut refusals = Items::new(alloc);
     refusals.push(refusal)?;
-    Ok(Outcome { reply, refusals })
+    Ok(served_in_parts(reply, refusals))
 }

@@ -1,13 +1,13 @@
 //! Fetch: batches are read from an offset on.
 
-ghost use Rattle.std.specs.Prelude.{◌≡◌, IfOk};
+ghost use Rattle.std.specs.Prelude.{◌≡◌, [], IfOk};
 ghost use Rattle.std.specs.Option.{option_copied};
 ghost use Rattle.data_handlers.specs.Fetch.{room_for, less, served_by, served_at, fetched_error, batch_bytes, list_told, fetched, room_after, whole_room, fetch_outcome};
 
 use crate::room::Room;
 use acl_binding::{Caller, Kind, Operation};
-use authorizer::{Policy, ask_one};
-use broker_world::{Outcome, State, Topics, magnitude};
+use authorizer::{Paid, Policy, ask_one};
+use broker_world::{Outcome, State, Topics, magnitude, served_in_parts};
 use bytes::Bytes;
 use msg_admin::Reply;
 use msg_data::{
@@ -28,9 +28,12 @@ pub(crate) struct Fetching<'a> {
 }
 
 impl<'a> PartApi<FetchPartition, FetchedRecords, Room> for Fetching<'a> {
+    ghost use Rattle.std.specs.Prelude.{false};
     ghost use Rattle.data_handlers.specs.Fetch.{fetch_rule};
 
     ghost rule = { λ api. fetch_rule api.caller.now api.isolation api.topics.now };
+
+    ghost cuts = { λ _. false };
 
     fn serve(
         &self,
@@ -43,10 +46,11 @@ impl<'a> PartApi<FetchPartition, FetchedRecords, Room> for Fetching<'a> {
         let topic = self.caller.asks(Operation::Read, Kind::Topic, name)?;
         match ask_one(policy, topic) {
             Ok(permit) => {
-                permit.spend(policy);
+                let paid = Paid::one(permit.spend(policy));
                 let served = serve(alloc, self.topics, self.isolation, *room, name, part)?;
                 *room = room.after(&served);
-                Ok(Part::served(fetched(alloc, part, self.isolation, served)?))
+                let answer = fetched(alloc, part, self.isolation, served)?;
+                Ok(Part::served(answer, paid))
             }
             Err(refusal) => {
                 let answer = fetched_error(refusal_code(&refusal), part);
@@ -191,6 +195,7 @@ pub fn answer_fetch(
 ) -> Result<Outcome, AllocError>
     ensures reply { IfOk result (λ o. o.reply ≡ (fetch_outcome state.now caller.now request.now).reply) }
     ensures refusals { IfOk result (λ o. o.refusals ≡ (fetch_outcome state.now caller.now request.now).refusals) }
+    ensures paid { IfOk result (λ o. o.paid ≡ []) }
 {
     let api = Fetching {
         caller,
@@ -205,13 +210,11 @@ pub fn answer_fetch(
         &mut room,
         request.topics.as_slice(),
     )?;
-    Ok(Outcome {
-        reply: Reply::Fetch(FetchReply {
-            throttle: 0,
-            topics: walked.topics,
-        }),
-        refusals: walked.refusals,
-    })
+    let reply = FetchReply {
+        throttle: 0,
+        topics: walked.topics,
+    };
+    Ok(served_in_parts(Reply::Fetch(reply), walked.refusals))
 }
 
 /// The room of a whole answer.

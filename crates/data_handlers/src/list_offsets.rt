@@ -1,12 +1,12 @@
 //! ListOffsets: where logs begin and end.
 
-ghost use Rattle.std.specs.Prelude.{◌≡◌, IfOk};
+ghost use Rattle.std.specs.Prelude.{◌≡◌, [], IfOk};
 ghost use Rattle.std.specs.Option.{option_copied};
 ghost use Rattle.data_handlers.specs.ListOffsets.{listed_error, listed_at, listed_by, listed, list_offsets_outcome};
 
 use acl_binding::{Caller, Kind, Operation};
-use authorizer::{Policy, ask_one};
-use broker_world::{Outcome, State, Topics};
+use authorizer::{Paid, Policy, ask_one};
+use broker_world::{Outcome, State, Topics, served_in_parts};
 use msg_admin::Reply;
 use msg_data::{FoundOffset, Isolation, ListOffsetsReply, ListOffsetsRequest, WantedOffset};
 use partition_log::Log;
@@ -29,9 +29,12 @@ pub(crate) struct Listing<'a> {
 }
 
 impl<'a> PartApi<WantedOffset, FoundOffset, ()> for Listing<'a> {
+    ghost use Rattle.std.specs.Prelude.{false};
     ghost use Rattle.data_handlers.specs.ListOffsets.{list_rule};
 
     ghost rule = { λ api. list_rule api.caller.now api.isolation api.topics.now };
+
+    ghost cuts = { λ _. false };
 
     fn serve(
         &self,
@@ -44,9 +47,9 @@ impl<'a> PartApi<WantedOffset, FoundOffset, ()> for Listing<'a> {
         let topic = self.caller.asks(Operation::Describe, Kind::Topic, name)?;
         match ask_one(policy, topic) {
             Ok(permit) => {
-                permit.spend(policy);
+                let paid = Paid::one(permit.spend(policy));
                 let answer = listed(self.topics, self.isolation, name, part);
-                Ok(Part::served(answer))
+                Ok(Part::served(answer, paid))
             }
             Err(refusal) => {
                 let answer = listed_error(refusal_code(&refusal), part);
@@ -106,6 +109,7 @@ pub fn answer_list_offsets(
 ) -> Result<Outcome, AllocError>
     ensures reply { IfOk result (λ o. o.reply ≡ (list_offsets_outcome state.now caller.now request.now).reply) }
     ensures refusals { IfOk result (λ o. o.refusals ≡ (list_offsets_outcome state.now caller.now request.now).refusals) }
+    ensures paid { IfOk result (λ o. o.paid ≡ []) }
 {
     let api = Listing {
         caller,
@@ -119,11 +123,9 @@ pub fn answer_list_offsets(
         &mut (),
         request.topics.as_slice(),
     )?;
-    Ok(Outcome {
-        reply: Reply::ListOffsets(ListOffsetsReply {
-            throttle: 0,
-            topics: walked.topics,
-        }),
-        refusals: walked.refusals,
-    })
+    let reply = ListOffsetsReply {
+        throttle: 0,
+        topics: walked.topics,
+    };
+    Ok(served_in_parts(Reply::ListOffsets(reply), walked.refusals))
 }

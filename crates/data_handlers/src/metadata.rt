@@ -1,18 +1,20 @@
 //! Metadata: the cluster's one broker, and topics with their partitions.
 
-ghost use Rattle.std.specs.Prelude.{◌≡◌, ◌<◌, ◌^◌, IfOk, Some, None, pos};
+ghost use Rattle.std.specs.Prelude.{◌≡◌, ◌<◌, ◌^◌, [], false, IfOk, Some, None, pos};
 ghost use Rattle.std.specs.Option.{option_map};
 ghost use Rattle.authorizer.specs.Asking.{part_refusal};
 ghost use Rattle.broker_world.specs.World.{rules_of, topic_names};
 ghost use Rattle.data_handlers.specs.Metadata.{topic_error, partition_info, partitions_from, plain_topic, plain_topics, topic_refusals, topic_answer, describable, described_topic, metadata_topics, broker_info, metadata_answer, metadata_refusals, metadata_outcome};
-ghost use Rattle.broker_world.specs.Questions.{topic_refusal};
+ghost use Rattle.broker_world.specs.Questions.{topic_part, topic_refusal};
+ghost use Rattle.walk.specs.Steps.{ending_by, refusal_in};
 
 use acl_binding::{Caller, Kind, Operation};
-use authorizer::{Refusal, ask_one};
-use broker_world::{Node, Outcome, State};
+use authorizer::{Paid, Refusal, ask_one};
+use broker_world::{Node, Outcome, State, served_in_parts};
 use msg_admin::Reply;
 use msg_data::{BrokerInfo, MetadataReply, MetadataRequest, PartitionInfo, TopicInfo};
 use std::alloc::{AllocError, Global};
+use walk::Part;
 use wire_types::{ErrorCode, Items, Text};
 
 /// The answers to the parts of a request, and the refusals of those that were refused.
@@ -20,13 +22,6 @@ use wire_types::{ErrorCode, Items, Text};
 pub(crate) struct Answered {
     pub(crate) topics: Items<TopicInfo>,
     pub(crate) refusals: Items<Refusal>,
-}
-
-/// What is answered for one part, and its refusal if it was refused.
-#[derive(Drop)]
-struct Part {
-    answer: TopicInfo,
-    refusal: Option<Refusal>,
 }
 
 /// The answer to a Metadata request, and its refusals.
@@ -66,12 +61,10 @@ pub fn answer_metadata(
 ) -> Result<Outcome, AllocError>
     ensures reply { IfOk result (λ o. o.reply ≡ (metadata_outcome state.now caller.now request.now).reply) }
     ensures refusals { IfOk result (λ o. o.refusals ≡ (metadata_outcome state.now caller.now request.now).refusals) }
+    ensures paid { IfOk result (λ o. o.paid ≡ []) }
 {
     let (reply, refusals) = metadata_told(alloc, state, caller, request)?;
-    Ok(Outcome {
-        reply: Reply::Metadata(reply),
-        refusals,
-    })
+    Ok(served_in_parts(Reply::Metadata(reply), refusals))
 }
 
 /// The answers for topics that are named, one after the other.
@@ -89,7 +82,7 @@ fn named_topics(
     for name in names {
         let part = named_topic(alloc, state, caller, name)?;
         topics.push(part.answer)?;
-        refusals.push_some(part.refusal)?;
+        refusals.push_some(part.ending.refusal())?;
     }
     Ok(Answered { topics, refusals })
 }
@@ -100,24 +93,22 @@ fn named_topic(
     state: &State,
     caller: &Caller,
     name: &Text,
-) -> Result<Part, AllocError>
+) -> Result<Part<TopicInfo>, AllocError>
     ensures answer { IfOk result (λ part. part.answer ≡ topic_answer state.now caller.now name.now) }
-    ensures refusal { IfOk result (λ part. part.refusal ≡ topic_refusal (rules_of state.now) caller.now name.now) }
+    ensures ending { IfOk result (λ part. part.ending ≡ ending_by false (topic_refusal (rules_of state.now) caller.now name.now) (topic_part caller.now name.now)) }
+    ensures refusal { IfOk result (λ part. refusal_in part.ending ≡ topic_refusal (rules_of state.now) caller.now name.now) }
 {
     let question = caller.asks(Operation::Describe, Kind::Topic, name)?;
     let policy = state.policy();
     match ask_one(policy, question) {
         Ok(permit) => {
-            permit.spend(policy);
-            Ok(Part {
-                answer: plain_topic(alloc, state, name)?,
-                refusal: None,
-            })
+            let paid = Paid::one(permit.spend(policy));
+            Ok(Part::served(plain_topic(alloc, state, name)?, paid))
         }
-        Err(refusal) => Ok(Part {
-            answer: topic_error(alloc, ErrorCode::TopicAuthorizationFailed, name)?,
-            refusal: Some(refusal),
-        }),
+        Err(refusal) => {
+            let answer = topic_error(alloc, ErrorCode::TopicAuthorizationFailed, name)?;
+            Ok(Part::refused(answer, refusal))
+        }
     }
 }
 
@@ -133,28 +124,29 @@ fn described_topics(
     let names = state.topics();
     for place in 0..names.len() {
         let topic = described_topic(alloc, state, caller, names.name(place))?;
-        topics.push_some(topic)?;
+        topics.push_some(topic.answer)?;
     }
     Ok(topics)
 }
 
-/// The answer for a topic, if it may be described.
+/// The answer for a topic, if it may be described. That it may not is told to nobody.
 fn described_topic(
     alloc: Global,
     state: &State,
     caller: &Caller,
     name: &Text,
-) -> Result<Option<TopicInfo>, AllocError>
-    ensures { IfOk result (λ t. t ≡ described_topic state.now caller.now name.now) }
+) -> Result<Part<Option<TopicInfo>>, AllocError>
+    ensures answer { IfOk result (λ part. part.answer ≡ described_topic state.now caller.now name.now) }
+    ensures ending { IfOk result (λ part. part.ending ≡ ending_by false (topic_refusal (rules_of state.now) caller.now name.now) (topic_part caller.now name.now)) }
 {
     let question = caller.asks(Operation::Describe, Kind::Topic, name)?;
     let policy = state.policy();
     match ask_one(policy, question) {
         Ok(permit) => {
-            permit.spend(policy);
-            Ok(Some(plain_topic(alloc, state, name)?))
+            let paid = Paid::one(permit.spend(policy));
+            Ok(Part::served(Some(plain_topic(alloc, state, name)?), paid))
         }
-        Err(_refusal) => Ok(None),
+        Err(refusal) => Ok(Part::refused(None, refusal)),
     }
 }
 

@@ -1,6 +1,6 @@
 //! Produce: batches are appended to partitions.
 
-ghost use Rattle.std.specs.Prelude.{◌≡◌, ◌≤◌, ◌+◌, length, IfOk, OnOk};
+ghost use Rattle.std.specs.Prelude.{◌≡◌, ◌≤◌, ◌+◌, [], length, IfOk, OnOk};
 ghost use Rattle.std.specs.Option.{option_copied};
 ghost use Rattle.walk.specs.Walk.{topics_weight};
 ghost use Rattle.broker_world.specs.Logs.{MayWrite, room_of, most_end};
@@ -10,8 +10,8 @@ ghost use Rattle.broker_world.specs.Codes.{refused_by};
 ghost use Rattle.data_handlers.specs.Produce.{produced_error, produced_at, produced_to, unproduced, produced, producing, produce_reply, produce_outcome};
 
 use acl_binding::{Caller, Kind, Operation};
-use authorizer::{Permit, Policy, ask_given};
-use broker_world::{Outcome, State, Topics, magnitude, refused_by};
+use authorizer::{Paid, Permit, Policy, Spent, ask_given};
+use broker_world::{Outcome, State, Topics, magnitude, refused_by, served_in_parts};
 use bytes::Bytes;
 use msg_admin::Reply;
 use msg_data::{ProduceReply, ProduceRequest, ProducedOffset, ProducedRecords};
@@ -33,9 +33,12 @@ pub(crate) struct Producing<'a> {
 }
 
 impl<'a> PartApi<ProducedRecords, ProducedOffset, Topics> for Producing<'a> {
+    ghost use Rattle.std.specs.Prelude.{false};
     ghost use Rattle.data_handlers.specs.Produce.{produce_rule};
 
     ghost rule = { λ api. produce_rule api.caller.now api.most api.coordinator.now api.id.now api.acks };
+
+    ghost cuts = { λ _. false };
 
     fn serve(
         &self,
@@ -53,11 +56,11 @@ impl<'a> PartApi<ProducedRecords, ProducedOffset, Topics> for Producing<'a> {
         let topic = self.caller.asks(Operation::Write, Kind::Topic, name)?;
         match ask_given(policy, id, topic) {
             Ok(given) => {
-                let permit = given.last(policy);
-                let answer = self.grant(
+                let (given, permit) = given.last(policy);
+                let (spent, answer) = self.grant(
                     alloc, policy, permit, topics, name, part, &target, records,
                 )?;
-                Ok(Part::served(answer))
+                Ok(Part::served(answer, Paid::given(given, spent)))
             }
             Err(refusal) => {
                 let answer = produced_error(refusal_code(&refusal), part);
@@ -79,13 +82,14 @@ impl<'a> Producing<'a> {
         part: &ProducedRecords,
         target: &Target,
         records: Option<Bytes>,
-    ) -> Result<ProducedOffset, AllocError>
+    ) -> Result<(Spent, ProducedOffset), AllocError>
         requires permit { MayWrite policy.now name.now permit }
         requires target { target.now ≡ partition_at name.now part.now.index }
         requires records { records ≡ part.now.records }
         requires room { records_size part.now.records ≤ room_of topics.old }
+        ensures spent { IfOk result (λ r. r.0 ≡ permit.question) }
         ensures topics { OnOk result (topics.new ≡ topics_produced (judged self.now.most self.now.coordinator.now self.now.id.now self.now.acks (partition_at name.now part.now.index) part.now.records) topics.old name.now part.now.index) }
-        ensures answer { IfOk result (λ answer. answer ≡ produced (judged self.now.most self.now.coordinator.now self.now.id.now self.now.acks (partition_at name.now part.now.index) part.now.records) topics.old name.now part.now) }
+        ensures answer { IfOk result (λ r. r.1 ≡ produced (judged self.now.most self.now.coordinator.now self.now.id.now self.now.acks (partition_at name.now part.now.index) part.now.records) topics.old name.now part.now) }
     {
         let batch = self.judge(target, records);
         produce(alloc, policy, permit, topics, name, part, batch)
@@ -111,20 +115,22 @@ fn produce(
     name: &Text,
     part: &ProducedRecords,
     batch: Result<Batch, ErrorCode>,
-) -> Result<ProducedOffset, AllocError>
+) -> Result<(Spent, ProducedOffset), AllocError>
     requires permit { MayWrite policy.now name.now permit }
     requires room { IfOk batch (λ b. most_end topics.old + length b.bytes ≤ 9223372036854775807) }
+    ensures spent { IfOk result (λ r. r.0 ≡ permit.question) }
     ensures topics { OnOk result (topics.new ≡ topics_produced batch topics.old name.now part.now.index) }
-    ensures answer { IfOk result (λ answer. answer ≡ produced batch topics.old name.now part.now) }
+    ensures answer { IfOk result (λ r. r.1 ≡ produced batch topics.old name.now part.now) }
 {
     match batch {
         Ok(batch) => {
-            let offset = topics.append(alloc, policy, permit, name, part.index, batch)?;
-            Ok(produced_to(part, offset))
+            let (spent, offset) = topics.append(alloc, policy, permit, name, part.index, batch);
+            let offset = offset?;
+            Ok((spent, produced_to(part, offset)))
         }
         Err(code) => {
-            permit.spend(policy);
-            Ok(unproduced(code, part, topics.log(name, part.index)))
+            let spent = permit.spend(policy);
+            Ok((spent, unproduced(code, part, topics.log(name, part.index))))
         }
     }
 }
@@ -307,6 +313,7 @@ pub fn answer_produce(
     ensures world { OnOk result (state.new ≡ (produce_outcome state.old caller.now request.now).world) }
     ensures reply { IfOk result (λ o. o.reply ≡ (produce_outcome state.old caller.now request.now).reply) }
     ensures refusals { IfOk result (λ o. o.refusals ≡ (produce_outcome state.old caller.now request.now).refusals) }
+    ensures paid { IfOk result (λ o. o.paid ≡ []) }
 {
     let api = Producing {
         caller,
@@ -317,8 +324,6 @@ pub fn answer_produce(
     };
     let topics = request.topics.as_slice();
     let walked = walk(alloc, &api, &state.policy, &mut state.topics, topics)?;
-    Ok(Outcome {
-        reply: produce_reply(request.acks, walked.topics),
-        refusals: walked.refusals,
-    })
+    let reply = produce_reply(request.acks, walked.topics);
+    Ok(served_in_parts(reply, walked.refusals))
 }

@@ -1,10 +1,12 @@
 //! FindCoordinator: the one node coordinates everything.
 
 ghost use Rattle.std.specs.Prelude.{◌≡◌, IfOk};
-ghost use Rattle.group_handlers.specs.FindCoordinator.{kind_of, found_node, find_error, find_coordinator_outcome};
+ghost use Rattle.authorizer.specs.Asking.{part_paid};
+ghost use Rattle.broker_world.specs.World.{rules_of};
+ghost use Rattle.group_handlers.specs.FindCoordinator.{kind_of, find_questions, found_node, find_error, find_coordinator_outcome};
 
 use acl_binding::{Caller, Kind, Operation};
-use authorizer::ask_one;
+use authorizer::{Paid, ask_one};
 use broker_world::{Node, Outcome, State, refused_whole, served_whole};
 use msg_admin::Reply;
 use msg_txn::{FindCoordinatorReply, FindCoordinatorRequest};
@@ -58,17 +60,18 @@ pub fn answer_find_coordinator(
 ) -> Result<Outcome, AllocError>
     ensures reply { IfOk result (λ o. o.reply ≡ (find_coordinator_outcome state.now caller.now request.now).reply) }
     ensures refusals { IfOk result (λ o. o.refusals ≡ (find_coordinator_outcome state.now caller.now request.now).refusals) }
+    ensures paid { IfOk result (λ o. o.paid ≡ part_paid (rules_of state.now) (find_questions caller.now (kind_of request.now.key_type) request.now.key)) }
 {
     let Some(kind) = kind_of(request.key_type) else {
         let reply = find_error(alloc, ErrorCode::InvalidRequest)?;
-        return Ok(served_whole(alloc, reply));
+        return Ok(served_whole(alloc, reply, Paid::nothing()));
     };
     let question = caller.asks(Operation::Describe, kind, &request.key)?;
     let policy = state.policy();
     match ask_one(policy, question) {
         Ok(permit) => {
-            permit.spend(policy);
-            Ok(served_whole(alloc, found_node(state.node())?))
+            let paid = Paid::one(permit.spend(policy));
+            Ok(served_whole(alloc, found_node(state.node())?, paid))
         }
         Err(refusal) => {
             let reply = find_error(alloc, refusal_code(&refusal))?;

@@ -1,13 +1,15 @@
 //! JoinGroup, SyncGroup, Heartbeat and LeaveGroup: the member of a group.
 
-ghost use Rattle.std.specs.Prelude.{◌≡◌, ◌<ℤ◌, pos, IfOk, OnOk};
+ghost use Rattle.std.specs.Prelude.{◌≡◌, ◌<ℤ◌, ◌∷◌, [], pos, IfOk, OnOk};
+ghost use Rattle.authorizer.specs.Asking.{part_paid};
 ghost use Rattle.group_offsets.specs.Groups.{group_of};
+ghost use Rattle.broker_world.specs.World.{rules_of};
 ghost use Rattle.broker_world.specs.Questions.{read_question};
 ghost use Rattle.broker_world.specs.Codes.{code_in};
 ghost use Rattle.group_handlers.specs.Members.{join_welcome, join_error, join_reply, join_group_outcome, sync_reply, sync_group_outcome, beat_reply, heartbeat_outcome, leave_reply, leave_group_outcome};
 
 use acl_binding::{Caller, Kind, Operation, Question};
-use authorizer::ask_one;
+use authorizer::{Paid, ask_one};
 use broker_world::{Outcome, State, code_in, read_question, refused_whole, served_whole};
 use bytes::Bytes;
 use group_offsets::Joined;
@@ -117,14 +119,16 @@ pub fn answer_join_group(
     ensures world { OnOk result (state.new ≡ (join_group_outcome state.old caller.now request.now).world) }
     ensures reply { IfOk result (λ o. o.reply ≡ (join_group_outcome state.old caller.now request.now).reply) }
     ensures refusals { IfOk result (λ o. o.refusals ≡ (join_group_outcome state.old caller.now request.now).refusals) }
+    ensures paid { IfOk result (λ o. o.paid ≡ part_paid (rules_of state.old) (read_question caller.now request.now.group ∷ [])) }
 {
     let question = read_question(caller, &request.group)?;
     match ask_one(&state.policy, question) {
         Ok(permit) => {
             let (place, moment) = (state.events, state.moment.milliseconds());
-            let groups = &mut state.groups;
-            let joined = groups.join(alloc, &state.policy, permit, request, place, moment)?;
-            Ok(served_whole(alloc, join_reply(alloc, joined, request)?))
+            let (groups, policy) = (&mut state.groups, &state.policy);
+            let (spent, joined) = groups.join(alloc, policy, permit, request, place, moment);
+            let reply = join_reply(alloc, joined?, request)?;
+            Ok(served_whole(alloc, reply, Paid::one(spent)))
         }
         Err(refusal) => {
             let reply = join_error(alloc, refusal_code(&refusal), request)?;
@@ -143,13 +147,15 @@ pub fn answer_sync_group(
     ensures world { OnOk result (state.new ≡ (sync_group_outcome state.old caller.now request.now).world) }
     ensures reply { IfOk result (λ o. o.reply ≡ (sync_group_outcome state.old caller.now request.now).reply) }
     ensures refusals { IfOk result (λ o. o.refusals ≡ (sync_group_outcome state.old caller.now request.now).refusals) }
+    ensures paid { IfOk result (λ o. o.paid ≡ part_paid (rules_of state.old) (read_question caller.now request.now.group ∷ [])) }
 {
     let question = read_question(caller, &request.group)?;
     match ask_one(&state.policy, question) {
         Ok(permit) => {
             let moment = state.moment.milliseconds();
-            let assignment = state.groups.sync(&state.policy, permit, request, moment)?;
-            Ok(served_whole(alloc, sync_reply(assignment)))
+            let (groups, policy) = (&mut state.groups, &state.policy);
+            let (spent, assignment) = groups.sync(policy, permit, request, moment);
+            Ok(served_whole(alloc, sync_reply(assignment?), Paid::one(spent)))
         }
         Err(refusal) => {
             let reply = sync_reply(Err(refusal_code(&refusal)));
@@ -168,13 +174,15 @@ pub fn answer_heartbeat(
     ensures world { OnOk result (state.new ≡ (heartbeat_outcome state.old caller.now request.now).world) }
     ensures reply { IfOk result (λ o. o.reply ≡ (heartbeat_outcome state.old caller.now request.now).reply) }
     ensures refusals { IfOk result (λ o. o.refusals ≡ (heartbeat_outcome state.old caller.now request.now).refusals) }
+    ensures paid { IfOk result (λ o. o.paid ≡ part_paid (rules_of state.old) (read_question caller.now request.now.group ∷ [])) }
 {
     let question = read_question(caller, &request.group)?;
     match ask_one(&state.policy, question) {
         Ok(permit) => {
             let moment = state.moment.milliseconds();
-            let heard = state.groups.beat(&state.policy, permit, request, moment);
-            Ok(served_whole(alloc, beat_reply(code_in(heard))))
+            let (groups, policy) = (&mut state.groups, &state.policy);
+            let (spent, heard) = groups.beat(policy, permit, request, moment);
+            Ok(served_whole(alloc, beat_reply(code_in(heard)), Paid::one(spent)))
         }
         Err(refusal) => {
             let reply = beat_reply(refusal_code(&refusal));
@@ -193,12 +201,13 @@ pub fn answer_leave_group(
     ensures world { OnOk result (state.new ≡ (leave_group_outcome state.old caller.now request.now).world) }
     ensures reply { IfOk result (λ o. o.reply ≡ (leave_group_outcome state.old caller.now request.now).reply) }
     ensures refusals { IfOk result (λ o. o.refusals ≡ (leave_group_outcome state.old caller.now request.now).refusals) }
+    ensures paid { IfOk result (λ o. o.paid ≡ part_paid (rules_of state.old) (read_question caller.now request.now.group ∷ [])) }
 {
     let question = read_question(caller, &request.group)?;
     match ask_one(&state.policy, question) {
         Ok(permit) => {
-            let left = state.groups.leave(&state.policy, permit, request);
-            Ok(served_whole(alloc, leave_reply(code_in(left))))
+            let (spent, left) = state.groups.leave(&state.policy, permit, request);
+            Ok(served_whole(alloc, leave_reply(code_in(left)), Paid::one(spent)))
         }
         Err(refusal) => {
             let reply = leave_reply(refusal_code(&refusal));

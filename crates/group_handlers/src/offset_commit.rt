@@ -1,14 +1,14 @@
 //! OffsetCommit: offsets of partitions are committed for a group.
 
-ghost use Rattle.std.specs.Prelude.{◌≡◌, IfOk, OnOk};
+ghost use Rattle.std.specs.Prelude.{◌≡◌, [], IfOk, OnOk};
 ghost use Rattle.std.specs.Option.{option_copied};
 ghost use Rattle.acl_binding.specs.declared.words.Operation.TheVariants as operations;
 ghost use Rattle.group_offsets.specs.Groups.{MayUse};
 ghost use Rattle.group_handlers.specs.OffsetCommit.{offset_of, committed_code, code_by, groups_by, offset_commit_outcome};
 
 use acl_binding::{Caller, Kind, Operation};
-use authorizer::{Permit, Policy, TwoPermits, ask_two};
-use broker_world::{Outcome, State, Topics, code_in, read_question};
+use authorizer::{Paid, Permit, Policy, Spent, TwoPermits, ask_two};
+use broker_world::{Outcome, State, Topics, code_in, read_question, served_in_parts};
 use group_offsets::{Groups, PartitionOffset};
 use msg_admin::Reply;
 use msg_group::{CommittedOffset, OffsetCommitReply, OffsetCommitRequest, OffsetToCommit};
@@ -28,9 +28,12 @@ pub(crate) struct Committing<'a> {
 }
 
 impl<'a> PartApi<OffsetToCommit, CommittedOffset, Groups> for Committing<'a> {
+    ghost use Rattle.std.specs.Prelude.{false};
     ghost use Rattle.group_handlers.specs.OffsetCommit.{commit_rule};
 
     ghost rule = { λ api. commit_rule api.caller.now (record { group = api.group.now; generation = api.generation; member = api.member.now }) api.topics.now };
+
+    ghost cuts = { λ _. false };
 
     fn serve(
         &self,
@@ -45,10 +48,12 @@ impl<'a> PartApi<OffsetToCommit, CommittedOffset, Groups> for Committing<'a> {
         let topic = self.caller.asks(Operation::Read, Kind::Topic, name)?;
         match ask_two(policy, group, topic) {
             Ok(TwoPermits { first, second }) => {
-                second.spend(policy);
+                let topic = second.spend(policy);
                 let log = self.topics.log(name, part.index);
-                let answer = self.commit(alloc, policy, first, groups, log, name, part, offset)?;
-                Ok(Part::served(answer))
+                let (group, answer) = self.commit(
+                    alloc, policy, first, groups, log, name, part, offset,
+                )?;
+                Ok(Part::served(answer, Paid::two(group, topic)))
             }
             Err(refusal) => {
                 let answer = committed_code(refusal_code(&refusal), part);
@@ -70,21 +75,22 @@ impl<'a> Committing<'a> {
         name: &Text,
         part: &OffsetToCommit,
         offset: PartitionOffset,
-    ) -> Result<CommittedOffset, AllocError>
+    ) -> Result<(Spent, CommittedOffset), AllocError>
         requires permit { MayUse policy.now operations.Read self.now.group.now permit }
         requires offset { offset ≡ offset_of name.now part.now }
+        ensures spent { IfOk result (λ r. r.0 ≡ permit.question) }
         ensures groups { OnOk result (groups.new ≡ groups_by (record { group = self.now.group.now; generation = self.now.generation; member = self.now.member.now }) groups.old name.now part.now (option_copied log.entry)) }
-        ensures answer { IfOk result (λ answer. answer ≡ committed_code (code_by (record { group = self.now.group.now; generation = self.now.generation; member = self.now.member.now }) groups.old name.now part.now (option_copied log.entry)) part.now) }
+        ensures answer { IfOk result (λ r. r.1 ≡ committed_code (code_by (record { group = self.now.group.now; generation = self.now.generation; member = self.now.member.now }) groups.old name.now part.now (option_copied log.entry)) part.now) }
     {
         if log.is_none() {
-            permit.spend(policy);
-            return Ok(committed_code(ErrorCode::UnknownTopicOrPartition, part));
+            let answer = committed_code(ErrorCode::UnknownTopicOrPartition, part);
+            return Ok((permit.spend(policy), answer));
         }
         let (generation, member) = (self.generation, self.member);
-        let committed = groups.commit(
+        let (spent, committed) = groups.commit(
             alloc, policy, permit, self.group, generation, member, offset,
-        )?;
-        Ok(committed_code(code_in(committed), part))
+        );
+        Ok((spent, committed_code(code_in(committed?), part)))
     }
 }
 
@@ -117,6 +123,7 @@ pub fn answer_offset_commit(
     ensures world { OnOk result (state.new ≡ (offset_commit_outcome state.old caller.now request.now).world) }
     ensures reply { IfOk result (λ o. o.reply ≡ (offset_commit_outcome state.old caller.now request.now).reply) }
     ensures refusals { IfOk result (λ o. o.refusals ≡ (offset_commit_outcome state.old caller.now request.now).refusals) }
+    ensures paid { IfOk result (λ o. o.paid ≡ []) }
 {
     let api = Committing {
         caller,
@@ -127,10 +134,8 @@ pub fn answer_offset_commit(
     };
     let topics = request.topics.as_slice();
     let walked = walk(alloc, &api, &state.policy, &mut state.groups, topics)?;
-    Ok(Outcome {
-        reply: Reply::OffsetCommit(OffsetCommitReply {
-            topics: walked.topics,
-        }),
-        refusals: walked.refusals,
-    })
+    let reply = OffsetCommitReply {
+        topics: walked.topics,
+    };
+    Ok(served_in_parts(Reply::OffsetCommit(reply), walked.refusals))
 }

@@ -1,12 +1,15 @@
 //! OffsetFetch: the committed offsets of a group.
 
-ghost use Rattle.std.specs.Prelude.{◌≡◌, ◌≤◌, ◌<◌, ◌^◌, ◌++◌, pos, IfOk, OnOk};
-ghost use Rattle.authorizer.specs.Asking.{policy_rules};
-ghost use Rattle.group_handlers.specs.OffsetFetch.{group_question, fetched_code, fetched_at, fetched_offset, fetch_reply, told_at, told_from, told_topic, told_topics, fetched_outcome, offset_fetch_outcome};
+ghost use Rattle.std.specs.Prelude.{◌≡◌, ◌≤◌, ◌<◌, ◌^◌, ◌∷◌, [], ◌++◌, false, length, pos, IfOk, OnOk};
+ghost use Rattle.authorizer.specs.Asking.{policy_rules, part_paid};
+ghost use Rattle.walk.specs.Steps.{ending_by};
+ghost use Rattle.broker_world.specs.World.{rules_of};
+ghost use Rattle.broker_world.specs.Questions.{topic_part, topic_refusal};
+ghost use Rattle.group_handlers.specs.OffsetFetch.{group_question, fetched_code, fetched_at, fetched_offset, fetch_reply, told_at, told_from, told_as, told_topic, told_topics, fetched_outcome, offset_fetch_outcome};
 ghost use Rattle.group_offsets.specs.Offsets.{fetched};
 
 use acl_binding::{Caller, Kind, Operation, Question};
-use authorizer::{Policy, ask_one};
+use authorizer::{Paid, Policy, ask_one};
 use broker_world::{Outcome, Slot, State, refused_whole, served_whole};
 use group_offsets::{Offsets, PartitionOffset};
 use msg_admin::Reply;
@@ -24,9 +27,12 @@ pub(crate) struct Telling<'a> {
 }
 
 impl<'a> PartApi<i32, FetchedOffset, ()> for Telling<'a> {
+    ghost use Rattle.std.specs.Prelude.{false};
     ghost use Rattle.group_handlers.specs.OffsetFetch.{offset_rule};
 
     ghost rule = { λ api. offset_rule api.caller.now api.offsets.now api.stable };
+
+    ghost cuts = { λ _. false };
 
     fn serve(
         &self,
@@ -39,9 +45,9 @@ impl<'a> PartApi<i32, FetchedOffset, ()> for Telling<'a> {
         let topic = self.caller.asks(Operation::Describe, Kind::Topic, name)?;
         match ask_one(policy, topic) {
             Ok(permit) => {
-                permit.spend(policy);
+                let paid = Paid::one(permit.spend(policy));
                 let answer = fetched(alloc, self.offsets, self.stable, name, *part)?;
-                Ok(Part::served(answer))
+                Ok(Part::served(answer, paid))
             }
             Err(refusal) => {
                 let answer = fetched_code(alloc, refusal_code(&refusal), *part)?;
@@ -146,7 +152,25 @@ fn push_told(
     Ok(())
 }
 
-/// What is told of a topic, if it may be described and something is told.
+/// What is told of a topic, permission aside, if something is.
+fn told_as(
+    alloc: Global,
+    offsets: &Offsets,
+    stable: bool,
+    slot: &Slot,
+) -> Result<Option<Topic<FetchedOffset>>, AllocError>
+    ensures { IfOk result (λ told. told ≡ told_as slot.now.name (told_from offsets.now stable slot.now.name 0 (length slot.now.partitions))) }
+{
+    let count = slot.partitions.len();
+    let partitions = told_from(alloc, offsets, stable, &slot.name, count)?;
+    if partitions.len() == 0 {
+        return Ok(None);
+    }
+    let name = slot.name.clone()?;
+    Ok(Some(Topic { name, partitions }))
+}
+
+/// What is told of a topic, if it may be described and something is told. That it may not is told to nobody.
 fn told_topic(
     alloc: Global,
     caller: &Caller,
@@ -154,22 +178,18 @@ fn told_topic(
     offsets: &Offsets,
     stable: bool,
     slot: &Slot,
-) -> Result<Option<Topic<FetchedOffset>>, AllocError>
-    ensures { IfOk result (λ told. told ≡ told_topic (policy_rules policy.now) caller.now offsets.now stable slot.now) }
+) -> Result<Part<Option<Topic<FetchedOffset>>>, AllocError>
+    ensures answer { IfOk result (λ part. part.answer ≡ told_topic (policy_rules policy.now) caller.now offsets.now stable slot.now) }
+    ensures ending { IfOk result (λ part. part.ending ≡ ending_by false (topic_refusal (policy_rules policy.now) caller.now slot.now.name) (topic_part caller.now slot.now.name)) }
 {
     let question = caller.asks(Operation::Describe, Kind::Topic, &slot.name)?;
     match ask_one(policy, question) {
         Ok(permit) => {
-            permit.spend(policy);
-            let count = slot.partitions.len();
-            let partitions = told_from(alloc, offsets, stable, &slot.name, count)?;
-            if partitions.len() == 0 {
-                return Ok(None);
-            }
-            let name = slot.name.clone()?;
-            Ok(Some(Topic { name, partitions }))
+            let paid = Paid::one(permit.spend(policy));
+            let told = told_as(alloc, offsets, stable, slot)?;
+            Ok(Part::served(told, paid))
         }
-        Err(_refusal) => Ok(None),
+        Err(refusal) => Ok(Part::refused(None, refusal)),
     }
 }
 
@@ -187,7 +207,7 @@ fn told_topics(
     let mut topics = Items::new(alloc);
     for slot in slots {
         let told = told_topic(alloc, caller, policy, offsets, stable, slot)?;
-        topics.push_some(told)?;
+        topics.push_some(told.answer)?;
     }
     Ok(topics)
 }
@@ -201,13 +221,14 @@ pub fn answer_offset_fetch(
 ) -> Result<Outcome, AllocError>
     ensures reply { IfOk result (λ o. o.reply ≡ (offset_fetch_outcome state.now caller.now request.now).reply) }
     ensures refusals { IfOk result (λ o. o.refusals ≡ (offset_fetch_outcome state.now caller.now request.now).refusals) }
+    ensures paid { IfOk result (λ o. o.paid ≡ part_paid (rules_of state.now) (group_question caller.now request.now.group ∷ [])) }
 {
     let question = group_question(caller, &request.group)?;
     let policy = state.policy();
     match ask_one(policy, question) {
         Ok(permit) => {
-            let offsets = state.groups.fetch(policy, permit, &request.group);
-            fetched_offsets(alloc, state, caller, offsets, request)
+            let (spent, offsets) = state.groups.fetch(policy, permit, &request.group);
+            fetched_offsets(alloc, state, caller, offsets, request, Paid::one(spent))
         }
         Err(refusal) => {
             let reply = fetch_reply(refusal_code(&refusal), Items::new(alloc));
@@ -216,16 +237,18 @@ pub fn answer_offset_fetch(
     }
 }
 
-/// The answer from a group's offsets.
+/// The answer from a group's offsets, for which this was spent.
 fn fetched_offsets(
     alloc: Global,
     state: &State,
     caller: &Caller,
     offsets: &Offsets,
     request: &OffsetFetchRequest,
+    paid: Paid,
 ) -> Result<Outcome, AllocError>
     ensures reply { IfOk result (λ o. o.reply ≡ (fetched_outcome state.now caller.now offsets.now request.now.require_stable request.now.topics).reply) }
     ensures refusals { IfOk result (λ o. o.refusals ≡ (fetched_outcome state.now caller.now offsets.now request.now.require_stable request.now.topics).refusals) }
+    ensures paid { IfOk result (λ o. o.paid ≡ paid) }
 {
     let stable = request.require_stable;
     let policy = state.policy();
@@ -233,7 +256,8 @@ fn fetched_offsets(
         None => {
             let slots = state.topics().slots();
             let topics = told_topics(alloc, caller, policy, offsets, stable, slots)?;
-            Ok(served_whole(alloc, fetch_reply(ErrorCode::None, topics)))
+            let reply = fetch_reply(ErrorCode::None, topics);
+            Ok(served_whole(alloc, reply, paid))
         }
         Some(topics) => {
             let api = Telling {
@@ -245,6 +269,7 @@ fn fetched_offsets(
             Ok(Outcome {
                 reply: fetch_reply(ErrorCode::None, walked.topics),
                 refusals: walked.refusals,
+                paid,
             })
         }
     }

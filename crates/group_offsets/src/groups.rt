@@ -10,7 +10,7 @@ use crate::event::{OffsetEvent, PartitionOffset};
 use crate::group::Group;
 use crate::member::Joined;
 use crate::offsets::Offsets;
-use authorizer::{Permit, Policy};
+use authorizer::{Permit, Policy, Spent};
 use bytes::Bytes;
 use msg_group::{HeartbeatRequest, JoinGroupRequest, LeaveGroupRequest, SyncGroupRequest};
 use record_batch::Outcome;
@@ -66,14 +66,32 @@ impl Groups {
         request: &JoinGroupRequest,
         place: u64,
         moment: u64,
-    ) -> Result<Result<Joined, ErrorCode>, AllocError>
+    ) -> (Spent, Result<Result<Joined, ErrorCode>, AllocError>)
         requires permit { MayUse policy.now operations.Read request.now.group permit }
+        requires generation { (group_of self.old request.now.group).generation <ℤ pos 2147483647 }
+        ensures spent { result.0 ≡ permit.question }
+        ensures groups { OnOk result.1 (self.new ≡ turned self.old (join self.old request.now place moment)) }
+        ensures answer { IfOk result.1 (λ answer. answer ≡ answered (join self.old request.now place moment)) }
+        ensures err { OnErr result.1 (self.new ≡ self.old) }
+    {
+        (
+            permit.spend(policy),
+            self.join_group(alloc, request, place, moment),
+        )
+    }
+
+    fn join_group(
+        &mut self,
+        alloc: Global,
+        request: &JoinGroupRequest,
+        place: u64,
+        moment: u64,
+    ) -> Result<Result<Joined, ErrorCode>, AllocError>
         requires generation { (group_of self.old request.now.group).generation <ℤ pos 2147483647 }
         ensures groups { OnOk result (self.new ≡ turned self.old (join self.old request.now place moment)) }
         ensures answer { IfOk result (λ answer. answer ≡ answered (join self.old request.now place moment)) }
         ensures err { OnErr result (self.new ≡ self.old) }
     {
-        permit.spend(policy);
         if let Some(at) = place_of(&self.groups, &request.group) {
             return self.groups[at].join(alloc, request, place, moment);
         }
@@ -90,13 +108,25 @@ impl Groups {
         permit: Permit,
         request: &SyncGroupRequest,
         moment: u64,
-    ) -> Result<Result<Bytes, ErrorCode>, AllocError>
+    ) -> (Spent, Result<Result<Bytes, ErrorCode>, AllocError>)
         requires { MayUse policy.now operations.Read request.now.group permit }
+        ensures spent { result.0 ≡ permit.question }
+        ensures groups { OnOk result.1 (self.new ≡ turned self.old (sync self.old request.now moment)) }
+        ensures answer { IfOk result.1 (λ answer. answer ≡ answered (sync self.old request.now moment)) }
+        ensures err { OnErr result.1 (self.new ≡ self.old) }
+    {
+        (permit.spend(policy), self.sync_group(request, moment))
+    }
+
+    fn sync_group(
+        &mut self,
+        request: &SyncGroupRequest,
+        moment: u64,
+    ) -> Result<Result<Bytes, ErrorCode>, AllocError>
         ensures groups { OnOk result (self.new ≡ turned self.old (sync self.old request.now moment)) }
         ensures answer { IfOk result (λ answer. answer ≡ answered (sync self.old request.now moment)) }
         ensures err { OnErr result (self.new ≡ self.old) }
     {
-        permit.spend(policy);
         match place_of(&self.groups, &request.group) {
             Some(at) => self.groups[at].sync(request, moment),
             None => Ok(Err(nobody(&request.group))),
@@ -110,12 +140,19 @@ impl Groups {
         permit: Permit,
         request: &HeartbeatRequest,
         moment: u64,
-    ) -> Result<(), ErrorCode>
+    ) -> (Spent, Result<(), ErrorCode>)
         requires { MayUse policy.now operations.Read request.now.group permit }
+        ensures spent { result.0 ≡ permit.question }
+        ensures groups { self.new ≡ turned self.old (beat self.old request.now moment) }
+        ensures answer { result.1 ≡ answered (beat self.old request.now moment) }
+    {
+        (permit.spend(policy), self.beat_group(request, moment))
+    }
+
+    fn beat_group(&mut self, request: &HeartbeatRequest, moment: u64) -> Result<(), ErrorCode>
         ensures groups { self.new ≡ turned self.old (beat self.old request.now moment) }
         ensures answer { result ≡ answered (beat self.old request.now moment) }
     {
-        permit.spend(policy);
         match place_of(&self.groups, &request.group) {
             Some(at) => self.groups[at].beat(request, moment),
             None => Err(nobody(&request.group)),
@@ -128,12 +165,19 @@ impl Groups {
         policy: &Policy,
         permit: Permit,
         request: &LeaveGroupRequest,
-    ) -> Result<(), ErrorCode>
+    ) -> (Spent, Result<(), ErrorCode>)
         requires { MayUse policy.now operations.Read request.now.group permit }
+        ensures spent { result.0 ≡ permit.question }
+        ensures groups { self.new ≡ turned self.old (leave self.old request.now) }
+        ensures answer { result.1 ≡ answered (leave self.old request.now) }
+    {
+        (permit.spend(policy), self.leave_group(request))
+    }
+
+    fn leave_group(&mut self, request: &LeaveGroupRequest) -> Result<(), ErrorCode>
         ensures groups { self.new ≡ turned self.old (leave self.old request.now) }
         ensures answer { result ≡ answered (leave self.old request.now) }
     {
-        permit.spend(policy);
         match place_of(&self.groups, &request.group) {
             Some(at) => self.groups[at].leave(request),
             None => Err(nobody(&request.group)),
@@ -150,13 +194,32 @@ impl Groups {
         generation: i32,
         member: &Text,
         offset: PartitionOffset,
-    ) -> Result<Result<(), ErrorCode>, AllocError>
+    ) -> (Spent, Result<Result<(), ErrorCode>, AllocError>)
         requires { MayUse policy.now operations.Read name.now permit }
+        ensures spent { result.0 ≡ permit.question }
+        ensures groups { OnOk result.1 (self.new ≡ turned self.old (commit self.old name.now generation member.now offset)) }
+        ensures answer { IfOk result.1 (λ answer. answer ≡ answered (commit self.old name.now generation member.now offset)) }
+        ensures err { OnErr result.1 (self.new ≡ self.old) }
+    {
+        let spent = permit.spend(policy);
+        (
+            spent,
+            self.commit_offset(alloc, name, generation, member, offset),
+        )
+    }
+
+    fn commit_offset(
+        &mut self,
+        alloc: Global,
+        name: &Text,
+        generation: i32,
+        member: &Text,
+        offset: PartitionOffset,
+    ) -> Result<Result<(), ErrorCode>, AllocError>
         ensures groups { OnOk result (self.new ≡ turned self.old (commit self.old name.now generation member.now offset)) }
         ensures answer { IfOk result (λ answer. answer ≡ answered (commit self.old name.now generation member.now offset)) }
         ensures err { OnErr result (self.new ≡ self.old) }
     {
-        permit.spend(policy);
         if let Some(at) = place_of(&self.groups, name) {
             return self.groups[at].commit(generation, member, offset);
         }
@@ -177,13 +240,32 @@ impl Groups {
         generation: i32,
         member: &Text,
         offset: PartitionOffset,
-    ) -> Result<Result<(), ErrorCode>, AllocError>
+    ) -> (Spent, Result<Result<(), ErrorCode>, AllocError>)
         requires { MayUse policy.now operations.Read name.now permit }
+        ensures spent { result.0 ≡ permit.question }
+        ensures groups { OnOk result.1 (self.new ≡ turned self.old (stage self.old name.now producer generation member.now offset)) }
+        ensures answer { IfOk result.1 (λ answer. answer ≡ answered (stage self.old name.now producer generation member.now offset)) }
+        ensures err { OnErr result.1 (self.new ≡ self.old) }
+    {
+        (
+            permit.spend(policy),
+            self.stage_offset(alloc, name, producer, generation, member, offset),
+        )
+    }
+
+    fn stage_offset(
+        &mut self,
+        alloc: Global,
+        name: &Text,
+        producer: i64,
+        generation: i32,
+        member: &Text,
+        offset: PartitionOffset,
+    ) -> Result<Result<(), ErrorCode>, AllocError>
         ensures groups { OnOk result (self.new ≡ turned self.old (stage self.old name.now producer generation member.now offset)) }
         ensures answer { IfOk result (λ answer. answer ≡ answered (stage self.old name.now producer generation member.now offset)) }
         ensures err { OnErr result (self.new ≡ self.old) }
     {
-        permit.spend(policy);
         if let Some(at) = place_of(&self.groups, name) {
             return self.groups[at].stage(producer, generation, member, offset);
         }
@@ -214,11 +296,17 @@ impl Groups {
     }
 
     /// What is committed and staged for a group. It needs a permit of DESCRIBE.
-    pub fn fetch(&self, policy: &Policy, permit: Permit, name: &Text) -> &Offsets
+    pub fn fetch(&self, policy: &Policy, permit: Permit, name: &Text) -> (Spent, &Offsets)
         requires { MayUse policy.now operations.Describe name.now permit }
+        ensures spent { result.0 ≡ permit.question }
+        ensures answer { result.1.now ≡ (group_of self.now name.now).offsets }
+    {
+        (permit.spend(policy), self.offsets_of(name))
+    }
+
+    fn offsets_of(&self, name: &Text) -> &Offsets
         ensures { result.now ≡ (group_of self.now name.now).offsets }
     {
-        permit.spend(policy);
         match place_of(&self.groups, name) {
             Some(at) => &self.groups[at].offsets,
             None => &self.nothing,

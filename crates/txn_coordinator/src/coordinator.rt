@@ -21,7 +21,7 @@ use crate::target::{Target, TopicPartition};
 use crate::transaction::{LAST_EPOCH, Transaction};
 use crate::turn::Turn;
 use crate::warrant::Warrant;
-use authorizer::{Permit, Policy};
+use authorizer::{Permit, Policy, Spent};
 use record_batch::Outcome;
 use std::alloc::{AllocError, Global};
 use std::marker::Model;
@@ -69,13 +69,30 @@ impl Coordinator {
         id: &Text,
         timeout: i32,
         greatest: i32,
-    ) -> Result<PairAnswer, AllocError>
+    ) -> (Spent, Result<PairAnswer, AllocError>)
         requires { MayWrite policy.now permit id.now }
+        ensures spent { result.0 ≡ permit.question }
+        ensures ok { OnOk result.1 (self.new ≡ turned self.old (init self.old id.now timeout greatest)) }
+        ensures answer { IfOk result.1 (λ answer. answer ≡ turn_answer self.old id.now (init self.old id.now timeout greatest)) }
+        ensures err { OnErr result.1 (self.new ≡ self.old) }
+    {
+        (
+            permit.spend(policy),
+            self.take_init(alloc, id, timeout, greatest),
+        )
+    }
+
+    fn take_init(
+        &mut self,
+        alloc: Global,
+        id: &Text,
+        timeout: i32,
+        greatest: i32,
+    ) -> Result<PairAnswer, AllocError>
         ensures ok { OnOk result (self.new ≡ turned self.old (init self.old id.now timeout greatest)) }
         ensures answer { IfOk result (λ answer. answer ≡ turn_answer self.old id.now (init self.old id.now timeout greatest)) }
         ensures err { OnErr result (self.new ≡ self.old) }
     {
-        permit.spend(policy);
         let turn = self.init_turn(alloc, id, timeout, greatest)?;
         let code = self.take(turn)?;
         Ok(self.answer(id, code))
@@ -91,13 +108,31 @@ impl Coordinator {
         pair: Pair,
         moment: u64,
         partitions: &[TopicPartition],
-    ) -> Result<ErrorCode, AllocError>
+    ) -> (Spent, Result<ErrorCode, AllocError>)
         requires { MayWrite policy.now permit id.now }
+        ensures spent { result.0 ≡ permit.question }
+        ensures ok { OnOk result.1 (self.new ≡ turned self.old (add_partitions self.old id.now pair moment partitions.now)) }
+        ensures code { IfOk result.1 (λ code. code ≡ turn_code (add_partitions self.old id.now pair moment partitions.now)) }
+        ensures err { OnErr result.1 (self.new ≡ self.old) }
+    {
+        (
+            permit.spend(policy),
+            self.take_partitions(alloc, id, pair, moment, partitions),
+        )
+    }
+
+    fn take_partitions(
+        &mut self,
+        alloc: Global,
+        id: &Text,
+        pair: Pair,
+        moment: u64,
+        partitions: &[TopicPartition],
+    ) -> Result<ErrorCode, AllocError>
         ensures ok { OnOk result (self.new ≡ turned self.old (add_partitions self.old id.now pair moment partitions.now)) }
         ensures code { IfOk result (λ code. code ≡ turn_code (add_partitions self.old id.now pair moment partitions.now)) }
         ensures err { OnErr result (self.new ≡ self.old) }
     {
-        permit.spend(policy);
         let turn = self.partitions_turn(alloc, id, pair, moment, partitions)?;
         self.take(turn)
     }
@@ -112,13 +147,31 @@ impl Coordinator {
         pair: Pair,
         moment: u64,
         group: &Text,
-    ) -> Result<ErrorCode, AllocError>
+    ) -> (Spent, Result<ErrorCode, AllocError>)
         requires { MayWrite policy.now permit id.now }
+        ensures spent { result.0 ≡ permit.question }
+        ensures ok { OnOk result.1 (self.new ≡ turned self.old (add_group self.old id.now pair moment group.now)) }
+        ensures code { IfOk result.1 (λ code. code ≡ turn_code (add_group self.old id.now pair moment group.now)) }
+        ensures err { OnErr result.1 (self.new ≡ self.old) }
+    {
+        (
+            permit.spend(policy),
+            self.take_group(alloc, id, pair, moment, group),
+        )
+    }
+
+    fn take_group(
+        &mut self,
+        alloc: Global,
+        id: &Text,
+        pair: Pair,
+        moment: u64,
+        group: &Text,
+    ) -> Result<ErrorCode, AllocError>
         ensures ok { OnOk result (self.new ≡ turned self.old (add_group self.old id.now pair moment group.now)) }
         ensures code { IfOk result (λ code. code ≡ turn_code (add_group self.old id.now pair moment group.now)) }
         ensures err { OnErr result (self.new ≡ self.old) }
     {
-        permit.spend(policy);
         let turn = self.group_turn(alloc, id, pair, moment, group)?;
         self.take(turn)
     }
@@ -133,16 +186,15 @@ impl Coordinator {
         id: &Text,
         pair: Pair,
         outcome: Outcome,
-    ) -> Result<PairAnswer, AllocError>
+    ) -> (Spent, Result<PairAnswer, AllocError>)
         requires { MayWrite policy.now permit id.now }
-        ensures ok { OnOk result (self.new ≡ turned self.old (end self.old form id.now pair outcome)) }
-        ensures answer { IfOk result (λ answer. answer ≡ turn_answer self.old id.now (end self.old form id.now pair outcome)) }
-        ensures err { OnErr result (self.new ≡ self.old) }
+        ensures spent { result.0 ≡ permit.question }
+        ensures ok { OnOk result.1 (self.new ≡ turned self.old (end self.old form id.now pair outcome)) }
+        ensures answer { IfOk result.1 (λ answer. answer ≡ turn_answer self.old id.now (end self.old form id.now pair outcome)) }
+        ensures err { OnErr result.1 (self.new ≡ self.old) }
     {
-        permit.spend(policy);
-        let turn = self.end_turn(alloc, form, id, pair, outcome)?;
-        let code = self.take(turn)?;
-        Ok(self.answer(id, code))
+        let spent = permit.spend(policy);
+        (spent, self.take_end(alloc, form, id, pair, outcome))
     }
 
     /// Gives a producer id out to no transactional id (InitProducerId with the null id).
@@ -354,6 +406,23 @@ impl Coordinator {
             Some(transaction) => transaction.ended(alloc, form, self.next_id(), pair, outcome),
             None => Ok(Turn::Stays(ErrorCode::InvalidProducerIdMapping)),
         }
+    }
+
+    fn take_end(
+        &mut self,
+        alloc: Global,
+        form: EndForm,
+        id: &Text,
+        pair: Pair,
+        outcome: Outcome,
+    ) -> Result<PairAnswer, AllocError>
+        ensures ok { OnOk result (self.new ≡ turned self.old (end self.old form id.now pair outcome)) }
+        ensures answer { IfOk result (λ answer. answer ≡ turn_answer self.old id.now (end self.old form id.now pair outcome)) }
+        ensures err { OnErr result (self.new ≡ self.old) }
+    {
+        let turn = self.end_turn(alloc, form, id, pair, outcome)?;
+        let code = self.take(turn)?;
+        Ok(self.answer(id, code))
     }
 
     /// Does what a call comes to. All that needs memory comes first.

@@ -1,22 +1,24 @@
--- An AddPartitionsToTxn that names no partition, and one of which no part is refused.
-use Rattle.std.proofs.Common.{◌≡◌, ℕ, ℤ, true, false, List, [], ◌∷◌, ◌++◌, None, refl, ap}
+-- An AddPartitionsToTxn that names no partition, and one of which no part is refused: it tells each the code of all.
+use Rattle.std.proofs.Common.{◌≡◌, ℕ, ℤ, true, false, List, [], ◌∷◌, ◌++◌, None, refl, ap, ◌∙◌}
 use Rattle.std.specs.Prelude.{◌||◌}
 use Rattle.acl_binding.specs.declared.question.Caller.{Caller}
 use Rattle.acl_binding.specs.declared.words.Kind.TheVariants as kinds
 use Rattle.acl_binding.specs.declared.words.Operation.TheVariants as operations
 use Rattle.acl_binding.specs.Verdict.{asked}
-use Rattle.authorizer.specs.Asking.{question_refusal}
+use Rattle.authorizer.specs.Asking.{Rules, question_refusal}
+use Rattle.wire_types.specs.declared.error_code.ErrorCode.{ErrorCode}
 use Rattle.wire_types.specs.declared.topic.Topic.{Topic}
 use Rattle.msg_txn.specs.declared.add_partitions.AddPartitionsToTxnRequest.{AddPartitionsToTxnRequest}
-use Rattle.walk.specs.Walk.{refusals}
+use Rattle.msg_txn.specs.declared.add_partitions.AddedPartition.{AddedPartition}
+use Rattle.walk.specs.Walk.{plain_parts_world, plain_parts, plain_topics, parts_refused, refusals}
 use Rattle.walk.specs.Woven.{has_any, has_part}
 use Rattle.walk.proofs.Granted.{first_granted as first_is_granted}
 use Rattle.txn_coordinator.specs.declared.target.TopicPartition.{TopicPartition}
 use Rattle.txn_coordinator.specs.Coordinator.{turned}
 use Rattle.txn_coordinator.specs.Adding.{add_partitions}
-use Rattle.broker_world.specs.World.{World, rules_of}
+use Rattle.broker_world.specs.World.{World, TopicValue, rules_of}
 use Rattle.broker_world.specs.Questions.{id_question}
-use Rattle.txn_handlers.specs.AddPartitions.{cut_rule, added_outcome, partitions_in, partitions_of}
+use Rattle.txn_handlers.specs.AddPartitions.{added_partition, cut_rule, told_rule, told_for, added_outcome, partitions_in, partitions_of}
 
 pub no_part : (ts : List (Topic ℤ)) → has_part ts ≡ false → partitions_of ts ≡ []
 no_part [] none = refl
@@ -32,3 +34,21 @@ id_granted w caller id ts some none =
 pub nothing_added : (w : World) (r : AddPartitionsToTxnRequest) → partitions_of r.topics ≡ [] → (added_outcome w r).world ≡ w
 nothing_added w r none =
     ap (λ (ps : List TopicPartition). record w { coordinator = turned w.coordinator (add_partitions w.coordinator r.transactional_id (record { producer = r.producer; epoch = r.epoch }) w.moment ps) }) none
+
+-- ---- what is told where nothing is refused
+
+-- the same is refused as where nothing would be added
+pub told_refused : (caller : Caller) (id : List ℕ) (code : ErrorCode) (topics : List TopicValue) (rules : Rules) (ts : List (Topic ℤ)) → refusals (told_for caller id code) rules ts ≡ refusals (cut_rule caller id topics) rules ts
+told_refused caller id code topics rules [] = refl
+told_refused caller id code topics rules (t ∷ ts) = ap (λ rest. parts_refused (cut_rule caller id topics) rules t.name t.partitions ++ rest) (told_refused caller id code topics rules ts)
+
+told_parts : (caller : Caller) (id : List ℕ) (code : ErrorCode) (w v : Unit {0}) (name : List ℕ) (indices : List ℤ) → plain_parts (told_for caller id code) w name indices ≡ plain_parts (told_rule code) v name indices
+told_parts caller id code w v name [] = refl
+told_parts caller id code w v name (index ∷ indices) = ap (λ l. added_partition code index ∷ l) (told_parts caller id code w v name indices)
+
+-- and whoever has asked, each is told the code
+pub told_topics : (caller : Caller) (id : List ℕ) (code : ErrorCode) (w v : Unit {0}) (ts : List (Topic ℤ)) → plain_topics (told_for caller id code) w ts ≡ plain_topics (told_rule code) v ts
+told_topics caller id code w v [] = refl
+told_topics caller id code w v (t ∷ ts) =
+    ap (λ (l : List (Topic AddedPartition)). record { name = t.name; partitions = plain_parts (told_for caller id code) w t.name t.partitions } ∷ l) (told_topics caller id code (plain_parts_world (told_for caller id code) w t.name t.partitions) (plain_parts_world (told_rule code) v t.name t.partitions) ts)
+    ∙ ap (λ (l : List AddedPartition). record { name = t.name; partitions = l } ∷ plain_topics (told_rule code) (plain_parts_world (told_rule code) v t.name t.partitions) ts) (told_parts caller id code w v t.name t.partitions)

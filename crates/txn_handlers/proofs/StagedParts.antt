@@ -14,15 +14,13 @@ use Rattle.msg_txn.specs.declared.txn_offset_commit.TxnOffsetCommitRequest.{TxnO
 use Rattle.msg_txn.specs.declared.txn_offset_commit.OffsetToStage.{OffsetToStage}
 use Rattle.msg_txn.specs.declared.txn_offset_commit.StagedOffset.{StagedOffset}
 use Rattle.walk.specs.Walk.{world_after, answers}
-use Rattle.walk.specs.Steps.{answer_by, world_by, part_done, part_world}
+use Rattle.walk.specs.Steps.{world_by, part_world}
 use Rattle.group_offsets.specs.declared.group.Group.{Group}
-use Rattle.group_offsets.specs.Turn.{answered}
 use Rattle.group_offsets.specs.Groups.{turned}
 use Rattle.broker_world.specs.World.{World, TopicValue, rules_of}
 use Rattle.broker_world.specs.Questions.{read_question}
-use Rattle.broker_world.specs.Codes.{code_in}
 use Rattle.broker_world.specs.Questions.{id_question}
-use Rattle.txn_handlers.specs.TxnOffsetCommit.{Staging, staging, stage_questions, staged_code, staging_refusal, stage_turn, stage_rule, txn_offset_commit_outcome}
+use Rattle.txn_handlers.specs.TxnOffsetCommit.{Staging, staging, stage_questions, staging_refusal, stage_turn, stage_rule, txn_offset_commit_outcome}
 
 pub granted_three : (rules : Rules) (caller : Caller) (s : Staging) (name : List ℕ) (first second third : Question) → first ≡ id_question caller s.id → second ≡ read_question caller s.group → third ≡ asked caller operations.Read kinds.Topic name
     → part_refusal rules (first ∷ second ∷ third ∷ []) ≡ None → part_refusal rules (stage_questions caller s name) ≡ None
@@ -34,9 +32,6 @@ granted_three rules caller s name first second third id group topic none =
 module _ (rules : Rules) (caller : Caller) (s : Staging) (refusal : Option ErrorCode) (topics : List TopicValue) (gs : List Group) (name : List ℕ) (p : OffsetToStage) (none : part_refusal rules (stage_questions caller s name) ≡ None) where
   pub staged_world : turned gs (stage_turn refusal topics s gs name p) ≡ part_world (stage_rule caller s refusal topics) rules gs name p
   staged_world = ap (λ (o : Option Refusal). world_by (stage_rule caller s refusal topics) o gs name p) (sym none)
-
-  pub staged_part : record { answer = staged_code (code_in (answered (stage_turn refusal topics s gs name p))) p; refusal = None } ≡ part_done (stage_rule caller s refusal topics) rules gs name p
-  staged_part = ap (λ (o : Option Refusal). record { answer = answer_by (stage_rule caller s refusal topics) o gs name p; refusal = o }) (sym none)
 
 -- ---- the whole request
 

@@ -67,7 +67,6 @@ is_cut caller id topics rules ts = has_any (refusals (cut_rule caller id topics)
 
 -- ---- any other: one code for all
 
--- nothing is asked any more
 abbrev pub told_rule : ErrorCode → PartRule ℤ AddedPartition (Unit {0})
 told_rule code = record {
   questions = λ name index. [];
@@ -78,6 +77,10 @@ told_rule code = record {
   room = λ w. 0;
   takes = λ w name index. zero-le;
 }
+
+-- who is told so has asked for each of them
+abbrev pub told_for : Caller → List ℕ → ErrorCode → PartRule ℤ AddedPartition (Unit {0})
+told_for caller id code = record (told_rule code) { questions = λ name index. add_questions caller id name }
 
 abbrev pub partitions_in : List ℕ → List ℤ → List TopicPartition
 partitions_in name indices = map (λ index. record { topic = name; index = index }) indices

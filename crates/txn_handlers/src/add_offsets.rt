@@ -1,12 +1,14 @@
 //! AddOffsetsToTxn: a group becomes part of a transaction.
 
 ghost use Rattle.std.specs.Prelude.{◌≡◌, IfOk, OnOk};
+ghost use Rattle.authorizer.specs.Asking.{part_paid};
+ghost use Rattle.broker_world.specs.World.{rules_of};
 ghost use Rattle.txn_coordinator.specs.Permission.{MayWrite as MayWriteId};
 ghost use Rattle.txn_coordinator.specs.Coordinator.{turned, turn_code};
-ghost use Rattle.txn_handlers.specs.AddOffsets.{add_offsets_reply, add_offsets_turn, add_offsets_outcome};
+ghost use Rattle.txn_handlers.specs.AddOffsets.{add_offsets_questions, add_offsets_reply, add_offsets_turn, add_offsets_outcome};
 
 use acl_binding::Caller;
-use authorizer::{Permit, Policy, TwoPermits, ask_two};
+use authorizer::{Paid, Permit, Policy, Spent, TwoPermits, ask_two};
 use broker_world::{Outcome, State, id_question, read_question, refused_whole, served_whole};
 use msg_admin::Reply;
 use msg_txn::{AddOffsetsToTxnReply, AddOffsetsToTxnRequest};
@@ -29,17 +31,20 @@ fn add_by(
     permit: Permit,
     moment: u64,
     request: &AddOffsetsToTxnRequest,
-) -> Result<ErrorCode, AllocError>
+) -> Result<(Spent, ErrorCode), AllocError>
     requires { MayWriteId policy.now permit request.now.transactional_id }
+    ensures spent { IfOk result (λ r. r.0 ≡ permit.question) }
     ensures coordinator { OnOk result (coordinator.new ≡ turned coordinator.old (add_offsets_turn coordinator.old moment request.now)) }
-    ensures code { IfOk result (λ code. code ≡ turn_code (add_offsets_turn coordinator.old moment request.now)) }
+    ensures code { IfOk result (λ r. r.1 ≡ turn_code (add_offsets_turn coordinator.old moment request.now)) }
 {
     let pair = Pair {
         producer: request.producer,
         epoch: request.epoch,
     };
     let id = &request.transactional_id;
-    coordinator.add_group(alloc, policy, permit, id, pair, moment, &request.group)
+    let group = &request.group;
+    let (spent, code) = coordinator.add_group(alloc, policy, permit, id, pair, moment, group);
+    Ok((spent, code?))
 }
 
 /// What an AddOffsetsToTxn does and is answered.
@@ -52,16 +57,17 @@ pub fn answer_add_offsets(
     ensures world { OnOk result (state.new ≡ (add_offsets_outcome state.old caller.now request.now).world) }
     ensures reply { IfOk result (λ o. o.reply ≡ (add_offsets_outcome state.old caller.now request.now).reply) }
     ensures refusals { IfOk result (λ o. o.refusals ≡ (add_offsets_outcome state.old caller.now request.now).refusals) }
+    ensures paid { IfOk result (λ o. o.paid ≡ part_paid (rules_of state.old) (add_offsets_questions caller.now request.now.transactional_id request.now.group)) }
 {
     let id = id_question(caller, &request.transactional_id)?;
     let group = read_question(caller, &request.group)?;
     let moment = state.moment.milliseconds();
     match ask_two(&state.policy, id, group) {
         Ok(TwoPermits { first, second }) => {
-            second.spend(&state.policy);
             let (coordinator, policy) = (&mut state.coordinator, &state.policy);
-            let code = add_by(alloc, coordinator, policy, first, moment, request)?;
-            Ok(served_whole(alloc, add_offsets_reply(code)))
+            let group = second.spend(policy);
+            let (id, code) = add_by(alloc, coordinator, policy, first, moment, request)?;
+            Ok(served_whole(alloc, add_offsets_reply(code), Paid::two(id, group)))
         }
         Err(refusal) => {
             let reply = add_offsets_reply(refusal_code(&refusal));

@@ -7,20 +7,21 @@ ghost use Rattle.authorizer.specs.Policy.{IsGranted};
 ghost use Rattle.walk.specs.Walk.{plain_topics, answers, refusals};
 ghost use Rattle.txn_coordinator.specs.Coordinator.{turn_code};
 ghost use Rattle.broker_world.specs.World.{rules_of};
-ghost use Rattle.txn_handlers.specs.AddPartitions.{added_partition, cut_code, is_missing_in, is_missing, cut_rule, told_rule, partitions_in, partitions_of, add_turn, add_reply, added_outcome, add_partitions_outcome};
+ghost use Rattle.txn_handlers.specs.AddPartitions.{added_partition, cut_code, is_missing_in, is_missing, cut_rule, told_rule, told_for, partitions_in, partitions_of, add_turn, add_reply, added_outcome, add_partitions_outcome};
 
 use acl_binding::{Caller, Kind, Operation, Question};
 use authorizer::{Permit, Policy, TwoPermits, ask_one, ask_two};
-use broker_world::{Outcome, State, Topics, id_question, served_whole};
+use broker_world::{Outcome, State, Topics, id_question, served_in_parts};
 use msg_admin::Reply;
 use msg_txn::{AddPartitionsToTxnReply, AddPartitionsToTxnRequest, AddedPartition};
 use partition_log::Log;
 use std::alloc::{AllocError, Global};
 use txn_coordinator::{Pair, TopicPartition};
-use walk::{Part, PartApi, Walked, has_part, refusal_code, walk, walk_plain};
+use walk::{Part, PartApi, Walked, has_part, refusal_code, walk_cut, walk_granted};
 use wire_types::{ErrorCode, Items, Text, Topic};
 
-/// Who asks to add partitions to the transaction of an id, and what partitions there are. Nothing is added.
+/// Who asks to add partitions to the transaction of an id, and what partitions there are. Nothing is added, and nothing
+/// spent.
 #[derive(Drop)]
 pub(crate) struct Cutting<'a> {
     pub(crate) caller: &'a Caller,
@@ -29,9 +30,12 @@ pub(crate) struct Cutting<'a> {
 }
 
 impl<'a> PartApi<i32, AddedPartition, ()> for Cutting<'a> {
+    ghost use Rattle.std.specs.Prelude.{true};
     ghost use Rattle.txn_handlers.specs.AddPartitions.{cut_rule};
 
     ghost rule = { λ api. cut_rule api.caller.now api.id.now api.topics.now };
+
+    ghost cuts = { λ _. true };
 
     fn serve(
         &self,
@@ -45,10 +49,10 @@ impl<'a> PartApi<i32, AddedPartition, ()> for Cutting<'a> {
         let topic = self.caller.asks(Operation::Write, Kind::Topic, name)?;
         match ask_two(policy, id, topic) {
             Ok(TwoPermits { first, second }) => {
-                first.spend(policy);
-                second.spend(policy);
+                first.decline();
+                second.decline();
                 let code = cut_code(self.topics.log(name, *part));
-                Ok(Part::served(added_partition(code, *part)))
+                Ok(Part::cut(added_partition(code, *part)))
             }
             Err(refusal) => {
                 let answer = added_partition(refusal_code(&refusal), *part);
@@ -58,26 +62,42 @@ impl<'a> PartApi<i32, AddedPartition, ()> for Cutting<'a> {
     }
 }
 
-/// Tells each partition one code.
+/// Who has added partitions to the transaction of an id, and the code that each of them is told.
 #[derive(Drop)]
-struct Telling {
+struct Telling<'a> {
+    caller: &'a Caller,
+    id: &'a Text,
     code: ErrorCode,
 }
 
-impl PartApi<i32, AddedPartition, ()> for Telling {
-    ghost use Rattle.txn_handlers.specs.AddPartitions.{told_rule};
+impl<'a> PartApi<i32, AddedPartition, ()> for Telling<'a> {
+    ghost use Rattle.std.specs.Prelude.{false};
+    ghost use Rattle.txn_handlers.specs.AddPartitions.{told_for};
 
-    ghost rule = { λ api. told_rule api.code };
+    ghost rule = { λ api. told_for api.caller.now api.id.now api.code };
+
+    ghost cuts = { λ _. false };
 
     fn serve(
         &self,
         _alloc: Global,
-        _policy: &Policy,
+        policy: &Policy,
         _world: &mut (),
-        _name: &Text,
+        name: &Text,
         part: &i32,
     ) -> Result<Part<AddedPartition>, AllocError> {
-        Ok(Part::served(added_partition(self.code, *part)))
+        let id = id_question(self.caller, self.id)?;
+        let topic = self.caller.asks(Operation::Write, Kind::Topic, name)?;
+        match ask_two(policy, id, topic) {
+            Ok(permits) => {
+                let answer = added_partition(self.code, *part);
+                Ok(Part::served(answer, permits.spend(policy)))
+            }
+            Err(refusal) => {
+                let answer = added_partition(refusal_code(&refusal), *part);
+                Ok(Part::refused(answer, refusal))
+            }
+        }
     }
 }
 
@@ -149,16 +169,20 @@ fn add_reply(topics: Items<Topic<AddedPartition>>) -> Reply
     })
 }
 
-/// The reply that tells each partition one code.
+/// The reply that tells each partition one code. None is refused, and the permits of all are spent.
 fn told(
     alloc: Global,
     policy: &Policy,
+    caller: &Caller,
+    id: &Text,
     code: ErrorCode,
     named: &[Topic<i32>],
 ) -> Result<Reply, AllocError>
+    requires { refusals (told_for caller.now id.now code) (policy_rules policy.now) named.now ≡ [] }
     ensures { IfOk result (λ reply. reply ≡ add_reply (plain_topics (told_rule code) tt named.now)) }
 {
-    let topics = walk_plain(alloc, &Telling { code }, policy, &mut (), named)?;
+    let api = Telling { caller, id, code };
+    let topics = walk_granted(alloc, &api, policy, &mut (), named)?;
     Ok(add_reply(topics))
 }
 
@@ -183,18 +207,17 @@ pub fn answer_add_partitions(
     ensures world { OnOk result (state.new ≡ (add_partitions_outcome state.old caller.now request.now).world) }
     ensures reply { IfOk result (λ o. o.reply ≡ (add_partitions_outcome state.old caller.now request.now).reply) }
     ensures refusals { IfOk result (λ o. o.refusals ≡ (add_partitions_outcome state.old caller.now request.now).refusals) }
+    ensures paid { IfOk result (λ o. o.paid ≡ []) }
 {
     let named = request.topics.as_slice();
     let cut = cut(alloc, state, caller, request)?;
     if cut.refusals.len() != 0 || is_missing(&state.topics, named) {
-        return Ok(Outcome {
-            reply: add_reply(cut.topics),
-            refusals: cut.refusals,
-        });
+        return Ok(served_in_parts(add_reply(cut.topics), cut.refusals));
     }
     let code = add_all(alloc, state, caller, request)?;
-    let reply = told(alloc, &state.policy, code, named)?;
-    Ok(served_whole(alloc, reply))
+    let id = &request.transactional_id;
+    let reply = told(alloc, &state.policy, caller, id, code, named)?;
+    Ok(served_in_parts(reply, cut.refusals))
 }
 
 /// The answers where nothing is added, and what is refused.
@@ -212,13 +235,7 @@ fn cut(
         id: &request.transactional_id,
         topics: state.topics(),
     };
-    walk(
-        alloc,
-        &api,
-        state.policy(),
-        &mut (),
-        request.topics.as_slice(),
-    )
+    walk_cut(alloc, &api, state.policy(), request.topics.as_slice())
 }
 
 /// Adds all the partitions, none of which was refused.
@@ -244,6 +261,15 @@ fn add_all(
     let moment = state.moment.milliseconds();
     let question = id_question(caller, id)?;
     let permit = granted(&state.policy, question);
-    let coordinator = &mut state.coordinator;
-    coordinator.add_partitions(alloc, &state.policy, permit, id, pair, moment, &partitions)
+    let (coordinator, policy) = (&mut state.coordinator, &state.policy);
+    let (_spent, code) = coordinator.add_partitions(
+        alloc,
+        policy,
+        permit,
+        id,
+        pair,
+        moment,
+        &partitions,
+    );
+    code
 }

@@ -1,10 +1,12 @@
 //! InitProducerId: a producer, or a transactional id, is given a producer id with an epoch.
 
-ghost use Rattle.std.specs.Prelude.{◌≡◌, IfOk, OnOk};
+ghost use Rattle.std.specs.Prelude.{◌≡◌, ◌∷◌, [], IfOk, OnOk};
+ghost use Rattle.authorizer.specs.Asking.{part_paid};
+ghost use Rattle.broker_world.specs.World.{rules_of};
 ghost use Rattle.txn_handlers.specs.InitProducerId.{IsInitPermit, init_question, init_given, init_error, init_answered, init_reply, coordinator_after, init_producer_id_outcome};
 
 use acl_binding::{Caller, Kind, Operation, Question};
-use authorizer::{Permit, Policy, ask_one};
+use authorizer::{Paid, Permit, Policy, Spent, ask_one};
 use broker_world::{Outcome, State, asks_cluster, refused_whole, served_whole};
 use msg_admin::Reply;
 use msg_txn::{InitProducerIdReply, InitProducerIdRequest};
@@ -67,14 +69,15 @@ pub fn answer_init_producer_id(
     ensures world { OnOk result (state.new ≡ (init_producer_id_outcome state.old caller.now request.now).world) }
     ensures reply { IfOk result (λ o. o.reply ≡ (init_producer_id_outcome state.old caller.now request.now).reply) }
     ensures refusals { IfOk result (λ o. o.refusals ≡ (init_producer_id_outcome state.old caller.now request.now).refusals) }
+    ensures paid { IfOk result (λ o. o.paid ≡ part_paid (rules_of state.old) (init_question caller.now request.now.transactional_id ∷ [])) }
 {
     let question = init_question(alloc, caller, &request.transactional_id)?;
     match ask_one(&state.policy, question) {
         Ok(permit) => {
-            let coordinator = &mut state.coordinator;
+            let (coordinator, policy) = (&mut state.coordinator, &state.policy);
             let greatest = state.node.max_txn_timeout;
-            let reply = initialize(alloc, coordinator, &state.policy, permit, greatest, request)?;
-            Ok(served_whole(alloc, reply))
+            let (spent, reply) = initialize(alloc, coordinator, policy, permit, greatest, request)?;
+            Ok(served_whole(alloc, reply, Paid::one(spent)))
         }
         Err(refusal) => {
             let reply = init_error(refusal_code(&refusal));
@@ -91,19 +94,21 @@ fn initialize(
     permit: Permit,
     greatest: i32,
     request: &InitProducerIdRequest,
-) -> Result<Reply, AllocError>
+) -> Result<(Spent, Reply), AllocError>
     requires { IsInitPermit policy.now permit request.now.transactional_id }
+    ensures spent { IfOk result (λ r. r.0 ≡ permit.question) }
     ensures coordinator { OnOk result (coordinator.new ≡ coordinator_after coordinator.old greatest request.now) }
-    ensures reply { IfOk result (λ reply. reply ≡ init_reply coordinator.old greatest request.now) }
+    ensures reply { IfOk result (λ r. r.1 ≡ init_reply coordinator.old greatest request.now) }
 {
     match &request.transactional_id {
         None => {
-            permit.spend(policy);
-            Ok(init_given(coordinator.fresh()?))
+            let spent = permit.spend(policy);
+            Ok((spent, init_given(coordinator.fresh()?)))
         }
         Some(id) => {
-            let answer = coordinator.init(alloc, policy, permit, id, request.timeout, greatest)?;
-            Ok(init_answered(answer))
+            let timeout = request.timeout;
+            let (spent, answer) = coordinator.init(alloc, policy, permit, id, timeout, greatest);
+            Ok((spent, init_answered(answer?)))
         }
     }
 }

@@ -1,11 +1,12 @@
 //! A marker step: the front marker that is owed is written.
 
-ghost use Rattle.std.specs.Prelude.{◌≡◌, ◌<◌, IfOk, OnOk, OnErr};
+ghost use Rattle.std.specs.Prelude.{◌≡◌, ◌<◌, [], IfOk, OnOk, OnErr};
 ghost use Rattle.broker_world.specs.Logs.{most_end};
 ghost use Rattle.broker_world.specs.Clock.{last_moment};
 ghost use Rattle.broker_world.specs.Markers.{marker_batch};
 ghost use Rattle.txn_handlers.specs.Marks.{marked_at, decided_at, mark_outcome};
 
+use authorizer::Paid;
 use broker_world::{Moment, Outcome, State, Topics, served_whole};
 use group_offsets::Groups;
 use msg_admin::Reply;
@@ -45,16 +46,17 @@ pub fn answer_mark(alloc: Global, state: &mut State) -> Result<Outcome, AllocErr
     ensures world { OnOk result (state.new ≡ (mark_outcome state.old).world) }
     ensures reply { IfOk result (λ o. o.reply ≡ (mark_outcome state.old).reply) }
     ensures refusals { IfOk result (λ o. o.refusals ≡ (mark_outcome state.old).refusals) }
+    ensures paid { IfOk result (λ o. o.paid ≡ []) }
 {
     let Some(warrant) = state.coordinator.next_warrant()? else {
-        return Ok(served_whole(alloc, Reply::Idle));
+        return Ok(served_whole(alloc, Reply::Idle, Paid::nothing()));
     };
     let (topics, groups) = (&mut state.topics, &mut state.groups);
     match write_marker(alloc, topics, groups, warrant.marker(), &state.moment) {
         Ok(()) => {
             state.coordinator.written(warrant);
             let left = state.coordinator.owed() as u64;
-            Ok(served_whole(alloc, Reply::Marked { left }))
+            Ok(served_whole(alloc, Reply::Marked { left }, Paid::nothing()))
         }
         Err(AllocError) => {
             warrant.give_back();

@@ -1,6 +1,6 @@
 //! TxnOffsetCommit: offsets of partitions are committed for a group with a transaction.
 
-ghost use Rattle.std.specs.Prelude.{◌≡◌, IfOk, OnOk};
+ghost use Rattle.std.specs.Prelude.{◌≡◌, [], IfOk, OnOk};
 ghost use Rattle.std.specs.Option.{option_copied};
 ghost use Rattle.acl_binding.specs.declared.words.Operation.TheVariants as operations;
 ghost use Rattle.group_offsets.specs.Groups.{MayUse, turned};
@@ -11,8 +11,10 @@ ghost use Rattle.walk.specs.Walk.{world_after, answers, refusals};
 ghost use Rattle.txn_handlers.specs.TxnOffsetCommit.{staging, offset_staged, staged_code, staging_refusal, turn_by, stage_rule, txn_offset_commit_outcome};
 
 use acl_binding::{Caller, Kind, Operation};
-use authorizer::{Permit, Policy, ThreePermits, ask_three};
-use broker_world::{Outcome, State, Topics, code_in, id_question, read_question, refused_by};
+use authorizer::{Paid, Permit, Policy, Spent, ThreePermits, ask_three};
+use broker_world::{
+    Outcome, State, Topics, code_in, id_question, read_question, refused_by, served_in_parts,
+};
 use group_offsets::{Groups, PartitionOffset};
 use msg_admin::Reply;
 use msg_txn::{OffsetToStage, StagedOffset, TxnOffsetCommitReply, TxnOffsetCommitRequest};
@@ -37,9 +39,12 @@ pub(crate) struct Staging<'a> {
 }
 
 impl<'a> PartApi<OffsetToStage, StagedOffset, Groups> for Staging<'a> {
+    ghost use Rattle.std.specs.Prelude.{false};
     ghost use Rattle.txn_handlers.specs.TxnOffsetCommit.{stage_rule};
 
     ghost rule = { λ api. stage_rule api.caller.now (record { id = api.id.now; pair = api.pair; group = api.group.now; generation = api.generation; member = api.member.now }) api.refusal api.topics.now };
+
+    ghost cuts = { λ _. false };
 
     fn serve(
         &self,
@@ -61,11 +66,12 @@ impl<'a> PartApi<OffsetToStage, StagedOffset, Groups> for Staging<'a> {
                     third,
                 },
             ) => {
-                first.spend(policy);
-                third.spend(policy);
+                let (id, topic) = (first.spend(policy), third.spend(policy));
                 let log = self.topics.log(name, part.index);
-                let answer = self.stage(alloc, policy, second, groups, log, name, part, offset)?;
-                Ok(Part::served(answer))
+                let (group, answer) = self.stage(
+                    alloc, policy, second, groups, log, name, part, offset,
+                )?;
+                Ok(Part::served(answer, Paid::three(id, group, topic)))
             }
             Err(refusal) => {
                 let answer = staged_code(refusal_code(&refusal), part);
@@ -87,25 +93,25 @@ impl<'a> Staging<'a> {
         name: &Text,
         part: &OffsetToStage,
         offset: PartitionOffset,
-    ) -> Result<StagedOffset, AllocError>
+    ) -> Result<(Spent, StagedOffset), AllocError>
         requires permit { MayUse policy.now operations.Read self.now.group.now permit }
         requires offset { offset ≡ offset_staged name.now part.now }
+        ensures spent { IfOk result (λ r. r.0 ≡ permit.question) }
         ensures groups { OnOk result (groups.new ≡ turned groups.old (turn_by self.now.refusal (record { id = self.now.id.now; pair = self.now.pair; group = self.now.group.now; generation = self.now.generation; member = self.now.member.now }) groups.old (offset_staged name.now part.now) (option_copied log.entry))) }
-        ensures answer { IfOk result (λ answer. answer ≡ staged_code (code_in (answered (turn_by self.now.refusal (record { id = self.now.id.now; pair = self.now.pair; group = self.now.group.now; generation = self.now.generation; member = self.now.member.now }) groups.old (offset_staged name.now part.now) (option_copied log.entry)))) part.now) }
+        ensures answer { IfOk result (λ r. r.1 ≡ staged_code (code_in (answered (turn_by self.now.refusal (record { id = self.now.id.now; pair = self.now.pair; group = self.now.group.now; generation = self.now.generation; member = self.now.member.now }) groups.old (offset_staged name.now part.now) (option_copied log.entry)))) part.now) }
     {
         if log.is_none() {
-            permit.spend(policy);
-            return Ok(staged_code(ErrorCode::UnknownTopicOrPartition, part));
+            let answer = staged_code(ErrorCode::UnknownTopicOrPartition, part);
+            return Ok((permit.spend(policy), answer));
         }
         if let Some(code) = self.refusal {
-            permit.spend(policy);
-            return Ok(staged_code(code, part));
+            return Ok((permit.spend(policy), staged_code(code, part)));
         }
         let (producer, generation, member) = (self.pair.producer, self.generation, self.member);
-        let staged = groups.stage(
+        let (spent, staged) = groups.stage(
             alloc, policy, permit, self.group, producer, generation, member, offset,
-        )?;
-        Ok(staged_code(code_in(staged), part))
+        );
+        Ok((spent, staged_code(code_in(staged?), part)))
     }
 }
 
@@ -183,6 +189,7 @@ pub fn answer_txn_offset_commit(
     ensures world { OnOk result (state.new ≡ (txn_offset_commit_outcome state.old caller.now request.now).world) }
     ensures reply { IfOk result (λ o. o.reply ≡ (txn_offset_commit_outcome state.old caller.now request.now).reply) }
     ensures refusals { IfOk result (λ o. o.refusals ≡ (txn_offset_commit_outcome state.old caller.now request.now).refusals) }
+    ensures paid { IfOk result (λ o. o.paid ≡ []) }
 {
     let refusal = staging_refusal(&state.coordinator, request)?;
     let (policy, groups) = (&state.policy, &mut state.groups);
@@ -195,11 +202,9 @@ pub fn answer_txn_offset_commit(
         request,
         refusal,
     )?;
-    Ok(Outcome {
-        reply: Reply::TxnOffsetCommit(TxnOffsetCommitReply {
-            throttle: 0,
-            topics: walked.topics,
-        }),
-        refusals: walked.refusals,
-    })
+    let reply = TxnOffsetCommitReply {
+        throttle: 0,
+        topics: walked.topics,
+    };
+    Ok(served_in_parts(Reply::TxnOffsetCommit(reply), walked.refusals))
 }

@@ -74,7 +74,15 @@ fn partition(alloc: Global) -> Result<TopicPartition, AllocError> {
 fn init(alloc: Global, scene: &mut Scene) -> Result<PairAnswer, Fail> {
     let permit = permit(alloc, &scene.policy, &scene.id)?;
     let coordinator = &mut scene.coordinator;
-    Ok(coordinator.init(alloc, &scene.policy, permit, &scene.id, 1_000, 900_000)?)
+    let (_spent, answer) = coordinator.init(
+        alloc,
+        &scene.policy,
+        permit,
+        &scene.id,
+        1_000,
+        900_000,
+    );
+    Ok(answer?)
 }
 
 /// AddPartitionsToTxn of one partition, at moment 0.
@@ -82,7 +90,9 @@ fn add_partition(alloc: Global, scene: &mut Scene, pair: Pair) -> Result<ErrorCo
     let added = [partition(alloc)?];
     let permit = permit(alloc, &scene.policy, &scene.id)?;
     let coordinator = &mut scene.coordinator;
-    Ok(coordinator.add_partitions(alloc, &scene.policy, permit, &scene.id, pair, 0, &added)?)
+    let (policy, id) = (&scene.policy, &scene.id);
+    let (_spent, code) = coordinator.add_partitions(alloc, policy, permit, id, pair, 0, &added);
+    Ok(code?)
 }
 
 fn end(
@@ -94,7 +104,16 @@ fn end(
 ) -> Result<PairAnswer, Fail> {
     let permit = permit(alloc, &scene.policy, &scene.id)?;
     let coordinator = &mut scene.coordinator;
-    Ok(coordinator.end(alloc, &scene.policy, permit, form, &scene.id, pair, outcome)?)
+    let (_spent, answer) = coordinator.end(
+        alloc,
+        &scene.policy,
+        permit,
+        form,
+        &scene.id,
+        pair,
+        outcome,
+    );
+    Ok(answer?)
 }
 
 /// The pair and the outcome of the front marker, which is then written.

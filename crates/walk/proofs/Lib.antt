@@ -1,3 +1,4 @@
+pub mod Endings
 pub mod Weaving
 pub mod Weights
 pub mod Granted

@@ -1,16 +1,17 @@
 -- One part after the other comes to the plain walk of the allowed parts with the refused ones put back at their places.
-use Rattle.std.proofs.Common.{◌≡◌, ℕ, List, [], ◌∷◌, map, Option, Some, None, cond, refl, ap, ◌∙◌}
+use Rattle.std.proofs.Common.{◌≡◌, ℕ, List, [], ◌∷◌, ◌++◌, map, Option, Some, None, cond, refl, ap, ◌∙◌}
 use Rattle.std.specs.Prelude.{is_none}
 use Rattle.std.specs.Option.{option_map}
+use Rattle.std.specs.List.{cons_option}
 use Rattle.authorizer.specs.declared.answer.Refusal.{Refusal}
-use Rattle.authorizer.specs.Asking.{Rules, part_refusal}
+use Rattle.authorizer.specs.Asking.{Rules}
 use Rattle.wire_types.specs.declared.topic.Topic.{Topic}
 use Rattle.walk.specs.Codes.{refusal_code}
 use Rattle.walk.specs.Weave.{weave}
 use Rattle.walk.specs.Rule.{PartRule, refusal_of}
-use Rattle.walk.specs.Walk.{allowed_parts, allowed_topics, plain_parts_world, plain_parts, plain_world, plain_topics, refused_part, weave_parts, weave_topics}
+use Rattle.walk.specs.Walk.{allowed_parts, allowed_topics, plain_parts_world, plain_parts, plain_world, plain_topics, refused_part, weave_parts, weave_topics, parts_refused, refusals}
 use Rattle.walk.specs.Steps.{answer_by, world_by, parts_world, parts_answers, topics_world, topics_answers}
-use Rattle.walk.specs.Woven.{IsWoven, AsksNothing, IsPlain}
+use Rattle.walk.specs.Woven.{IsWoven, IsPlain}
 
 -- ---- a topic's parts
 
@@ -49,31 +50,46 @@ woven api rules w ts = record {
   answers = topics_answers_woven api rules w ts;
 }
 
--- ---- an api that asks nothing is plain
+-- ---- a request without a refusal is plain
 
-unasked_parts_world : {P A W : Type 0} (api : PartRule P A W) (rules : Rules) (w : W) (name : List ℕ) (ps : List P) → AsksNothing api → parts_world api rules w name ps ≡ plain_parts_world api w name ps
-unasked_parts_world api rules w name [] nothing = refl
-unasked_parts_world api rules w name (p ∷ ps) nothing =
-    ap (λ qs. parts_world api rules (world_by api (part_refusal rules qs) w name p) name ps) (nothing name p) ∙ unasked_parts_world api rules (api.after w name p) name ps nothing
+-- nothing stands in either of two lists that make no list
+front_empty : {X : Type 0} (xs ys : List X) → xs ++ ys ≡ [] → xs ≡ []
+front_empty [] ys h = refl
+front_empty (x ∷ xs) ys h = absurd (let clash : x ∷ (xs ++ ys) ≡ [] = h in cc)
 
-unasked_parts_answers : {P A W : Type 0} (api : PartRule P A W) (rules : Rules) (w : W) (name : List ℕ) (ps : List P) → AsksNothing api → parts_answers api rules w name ps ≡ plain_parts api w name ps
-unasked_parts_answers api rules w name [] nothing = refl
-unasked_parts_answers api rules w name (p ∷ ps) nothing =
-    ap (λ qs. answer_by api (part_refusal rules qs) w name p ∷ parts_answers api rules (world_by api (part_refusal rules qs) w name p) name ps) (nothing name p) ∙ ap (λ l. api.plain w name p ∷ l) (unasked_parts_answers api rules (api.after w name p) name ps nothing)
+back_empty : {X : Type 0} (xs ys : List X) → xs ++ ys ≡ [] → ys ≡ []
+back_empty [] ys h = h
+back_empty (x ∷ xs) ys h = absurd (let clash : x ∷ (xs ++ ys) ≡ [] = h in cc)
 
-unasked_world : {P A W : Type 0} (api : PartRule P A W) (rules : Rules) (w : W) (ts : List (Topic P)) → AsksNothing api → topics_world api rules w ts ≡ plain_world api w ts
-unasked_world api rules w [] nothing = refl
-unasked_world api rules w (t ∷ ts) nothing = unasked_world api rules (parts_world api rules w t.name t.partitions) ts nothing ∙ ap (λ v. plain_world api v ts) (unasked_parts_world api rules w t.name t.partitions nothing)
+granted_parts_world : {P A W : Type 0} (api : PartRule P A W) (rules : Rules) (w : W) (name : List ℕ) (ps : List P) → parts_refused api rules name ps ≡ [] → parts_world api rules w name ps ≡ plain_parts_world api w name ps
+granted_parts_world api rules w name [] none = refl
+granted_parts_world {W = W} api rules w name (p ∷ ps) none = by_refusal (λ v. granted_parts_world api rules v name ps) (refusal_of api rules name p) none where
+  by_refusal : ((v : W) → parts_refused api rules name ps ≡ [] → parts_world api rules v name ps ≡ plain_parts_world api v name ps) → (r : Option Refusal) → cons_option r (parts_refused api rules name ps) ≡ [] → parts_world api rules (world_by api r w name p) name ps ≡ plain_parts_world api (api.after w name p) name ps
+  by_refusal rest (Some r) h = absurd (let clash : r ∷ parts_refused api rules name ps ≡ [] = h in cc)
+  by_refusal rest None h = rest (api.after w name p) h
 
-unasked_answers : {P A W : Type 0} (api : PartRule P A W) (rules : Rules) (w : W) (ts : List (Topic P)) → AsksNothing api → topics_answers api rules w ts ≡ plain_topics api w ts
-unasked_answers api rules w [] nothing = refl
-unasked_answers {P} {A} {W} api rules w (t ∷ ts) nothing =
-    ap (λ l. record { name = t.name; partitions = parts_answers api rules w t.name t.partitions } ∷ l) (unasked_answers api rules (parts_world api rules w t.name t.partitions) ts nothing)
-    ∙ ap (λ (l : List A). record { name = t.name; partitions = l } ∷ plain_topics api (parts_world api rules w t.name t.partitions) ts) (unasked_parts_answers api rules w t.name t.partitions nothing)
-    ∙ ap (λ (v : W). record { name = t.name; partitions = plain_parts api w t.name t.partitions } ∷ plain_topics api v ts) (unasked_parts_world api rules w t.name t.partitions nothing)
+granted_parts_answers : {P A W : Type 0} (api : PartRule P A W) (rules : Rules) (w : W) (name : List ℕ) (ps : List P) → parts_refused api rules name ps ≡ [] → parts_answers api rules w name ps ≡ plain_parts api w name ps
+granted_parts_answers api rules w name [] none = refl
+granted_parts_answers {W = W} api rules w name (p ∷ ps) none = by_refusal (λ v. granted_parts_answers api rules v name ps) (refusal_of api rules name p) none where
+  by_refusal : ((v : W) → parts_refused api rules name ps ≡ [] → parts_answers api rules v name ps ≡ plain_parts api v name ps) → (r : Option Refusal) → cons_option r (parts_refused api rules name ps) ≡ [] → answer_by api r w name p ∷ parts_answers api rules (world_by api r w name p) name ps ≡ api.plain w name p ∷ plain_parts api (api.after w name p) name ps
+  by_refusal rest (Some r) h = absurd (let clash : r ∷ parts_refused api rules name ps ≡ [] = h in cc)
+  by_refusal rest None h = ap (λ l. api.plain w name p ∷ l) (rest (api.after w name p) h)
 
-pub unasked : {P A W : Type 0} (api : PartRule P A W) (rules : Rules) (w : W) (ts : List (Topic P)) → AsksNothing api → IsPlain api rules w ts
-unasked api rules w ts nothing = record {
-  world = unasked_world api rules w ts nothing;
-  answers = unasked_answers api rules w ts nothing;
+granted_world : {P A W : Type 0} (api : PartRule P A W) (rules : Rules) (w : W) (ts : List (Topic P)) → refusals api rules ts ≡ [] → topics_world api rules w ts ≡ plain_world api w ts
+granted_world api rules w [] none = refl
+granted_world api rules w (t ∷ ts) none =
+    granted_world api rules (parts_world api rules w t.name t.partitions) ts (back_empty (parts_refused api rules t.name t.partitions) (refusals api rules ts) none)
+    ∙ ap (λ v. plain_world api v ts) (granted_parts_world api rules w t.name t.partitions (front_empty (parts_refused api rules t.name t.partitions) (refusals api rules ts) none))
+
+granted_answers : {P A W : Type 0} (api : PartRule P A W) (rules : Rules) (w : W) (ts : List (Topic P)) → refusals api rules ts ≡ [] → topics_answers api rules w ts ≡ plain_topics api w ts
+granted_answers api rules w [] none = refl
+granted_answers {P} {A} {W} api rules w (t ∷ ts) none =
+    ap (λ l. record { name = t.name; partitions = parts_answers api rules w t.name t.partitions } ∷ l) (granted_answers api rules (parts_world api rules w t.name t.partitions) ts (back_empty (parts_refused api rules t.name t.partitions) (refusals api rules ts) none))
+    ∙ ap (λ (l : List A). record { name = t.name; partitions = l } ∷ plain_topics api (parts_world api rules w t.name t.partitions) ts) (granted_parts_answers api rules w t.name t.partitions (front_empty (parts_refused api rules t.name t.partitions) (refusals api rules ts) none))
+    ∙ ap (λ (v : W). record { name = t.name; partitions = plain_parts api w t.name t.partitions } ∷ plain_topics api v ts) (granted_parts_world api rules w t.name t.partitions (front_empty (parts_refused api rules t.name t.partitions) (refusals api rules ts) none))
+
+pub granted : {P A W : Type 0} (api : PartRule P A W) (rules : Rules) (w : W) (ts : List (Topic P)) → refusals api rules ts ≡ [] → IsPlain api rules w ts
+granted api rules w ts none = record {
+  world = granted_world api rules w ts none;
+  answers = granted_answers api rules w ts none;
 }

@@ -1,9 +1,13 @@
 -- The same walk, one part after the other: each is answered, refused or not, before the next is looked at.
-use Rattle.std.specs.Prelude.{ℕ, List, [], ◌∷◌, Option, Some, None}
+use Rattle.std.specs.Prelude.{ℕ, Bool, true, false, List, [], ◌∷◌, Option, Some, None}
+use Rattle.acl_binding.specs.declared.question.Question.{Question}
 use Rattle.authorizer.specs.declared.answer.Refusal.{Refusal}
 use Rattle.authorizer.specs.Asking.{Rules}
 use Rattle.wire_types.specs.declared.topic.Topic.{Topic}
 use Rattle.walk.specs.declared.part.Part.{Part}
+use Rattle.walk.specs.declared.part.Ending.{Ending}
+use Rattle.walk.specs.declared.part.Ending.TheVariants.{Served, Refused, Cut}
+use Rattle.walk.specs.declared.walking.Told.{Told}
 use Rattle.walk.specs.Codes.{refusal_code}
 use Rattle.walk.specs.Rule.{PartRule, refusal_of}
 
@@ -17,8 +21,24 @@ abbrev pub world_by : {P A W : Type 0} → PartRule P A W → Option Refusal →
 world_by api (Some r) w name p = w
 world_by api None w name p = api.after w name p
 
-abbrev pub part_done : {P A W : Type 0} → PartRule P A W → Rules → W → List ℕ → P → Part A
-part_done api rules w name p = record { answer = answer_by api (refusal_of api rules name p) w name p; refusal = refusal_of api rules name p }
+-- how a part goes that asks these questions: granted, it is served and all of them are paid for, or it is cut
+abbrev pub ending_by : Bool → Option Refusal → List Question → Ending
+ending_by cuts (Some r) qs = Refused r
+ending_by true None qs = Cut
+ending_by false None qs = Served qs
+
+-- the refusal in it
+abbrev pub refusal_in : Ending → Option Refusal
+refusal_in (Served paid) = None
+refusal_in (Refused r) = Some r
+refusal_in Cut = None
+
+abbrev pub part_done : {P A W : Type 0} → Bool → PartRule P A W → Rules → W → List ℕ → P → Part A
+part_done cuts api rules w name p = record { answer = answer_by api (refusal_of api rules name p) w name p; ending = ending_by cuts (refusal_of api rules name p) (api.questions name p) }
+
+-- what is told of it
+abbrev pub part_told : {P A W : Type 0} → PartRule P A W → Rules → W → List ℕ → P → Told A
+part_told api rules w name p = record { answer = answer_by api (refusal_of api rules name p) w name p; refusal = refusal_of api rules name p }
 
 abbrev pub part_world : {P A W : Type 0} → PartRule P A W → Rules → W → List ℕ → P → W
 part_world api rules w name p = world_by api (refusal_of api rules name p) w name p
@@ -31,7 +51,7 @@ parts_world api rules w name (p ∷ ps) = parts_world api rules (part_world api 
 
 abbrev pub parts_answers : {P A W : Type 0} → PartRule P A W → Rules → W → List ℕ → List P → List A
 parts_answers api rules w name [] = []
-parts_answers api rules w name (p ∷ ps) = (part_done api rules w name p).answer ∷ parts_answers api rules (part_world api rules w name p) name ps
+parts_answers api rules w name (p ∷ ps) = (part_told api rules w name p).answer ∷ parts_answers api rules (part_world api rules w name p) name ps
 
 -- ---- the topics
 

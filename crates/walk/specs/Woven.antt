@@ -1,4 +1,4 @@
--- The two forms of the walk are one; what an api that asks nothing does, and what a request without a refusal tells.
+-- The two forms of the walk are one; what a request without a refusal does and tells.
 use Rattle.std.specs.Prelude.{◌≡◌, ℕ, Bool, true, false, ◌||◌, List, [], ◌∷◌, None}
 use Rattle.acl_binding.specs.declared.question.Question.{Question}
 use Rattle.authorizer.specs.Asking.{Rules, question_refusal}
@@ -15,17 +15,12 @@ pub record IsWoven {P A W : Type 0} (api : PartRule P A W) (rules : Rules) (w : 
 abbrev pub OneWalk : (P A W : Type 0) → Type 0
 OneWalk P A W = (api : PartRule P A W) (rules : Rules) (w : W) (ts : List (Topic P)) → IsWoven api rules w ts
 
--- ---- an api that asks nothing
-
-abbrev pub AsksNothing : {P A W : Type 0} → PartRule P A W → Type 0
-AsksNothing {P} api = (name : List ℕ) (p : P) → api.questions name p ≡ []
+-- ---- a request without a refusal
 
 -- all of its parts are served
 pub record IsPlain {P A W : Type 0} (api : PartRule P A W) (rules : Rules) (w : W) (ts : List (Topic P)) : Type 0 where
   pub world : topics_world api rules w ts ≡ plain_world api w ts
   pub answers : topics_answers api rules w ts ≡ plain_topics api w ts
-
--- ---- a request without a refusal
 
 abbrev pub has_any : {A : Type 0} → List A → Bool
 has_any [] = false

@@ -1,39 +1,73 @@
 //! What an api does with one partition of a topic.
 
-ghost use Rattle.std.specs.Prelude.{◌≡◌, ◌≤◌, IfOk, OnOk, Some, None};
+ghost use Rattle.std.specs.Prelude.{◌≡◌, ◌≤◌, Bool, IfOk, OnOk};
 ghost use Rattle.authorizer.specs.Asking.{policy_rules};
 ghost use Rattle.walk.specs.Rule.{PartRule};
-ghost use Rattle.walk.specs.Steps.{part_done, part_world};
+ghost use Rattle.walk.specs.Steps.{refusal_in, part_done, part_world};
+ghost use Rattle.walk.specs.declared.part.Ending.TheVariants as endings;
 
-use authorizer::{Policy, Refusal};
+use authorizer::{Paid, Policy, Refusal};
 use std::alloc::{AllocError, Global};
 use wire_types::Text;
 
-/// The answer for one part, and its refusal if it was refused.
+/// How a part went.
+#[derive(Drop)]
+pub enum Ending {
+    /// It was served, and this was spent for it.
+    Served(Paid),
+    /// It was refused.
+    Refused(Refusal),
+    /// All that it asked was granted, but it isn't served: its permits were declined.
+    Cut,
+}
+
+impl Ending {
+    /// The refusal of a part that was refused.
+    pub fn refusal(self) -> Option<Refusal>
+        ensures { result ≡ refusal_in self }
+    {
+        match self {
+            Ending::Refused(refusal) => Some(refusal),
+            Ending::Served(_) | Ending::Cut => None,
+        }
+    }
+}
+
+/// The answer for one part, and how it went.
 #[derive(Drop)]
 pub struct Part<A> {
     pub answer: A,
-    pub refusal: Option<Refusal>,
+    pub ending: Ending,
 }
 
 impl<A> Part<A> {
-    /// A part that was served.
-    pub fn served(answer: A) -> Part<A>
-        ensures { result ≡ record { answer = answer; refusal = None } }
+    /// A part that was served, for which this was spent.
+    pub fn served(answer: A, paid: Paid) -> Part<A>
+        ensures { result ≡ record { answer = answer; ending = endings.Served paid } }
     {
         Part {
             answer,
-            refusal: None,
+            ending: Ending::Served(paid),
         }
     }
 
     /// A part that was refused.
     pub fn refused(answer: A, refusal: Refusal) -> Part<A>
-        ensures { result ≡ record { answer = answer; refusal = Some refusal } }
+        ensures { result ≡ record { answer = answer; ending = endings.Refused refusal } }
     {
         Part {
             answer,
-            refusal: Some(refusal),
+            ending: Ending::Refused(refusal),
+        }
+    }
+
+    /// A part that was granted all that it asked, and isn't served.
+    pub fn cut(answer: A) -> Part<A>
+        ensures { result ≡ record { answer = answer; ending = endings.Cut } }
+    {
+        Part {
+            answer,
+            ending: Ending::Cut,
         }
     }
 }
@@ -42,6 +76,9 @@ impl<A> Part<A> {
 pub trait PartApi<P, A, W> {
     /// What a part asks, does and is answered.
     ghost rule: { Self → PartRule P A W };
+
+    /// Granted parts aren't served, and nothing is spent for them.
+    ghost cuts: { Self → Bool };
 
     /// Serves one part of the topic of this name, or refuses it.
     fn serve(
@@ -54,5 +91,5 @@ pub trait PartApi<P, A, W> {
     ) -> Result<Part<A>, AllocError>
         requires { (rule self.now).weight part.now ≤ (rule self.now).room world.old }
         ensures world { OnOk result (world.new ≡ part_world (rule self.now) (policy_rules policy.now) world.old name.now part.now) }
-        ensures done { IfOk result (λ done. done ≡ part_done (rule self.now) (policy_rules policy.now) world.old name.now part.now) };
+        ensures done { IfOk result (λ done. done ≡ part_done (cuts self.now) (rule self.now) (policy_rules policy.now) world.old name.now part.now) };
 }

@@ -1,12 +1,11 @@
 //! The walk over the partitions of topics.
 
-ghost use Rattle.std.specs.Prelude.{◌≡◌, ◌+◌, ◌≤◌, ◌++◌, IfOk, OnOk};
+ghost use Rattle.std.specs.Prelude.{◌≡◌, true, false, ◌+◌, ◌≤◌, [], ◌++◌, IfOk, OnOk};
 ghost use Rattle.authorizer.specs.Asking.{policy_rules};
 ghost use Rattle.walk.specs.Walk.{plain_world, plain_topics, world_after, answers, parts_refused, refusals, parts_weight, topics_weight};
-ghost use Rattle.walk.specs.Woven.{AsksNothing};
-ghost use Rattle.walk.specs.Steps.{parts_world, parts_answers, topics_world, topics_answers};
+ghost use Rattle.walk.specs.Steps.{part_world, part_told, parts_world, parts_answers, topics_world, topics_answers};
 
-use crate::part::PartApi;
+use crate::part::{Part, PartApi};
 use authorizer::{Policy, Refusal};
 use std::alloc::{AllocError, Global};
 use wire_types::{Items, Text, Topic};
@@ -27,7 +26,8 @@ pub fn walk<P, A: Drop, W, X: PartApi<P, A, W>>(
     world: &mut W,
     topics: &[Topic<P>],
 ) -> Result<Walked<A>, AllocError>
-    requires { topics_weight (X.rule api.now) topics.now ≤ (X.rule api.now).room world.old }
+    requires served { X.cuts api.now ≡ false }
+    requires room { topics_weight (X.rule api.now) topics.now ≤ (X.rule api.now).room world.old }
     ensures world { OnOk result (world.new ≡ world_after (X.rule api.now) (policy_rules policy.now) world.old topics.now) }
     ensures answers { IfOk result (λ r. r.topics ≡ answers (X.rule api.now) (policy_rules policy.now) world.old topics.now) }
     ensures refusals { IfOk result (λ r. r.refusals ≡ refusals (X.rule api.now) (policy_rules policy.now) topics.now) }
@@ -35,21 +35,39 @@ pub fn walk<P, A: Drop, W, X: PartApi<P, A, W>>(
     walk_topics(alloc, api, policy, world, topics)
 }
 
-/// The plain answers to all parts, for an api that asks nothing.
-#[tactic(auto, using(crate::proofs::Weaving::unasked))]
-pub fn walk_plain<P, A: Drop, W, X: PartApi<P, A, W>>(
+/// The plain answers to all parts, where none is refused.
+#[tactic(auto, using(crate::proofs::Weaving::granted))]
+pub fn walk_granted<P, A: Drop, W, X: PartApi<P, A, W>>(
     alloc: Global,
     api: &X,
     policy: &Policy,
     world: &mut W,
     topics: &[Topic<P>],
 ) -> Result<Items<Topic<A>>, AllocError>
-    requires nothing { AsksNothing (X.rule api.now) }
+    requires served { X.cuts api.now ≡ false }
+    requires granted { refusals (X.rule api.now) (policy_rules policy.now) topics.now ≡ [] }
     requires room { topics_weight (X.rule api.now) topics.now ≤ (X.rule api.now).room world.old }
     ensures world { OnOk result (world.new ≡ plain_world (X.rule api.now) world.old topics.now) }
     ensures answers { IfOk result (λ r. r ≡ plain_topics (X.rule api.now) world.old topics.now) }
 {
     Ok(walk_topics(alloc, api, policy, world, topics)?.topics)
+}
+
+/// The answers to the parts of a request of which nothing is served: there is no world that it could change, and for
+/// what is granted nothing is spent.
+#[tactic(auto, using(crate::proofs::Weaving::woven))]
+pub fn walk_cut<P, A: Drop, X: PartApi<P, A, ()>>(
+    alloc: Global,
+    api: &X,
+    policy: &Policy,
+    topics: &[Topic<P>],
+) -> Result<Walked<A>, AllocError>
+    requires cut { X.cuts api.now ≡ true }
+    requires room { topics_weight (X.rule api.now) topics.now ≤ (X.rule api.now).room tt }
+    ensures answers { IfOk result (λ r. r.topics ≡ answers (X.rule api.now) (policy_rules policy.now) tt topics.now) }
+    ensures refusals { IfOk result (λ r. r.refusals ≡ refusals (X.rule api.now) (policy_rules policy.now) topics.now) }
+{
+    walk_topics(alloc, api, policy, &mut (), topics)
 }
 
 /// One topic after the other.
@@ -100,9 +118,37 @@ fn walk_parts<P, A: Drop, W, X: PartApi<P, A, W>>(
 {
     let mut answers = Items::new(alloc);
     for part in parts {
-        let done = api.serve(alloc, policy, world, name, part)?;
-        answers.push(done.answer)?;
-        refusals.push_some(done.refusal)?;
+        let told = tell(alloc, api, policy, world, name, part)?;
+        answers.push(told.answer)?;
+        refusals.push_some(told.refusal)?;
     }
     Ok(answers)
+}
+
+/// What is told of a part: its answer, and its refusal if it was refused.
+#[derive(Drop)]
+struct Told<A> {
+    answer: A,
+    refusal: Option<Refusal>,
+}
+
+/// Serves one part or refuses it. What was spent for it is let go.
+#[tactic(auto, using(crate::proofs::Endings::refusal_in_ending))]
+fn tell<P, A: Drop, W, X: PartApi<P, A, W>>(
+    alloc: Global,
+    api: &X,
+    policy: &Policy,
+    world: &mut W,
+    name: &Text,
+    part: &P,
+) -> Result<Told<A>, AllocError>
+    requires { (X.rule api.now).weight part.now ≤ (X.rule api.now).room world.old }
+    ensures world { OnOk result (world.new ≡ part_world (X.rule api.now) (policy_rules policy.now) world.old name.now part.now) }
+    ensures told { IfOk result (λ told. told ≡ part_told (X.rule api.now) (policy_rules policy.now) world.old name.now part.now) }
+{
+    let Part { answer, ending } = api.serve(alloc, policy, world, name, part)?;
+    Ok(Told {
+        answer,
+        refusal: ending.refusal(),
+    })
 }

@@ -1,5 +1,6 @@
 use Rattle.std.proofs.Common.{rules, ap, ◌∙◌}
 use Rattle.broker_world.specs.contracts.state.State.{the_view}
+use Rattle.broker_world.specs.declared.outcome.Outcome.{Outcome as Told}
 use Rattle.broker_world.specs.World.{World}
 use Rattle.txn_handlers.specs.TxnOffsetCommit.{txn_offset_commit_outcome}
 use Rattle.txn_handlers.proofs.StagedParts.{staged_groups, staged_reply}
@@ -12,7 +13,8 @@ returns-clause-world c =
 
 pub returns-clause-reply : goal.returns-clause-reply
 returns-clause-reply c =
-    staged_reply (the_view c.state.inside) c.args.caller.now c.args.request.now c.in_ok-refusal.refusal c.in_ok-refusal.ensures c.in_ok-walked.walked.topics c.in_ok-walked.ensures.answers
+    ap (λ (o : Told). o.reply) c.served_in_parts.ensures
+    ∙ staged_reply (the_view c.state.inside) c.args.caller.now c.args.request.now c.in_ok-refusal.refusal c.in_ok-refusal.ensures c.in_ok-walked.walked.topics c.in_ok-walked.ensures.answers
     ∙ ap (λ (w : World). (txn_offset_commit_outcome w c.args.caller.now c.args.request.now).reply) c.state.view_is
 
 pub returns-clause-refusals : goal.returns-clause-refusals

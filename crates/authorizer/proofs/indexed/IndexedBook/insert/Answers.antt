@@ -13,7 +13,7 @@ invariant_of-self-2 c =
     let made : c.append.new.self.book ≡ appended c.reserve.new.self.book c.in_ok-entry.entry.binding = search rules in
     let entry : c.in_ok-entry.entry ≡ record { number = c.next-number.result; binding = c.args.binding } = c.in_ok-entry.ensures.ok in
     let text = c.add.ensures.text in
-    let named : IsNamed c.in_ok-entry.entry = record { text = text; some = search rules } in
+    let named : IsNamed c.in_ok-entry.entry = record { text = text; some = rw entry c.requires.named } in
     let indexed = c.in_ok-add.ensures.ok c.self.inside.book.book.entries c.self.invariant.indexed in
     rw (made, c.in_ok-reserve.ensures.book)
     (kept_appended c.add.new.self c.self.inside.book.book c.in_ok-entry.entry (ap (λ (e : Numbered). e.number) entry ∙ c.next-number.ensures) named c.self.invariant.named indexed)

@@ -7,7 +7,7 @@ use Rattle.group_offsets.specs.declared.group.Group.{Group}
 use Rattle.group_offsets.specs.Group.{stage_group}
 use Rattle.group_offsets.specs.Groups.{place_of}
 use Rattle.group_offsets.proofs.Places.{turned_at, answered_at, kept_fresh, answered_fresh, unchanged_at}
-use Rattle.group_offsets.proofs.groups.Groups.stage.Goals as goal
+use Rattle.group_offsets.proofs.groups.Groups.stage_offset.Goals as goal
 
 pub returns-in-Some-clause-groups : goal.returns-in-Some-clause-groups
 returns-in-Some-clause-groups c =

@@ -2,7 +2,7 @@ use Rattle.std.proofs.Common.{◌≡◌, Some, None, sym, ap, ◌∙◌, rules}
 use Rattle.group_offsets.specs.declared.group.Group.{Group}
 use Rattle.group_offsets.specs.Groups.{place_of}
 use Rattle.group_offsets.proofs.Places.{group_at, fresh_at}
-use Rattle.group_offsets.proofs.groups.Groups.fetch.Goals as goal
+use Rattle.group_offsets.proofs.groups.Groups.offsets_of.Goals as goal
 
 pub returns-in-Some : goal.returns-in-Some
 returns-in-Some c =

@@ -3,7 +3,7 @@ use Rattle.group_offsets.specs.declared.group.Group.{Group}
 use Rattle.group_offsets.specs.Group.{leave_group}
 use Rattle.group_offsets.specs.Groups.{place_of}
 use Rattle.group_offsets.proofs.Places.{turned_at, answered_at, refused_fresh, refusal_fresh, leave_fresh}
-use Rattle.group_offsets.proofs.groups.Groups.leave.Goals as goal
+use Rattle.group_offsets.proofs.groups.Groups.leave_group.Goals as goal
 
 pub returns-in-Some-clause-groups : goal.returns-in-Some-clause-groups
 returns-in-Some-clause-groups c =

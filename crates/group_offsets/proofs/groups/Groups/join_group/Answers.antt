@@ -8,7 +8,7 @@ use Rattle.group_offsets.specs.Joining.{join_group}
 use Rattle.group_offsets.specs.declared.member.Joined.{Joined}
 use Rattle.group_offsets.specs.Groups.{place_of, group_of}
 use Rattle.group_offsets.proofs.Places.{group_at, turned_at, answered_at, kept_fresh, answered_fresh}
-use Rattle.group_offsets.proofs.groups.Groups.join.Goals as goal
+use Rattle.group_offsets.proofs.groups.Groups.join_group.Goals as goal
 
 pub join-requires : goal.join-requires
 join-requires c =

@@ -1,0 +1,92 @@
+//! What was spent for a part of a request.
+
+ghost use Rattle.std.specs.Prelude.{◌≡◌, [], ◌∷◌};
+ghost use Rattle.std.specs.List.{cons_option};
+
+use crate::permit::Spent;
+use std::marker::Model;
+
+/// The questions whose permits were spent for a part, in order and at most three. It takes no memory.
+pub struct Paid {
+    first: Option<Spent>,
+    second: Option<Spent>,
+    third: Option<Spent>,
+}
+
+/// Written out, so that a crate which lets it go calls this once, and proves nothing of its questions.
+impl Drop for Paid {
+    fn drop(self) {
+        let Paid {
+            first: _first,
+            second: _second,
+            third: _third,
+        } = self;
+    }
+}
+
+impl Model for Paid {
+    ghost use Rattle.std.specs.Prelude.{List, []};
+    ghost use Rattle.std.specs.List.{cons_option};
+    ghost use Rattle.acl_binding.specs.declared.question.Question.{Question};
+
+    ghost Value = { List Question };
+
+    ghost view = { λ p. cons_option p.first (cons_option p.second (cons_option p.third [])) };
+}
+
+impl Paid {
+    /// Nothing was asked.
+    pub fn nothing() -> Paid
+        ensures { result ≡ [] }
+    {
+        Paid {
+            first: None,
+            second: None,
+            third: None,
+        }
+    }
+
+    /// One question.
+    pub fn one(first: Spent) -> Paid
+        ensures { result ≡ first ∷ [] }
+    {
+        Paid {
+            first: Some(first),
+            second: None,
+            third: None,
+        }
+    }
+
+    /// Two questions.
+    pub fn two(first: Spent, second: Spent) -> Paid
+        ensures { result ≡ first ∷ second ∷ [] }
+    {
+        Paid {
+            first: Some(first),
+            second: Some(second),
+            third: None,
+        }
+    }
+
+    /// Three questions.
+    pub fn three(first: Spent, second: Spent, third: Spent) -> Paid
+        ensures { result ≡ first ∷ second ∷ third ∷ [] }
+    {
+        Paid {
+            first: Some(first),
+            second: Some(second),
+            third: Some(third),
+        }
+    }
+
+    /// A first question that may be absent, and the last.
+    pub fn given(given: Option<Spent>, last: Spent) -> Paid
+        ensures { result ≡ cons_option given (last ∷ []) }
+    {
+        Paid {
+            first: given,
+            second: Some(last),
+            third: None,
+        }
+    }
+}
