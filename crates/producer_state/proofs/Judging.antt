@@ -6,9 +6,8 @@ use Rattle.wire_types.specs.declared.error_code.ErrorCode.TheVariants.{InvalidPr
 use Rattle.record_batch.specs.Batch.{BatchData}
 use Rattle.producer_state.specs.declared.judgment.Judgment.{Judgment}
 use Rattle.producer_state.specs.declared.judgment.Judgment.TheVariants.{Next, Refused}
-use Rattle.producer_state.specs.declared.known.Known.{Known}
 use Rattle.producer_state.specs.Sequences.{epochs, greatest, latest_by, expected_after, Sequence, sequence_in, sequence, has_same_sequences, repeat, begun, gone_on, judged_in, judged}
-use Rattle.producer_state.specs.State.{written_of, state_in, state_of, has_sequences_of, goes_on, judged_by, known, Describes}
+use Rattle.producer_state.specs.State.{State, written_of, state_in, state_of, has_sequences_of, goes_on, judged_by, known, Describes}
 use Rattle.producer_state.proofs.Numbers.{lt_true, lt_false, lt_is_not, between}
 use Rattle.producer_state.proofs.Noting.{epoch_of}
 
@@ -64,7 +63,7 @@ same_judgment log b (Some epoch) = by_older (int_lt (epoch_of b) epoch) refl whe
   by_older false e = by_newer (int_lt epoch (epoch_of b)) e refl
 
 -- the table of a log judges as the log does
-pub judged_alike : (table : List (ℤ × Known)) (log : List BatchData) (b : BatchData) (id : ℤ) (answer : Judgment) → id ≡ id_of b → pos 0 ≤ℤ id → answer ≡ judged_by (known table id) b → Describes table log → answer ≡ judged log b
+pub judged_alike : (table : List (ℤ × State)) (log : List BatchData) (b : BatchData) (id : ℤ) (answer : Judgment) → id ≡ id_of b → pos 0 ≤ℤ id → answer ≡ judged_by (known table id) b → Describes table log → answer ≡ judged log b
 judged_alike table log b id answer is low says describes =
     says ∙ ap (λ s. judged_by s b) (describes id low) ∙ ap (λ i. judged_by (state_of log i) b) is
     ∙ sym (same_judgment log b (greatest (epochs (id_of b) log)))

@@ -2,14 +2,12 @@
 -- data batches of that epoch.
 use Rattle.std.specs.Prelude.{◌≡◌, ◌≤ℤ◌, ℤ, pos, Bool, true, false, ◌&&◌, List, [], ◌∷◌, map, take, int_lt, if◌then◌else◌, Option, Some, None}
 use Rattle.std.specs.Ordering.{int_eq}
-use Rattle.std.specs.Option.{option_map}
 use Rattle.std.specs.List.{find}
 use Rattle.std.specs.Map.{lookup}
 use Rattle.wire_types.specs.declared.error_code.ErrorCode.TheVariants.{OutOfOrderSequenceNumber, InvalidProducerEpoch}
 use Rattle.record_batch.specs.Batch.{BatchData}
 use Rattle.producer_state.specs.declared.judgment.Judgment.{Judgment}
 use Rattle.producer_state.specs.declared.judgment.Judgment.TheVariants.{Next, Repeat, Refused}
-use Rattle.producer_state.specs.declared.known.Known.{Known}
 use Rattle.producer_state.specs.declared.known.Written.{Written}
 use Rattle.producer_state.specs.Sequences.{next_after, last_of, is_data, epochs, greatest, latest_by, expected_after, begun}
 
@@ -37,24 +35,15 @@ state_of log id = state_in log id (greatest (epochs id log))
 
 -- ---- as it is kept
 
--- the batches up to the first empty place
-abbrev pub filled : List (Option Written) → List Written
-filled [] = []
-filled (None ∷ places) = []
-filled (Some w ∷ places) = w ∷ filled places
-
-abbrev pub state_by : Known → State
-state_by k = record { epoch = k.epoch; expected = k.expected; latest = filled k.latest }
-
 abbrev pub is_key : ℤ → ℤ → Bool
 is_key id key = int_eq id key
 
 -- what is kept of a producer, if anything is
-abbrev pub known : List (ℤ × Known) → ℤ → Option State
-known table id = option_map state_by (lookup (is_key id) table)
+abbrev pub known : List (ℤ × State) → ℤ → Option State
+known table id = lookup (is_key id) table
 
 -- of each producer what the log says is kept
-abbrev pub Describes : List (ℤ × Known) → List BatchData → Type 0
+abbrev pub Describes : List (ℤ × State) → List BatchData → Type 0
 Describes table log = (id : ℤ) → pos 0 ≤ℤ id → known table id ≡ state_of log id
 
 -- ---- judging by it
@@ -101,5 +90,5 @@ pub record IsMarkerOf (id epoch : ℤ) (marker : BatchData) : Type 0 where
   pub epoch_told : marker.header.producer_epoch ≡ epoch
 
 -- of this producer this is kept now, and of the others what was kept
-abbrev pub IsEntered : List (ℤ × Known) → List (ℤ × Known) → ℤ → State → Type 0
+abbrev pub IsEntered : List (ℤ × State) → List (ℤ × State) → ℤ → State → Type 0
 IsEntered old new producer s = (id : ℤ) → known new id ≡ (if int_eq producer id then Some s else known old id)

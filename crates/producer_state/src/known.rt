@@ -1,15 +1,18 @@
 //! What is kept of one producer.
 
-ghost use Rattle.std.specs.Prelude.{◌≡◌, ◌&&◌, ◌∷◌, take, Some};
+ghost use Rattle.std.specs.Prelude.{◌≡◌, ◌&&◌, IfOk, Some};
 ghost use Rattle.std.specs.List.{find};
 ghost use Rattle.std.specs.Ordering.{int_eq};
 ghost use Rattle.record_batch.specs.Batch.{written_at};
 ghost use Rattle.producer_state.specs.Sequences.{is_data, begun};
-ghost use Rattle.producer_state.specs.State.{written_of, filled, state_by, has_sequences_of, judged_by, fresh, followed, followed_if};
+ghost use Rattle.producer_state.specs.State.{written_of, has_sequences_of, judged_by, fresh, told, followed_if};
 
 use crate::judgment::Judgment;
 use crate::sequence::{last_sequence, next_sequence};
+use circular_buffer::HeapCircularBuffer;
 use record_batch::Batch;
+use std::alloc::{AllocError, Global};
+use std::marker::Model;
 use wire_types::ErrorCode;
 
 /// A data batch that the log holds.
@@ -45,52 +48,68 @@ impl Written {
     }
 }
 
+/// How many data batches are kept of a producer.
+const KEPT: usize = 5;
+
 /// A producer's epoch, the sequence number that is expected of it, and its last five data batches of that epoch, the
 /// latest first.
-#[derive(Clone, Copy, Debug)]
+#[derive(Drop)]
 pub struct Known {
-    pub epoch: i16,
-    pub expected: i32,
-    pub latest: [Option<Written>; 5],
+    epoch: i16,
+    expected: i32,
+    latest: HeapCircularBuffer<Written>,
+}
+
+impl Model for Known {
+    ghost use Rattle.std.specs.Prelude.{◌≡◌};
+    ghost use Rattle.producer_state.specs.State.{State};
+
+    ghost Value = { State };
+
+    ghost view = { λ k. record { epoch = k.epoch; expected = k.expected; latest = k.latest.items } };
+
+    ghost invariant = { λ k. k.latest.capacity ≡ 5 };
 }
 
 impl Known {
     /// A producer that has written nothing in this epoch.
-    pub(crate) fn fresh(epoch: i16) -> Known
-        ensures { state_by result ≡ fresh epoch }
+    pub(crate) fn fresh(alloc: Global, epoch: i16) -> Result<Known, AllocError>
+        ensures { IfOk result (λ k. k ≡ fresh epoch) }
     {
-        Known {
+        let latest = HeapCircularBuffer::with_capacity(alloc, KEPT)?;
+        Ok(Known {
             epoch,
             expected: 0,
-            latest: [None; 5],
-        }
+            latest,
+        })
     }
 
-    /// The same producer with one data batch more, which stands at this offset.
-    fn followed(self, batch: &Batch, offset: i64) -> Known
-        ensures { state_by result ≡ followed (state_by self) (written_at offset batch.now) }
+    /// Once something of the producer tells an epoch, the greatest one counts.
+    pub(crate) fn tell(&mut self, epoch: i16)
+        ensures { self.new ≡ told (Some self.old) epoch }
     {
-        Known {
-            epoch: self.epoch,
-            expected: next_sequence(batch.base_sequence(), batch.record_count()),
-            latest: pushed(Written::of(batch, offset), self.latest),
+        if self.epoch < epoch {
+            self.epoch = epoch;
+            self.expected = 0;
+            self.latest.clear();
         }
     }
 
-    /// The same producer once a batch or marker of it stands at this offset.
-    pub(crate) fn noted(self, batch: &Batch, offset: i64) -> Known
-        ensures { state_by result ≡ followed_if (is_data batch.now && int_eq self.epoch batch.now.header.producer_epoch) (state_by self) (written_at offset batch.now) }
+    /// Notes a batch or marker of the producer that stands at this offset.
+    pub(crate) fn note(&mut self, batch: &Batch, offset: i64)
+        ensures { self.new ≡ followed_if
+            (is_data batch.now && int_eq self.old.epoch batch.now.header.producer_epoch)
+            self.old (written_at offset batch.now) }
     {
         if batch.marker().is_none() && self.epoch == batch.producer_epoch() {
-            self.followed(batch, offset)
-        } else {
-            self
+            self.expected = next_sequence(batch.base_sequence(), batch.record_count());
+            self.latest.push_front(Written::of(batch, offset));
         }
     }
 
     /// How a batch of this producer is judged.
     pub(crate) fn judge(&self, batch: &Batch) -> Judgment
-        ensures { result ≡ judged_by (Some (state_by self.now)) batch.now }
+        ensures { result ≡ judged_by (Some self.now) batch.now }
     {
         if batch.producer_epoch() < self.epoch {
             return Judgment::Refused(ErrorCode::InvalidProducerEpoch);
@@ -106,14 +125,6 @@ impl Known {
     }
 }
 
-/// The last five, with one more.
-fn pushed(written: Written, latest: [Option<Written>; 5]) -> [Option<Written>; 5]
-    ensures { filled result ≡ take 5 (written ∷ filled latest) }
-{
-    let [first, second, third, fourth, _] = latest;
-    [Some(written), first, second, third, fourth]
-}
-
 /// How a producer's first batch of an epoch is judged.
 pub(crate) fn begun(batch: &Batch) -> Judgment
     ensures { result ≡ begun batch.now }
@@ -126,14 +137,11 @@ pub(crate) fn begun(batch: &Batch) -> Judgment
 }
 
 /// The latest of the batches that has the same sequence numbers.
-fn find_repeat(latest: &[Option<Written>], batch: &Batch) -> Option<Written>
-    ensures { result ≡ find (has_sequences_of batch.now) (filled latest.now) }
+fn find_repeat(latest: &HeapCircularBuffer<Written>, batch: &Batch) -> Option<Written>
+    ensures { result ≡ find (has_sequences_of batch.now) latest.now.items }
 {
-    for place in latest {
-        let written = (*place)?;
-        if written.has_sequences_of(batch) {
-            return Some(written);
-        }
-    }
-    None
+    latest
+        .iter()
+        .copied()
+        .find(|written| written.has_sequences_of(batch))
 }

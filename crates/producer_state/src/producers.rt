@@ -3,7 +3,7 @@
 ghost use Rattle.std.specs.Prelude.{◌≡◌, ◌≤ℤ◌, pos, List, [], ◌∷◌, ◌++◌, OnOk, OnErr, None};
 ghost use Rattle.record_batch.specs.Batch.{BatchData, written_at};
 ghost use Rattle.producer_state.specs.Sequences.{sequence, judged};
-ghost use Rattle.producer_state.specs.State.{State, state_by, known, Describes, told, IsMarkerOf, IsEntered};
+ghost use Rattle.producer_state.specs.State.{Describes, IsMarkerOf};
 
 use crate::judgment::Judgment;
 use crate::known::{Known, begun};
@@ -16,13 +16,14 @@ use std::marker::Model;
 #[derive(Drop)]
 pub struct Producers {
     table: BTreeMap<i64, Known>,
+    alloc: Global,
 }
 
 impl Model for Producers {
     ghost use Rattle.std.specs.Prelude.{List, ℤ};
-    ghost use Rattle.producer_state.specs.declared.known.Known.{Known};
+    ghost use Rattle.producer_state.specs.State.{State};
 
-    ghost Value = { List (ℤ × Known) };
+    ghost Value = { List (ℤ × State) };
 
     ghost view = { λ p. p.table.entries };
 }
@@ -35,6 +36,7 @@ impl Producers {
     {
         Producers {
             table: BTreeMap::new(alloc),
+            alloc,
         }
     }
 
@@ -66,8 +68,14 @@ impl Producers {
         if producer < 0 {
             return Ok(());
         }
-        let known = self.told(producer, batch.producer_epoch());
-        self.enter(producer, known.noted(batch, offset))?;
+        if let Some(known) = self.table.get_mut(&producer) {
+            known.tell(batch.producer_epoch());
+            known.note(batch, offset);
+            return Ok(());
+        }
+        let mut known = Known::fresh(self.alloc, batch.producer_epoch())?;
+        known.note(batch, offset);
+        self.table.insert(producer, known)?;
         Ok(())
     }
 
@@ -80,28 +88,12 @@ impl Producers {
         ensures first { OnErr result ((log : List BatchData) → Describes self.old log →
             pos 0 ≤ℤ producer → sequence log producer ≡ None) }
     {
-        let known = self.told(producer, epoch);
-        self.enter(producer, known)?;
-        Ok(())
-    }
-
-    /// What is kept of a producer once something of it tells an epoch: the greatest one counts.
-    fn told(&self, producer: i64, epoch: i16) -> Known
-        ensures { state_by result ≡ told (known self.now producer) epoch }
-    {
-        match self.table.get(&producer) {
-            Some(known) if known.epoch >= epoch => *known,
-            _ => Known::fresh(epoch),
+        if let Some(known) = self.table.get_mut(&producer) {
+            known.tell(epoch);
+            return Ok(());
         }
-    }
-
-    /// Keeps this row for a producer.
-    fn enter(&mut self, producer: i64, row: Known) -> Result<(), AllocError>
-        ensures ok { OnOk result (IsEntered self.old self.new producer (state_by row)) }
-        ensures err { OnErr result (self.new ≡ self.old) }
-        ensures first { OnErr result (known self.old producer ≡ None) }
-    {
-        self.table.insert(producer, row)?;
+        let known = Known::fresh(self.alloc, epoch)?;
+        self.table.insert(producer, known)?;
         Ok(())
     }
 }
