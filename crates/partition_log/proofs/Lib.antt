@@ -8,7 +8,10 @@ pub mod Walk
 pub mod Runs
 pub mod Longest
 pub mod Fetched
-pub mod Entries
 pub mod Rows
+pub mod Openings
+pub mod Stable
+pub mod Index
+pub mod Halving
 pub mod Steps
 pub mod Accepted
