@@ -1,8 +1,10 @@
 //! What the words of the command line ask for.
 
-ghost use Rattle.std.specs.Prelude.{◌≡◌, option_and_then};
-ghost use Rattle.clap.specs.Words.{subcommand_name_of};
-ghost use Rattle.arguments.specs.Job.{job_named};
+ghost use Rattle.std.specs.Prelude.{◌≡◌, ◌⊎◌, IfErr, IfOk, None, Some, false, map, option_and_then};
+ghost use Rattle.clap.specs.Words.{app_of, kind_of, new_app, subcommand_name_of};
+ghost use Rattle.clap.specs.declared.builder.command.Command.TheViews.{out-Command as fields_of};
+ghost use Rattle.arguments.specs.CommandLine.{command_line, program};
+ghost use Rattle.arguments.specs.Job.{job_named, job_of};
 
 use crate::help::{CHECK, CHECK_EXAMPLE, CHECK_LONG, PROGRAM, REPLAY, REPLAY_EXAMPLE, REPLAY_LONG};
 use clap::error::ErrorKind;
@@ -18,22 +20,40 @@ pub enum Job {
     Check,
 }
 
-/// The command line that is understood.
-fn command<'a>(alloc: Global) -> Result<Command<'a>, AllocError> {
-    let replay = Command::new(alloc, "replay")
-        .about(REPLAY)
-        .long_about(REPLAY_LONG)
-        .after_help(REPLAY_EXAMPLE);
-    let check = Command::new(alloc, "check")
-        .about(CHECK)
-        .long_about(CHECK_LONG)
-        .after_help(CHECK_EXAMPLE);
+/// A subcommand of this name, with what `--help` says of it.
+fn described<'a>(
+    alloc: Global,
+    name: &'a str,
+    about: &'a str,
+    long_about: &'a str,
+    example: &'a str,
+) -> Command<'a>
+    ensures app { app_of result ≡ new_app name.entry.now }
+    ensures local { (fields_of result).has_globals ≡ false }
+{
+    Command::new(alloc, name)
+        .about(about)
+        .long_about(long_about)
+        .after_help(example)
+}
+
+/// The program before it has subcommands.
+fn bare_program<'a>(alloc: Global) -> Command<'a>
+    ensures { app_of result ≡ program }
+{
     Command::new(alloc, "kbroker")
         .about(PROGRAM)
         .subcommand_required(true)
         .arg_required_else_help(true)
-        .subcommand(replay)?
-        .subcommand(check)
+}
+
+/// The command line that is understood.
+fn command<'a>(alloc: Global) -> Result<Command<'a>, AllocError>
+    ensures { IfOk result (λ made. app_of made ≡ command_line) }
+{
+    let replay = described(alloc, "replay", REPLAY, REPLAY_LONG, REPLAY_EXAMPLE);
+    let check = described(alloc, "check", CHECK, CHECK_LONG, CHECK_EXAMPLE);
+    bare_program(alloc).subcommand(replay)?.subcommand(check)
 }
 
 /// The job of the subcommand that was found in the words.
@@ -49,9 +69,13 @@ fn named_job(matches: &ArgMatches<'_>) -> Option<Job>
     None
 }
 
-/// What the words ask for, of which the first is the program's own name. A refusal holds the text to print on
-/// standard error; help is one.
-pub fn arguments<'a>(alloc: Global, words: &'a [&'a str]) -> Result<Job, Error> {
+/// What the words ask for, of which the first is the program's own name: the job that the next one names, where
+/// nothing but `--` follows. A refusal holds the text to print on standard error; help is one.
+pub fn arguments<'a>(alloc: Global, words: &'a [&'a str]) -> Result<Job, Error>
+    ensures job { IfOk result (λ job. job_of (map (λ word. word.now) words.entry.now) ≡ Some job) }
+    ensures refusal { IfErr result (λ error. (job_of (map (λ word. word.now) words.entry.now) ≡ None)
+        ⊎ (kind_of error ≡ ErrorKind.OutOfMemory)) }
+{
     let mut command = command(alloc)?;
     let matches = command.try_get_matches_from_mut(words)?;
     match named_job(&matches) {
