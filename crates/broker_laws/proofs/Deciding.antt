@@ -173,7 +173,7 @@ added_groups P (p ∷ ps) gs h = added_groups P ps gs h.1
 added_groups P [] [] h = tt
 added_groups P [] (g ∷ gs) h = (h.0, added_groups P [] gs h.1)
 
-prepared_decides : (w : World) → IsGood w → DecidesPrepared w
+pub prepared_decides : (w : World) → IsGood w → DecidesPrepared w
 prepared_decides w good e id t o after by enough =
     let v = reached (step w e) after in
     each_weaker (λ g. IsDone t.pair.producer o (entries_in w (Group g)) (entries_in v (Group g))) (λ g. IsDecided t.pair.producer o (group_of w.groups g).offsets (group_of v.groups g).offsets)

@@ -69,7 +69,7 @@ one_event w Mark good id t o found waits =
 later : (w : World) (e : Event) (es : List Event) (id : List ℕ) (o : Ending) → IsCompletedBy (step w e) es id o → IsCompletedBy w (e ∷ es) id o
 later w e es id o by = record { first = e ∷ by.first; rest = by.rest; parts = ap (λ l. e ∷ l) by.parts; transaction = by.transaction; found = by.found; is_complete = by.is_complete }
 
-ends : (es : List Event) (w : World) → IsGood w → (id : List ℕ) (t : Transaction) (o : Ending) → recorded w.coordinator.transactions id ≡ Some t → t.phase ≡ prepared o → up_to_last w.coordinator.warrants id ≤ marks es → IsCompletedBy w es id o
+pub ends : (es : List Event) (w : World) → IsGood w → (id : List ℕ) (t : Transaction) (o : Ending) → recorded w.coordinator.transactions id ≡ Some t → t.phase ≡ prepared o → up_to_last w.coordinator.warrants id ≤ marks es → IsCompletedBy w es id o
 ends [] w good id t o found waits enough = let some = some_owed w.coordinator.warrants id (good.sound.owing id t o found waits) in absurd (omega (arith, some, enough))
 ends (e ∷ es) w good id t o found waits enough = by_event (ends es (step w e) (good_step w e good) id t o) (one_event w e good id t o found waits) where
   by_event : (recorded (step w e).coordinator.transactions id ≡ Some t → t.phase ≡ prepared o → up_to_last (step w e).coordinator.warrants id ≤ marks es → IsCompletedBy (step w e) es id o)

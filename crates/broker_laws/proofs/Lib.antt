@@ -15,4 +15,5 @@ pub mod Failing
 pub mod Fencing
 pub mod Ending
 pub mod Cores
+pub mod Trailing
 pub mod Preparing

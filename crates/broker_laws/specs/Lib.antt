@@ -2,3 +2,4 @@ pub mod Entries
 pub mod Moves
 pub mod Targets
 pub mod Laws
+pub mod Trails

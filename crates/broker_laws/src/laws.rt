@@ -8,6 +8,7 @@ ghost use Rattle.broker_laws.specs.Laws.{EntriesAreTheLog, IsMoved, EventsAreMov
 ghost use Rattle.broker_laws.specs.Laws.{Prepares, CompletesPrepared, CompletesWaiting, EndsComplete, MarksAreNotRefused};
 ghost use Rattle.broker_laws.specs.Laws.{DecidesPrepared, DecidesWaiting, GroupsGoOn};
 ghost use Rattle.broker_laws.specs.Laws.{Fences, FencedWriteNothing, NoDataBehindAGreaterMarker};
+ghost use Rattle.broker_laws.specs.Trails.{CompletesOverATrail, CompletesOverARun};
 
 /// What the laws see of a partition is its log, batch by batch, and of a group its offset events.
 pub fn entries_are_the_log()
@@ -70,6 +71,17 @@ pub fn ends_complete()
 /// A marker step is never refused.
 pub fn marks_are_not_refused()
     ensures { MarksAreNotRefused }
+{}
+
+/// Where the trail of a core holds an event that prepared a transaction, and behind it as many marker steps as markers
+/// stood then up to and including its last one, the core's world has it completed.
+pub fn completes_over_a_trail()
+    ensures { CompletesOverATrail }
+{}
+
+/// And so where a core ran a list of events with such an event and so many marker steps behind it.
+pub fn completes_over_a_run()
+    ensures { CompletesOverARun }
 {}
 
 /// An id leaves its pair by each InitProducerId that is answered a pair, and by each event that aborts its open

@@ -1,0 +1,139 @@
+-- Where a trail's entries, and the events of a run, lead.
+use Rattle.std.proofs.Common.{◌≡◌, ℕ, ◌≤◌, List, [], ◌∷◌, ◌++◌, length, Option, Some, None, Bool, true, false, refl, sym, ap, subst, ◌∙◌, inl, inr, ◌⊎◌, append_assoc, arith}
+use Rattle.std.proofs.lemmas.List.{map-append}
+use Rattle.record_batch.specs.declared.outcome.Outcome.{Outcome as Ending}
+use Rattle.audit_trail.specs.declared.event.Event.{Event}
+use Rattle.audit_trail.specs.declared.trail.Entry.{Entry}
+use Rattle.audit_trail.specs.declared.trail.Receipt.{Receipt}
+use Rattle.txn_coordinator.specs.declared.transaction.Transaction.{Transaction}
+use Rattle.txn_laws.specs.Sound.{Each}
+use Rattle.txn_laws.specs.Laws.{up_to_last}
+use Rattle.txn_laws.proofs.Base.{each_append}
+use Rattle.broker_world.specs.World.{World}
+use Rattle.broker_world.specs.First.{first_world}
+use Rattle.api_dispatch.specs.Step.{step, refusals_of, reached, is_reading}
+use Rattle.request_handlers.specs.declared.stop.Stop.{Stop}
+use Rattle.request_handlers.specs.declared.stop.Stop.TheVariants.{NoMemory, TrailFull, Down}
+use Rattle.request_handlers.specs.Core.{CoreValue, IsHistory, IsPutDown, AfterNoMemory, StoppedBy, Ran, history, events_of, advanced}
+use Rattle.broker_laws.specs.Moves.{marks}
+use Rattle.broker_laws.specs.Laws.{IsPreparedBy, IsCompletedBy}
+use Rattle.broker_laws.specs.Trails.{IsCompleted, IsUnrefusedMark, IsCompletedIn, world_behind, CompletesOverATrail, CompletesOverARun}
+use Rattle.broker_laws.proofs.Reading.{marks_are_not_refused}
+use Rattle.broker_laws.proofs.Reached.{IsGood, good_step, good_reached, good}
+use Rattle.broker_laws.proofs.Completing.{prepared_completes}
+use Rattle.broker_laws.proofs.Deciding.{prepared_decides}
+use Rattle.broker_laws.proofs.Ending.{ends}
+
+-- ---- a world
+
+-- what is prepared in a good world is completed where enough marker steps lead
+completed : (w : World) → IsGood w → (e : Event) (id : List ℕ) (t : Transaction) (o : Ending) (behind : List Event) → IsPreparedBy w e id t o → up_to_last (step w e).coordinator.warrants id ≤ marks behind → IsCompleted w (reached (step w e) behind) t o
+completed w good e id t o behind by enough = record { markers = prepared_completes w good e id t o behind by enough; groups = prepared_decides w good e id t o behind by enough }
+
+complete_record : (w : World) → IsGood w → (e : Event) (id : List ℕ) (t : Transaction) (o : Ending) (behind : List Event) → IsPreparedBy w e id t o → up_to_last (step w e).coordinator.warrants id ≤ marks behind → IsCompletedBy (step w e) behind id o
+complete_record w good e id t o behind by enough = ends behind (step w e) (good_step w e good) id by.transaction o by.after by.waits enough
+
+completed_in : (core : CoreValue) (w : World) → IsGood w → (e : Event) (id : List ℕ) (t : Transaction) (o : Ending) (behind : List Event) → (core.down ≡ false → core.world ≡ reached (step w e) behind) → Each IsUnrefusedMark core.trail → IsPreparedBy w e id t o
+    → up_to_last (step w e).coordinator.warrants id ≤ marks behind → IsCompletedIn core w e behind id t o
+completed_in core w good e id t o behind leads unrefused by enough = record {
+  world = λ up. subst (λ v. IsCompleted w v t o) (sym (leads up)) (completed w good e id t o behind by enough);
+  record_complete = complete_record w good e id t o behind by enough;
+  unrefused = unrefused;
+}
+
+-- ---- the trail
+
+reached_append : (w : World) (xs ys : List Event) → reached w (xs ++ ys) ≡ reached (reached w xs) ys
+reached_append w [] ys = refl
+reached_append w (x ∷ xs) ys = reached_append (step w x) xs ys
+
+history_unrefused : (w : World) (es : List Event) → Each IsUnrefusedMark (history w es)
+history_unrefused w [] = tt
+history_unrefused w (e ∷ es) = (λ is. ap (refusals_of w) is ∙ marks_are_not_refused w, history_unrefused (step w e) es)
+
+trail_unrefused : (core : CoreValue) → IsHistory core → Each IsUnrefusedMark core.trail
+trail_unrefused core h = subst (Each IsUnrefusedMark) (sym h.entries) (history_unrefused (first_world core.settings) (events_of core.trail))
+
+trail_leads : (core : CoreValue) → IsHistory core → (before behind : List Entry) (x : Entry) → core.trail ≡ before ++ x ∷ behind → core.down ≡ false → core.world ≡ reached (step (world_behind core before) x.event) (events_of behind)
+trail_leads core h before behind x parts up =
+    let first = first_world core.settings in
+    h.world up
+    ∙ ap (λ l. reached first (events_of l)) parts
+    ∙ ap (reached first) (map-append (λ (y : Entry). y.event) before (x ∷ behind))
+    ∙ reached_append first (events_of before) (x.event ∷ events_of behind)
+
+pub completes_over_a_trail : CompletesOverATrail
+completes_over_a_trail core is before behind x parts id t o by enough =
+    completed_in core (world_behind core before) (good core.settings (events_of before)) x.event id t o (events_of behind)
+    (trail_leads core is.history before behind x parts)
+    (trail_unrefused core is.history)
+    by enough
+
+-- ---- a stop
+
+no_memory : (e : Event) (old new : CoreValue) → AfterNoMemory e old new → (new ≡ old) ⊎ IsPutDown old new
+no_memory e old new h = by_reading (is_reading e) refl where
+  by_reading : (b : Bool) → is_reading e ≡ b → (new ≡ old) ⊎ IsPutDown old new
+  by_reading true is = inl (h.reading is)
+  by_reading false is = inr (h.writing is)
+
+stopped : (stop : Stop) (old : CoreValue) (e : Event) (new : CoreValue) → StoppedBy stop old e new → (new ≡ old) ⊎ IsPutDown old new
+stopped NoMemory old e new h = no_memory e old new h.1
+stopped TrailFull old e new h = inl h.1
+stopped Down old e new h = inl h.1
+
+stopped_trail : (old new : CoreValue) → (new ≡ old) ⊎ IsPutDown old new → new.trail ≡ old.trail
+stopped_trail old new (inl same) = ap (λ (c : CoreValue). c.trail) same
+stopped_trail old new (inr put) = put.trail
+
+stopped_world : (old new : CoreValue) → (new ≡ old) ⊎ IsPutDown old new → new.down ≡ false → new.world ≡ old.world
+stopped_world old new (inl same) up = ap (λ (c : CoreValue). c.world) same
+stopped_world old new (inr put) up = absurd (let clash : true ≡ false = sym put.down ∙ up in cc)
+
+-- ---- a run
+
+ran_unrefused : (old new : CoreValue) (es : List Event) (rs : List Receipt) (stop : Option Stop) → Ran old es rs stop new → Each IsUnrefusedMark old.trail → Each IsUnrefusedMark new.trail
+ran_unrefused old new [] [] None run h = subst (λ (c : CoreValue). Each IsUnrefusedMark c.trail) (sym run) h
+ran_unrefused old new [] [] (Some stop) run h = absurd run
+ran_unrefused old new [] (r ∷ rs) stop run h = absurd run
+ran_unrefused old new (e ∷ es) [] None run h = absurd run
+ran_unrefused old new (e ∷ es) [] (Some stop) run h = subst (Each IsUnrefusedMark) (sym (stopped_trail old new (stopped stop old e new run))) h
+ran_unrefused old new (e ∷ es) (r ∷ rs) stop run h =
+    ran_unrefused (advanced old e) new es rs stop run.3
+    (each_append IsUnrefusedMark old.trail _ h (λ is. ap (refusals_of old.world) is ∙ marks_are_not_refused old.world, tt))
+
+same_first : (x y : Event) (xs ys : List Event) → x ∷ xs ≡ y ∷ ys → x ≡ y
+same_first x y xs ys h = cc
+
+same_rest : (x y : Event) (xs ys : List Event) → x ∷ xs ≡ y ∷ ys → xs ≡ ys
+same_rest x y xs ys h = cc
+
+-- the events with a receipt lead to the new world
+ran_leads : (old new : CoreValue) (es : List Event) (rs : List Receipt) (stop : Option Stop) → Ran old es rs stop new → (taken rest : List Event) → es ≡ taken ++ rest → length rs ≡ length taken → new.down ≡ false → new.world ≡ reached old.world taken
+ran_leads old new [] [] None run [] rest parts same up = ap (λ (c : CoreValue). c.world) run
+ran_leads old new [] [] None run (x ∷ taken) rest parts same up = absurd (omega (arith, same))
+ran_leads old new [] [] (Some stop) run taken rest parts same up = absurd run
+ran_leads old new [] (r ∷ rs) stop run taken rest parts same up = absurd run
+ran_leads old new (e ∷ es) [] None run taken rest parts same up = absurd run
+ran_leads old new (e ∷ es) [] (Some stop) run [] rest parts same up = stopped_world old new (stopped stop old e new run) up
+ran_leads old new (e ∷ es) [] (Some stop) run (x ∷ taken) rest parts same up = absurd (omega (arith, same))
+ran_leads old new (e ∷ es) (r ∷ rs) stop run [] rest parts same up = absurd (omega (arith, same))
+ran_leads old new (e ∷ es) (r ∷ rs) stop run (x ∷ taken) rest parts same up =
+    ran_leads (advanced old e) new es rs stop run.3 taken rest (same_rest e x es (taken ++ rest) parts) (omega (arith, same)) up
+    ∙ ap (λ y. reached (step old.world y) taken) (same_first e x es (taken ++ rest) parts)
+
+-- a core that took an event was up
+ran_up : (old new : CoreValue) (es : List Event) (rs : List Receipt) (stop : Option Stop) → Ran old es rs stop new → (before behind : List Event) (e : Event) → length rs ≡ length (before ++ e ∷ behind) → old.down ≡ false
+ran_up old new [] (r ∷ rs) stop run before behind e same = absurd run
+ran_up old new (x ∷ es) (r ∷ rs) stop run before behind e same = run.0.up
+ran_up old new es [] stop run [] behind e same = absurd (omega (arith, same))
+ran_up old new es [] stop run (y ∷ before) behind e same = absurd (omega (arith, same))
+
+pub completes_over_a_run : CompletesOverARun
+completes_over_a_run old new es rs stop is run before behind rest e parts same id t o by enough =
+    let up = ran_up old new es rs stop run before behind e same in
+    let here : IsGood old.world = subst IsGood (sym (is.history.world up)) (good old.settings (events_of old.trail)) in
+    completed_in new (reached old.world before) (good_reached old.world before here) e id t o behind
+    (λ now. ran_leads old new es rs stop run (before ++ e ∷ behind) rest (parts ∙ sym (append_assoc before (e ∷ behind) rest)) same now ∙ reached_append old.world before (e ∷ behind))
+    (ran_unrefused old new es rs stop run (trail_unrefused old is.history))
+    by enough

@@ -1,0 +1,5 @@
+use Rattle.broker_laws.proofs.Trailing.{completes_over_a_trail}
+use Rattle.broker_laws.proofs.laws.completes_over_a_trail.Goals as goal
+
+pub returns : goal.returns
+returns c = completes_over_a_trail
