@@ -36,7 +36,7 @@ use Rattle.broker_laws.proofs.Completing.{prepared_completes, waiting_completes}
 
 -- ---- the events among which the entries stand
 
-cancelled : (xs ys zs : List Entry) → xs ++ ys ≡ xs ++ zs → ys ≡ zs
+pub cancelled : (xs ys zs : List Entry) → xs ++ ys ≡ xs ++ zs → ys ≡ zs
 cancelled [] ys zs e = e
 cancelled (x ∷ xs) ys zs e = let rest : xs ++ ys ≡ xs ++ zs = cc in cancelled xs ys zs rest
 
@@ -79,10 +79,10 @@ split (x ∷ xs) (b ∷ bs) cs pair o e h =
 
 -- ---- decisions
 
-own_number : (p : ℤ) → int_eq p p ≡ true
+pub own_number : (p : ℤ) → int_eq p p ≡ true
 own_number p = (Decides-int_eq p p).1 refl
 
-other_number : (p q : ℤ) → (p ≡ q → ⊥) → int_eq p q ≡ false
+pub other_number : (p q : ℤ) → (p ≡ q → ⊥) → int_eq p q ≡ false
 other_number p q differ = by_test (int_eq p q) refl where
   by_test : (b : Bool) → int_eq p q ≡ b → int_eq p q ≡ false
   by_test true e = absurd (differ ((Decides-int_eq p q).0 e))

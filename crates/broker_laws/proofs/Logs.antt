@@ -76,7 +76,7 @@ at_with topics name i log there other j = by_name (bytes_eq name other) refl whe
 
 -- ---- entries
 
-same_partition : (name other : List ℕ) (i j : ℤ) → (bytes_eq name other && int_eq i j) ≡ true → (name ≡ other) × (i ≡ j)
+pub same_partition : (name other : List ℕ) (i j : ℤ) → (bytes_eq name other && int_eq i j) ≡ true → (name ≡ other) × (i ≡ j)
 same_partition name other i j h = by_name (bytes_eq name other) refl h where
   by_name : (b : Bool) → bytes_eq name other ≡ b → (b && int_eq i j) ≡ true → (name ≡ other) × (i ≡ j)
   by_name true e h = (text_is name other e, number_is i j h)

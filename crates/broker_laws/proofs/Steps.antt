@@ -74,7 +74,7 @@ marker_log : (log : LogValue) (m : OwedMarker) (moment : ℕ) → map entry_of (
 marker_log log m moment =
     map-append entry_of log (at_end log (marker_batch m moment) ∷ [])
 
-log_found : (o : Option LogValue) → is_some o ≡ true → (log : LogValue) × (o ≡ Some log)
+pub log_found : (o : Option LogValue) → is_some o ≡ true → (log : LogValue) × (o ≡ Some log)
 log_found None h = absurd (let clash : false ≡ true = h in cc)
 log_found (Some log) h = (log, refl)
 

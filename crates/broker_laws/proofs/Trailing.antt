@@ -22,13 +22,18 @@ use Rattle.broker_laws.proofs.Reading.{marks_are_not_refused}
 use Rattle.broker_laws.proofs.Reached.{IsGood, good_step, good_reached, good}
 use Rattle.broker_laws.proofs.Completing.{prepared_completes}
 use Rattle.broker_laws.proofs.Deciding.{prepared_decides}
+use Rattle.broker_laws.proofs.LogEnds.{prepared_ends}
 use Rattle.broker_laws.proofs.Ending.{ends}
 
 -- ---- a world
 
 -- what is prepared in a good world is completed where enough marker steps lead
 completed : (w : World) → IsGood w → (e : Event) (id : List ℕ) (t : Transaction) (o : Ending) (behind : List Event) → IsPreparedBy w e id t o → up_to_last (step w e).coordinator.warrants id ≤ marks behind → IsCompleted w (reached (step w e) behind) t o
-completed w good e id t o behind by enough = record { markers = prepared_completes w good e id t o behind by enough; groups = prepared_decides w good e id t o behind by enough }
+completed w good e id t o behind by enough = record {
+  markers = prepared_completes w good e id t o behind by enough;
+  logs = prepared_ends w good e id t o behind by enough;
+  groups = prepared_decides w good e id t o behind by enough;
+}
 
 complete_record : (w : World) → IsGood w → (e : Event) (id : List ℕ) (t : Transaction) (o : Ending) (behind : List Event) → IsPreparedBy w e id t o → up_to_last (step w e).coordinator.warrants id ≤ marks behind → IsCompletedBy (step w e) behind id o
 complete_record w good e id t o behind by enough = ends behind (step w e) (good_step w e good) id by.transaction o by.after by.waits enough

@@ -2,4 +2,5 @@ pub mod Entries
 pub mod Moves
 pub mod Targets
 pub mod Laws
+pub mod LogEnds
 pub mod Trails

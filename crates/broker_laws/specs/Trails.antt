@@ -19,6 +19,7 @@ use Rattle.request_handlers.specs.Core.{CoreValue, IsCore, Ran, events_of}
 use Rattle.broker_laws.specs.Entries.{entries_in}
 use Rattle.broker_laws.specs.Moves.{marks}
 use Rattle.broker_laws.specs.Laws.{IsPreparedBy, IsDecided, IsCompletedBy}
+use Rattle.broker_laws.specs.LogEnds.{IsEndedAt}
 
 -- ---- a completed transaction
 
@@ -26,7 +27,9 @@ use Rattle.broker_laws.specs.Laws.{IsPreparedBy, IsDecided, IsCompletedBy}
 pub record IsCompleted (old later : World) (t : Transaction) (outcome : Ending) : Type 0 where
   -- each partition and group that was added has its marker of that outcome behind what its producer wrote there
   pub markers : Each (λ target. IsDone t.pair.producer outcome (entries_in old target) (entries_in later target)) (targets t)
-  -- so each offset that it staged in a group is decided
+  -- so what the producer had open in the log of a partition is ended: it is committed, or filtered
+  pub logs : Each (IsEndedAt t.pair.producer outcome old later) t.partitions
+  -- and what it had staged in a group is decided: it is shown, or dropped
   pub groups : Each (λ g. IsDecided t.pair.producer outcome (group_of old.groups g).offsets (group_of later.groups g).offsets) t.groups
 
 -- a marker step's entry holds no refusal

@@ -8,6 +8,7 @@ ghost use Rattle.broker_laws.specs.Laws.{EntriesAreTheLog, IsMoved, EventsAreMov
 ghost use Rattle.broker_laws.specs.Laws.{Prepares, CompletesPrepared, CompletesWaiting, EndsComplete, MarksAreNotRefused};
 ghost use Rattle.broker_laws.specs.Laws.{DecidesPrepared, DecidesWaiting, GroupsGoOn};
 ghost use Rattle.broker_laws.specs.Laws.{Fences, FencedWriteNothing, NoDataBehindAGreaterMarker};
+ghost use Rattle.broker_laws.specs.LogEnds.{LogsGoOn, EndsPrepared, EndsWaiting};
 ghost use Rattle.broker_laws.specs.Trails.{CompletesOverATrail, CompletesOverARun};
 
 /// What the laws see of a partition is its log, batch by batch, and of a group its offset events.
@@ -45,6 +46,20 @@ pub fn completes_prepared()
 pub fn completes_waiting()
     ensures reached { InReached CompletesWaiting }
     ensures cores { InCores CompletesWaiting }
+{}
+
+/// In the log of each partition that a transaction takes in, so many marker steps end all that its producer had open
+/// there: a commit makes it committed, and an abort doesn't.
+pub fn ends_batches()
+    ensures prepared_reached { InReached EndsPrepared }
+    ensures prepared_cores { InCores EndsPrepared }
+    ensures waiting_reached { InReached EndsWaiting }
+    ensures waiting_cores { InCores EndsWaiting }
+{}
+
+/// What a partition's log holds stays, whatever event comes.
+pub fn logs_go_on()
+    ensures { (w : World) → LogsGoOn w }
 {}
 
 /// In each group that a transaction takes in, so many marker steps decide all that its producer had staged there: a commit
