@@ -32,7 +32,7 @@ use Rattle.broker_laws.specs.Laws.{InReached, IsNotBy, shown_by, IsDecided, Deci
 use Rattle.broker_laws.proofs.Noted.{Follows, GoOn}
 use Rattle.broker_laws.proofs.Growing.{Anything, reached_goes}
 use Rattle.broker_laws.proofs.Reached.{IsGood, good}
-use Rattle.broker_laws.proofs.Completing.{prepared_completes, waiting_completes}
+use Rattle.broker_laws.proofs.Completing.{prepared_done, waiting_completes}
 
 -- ---- the events among which the entries stand
 
@@ -178,7 +178,7 @@ prepared_decides w good e id t o after by enough =
     let v = reached (step w e) after in
     each_weaker (λ g. IsDone t.pair.producer o (entries_in w (Group g)) (entries_in v (Group g))) (λ g. IsDecided t.pair.producer o (group_of w.groups g).offsets (group_of v.groups g).offsets)
     (λ g done. one v (reached_goes w (e ∷ after)) g done) t.groups
-    (added_groups (λ target. IsDone t.pair.producer o (entries_in w target) (entries_in v target)) t.partitions t.groups (prepared_completes w good e id t o after by enough)) where
+    (added_groups (λ target. IsDone t.pair.producer o (entries_in w target) (entries_in v target)) t.partitions t.groups (prepared_done w good e id t o after by enough)) where
       one : (v : World) → GoOn Anything w.groups v.groups → (g : List ℕ) → IsDone t.pair.producer o (entries_in w (Group g)) (entries_in v (Group g)) → IsDecided t.pair.producer o (group_of w.groups g).offsets (group_of v.groups g).offsets
       one v goes g (pair, is, ended) =
           subst (λ producer. IsDecided producer o (group_of w.groups g).offsets (group_of v.groups g).offsets) is (decided (group_of w.groups g).offsets (group_of v.groups g).offsets pair o (goes g) ended)

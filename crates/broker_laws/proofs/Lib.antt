@@ -9,6 +9,7 @@ pub mod Growing
 pub mod Turns
 pub mod Steps
 pub mod Reached
+pub mod Owing
 pub mod Completing
 pub mod Deciding
 pub mod Failing

@@ -36,7 +36,7 @@ use Rattle.broker_laws.specs.LogEnds.{IsEndedAs, IsNotFrom, IsEndedLog, IsEndedA
 use Rattle.broker_laws.proofs.Turns.{each_recorded}
 use Rattle.broker_laws.proofs.Steps.{log_found}
 use Rattle.broker_laws.proofs.Reached.{IsGood, good}
-use Rattle.broker_laws.proofs.Completing.{prepared_completes, waiting_completes}
+use Rattle.broker_laws.proofs.Completing.{prepared_done, waiting_completes}
 use Rattle.broker_laws.proofs.Deciding.{cancelled, own_number, other_number}
 use Rattle.broker_laws.proofs.LogsGrow.{reached_grows}
 
@@ -243,7 +243,7 @@ prepared_ends w good e id t o after by enough =
     let sign = given_sign w.coordinator t.pair.producer (Some id) (good.sound.owned id t by.before) in
     each_weaker (λ p. IsThere w.topics (Partition p) × IsDone t.pair.producer o (entries_in w (Partition p)) (entries_in v (Partition p))) (IsEndedAt t.pair.producer o w v) (λ p h. one p sign h.0 h.1) t.partitions
     (added_partitions (λ target. IsThere w.topics target × IsDone t.pair.producer o (entries_in w target) (entries_in v target)) t.partitions _
-    (each_with (IsThere w.topics) (λ target. IsDone t.pair.producer o (entries_in w target) (entries_in v target)) (targets t) there (prepared_completes w good e id t o after by enough))) where
+    (each_with (IsThere w.topics) (λ target. IsDone t.pair.producer o (entries_in w target) (entries_in v target)) (targets t) there (prepared_done w good e id t o after by enough))) where
       one : (p : TopicPartition) → int_lt t.pair.producer (pos 0) ≡ false → IsThere w.topics (Partition p) → IsDone t.pair.producer o (entries_in w (Partition p)) (entries_in (reached w (e ∷ after)) (Partition p)) → IsEndedAt t.pair.producer o w (reached w (e ∷ after)) p
       one p sign there (pair, is, h) =
           subst (λ n. IsEndedAt n o w (reached w (e ∷ after)) p) is (ended_at w (e ∷ after) p pair o there (ap (λ n. int_lt n (pos 0)) is ∙ sign) h)

@@ -45,7 +45,7 @@ use Rattle.broker_world.specs.Clock.{moment_after}
 use Rattle.api_dispatch.specs.Step.{step}
 use Rattle.broker_laws.specs.Laws.{InReached, Prepares, HasPair, Fences}
 use Rattle.broker_laws.proofs.Passing.{never_none}
-use Rattle.broker_laws.proofs.Completing.{recorded_expired}
+use Rattle.broker_laws.proofs.Owing.{recorded_expired}
 use Rattle.broker_laws.proofs.Reached.{IsGood, good}
 
 -- ---- codes of refusals

@@ -28,7 +28,7 @@ use Rattle.broker_laws.proofs.Ending.{ends}
 -- ---- a world
 
 -- what is prepared in a good world is completed where enough marker steps lead
-completed : (w : World) → IsGood w → (e : Event) (id : List ℕ) (t : Transaction) (o : Ending) (behind : List Event) → IsPreparedBy w e id t o → up_to_last (step w e).coordinator.warrants id ≤ marks behind → IsCompleted w (reached (step w e) behind) t o
+completed : (w : World) → IsGood w → (e : Event) (id : List ℕ) (t : Transaction) (o : Ending) (behind : List Event) → IsPreparedBy w e id t o → up_to_last (step w e).coordinator.warrants id ≤ marks behind → IsCompleted w (reached (step w e) behind) e t o
 completed w good e id t o behind by enough = record {
   markers = prepared_completes w good e id t o behind by enough;
   logs = prepared_ends w good e id t o behind by enough;
@@ -41,7 +41,7 @@ complete_record w good e id t o behind by enough = ends behind (step w e) (good_
 completed_in : (core : CoreValue) (w : World) → IsGood w → (e : Event) (id : List ℕ) (t : Transaction) (o : Ending) (behind : List Event) → (core.down ≡ false → core.world ≡ reached (step w e) behind) → Each IsUnrefusedMark core.trail → IsPreparedBy w e id t o
     → up_to_last (step w e).coordinator.warrants id ≤ marks behind → IsCompletedIn core w e behind id t o
 completed_in core w good e id t o behind leads unrefused by enough = record {
-  world = λ up. subst (λ v. IsCompleted w v t o) (sym (leads up)) (completed w good e id t o behind by enough);
+  world = λ up. subst (λ v. IsCompleted w v e t o) (sym (leads up)) (completed w good e id t o behind by enough);
   record_complete = complete_record w good e id t o behind by enough;
   unrefused = unrefused;
 }

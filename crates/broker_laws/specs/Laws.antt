@@ -35,8 +35,9 @@ use Rattle.record_batch.specs.declared.outcome.Outcome.{Outcome as Ending}
 use Rattle.record_batch.specs.declared.outcome.Outcome.TheVariants.{Commit, Abort}
 use Rattle.txn_coordinator.specs.declared.marker.OwedMarker.{OwedMarker}
 use Rattle.txn_coordinator.specs.declared.ending.EndForm.TheVariants.{Plain}
-use Rattle.txn_coordinator.specs.Words.{prepared, complete, targets}
+use Rattle.txn_coordinator.specs.Words.{raised, prepared, complete, targets}
 use Rattle.txn_coordinator.specs.Coordinator.{CoordinatorValue, recorded, turn_code}
+use Rattle.txn_coordinator.specs.Preparing.{markers}
 use Rattle.txn_coordinator.specs.Adding.{add_partitions, add_group}
 use Rattle.txn_coordinator.specs.EndTxn.{end}
 use Rattle.txn_coordinator.specs.Expiry.{is_due}
@@ -50,7 +51,7 @@ use Rattle.group_offsets.specs.Groups.{find_group, group_of}
 use Rattle.group_offsets.specs.Laws.{or_else, pending}
 use Rattle.txn_laws.specs.Small.{first_world as first_small_world, moved_all}
 use Rattle.txn_laws.specs.Sound.{Each, IsOrdered}
-use Rattle.txn_laws.specs.Laws.{IsEnded, IsDone, IsSilent, Refuses, up_to_last}
+use Rattle.txn_laws.specs.Laws.{IsEnded, IsSilent, Refuses, up_to_last}
 use Rattle.txn_laws.specs.Kept.{kept_pair, kept_world, kept_moved_all}
 use Rattle.broker_world.specs.World.{World, LogValue, TopicValue}
 use Rattle.broker_world.specs.First.{first_world}
@@ -114,13 +115,33 @@ pub record Prepares (w : World) : Type 0 where
   -- a tick behind the end of its time
   pub timed_out : (told : ℕ) (id : List ℕ) (t : Transaction) → recorded w.coordinator.transactions id ≡ Some t → is_due (moment_after w.moment told) t ≡ true → IsPreparedBy w (Tick told) id t Abort
 
+-- the pair that the markers of a transaction carry: where an EndTxn (of version 0) ends it, its producer's own; where an
+-- InitProducerId or a tick aborts it, the producer's with the epoch raised by one, so that it is fenced
+abbrev pub marker_pair : Event → Pair → Pair
+marker_pair (Ask caller client (EndTxn r)) own = own
+marker_pair e own = raised own
+
+-- An event that prepares a transaction writes nothing, and owes a marker of the outcome and of that pair to each partition
+-- and group that was added, behind the markers that were owed. Besides them it owes those of other transactions, where a
+-- tick ends several.
+pub record OwesEach (w : World) (e : Event) (id : List ℕ) (t : Transaction) (outcome : Ending) : Type 0 where
+  pub front : List OwedMarker
+  pub back : List OwedMarker
+  pub owed : (step w e).coordinator.warrants ≡ w.coordinator.warrants ++ (front ++ (markers t (marker_pair e t.pair) outcome ++ back))
+  pub entries : (target : Target) → entries_in (step w e) target ≡ entries_in w target
+  -- the id's record has that pair from then on
+  pub pair : (u : Transaction) → recorded (step w e).coordinator.transactions id ≡ Some u → u.pair ≡ marker_pair e t.pair
+
+abbrev pub OwesPrepared : World → Type 0
+OwesPrepared w = (e : Event) (id : List ℕ) (t : Transaction) (outcome : Ending) → IsPreparedBy w e id t outcome → OwesEach w e id t outcome
+
 -- Where an event prepares a transaction, as many marker steps as markers then stand up to and including its last one
--- write the outcome to each partition and group that was added, behind all that the transaction's producer wrote there,
--- whatever other events come between them.
+-- write the outcome, with that pair, to each partition and group that was added, behind all that the transaction's producer
+-- wrote there, whatever other events come between them. A group keeps of the pair the producer id alone.
 abbrev pub CompletesPrepared : World → Type 0
 CompletesPrepared w = (e : Event) (id : List ℕ) (t : Transaction) (outcome : Ending) (after : List Event)
     → IsPreparedBy w e id t outcome → up_to_last (step w e).coordinator.warrants id ≤ marks after
-    → Each (λ target. IsDone t.pair.producer outcome (entries_in w target) (entries_in (reached (step w e) after) target)) (targets t)
+    → Each (λ target. IsEnded (kept_pair target (marker_pair e t.pair)) outcome (entries_in w target) (entries_in (reached (step w e) after) target)) (targets t)
 
 -- where a transaction waits, so many marker steps write its outcome to each partition and group for which it still owes a
 -- marker: to a partition with the marker's epoch, to a group without, since it keeps of a producer its id alone

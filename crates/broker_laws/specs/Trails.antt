@@ -10,7 +10,8 @@ use Rattle.txn_coordinator.specs.declared.transaction.Transaction.{Transaction}
 use Rattle.txn_coordinator.specs.Words.{targets}
 use Rattle.group_offsets.specs.Groups.{group_of}
 use Rattle.txn_laws.specs.Sound.{Each}
-use Rattle.txn_laws.specs.Laws.{IsDone, up_to_last}
+use Rattle.txn_laws.specs.Laws.{IsEnded, up_to_last}
+use Rattle.txn_laws.specs.Kept.{kept_pair}
 use Rattle.broker_world.specs.World.{World}
 use Rattle.broker_world.specs.First.{first_world}
 use Rattle.api_dispatch.specs.Step.{step, reached}
@@ -18,15 +19,15 @@ use Rattle.request_handlers.specs.declared.stop.Stop.{Stop}
 use Rattle.request_handlers.specs.Core.{CoreValue, IsCore, Ran, events_of}
 use Rattle.broker_laws.specs.Entries.{entries_in}
 use Rattle.broker_laws.specs.Moves.{marks}
-use Rattle.broker_laws.specs.Laws.{IsPreparedBy, IsDecided, IsCompletedBy}
+use Rattle.broker_laws.specs.Laws.{IsPreparedBy, marker_pair, IsDecided, IsCompletedBy}
 use Rattle.broker_laws.specs.LogEnds.{IsEndedAt}
 
 -- ---- a completed transaction
 
--- the transaction, which stood open in the old world, is completed in the later one
-pub record IsCompleted (old later : World) (t : Transaction) (outcome : Ending) : Type 0 where
+-- the transaction, which stood open in the old world and which the event prepared, is completed in the later one
+pub record IsCompleted (old later : World) (e : Event) (t : Transaction) (outcome : Ending) : Type 0 where
   -- each partition and group that was added has its marker of that outcome behind what its producer wrote there
-  pub markers : Each (λ target. IsDone t.pair.producer outcome (entries_in old target) (entries_in later target)) (targets t)
+  pub markers : Each (λ target. IsEnded (kept_pair target (marker_pair e t.pair)) outcome (entries_in old target) (entries_in later target)) (targets t)
   -- so what the producer had open in the log of a partition is ended: it is committed, or filtered
   pub logs : Each (IsEndedAt t.pair.producer outcome old later) t.partitions
   -- and what it had staged in a group is decided: it is shown, or dropped
@@ -39,7 +40,7 @@ IsUnrefusedMark x = x.event ≡ Mark → x.refusals ≡ []
 -- what a core shows of a transaction that an event of the old world prepared, and behind it enough marker steps completed
 pub record IsCompletedIn (core : CoreValue) (old : World) (e : Event) (behind : List Event) (id : List ℕ) (t : Transaction) (outcome : Ending) : Type 0 where
   -- in its world, unless it is down
-  pub world : core.down ≡ false → IsCompleted old core.world t outcome
+  pub world : core.down ≡ false → IsCompleted old core.world e t outcome
   -- behind some of the events the id's record was complete
   pub record_complete : IsCompletedBy (step old e) behind id outcome
   -- and no marker step of the trail was refused

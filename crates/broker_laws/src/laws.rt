@@ -5,7 +5,7 @@ ghost use Rattle.broker_world.specs.World.{World};
 ghost use Rattle.broker_laws.specs.Targets.{HasTargets};
 ghost use Rattle.broker_laws.specs.Laws.{InReached, InCores};
 ghost use Rattle.broker_laws.specs.Laws.{EntriesAreTheLog, IsMoved, EventsAreMoves};
-ghost use Rattle.broker_laws.specs.Laws.{Prepares, CompletesPrepared, CompletesWaiting, EndsComplete, MarksAreNotRefused};
+ghost use Rattle.broker_laws.specs.Laws.{Prepares, OwesPrepared, CompletesPrepared, CompletesWaiting, EndsComplete, MarksAreNotRefused};
 ghost use Rattle.broker_laws.specs.Laws.{DecidesPrepared, DecidesWaiting, GroupsGoOn};
 ghost use Rattle.broker_laws.specs.Laws.{Fences, FencedWriteNothing, NoDataBehindAGreaterMarker};
 ghost use Rattle.broker_laws.specs.LogEnds.{LogsGoOn, EndsPrepared, EndsWaiting};
@@ -32,6 +32,13 @@ pub fn targets_exist()
 /// its id over, and by a tick behind the end of its time.
 pub fn prepares()
     ensures { (w : World) → Prepares w }
+{}
+
+/// The event that prepares a transaction owes a marker to each partition and group that was added: with its producer's own
+/// pair where an EndTxn ends it, with the epoch raised by one where an InitProducerId or a tick aborts it.
+pub fn owes_each()
+    ensures reached { InReached OwesPrepared }
+    ensures cores { InCores OwesPrepared }
 {}
 
 /// A transaction that an event prepares is completed at each partition and group that was added, by as many marker steps

@@ -1,0 +1,405 @@
+-- What an event owes that prepares a transaction: a marker of this pair to each partition and group that was added.
+use Rattle.std.proofs.Common.{◌≡◌, ℕ, ◌≤◌, ℤ, List, [], ◌∷◌, ◌++◌, length, map, Option, Some, None, Result, Ok, Err, Bool, true, false, cond, refl, sym, ap, ◌∙◌, append-nil, append_assoc, arith}
+use Rattle.std.specs.Str.{bytes_eq}
+use Rattle.std.specs.List.{flat_map}
+use Rattle.std.proofs.lemmas.List.{length-append}
+use Rattle.acl_binding.specs.declared.question.Caller.{Caller}
+use Rattle.authorizer.specs.declared.answer.Refusal.{Refusal}
+use Rattle.authorizer.specs.Asking.{part_refusal}
+use Rattle.wire_types.specs.declared.error_code.ErrorCode.{ErrorCode}
+use Rattle.wire_types.specs.declared.error_code.ErrorCode.TheVariants as codes
+use Rattle.msg_txn.specs.declared.init_producer_id.InitProducerIdRequest.{InitProducerIdRequest}
+use Rattle.msg_txn.specs.declared.add_partitions.AddPartitionsToTxnRequest.{AddPartitionsToTxnRequest}
+use Rattle.msg_txn.specs.declared.add_offsets.AddOffsetsToTxnRequest.{AddOffsetsToTxnRequest}
+use Rattle.msg_txn.specs.declared.end_txn.EndTxnRequest.{EndTxnRequest}
+use Rattle.msg_admin.specs.declared.reply.Reply.{Reply}
+use Rattle.msg_admin.specs.declared.reply.Reply.TheVariants as replies
+use Rattle.msg_admin.specs.declared.request.Request.TheVariants.{Produce, Fetch, ListOffsets, Metadata, OffsetCommit, OffsetFetch, FindCoordinator, JoinGroup, Heartbeat, LeaveGroup, SyncGroup, InitProducerId, AddPartitionsToTxn, AddOffsetsToTxn, EndTxn, TxnOffsetCommit, DescribeAcls, CreateAcls, DeleteAcls}
+use Rattle.audit_trail.specs.declared.event.Event.{Event}
+use Rattle.audit_trail.specs.declared.event.Event.TheVariants.{Ask, Mark, Tick}
+use Rattle.txn_coordinator.specs.declared.pair.Pair.{Pair}
+use Rattle.txn_coordinator.specs.declared.target.TopicPartition.{TopicPartition}
+use Rattle.txn_coordinator.specs.declared.target.Target.{Target}
+use Rattle.txn_coordinator.specs.declared.transaction.Phase.{Phase}
+use Rattle.txn_coordinator.specs.declared.transaction.Phase.TheVariants.{Empty, Ongoing, PrepareCommit, PrepareAbort, CompleteCommit, CompleteAbort}
+use Rattle.txn_coordinator.specs.declared.transaction.Transaction.{Transaction}
+use Rattle.record_batch.specs.declared.outcome.Outcome.{Outcome as Ending}
+use Rattle.record_batch.specs.declared.outcome.Outcome.TheVariants.{Commit, Abort}
+use Rattle.txn_coordinator.specs.declared.marker.OwedMarker.{OwedMarker}
+use Rattle.txn_coordinator.specs.declared.ending.EndForm.TheVariants.{Plain}
+use Rattle.txn_coordinator.specs.declared.turn.Turn.{Turn}
+use Rattle.txn_coordinator.specs.declared.turn.Turn.TheVariants.{Stays, Puts}
+use Rattle.txn_coordinator.specs.Words.{is_empty, raised, pair_after, given_after, prepared, targets}
+use Rattle.txn_coordinator.specs.Coordinator.{CoordinatorValue, has_id, recorded, put, fresh, turned}
+use Rattle.txn_coordinator.specs.Preparing.{marker_for, markers, fenced, fence_markers, pair_refusal}
+use Rattle.txn_coordinator.specs.InitProducerId.{timeout_within, created, begun, init_in, init_for, init}
+use Rattle.txn_coordinator.specs.Adding.{grown, with_partitions, with_group, open_transaction, add_partitions}
+use Rattle.txn_coordinator.specs.EndTxn.{end_in, end_by, end_found, end}
+use Rattle.txn_coordinator.specs.Expiry.{is_due, expired, expiry_markers}
+use Rattle.txn_coordinator.proofs.Table.{recorded_id}
+use Rattle.txn_laws.specs.Small.{World as SmallWorld, Move, Move as moves, marked, moved}
+use Rattle.txn_laws.specs.Sound.{IsSound}
+use Rattle.txn_laws.proofs.Base.{same_is, put_at_test}
+use Rattle.txn_laws.proofs.Calls.{same_outcome}
+use Rattle.txn_laws.proofs.Complete.{ongoing_waits}
+use Rattle.txn_laws.proofs.Prepared.{preparing_law}
+use Rattle.broker_world.specs.World.{World, rules_of}
+use Rattle.broker_world.specs.Whole.{Served, whole_by}
+use Rattle.broker_world.specs.Questions.{read_question, id_question}
+use Rattle.broker_world.specs.Clock.{moment_after}
+use Rattle.group_handlers.specs.Members.{joined, synced, heard, left}
+use Rattle.group_handlers.specs.FindCoordinator.{kind_of, find_questions}
+use Rattle.txn_handlers.specs.InitProducerId.{init_question, init_error, coordinator_for, initialized}
+use Rattle.txn_handlers.specs.AddPartitions.{is_cut, cut_outcome, added_outcome, partitions_of}
+use Rattle.txn_handlers.specs.AddOffsets.{add_offsets_questions, add_offsets_reply, offsets_added}
+use Rattle.txn_handlers.specs.EndTxn.{ending, end_reply, ended}
+use Rattle.acl_handlers.specs.DescribeAcls.{describe_acls_questions}
+use Rattle.acl_handlers.specs.CreateAcls.{alter_questions}
+use Rattle.api_dispatch.specs.Step.{step}
+use Rattle.api_dispatch.proofs.Wholes.{offsets_keep}
+use Rattle.broker_laws.specs.Entries.{entries_in}
+use Rattle.broker_laws.specs.Laws.{InReached, marker_pair, OwesEach, OwesPrepared}
+use Rattle.broker_laws.proofs.Offsets.{same_entries, expiry_keeps}
+use Rattle.broker_laws.proofs.Reached.{full, IsGood, good_moved, good}
+
+-- ---- records
+
+-- an open record doesn't wait
+still : (ts : List Transaction) (id : List ℕ) (t u : Transaction) (o : Ending) → recorded ts id ≡ Some t → t.phase ≡ Ongoing → recorded ts id ≡ Some u → u.phase ≡ prepared o → ⊥
+still ts id t u o before ongoing after waits =
+    let same : Some t ≡ Some u = sym before ∙ after in
+    let e : t ≡ u = cc in
+    ongoing_waits o (sym ongoing ∙ ap (λ (y : Transaction). y.phase) e ∙ waits)
+
+-- ---- calls of the coordinator
+
+-- the id's transaction, which is open
+module _ (c : CoordinatorValue) (id : List ℕ) (t : Transaction) (o : Ending) (before : recorded c.transactions id ≡ Some t) (ongoing : t.phase ≡ Ongoing) where
+  -- if the turn prepares it, it owes the markers of this pair, which the record then has
+  abbrev Owes : (Transaction → Pair) → Turn → Type 0
+  Owes pair turn = (u : Transaction) → recorded (turned c turn).transactions id ≡ Some u → u.phase ≡ prepared o → ((turned c turn).warrants ≡ c.warrants ++ markers t (pair t) o) × (u.pair ≡ pair t)
+
+  stays : (pair : Transaction → Pair) (code : ErrorCode) → Owes pair (Stays code)
+  stays pair code u after waits = absurd (still c.transactions id t u o before ongoing after waits)
+
+  -- a record that is put in place of another waits only if that one was the id's
+  put_is : (own : List ℕ) (y r u : Transaction) → recorded c.transactions own ≡ Some y → r.id ≡ y.id → recorded (put c.transactions r) id ≡ Some u → u.phase ≡ prepared o → (y ≡ t) × (r ≡ u)
+  put_is own y r u found same after waits = by_id (has_id id r) refl where
+    by_id : (b : Bool) → has_id id r ≡ b → (y ≡ t) × (r ≡ u)
+    by_id true e =
+        let here : Some r ≡ Some u = sym (put_at_test c.transactions r id true e) ∙ after in
+        let one : id ≡ own = sym (same_is r.id id e) ∙ same ∙ recorded_id c.transactions own y found in
+        let twice : Some y ≡ Some t = sym found ∙ ap (recorded c.transactions) (sym one) ∙ before in
+        (cc, cc)
+    by_id false e = absurd (still c.transactions id t u o before ongoing (sym (put_at_test c.transactions r id false e) ∙ after) waits)
+
+  -- it owes the markers of a record that is put in its place
+  puts : (pair : Transaction → Pair) (own : List ℕ) (y r : Transaction) (code : ErrorCode) (x : Ending) → recorded c.transactions own ≡ Some y → r.id ≡ y.id → r.phase ≡ prepared x → r.pair ≡ pair y → Owes pair (Puts code r [] (markers y (pair y) x))
+  puts pair own y r code x found same phase is u after waits =
+      let one = put_is own y r u found same after waits in
+      let outcome : x ≡ o = same_outcome x o (sym phase ∙ ap (λ (z : Transaction). z.phase) one.1 ∙ waits) in (
+        ap (λ (z : Transaction). c.warrants ++ markers z (pair z) x) one.0 ∙ ap (λ end. c.warrants ++ markers t (pair t) end) outcome,
+        ap (λ (z : Transaction). z.pair) (sym one.1) ∙ is ∙ ap pair one.0,
+      )
+
+  -- a record that is put and has nothing open is another id's
+  closed : (pair : Transaction → Pair) (r : Transaction) (code : ErrorCode) (given : List (Option (List ℕ))) → r.phase ≡ Empty → Owes pair (Puts code r given [])
+  closed pair r code given phase u after waits = by_id (has_id id r) refl where
+    empty_waits : (end : Ending) → Empty ≡ prepared end → ⊥
+    empty_waits Commit h = cc
+    empty_waits Abort h = cc
+
+    by_id : (b : Bool) → has_id id r ≡ b → (c.warrants ++ [] ≡ c.warrants ++ markers t (pair t) o) × (u.pair ≡ pair t)
+    by_id true e =
+        let here : Some r ≡ Some u = sym (put_at_test c.transactions r id true e) ∙ after in
+        let same : r ≡ u = cc in
+        absurd (empty_waits o (sym phase ∙ ap (λ (z : Transaction). z.phase) same ∙ waits))
+    by_id false e = absurd (still c.transactions id t u o before ongoing (sym (put_at_test c.transactions r id false e) ∙ after) waits)
+
+  -- EndTxn
+  end_owes : (own : List ℕ) (pair : Pair) (x : Ending) → Owes (λ y. y.pair) (end c Plain own pair x)
+  end_owes own pair x = by_empty (is_empty own) where
+    by_phase : (y : Transaction) (phase : Phase) → recorded c.transactions own ≡ Some y → (outcome : Ending) → Owes (λ z. z.pair) (end_in phase Plain y (fresh c) outcome)
+    by_phase y Ongoing found outcome = puts (λ z. z.pair) own y (record y { phase = prepared outcome }) codes.None outcome found refl refl refl
+    by_phase y Empty found outcome = stays (λ z. z.pair) codes.InvalidTxnState
+    by_phase y PrepareCommit found Commit = stays (λ z. z.pair) codes.ConcurrentTransactions
+    by_phase y PrepareCommit found Abort = stays (λ z. z.pair) codes.InvalidTxnState
+    by_phase y PrepareAbort found Commit = stays (λ z. z.pair) codes.InvalidTxnState
+    by_phase y PrepareAbort found Abort = stays (λ z. z.pair) codes.ConcurrentTransactions
+    by_phase y CompleteCommit found Commit = stays (λ z. z.pair) codes.None
+    by_phase y CompleteCommit found Abort = stays (λ z. z.pair) codes.InvalidTxnState
+    by_phase y CompleteAbort found Commit = stays (λ z. z.pair) codes.InvalidTxnState
+    by_phase y CompleteAbort found Abort = stays (λ z. z.pair) codes.None
+
+    by_refusal : (y : Transaction) → recorded c.transactions own ≡ Some y → (refusal : Option ErrorCode) → Owes (λ z. z.pair) (end_by refusal Plain y (fresh c) x)
+    by_refusal y found (Some code) = stays (λ z. z.pair) code
+    by_refusal y found None = by_phase y y.phase found x
+
+    by_found : (f : Option Transaction) → recorded c.transactions own ≡ f → Owes (λ z. z.pair) (end_found f Plain (fresh c) pair x)
+    by_found None e = stays (λ z. z.pair) codes.InvalidProducerIdMapping
+    by_found (Some y) e = by_refusal y e (pair_refusal codes.InvalidProducerEpoch y pair)
+
+    by_empty : (b : Bool) → Owes (λ z. z.pair) (cond b (Stays codes.InvalidRequest) (end_found (recorded c.transactions own) Plain (fresh c) pair x))
+    by_empty true = stays (λ z. z.pair) codes.InvalidRequest
+    by_empty false = by_found (recorded c.transactions own) refl
+
+  -- InitProducerId
+  init_owes : (own : List ℕ) (timeout greatest : ℤ) → Owes (λ y. raised y.pair) (init c own timeout greatest)
+  init_owes own timeout greatest = by_empty (is_empty own) where
+    begins : (y : Transaction) (n : ℕ) → Owes (λ z. raised z.pair) (begun y (fresh c) n)
+    begins y n = closed (λ z. raised z.pair) (record y { pair = pair_after y.pair (fresh c); timeout = n; phase = Empty; kept = None }) codes.None (given_after y.pair y.id) refl
+
+    by_phase : (y : Transaction) (phase : Phase) (n : ℕ) → recorded c.transactions own ≡ Some y → Owes (λ z. raised z.pair) (init_in phase y (fresh c) n)
+    by_phase y Ongoing n found = puts (λ z. raised z.pair) own y (fenced y) codes.ConcurrentTransactions Abort found refl refl refl
+    by_phase y Empty n found = begins y n
+    by_phase y CompleteCommit n found = begins y n
+    by_phase y CompleteAbort n found = begins y n
+    by_phase y PrepareCommit n found = stays (λ z. raised z.pair) codes.ConcurrentTransactions
+    by_phase y PrepareAbort n found = stays (λ z. raised z.pair) codes.ConcurrentTransactions
+
+    by_found : (n : Option ℕ) (f : Option Transaction) → recorded c.transactions own ≡ f → Owes (λ z. raised z.pair) (init_for n f own (fresh c))
+    by_found None f e = stays (λ z. raised z.pair) codes.InvalidTransactionTimeout
+    by_found (Some n) None e = closed (λ z. raised z.pair) (created own (fresh c) n) codes.None (Some own ∷ []) refl
+    by_found (Some n) (Some y) e = by_phase y y.phase n e
+
+    by_empty : (b : Bool) → Owes (λ z. raised z.pair) (cond b (Stays codes.InvalidRequest) (init_for (timeout_within timeout greatest) (recorded c.transactions own) own (fresh c)))
+    by_empty true = stays (λ z. raised z.pair) codes.InvalidRequest
+    by_empty false = by_found (timeout_within timeout greatest) (recorded c.transactions own) refl
+
+-- ---- moves that owe nothing
+
+-- a move after which no more is owed prepares nothing
+none_owed : (s : SmallWorld) → IsSound s → (m : Move) → length (moved s m).coordinator.warrants ≤ length s.coordinator.warrants → (id : List ℕ) (t u : Transaction) (o : Ending)
+    → recorded s.coordinator.transactions id ≡ Some t → t.phase ≡ Ongoing → recorded (moved s m).coordinator.transactions id ≡ Some u → u.phase ≡ prepared o → ⊥
+none_owed s sound m few id t u o before ongoing after waits = by_targets (targets t) refl where
+  by_targets : (xs : List Target) → targets t ≡ xs → ⊥
+  by_targets [] e = sound.filled id t before ongoing e
+  by_targets (x ∷ xs) e =
+      let owes = preparing_law s sound m id t o (record { before = before; ongoing = ongoing; transaction = u; after = after; waits = waits }) in
+      let all : length (moved s m).coordinator.warrants ≡ length (s.coordinator.warrants ++ map (marker_for t.id owes.pair o) (x ∷ xs)) =
+      ap length (owes.owed ∙ ap (λ l. s.coordinator.warrants ++ map (marker_for t.id owes.pair o) l) e) in
+      let more = length-append s.coordinator.warrants (map (marker_for t.id owes.pair o) (x ∷ xs)) in
+      omega (arith, few, all, more)
+
+grown_few : (c : CoordinatorValue) (grow : Transaction → Transaction) (r : Result Transaction ErrorCode) → length (turned c (grown grow r)).warrants ≤ length c.warrants
+grown_few c grow (Ok t) = let same = ap length (append-nil c.warrants) in omega (arith, same)
+grown_few c grow (Err code) = omega arith
+
+marked_few : (s : SmallWorld) (ws : List OwedMarker) → s.coordinator.warrants ≡ ws → length (marked ws s).coordinator.warrants ≤ length s.coordinator.warrants
+marked_few s [] e = omega arith
+marked_few s (m ∷ rest) e = let same = ap length e in omega (arith, same)
+
+-- ---- a tick
+
+pub recorded_expired : (moment : ℕ) (ts : List Transaction) (id : List ℕ) (t : Transaction) → recorded ts id ≡ Some t → recorded (map (expired moment) ts) id ≡ Some (expired moment t)
+recorded_expired moment [] id t found = absurd (let clash : None ≡ Some t = found in cc)
+recorded_expired moment (x ∷ xs) id t found =
+    ap (λ own. cond (bytes_eq own id) (Some (expired moment x)) (recorded (map (expired moment) xs) id)) (same_id x)
+    ∙ by_id (has_id id x) (recorded_expired moment xs id t) found where
+      same_id : (y : Transaction) → (expired moment y).id ≡ y.id
+      same_id y = by_due (is_due moment y) where
+        by_due : (b : Bool) → (cond b (fenced y) y).id ≡ y.id
+        by_due true = refl
+        by_due false = refl
+
+      by_id : (b : Bool) → (recorded xs id ≡ Some t → recorded (map (expired moment) xs) id ≡ Some (expired moment t)) → cond b (Some x) (recorded xs id) ≡ Some t → cond b (Some (expired moment x)) (recorded (map (expired moment) xs) id) ≡ Some (expired moment t)
+      by_id true rest here = let same : x ≡ t = cc in ap (λ y. Some (expired moment y)) same
+      by_id false rest here = rest here
+
+abort_is : (o : Ending) → PrepareAbort ≡ prepared o → Abort ≡ o
+abort_is Abort h = refl
+abort_is Commit h = absurd cc
+
+-- the markers stand among these
+record IsAmong (all part : List OwedMarker) : Type 0 where
+  front : List OwedMarker
+  back : List OwedMarker
+  parts : all ≡ front ++ (part ++ back)
+
+due_markers : (ts : List Transaction) (moment : ℕ) (id : List ℕ) (t : Transaction) → recorded ts id ≡ Some t → is_due moment t ≡ true → IsAmong (flat_map (expiry_markers moment) ts) (fence_markers t)
+due_markers [] moment id t found due = absurd (let clash : None ≡ Some t = found in cc)
+due_markers (x ∷ xs) moment id t found due = by_same (due_markers xs moment id t) (has_id id x) found where
+  by_same : (recorded xs id ≡ Some t → is_due moment t ≡ true → IsAmong (flat_map (expiry_markers moment) xs) (fence_markers t)) → (b : Bool) → cond b (Some x) (recorded xs id) ≡ Some t → IsAmong (expiry_markers moment x ++ flat_map (expiry_markers moment) xs) (fence_markers t)
+  by_same rest true h =
+      let e : x ≡ t = cc in
+      record {
+        front = [];
+        back = flat_map (expiry_markers moment) xs;
+        parts = ap (λ y. expiry_markers moment y ++ flat_map (expiry_markers moment) xs) e ∙ ap (λ b. cond b (fence_markers t) [] ++ flat_map (expiry_markers moment) xs) due;
+      }
+  by_same rest false h =
+      let inner = rest h due in
+      record {
+        front = expiry_markers moment x ++ inner.front;
+        back = inner.back;
+        parts = ap (λ l. expiry_markers moment x ++ l) inner.parts ∙ sym (append_assoc (expiry_markers moment x) inner.front (fence_markers t ++ inner.back));
+      }
+
+-- ---- an event
+
+tick_owes : (w : World) (told : ℕ) (id : List ℕ) (t u : Transaction) (o : Ending) → recorded w.coordinator.transactions id ≡ Some t → t.phase ≡ Ongoing → recorded (step w (Tick told)).coordinator.transactions id ≡ Some u → u.phase ≡ prepared o → OwesEach w (Tick told) id t o
+tick_owes w told id t u o before ongoing after waits = by_due (is_due moment t) refl refl where
+  moment : ℕ
+  moment = moment_after w.moment told
+
+  phase : (expired moment t).phase ≡ prepared o
+  phase =
+      let twice : Some (expired moment t) ≡ Some u = sym (recorded_expired moment w.coordinator.transactions id t before) ∙ after in
+      let same : expired moment t ≡ u = cc in
+      ap (λ (y : Transaction). y.phase) same ∙ waits
+
+  by_due : (b : Bool) → is_due moment t ≡ b → expired moment t ≡ cond b (fenced t) t → OwesEach w (Tick told) id t o
+  by_due false due is = absurd (ongoing_waits o (sym ongoing ∙ ap (λ (y : Transaction). y.phase) (sym is) ∙ phase))
+  by_due true due is =
+      let among = due_markers w.coordinator.transactions moment id t before due in
+      let end = abort_is o (ap (λ (y : Transaction). y.phase) (sym is) ∙ phase) in
+      record {
+        front = among.front;
+        back = among.back;
+        owed = ap (λ l. w.coordinator.warrants ++ l) among.parts ∙ ap (λ x. w.coordinator.warrants ++ (among.front ++ (markers t (raised t.pair) x ++ among.back))) end;
+        entries = λ target. same_entries w.topics w.groups _ (expiry_keeps w.groups moment) target;
+        pair = λ v found.
+            let twice : Some (expired moment t) ≡ Some v = sym (recorded_expired moment w.coordinator.transactions id t before) ∙ found in
+            let same : expired moment t ≡ v = cc in
+            ap (λ (y : Transaction). y.pair) (sym same ∙ is);
+      }
+
+module _ (w : World) (good : IsGood w) (id : List ℕ) (t u : Transaction) (o : Ending) (before : recorded w.coordinator.transactions id ≡ Some t) (ongoing : t.phase ≡ Ongoing) (waits : u.phase ≡ prepared o) where
+  abbrev s : SmallWorld
+  s = full w good.entries
+
+  same_record : (ts : List Transaction) (v : Transaction) → recorded ts id ≡ Some u → recorded ts id ≡ Some v → v ≡ u
+  same_record ts v here found = let twice : Some v ≡ Some u = sym found ∙ here in cc
+
+  -- an event that leaves the coordinator as it is
+  unchanged : (e : Event) → (step w e).coordinator ≡ w.coordinator → recorded (step w e).coordinator.transactions id ≡ Some u → OwesEach w e id t o
+  unchanged e same after = absurd (still w.coordinator.transactions id t u o before ongoing (ap (λ (c : CoordinatorValue). recorded c.transactions id) (sym same) ∙ after) waits)
+
+  -- so does a request that changes nothing of it, refused or not
+  unless_refused : (e : Event) (refusal : Option Refusal) (refused : ErrorCode → Reply) (served : Served) → served.world.coordinator ≡ w.coordinator → recorded (whole_by refusal w refused served).world.coordinator.transactions id ≡ Some u → OwesEach w e id t o
+  unless_refused e None refused served same after = absurd (still w.coordinator.transactions id t u o before ongoing (ap (λ (c : CoordinatorValue). recorded c.transactions id) (sym same) ∙ after) waits)
+  unless_refused e (Some x) refused served same after = absurd (still w.coordinator.transactions id t u o before ongoing after waits)
+
+  -- a turn that owes the markers at once
+  owes_all : (e : Event) (pair : Pair) (warrants : List OwedMarker) → (step w e).coordinator.warrants ≡ warrants → warrants ≡ w.coordinator.warrants ++ markers t pair o → marker_pair e t.pair ≡ pair
+      → recorded (step w e).coordinator.transactions id ≡ Some u → u.pair ≡ pair → ((target : Target) → entries_in (step w e) target ≡ entries_in w target) → OwesEach w e id t o
+  owes_all e pair warrants now owed carries after own entries = record {
+    front = [];
+    back = [];
+    owed = now ∙ owed ∙ ap (λ l. w.coordinator.warrants ++ l) (sym (append-nil (markers t pair o))) ∙ ap (λ p. w.coordinator.warrants ++ (markers t p o ++ [])) (sym carries);
+    entries = entries;
+    pair = λ v found. ap (λ (y : Transaction). y.pair) (same_record (step w e).coordinator.transactions v after found) ∙ own ∙ sym carries;
+  }
+
+  end_event : (caller : Caller) (client : Option (List ℕ)) (r : EndTxnRequest) → recorded (step w (Ask caller client (EndTxn r))).coordinator.transactions id ≡ Some u → OwesEach w (Ask caller client (EndTxn r)) id t o
+  end_event caller client r after = by_refusal (part_refusal (rules_of w) (id_question caller r.transactional_id ∷ [])) refl where
+    e : Event
+    e = Ask caller client (EndTxn r)
+
+    left_by : Option Refusal → World
+    left_by x = (whole_by x w (λ code. replies.EndTxn (end_reply code)) (ended w r)).world
+
+    entries : (x : Option Refusal) (target : Target) → entries_in (left_by x) target ≡ entries_in w target
+    entries None target = refl
+    entries (Some x) target = refl
+
+    by_refusal : (x : Option Refusal) → part_refusal (rules_of w) (id_question caller r.transactional_id ∷ []) ≡ x → OwesEach w e id t o
+    by_refusal x is = by_served x (ap (λ y. (left_by y).coordinator) is) where
+      by_served : (y : Option Refusal) → (step w e).coordinator ≡ (left_by y).coordinator → OwesEach w e id t o
+      by_served (Some y) same = unchanged e same after
+      by_served None same =
+          let owes = end_owes w.coordinator id t o before ongoing r.transactional_id (record { producer = r.producer; epoch = r.epoch }) (ending r.committed) u (ap (λ (c : CoordinatorValue). recorded c.transactions id) (sym same) ∙ after) waits in
+          owes_all e t.pair _ (ap (λ (c : CoordinatorValue). c.warrants) same) owes.0 refl after owes.1 (entries (part_refusal (rules_of w) (id_question caller r.transactional_id ∷ [])))
+
+  init_event : (caller : Caller) (client : Option (List ℕ)) (r : InitProducerIdRequest) → recorded (step w (Ask caller client (InitProducerId r))).coordinator.transactions id ≡ Some u → OwesEach w (Ask caller client (InitProducerId r)) id t o
+  init_event caller client r after = by_refusal (part_refusal (rules_of w) (init_question caller r.transactional_id ∷ [])) refl where
+    e : Event
+    e = Ask caller client (InitProducerId r)
+
+    left_by : Option Refusal → World
+    left_by x = (whole_by x w (λ code. replies.InitProducerId (init_error code)) (initialized w r)).world
+
+    entries : (x : Option Refusal) (target : Target) → entries_in (left_by x) target ≡ entries_in w target
+    entries None target = refl
+    entries (Some x) target = refl
+
+    by_id : (own : Option (List ℕ)) → (step w e).coordinator ≡ coordinator_for own w.coordinator w.node.max_txn_timeout r.timeout → OwesEach w e id t o
+    by_id None same = absurd (still w.coordinator.transactions id t u o before ongoing (ap (λ (c : CoordinatorValue). recorded c.transactions id) (sym same) ∙ after) waits)
+    by_id (Some own) same =
+        let owes = init_owes w.coordinator id t o before ongoing own r.timeout w.node.max_txn_timeout u (ap (λ (c : CoordinatorValue). recorded c.transactions id) (sym same) ∙ after) waits in
+        owes_all e (raised t.pair) _ (ap (λ (c : CoordinatorValue). c.warrants) same) owes.0 refl after owes.1 (entries (part_refusal (rules_of w) (init_question caller r.transactional_id ∷ [])))
+
+    by_refusal : (x : Option Refusal) → part_refusal (rules_of w) (init_question caller r.transactional_id ∷ []) ≡ x → OwesEach w e id t o
+    by_refusal x is = by_served x (ap (λ y. (left_by y).coordinator) is) where
+      by_served : (y : Option Refusal) → (step w e).coordinator ≡ (left_by y).coordinator → OwesEach w e id t o
+      by_served (Some y) same = unchanged e same after
+      by_served None same = by_id r.transactional_id same
+
+  -- an event of one move at most after which no more is owed
+  adds_none : (e : Event) (m : Move) → (step w e).coordinator ≡ (moved s m).coordinator → length (moved s m).coordinator.warrants ≤ length w.coordinator.warrants → recorded (step w e).coordinator.transactions id ≡ Some u → OwesEach w e id t o
+  adds_none e m same few after = absurd (none_owed s good.sound m few id t u o before ongoing (ap (λ (c : CoordinatorValue). recorded c.transactions id) (sym same) ∙ after) waits)
+
+  add_event : (caller : Caller) (client : Option (List ℕ)) (r : AddPartitionsToTxnRequest) → recorded (step w (Ask caller client (AddPartitionsToTxn r))).coordinator.transactions id ≡ Some u → OwesEach w (Ask caller client (AddPartitionsToTxn r)) id t o
+  add_event caller client r after = by_cut (is_cut caller r.transactional_id w.topics (rules_of w) r.topics) refl where
+    pair : Pair
+    pair = record { producer = r.producer; epoch = r.epoch }
+
+    few : (ps : List TopicPartition) → length (turned w.coordinator (add_partitions w.coordinator r.transactional_id pair w.moment ps)).warrants ≤ length w.coordinator.warrants
+    few [] = omega arith
+    few (p ∷ ps) = grown_few w.coordinator (with_partitions (p ∷ ps)) (open_transaction w.coordinator r.transactional_id pair w.moment)
+
+    by_cut : (b : Bool) → is_cut caller r.transactional_id w.topics (rules_of w) r.topics ≡ b → OwesEach w (Ask caller client (AddPartitionsToTxn r)) id t o
+    by_cut b is = by_world b (ap (λ c. (cond c (cut_outcome w caller r) (added_outcome w r)).world.coordinator) is) where
+      by_world : (c : Bool) → (step w (Ask caller client (AddPartitionsToTxn r))).coordinator ≡ (cond c (cut_outcome w caller r) (added_outcome w r)).world.coordinator → OwesEach w (Ask caller client (AddPartitionsToTxn r)) id t o
+      by_world true same = unchanged _ same after
+      by_world false same = adds_none _ (moves.AddPartitions r.transactional_id pair (partitions_of r.topics)) same (few (partitions_of r.topics)) after
+
+  group_event : (caller : Caller) (client : Option (List ℕ)) (r : AddOffsetsToTxnRequest) → recorded (step w (Ask caller client (AddOffsetsToTxn r))).coordinator.transactions id ≡ Some u → OwesEach w (Ask caller client (AddOffsetsToTxn r)) id t o
+  group_event caller client r after = by_refusal (part_refusal (rules_of w) (add_offsets_questions caller r.transactional_id r.group)) refl where
+    e : Event
+    e = Ask caller client (AddOffsetsToTxn r)
+
+    pair : Pair
+    pair = record { producer = r.producer; epoch = r.epoch }
+
+    left_by : Option Refusal → World
+    left_by x = (whole_by x w (λ code. replies.AddOffsetsToTxn (add_offsets_reply code)) (offsets_added w r)).world
+
+    by_refusal : (x : Option Refusal) → part_refusal (rules_of w) (add_offsets_questions caller r.transactional_id r.group) ≡ x → OwesEach w e id t o
+    by_refusal x is = by_served x (ap (λ y. (left_by y).coordinator) is) where
+      by_served : (y : Option Refusal) → (step w e).coordinator ≡ (left_by y).coordinator → OwesEach w e id t o
+      by_served (Some y) same = unchanged e same after
+      by_served None same =
+          adds_none e (moves.AddGroup r.transactional_id pair r.group) same
+          (grown_few w.coordinator (with_group r.group) (open_transaction w.coordinator r.transactional_id pair w.moment)) after
+
+  event_owes : (e : Event) → recorded (step w e).coordinator.transactions id ≡ Some u → OwesEach w e id t o
+  event_owes (Ask caller client (Produce r)) after = unchanged _ refl after
+  event_owes (Ask caller client (Fetch r)) after = unchanged _ refl after
+  event_owes (Ask caller client (ListOffsets r)) after = unchanged _ refl after
+  event_owes (Ask caller client (Metadata r)) after = unchanged _ refl after
+  event_owes (Ask caller client (OffsetCommit r)) after = unchanged _ refl after
+  event_owes (Ask caller client (OffsetFetch r)) after = unchanged _ (ap (λ (v : World). v.coordinator) (offsets_keep w caller r)) after
+  event_owes (Ask caller client (FindCoordinator r)) after = unless_refused _ (part_refusal (rules_of w) (find_questions caller (kind_of r.key_type) r.key)) _ _ refl after
+  event_owes (Ask caller client (JoinGroup r)) after = unless_refused _ (part_refusal (rules_of w) (read_question caller r.group ∷ [])) _ (joined w r) refl after
+  event_owes (Ask caller client (Heartbeat r)) after = unless_refused _ (part_refusal (rules_of w) (read_question caller r.group ∷ [])) _ (heard w r) refl after
+  event_owes (Ask caller client (LeaveGroup r)) after = unless_refused _ (part_refusal (rules_of w) (read_question caller r.group ∷ [])) _ (left w r) refl after
+  event_owes (Ask caller client (SyncGroup r)) after = unless_refused _ (part_refusal (rules_of w) (read_question caller r.group ∷ [])) _ (synced w r) refl after
+  event_owes (Ask caller client (InitProducerId r)) after = init_event caller client r after
+  event_owes (Ask caller client (AddPartitionsToTxn r)) after = add_event caller client r after
+  event_owes (Ask caller client (AddOffsetsToTxn r)) after = group_event caller client r after
+  event_owes (Ask caller client (EndTxn r)) after = end_event caller client r after
+  event_owes (Ask caller client (TxnOffsetCommit r)) after = unchanged _ refl after
+  event_owes (Ask caller client (DescribeAcls r)) after = unless_refused _ (part_refusal (rules_of w) (describe_acls_questions caller)) _ _ refl after
+  event_owes (Ask caller client (CreateAcls r)) after = unless_refused _ (part_refusal (rules_of w) (alter_questions caller)) _ _ refl after
+  event_owes (Ask caller client (DeleteAcls r)) after = unless_refused _ (part_refusal (rules_of w) (alter_questions caller)) _ _ refl after
+  event_owes Mark after = adds_none Mark moves.Mark (ap (λ (v : SmallWorld). v.coordinator) (good_moved w Mark good)) (marked_few s w.coordinator.warrants refl) after
+  event_owes (Tick told) after = tick_owes w told id t u o before ongoing after waits
+
+-- ---- the law
+
+pub prepared_owes : (w : World) → IsGood w → OwesPrepared w
+prepared_owes w good e id t o by = event_owes w good id t by.transaction o by.before by.ongoing by.waits e by.after
+
+pub owes_prepared : InReached OwesPrepared
+owes_prepared s es = prepared_owes _ (good s es)
