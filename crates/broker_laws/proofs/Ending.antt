@@ -1,20 +1,23 @@
 -- A transaction that waits is complete once its last marker is written.
-use Rattle.std.proofs.Common.{◌≡◌, ℕ, ◌+◌, ◌≤◌, List, [], ◌∷◌, Some, true, false, refl, sym, ap, subst, ◌∙◌, inl, inr, ◌⊎◌, arith}
+use Rattle.std.proofs.Common.{◌≡◌, ℕ, ◌+◌, ◌≤◌, List, [], ◌∷◌, Some, Bool, true, false, cond, refl, sym, ap, subst, ◌∙◌, inl, inr, ◌⊎◌, arith}
+use Rattle.std.specs.Prelude.{◌||◌}
+use Rattle.std.specs.Str.{bytes_eq}
 use Rattle.audit_trail.specs.declared.event.Event.{Event}
 use Rattle.audit_trail.specs.declared.event.Event.TheVariants.{Ask, Mark, Tick}
 use Rattle.txn_coordinator.specs.declared.transaction.Transaction.{Transaction}
 use Rattle.record_batch.specs.declared.outcome.Outcome.{Outcome as Ending}
 use Rattle.txn_coordinator.specs.declared.marker.OwedMarker.{OwedMarker}
 use Rattle.txn_coordinator.specs.Words.{prepared, complete}
-use Rattle.txn_coordinator.specs.Coordinator.{recorded}
+use Rattle.txn_coordinator.specs.Coordinator.{CoordinatorValue, recorded}
 use Rattle.txn_coordinator.specs.Warrants.{owes}
 use Rattle.txn_laws.specs.Small.{World as SmallWorld, Move, marked, moved, moved_all, marks as small_marks}
 use Rattle.txn_laws.specs.Sound.{Each, IsSound, IsOwed}
 use Rattle.txn_laws.specs.Laws.{up_to_last}
-use Rattle.txn_laws.proofs.Moves.{move_sound}
+use Rattle.txn_laws.proofs.Base.{same_is}
+use Rattle.txn_laws.proofs.Moves.{complete_waits, move_sound}
 use Rattle.txn_laws.proofs.Completed.{StillWaits, move_waits, mark_waits, some_owed, one_more}
 use Rattle.broker_world.specs.World.{World}
-use Rattle.api_dispatch.specs.Step.{step}
+use Rattle.api_dispatch.specs.Step.{step, reached}
 use Rattle.broker_laws.specs.Moves.{moves_of, mark_count, marks}
 use Rattle.broker_laws.specs.Laws.{InReached, IsCompletedBy, EndsComplete}
 use Rattle.broker_laws.proofs.Reached.{full, IsGood, good_step, good_moved, good, event_marks}
@@ -35,11 +38,14 @@ abbrev WaitsOrEnds : SmallWorld → ℕ → SmallWorld → List ℕ → Transact
 WaitsOrEnds s written v id t o = ((recorded v.coordinator.transactions id ≡ Some t) × (written + up_to_last v.coordinator.warrants id ≡ up_to_last s.coordinator.warrants id))
     ⊎ ((u : Transaction) × (recorded v.coordinator.transactions id ≡ Some u) × (u.phase ≡ complete o))
 
+quiet_still : (w : World) (e : Event) (good : IsGood w) → mark_count e ≡ 0 → (id : List ℕ) (t : Transaction) (o : Ending) → recorded w.coordinator.transactions id ≡ Some t → t.phase ≡ prepared o → StillWaits (full w good.entries) (full (step w e) (good_step w e good).entries) id t
+quiet_still w e good none id t o found waits =
+    subst (λ v. StillWaits (full w good.entries) v id t) (sym (good_moved w e good)) (quiet_waits (full w good.entries) (moves_of w e) good.sound (event_marks w e ∙ none) id t o found waits)
+
 quiet_event : (w : World) (e : Event) (good : IsGood w) → mark_count e ≡ 0 → (id : List ℕ) (t : Transaction) (o : Ending) → recorded w.coordinator.transactions id ≡ Some t → t.phase ≡ prepared o
     → WaitsOrEnds (full w good.entries) 0 (full (step w e) (good_step w e good).entries) id t o
 quiet_event w e good none id t o found waits =
-    let s = full w good.entries in
-    let still = subst (λ v. StillWaits s v id t) (sym (good_moved w e good)) (quiet_waits s (moves_of w e) good.sound (event_marks w e ∙ none) id t o found waits) in
+    let still = quiet_still w e good none id t o found waits in
     let last = still.last in
     inl (still.found, omega (arith, last))
 
@@ -79,3 +85,56 @@ ends (e ∷ es) w good id t o found waits enough = by_event (ends es (step w e) 
 
 pub ends_complete : InReached EndsComplete
 ends_complete s es id t o after found waits enough = ends after _ (good s es) id t o found waits enough
+
+-- ---- where nothing is owed any more
+
+-- a record for which a marker is owed isn't complete
+owed_waits : (c : CoordinatorValue) (ws : List OwedMarker) → Each (IsOwed c) ws → (id : List ℕ) → owes ws id ≡ true → (u : Transaction) (o : Ending) → recorded c.transactions id ≡ Some u → u.phase ≡ complete o → ⊥
+owed_waits c [] owed id h u o found is = let clash : false ≡ true = h in cc
+owed_waits c (x ∷ xs) owed id h u o found is = by_same (bytes_eq x.id id) refl h (λ rest. owed_waits c xs owed.1 id rest u o found is) where
+  by_same : (b : Bool) → bytes_eq x.id id ≡ b → (b || owes xs id) ≡ true → (owes xs id ≡ true → ⊥) → ⊥
+  by_same true e h rest = complete_waits o x.outcome (sym is ∙ owed.0.waits u (ap (recorded c.transactions) (same_is x.id id e) ∙ found))
+  by_same false e h rest = rest h
+
+none_left : (ws : List OwedMarker) (id : List ℕ) (b : Bool) → owes ws id ≡ b → (b ≡ true → ⊥) → up_to_last ws id ≡ 0
+none_left [] id b is none = refl
+none_left (x ∷ xs) id true is none = absurd (none refl)
+none_left (x ∷ xs) id false is none = ap (λ b. cond b (1 + up_to_last xs id) 0) is
+
+one_less : (s : SmallWorld) (ws : List OwedMarker) → s.coordinator.warrants ≡ ws → (id : List ℕ) → up_to_last ws id ≤ 1 + up_to_last (marked ws s).coordinator.warrants id
+one_less s [] at id = omega arith
+one_less s (x ∷ xs) at id = by_owes (owes (x ∷ xs) id) where
+  by_owes : (b : Bool) → cond b (1 + up_to_last xs id) 0 ≤ 1 + up_to_last xs id
+  by_owes true = omega arith
+  by_owes false = omega arith
+
+-- where nothing is owed behind the events, enough of them are marker steps
+pub enough : (es : List Event) (w : World) → IsGood w → (id : List ℕ) (t : Transaction) (o : Ending) → recorded w.coordinator.transactions id ≡ Some t → t.phase ≡ prepared o → (reached w es).coordinator.warrants ≡ [] → up_to_last w.coordinator.warrants id ≤ marks es
+enough [] w good id t o found waits none =
+    absurd (let some : owes [] id ≡ true = ap (λ ws. owes ws id) (sym none) ∙ good.sound.owing id t o found waits in let clash : false ≡ true = some in cc)
+enough (Ask caller client request ∷ es) w good id t o found waits none =
+    let e = Ask caller client request in
+    let still = quiet_still w e good refl id t o found waits in
+    let rest = enough es (step w e) (good_step w e good) id t o still.found waits none in
+    let last = still.last in
+    omega (arith, rest, last)
+enough (Tick told ∷ es) w good id t o found waits none =
+    let still = quiet_still w (Tick told) good refl id t o found waits in
+    let rest = enough es (step w (Tick told)) (good_step w (Tick told) good) id t o still.found waits none in
+    let last = still.last in
+    omega (arith, rest, last)
+enough (Mark ∷ es) w good id t o found waits none = by_event (enough es v next id t o) (one_event w Mark good id t o found waits) where
+  v : World
+  v = step w Mark
+
+  next : IsGood v
+  next = good_step w Mark good
+
+  few : up_to_last w.coordinator.warrants id ≤ 1 + up_to_last v.coordinator.warrants id
+  few = subst (λ (s : SmallWorld). up_to_last w.coordinator.warrants id ≤ 1 + up_to_last s.coordinator.warrants id) (sym (good_moved w Mark good)) (one_less (full w good.entries) w.coordinator.warrants refl id)
+
+  by_event : (recorded v.coordinator.transactions id ≡ Some t → t.phase ≡ prepared o → (reached v es).coordinator.warrants ≡ [] → up_to_last v.coordinator.warrants id ≤ marks es) → WaitsOrEnds (full w good.entries) 1 (full v next.entries) id t o → up_to_last w.coordinator.warrants id ≤ 1 + marks es
+  by_event rest (inl h) = let left = h.1 in let later = rest h.0 waits none in omega (arith, left, later)
+  by_event rest (inr h) =
+      let zero = none_left v.coordinator.warrants id (owes v.coordinator.warrants id) refl (λ some. owed_waits v.coordinator v.coordinator.warrants next.sound.owed id some h.0 o h.1 h.2) in
+      omega (arith, few, zero)

@@ -16,7 +16,7 @@ pub mod Failing
 pub mod Fencing
 pub mod Ending
 pub mod Cores
+pub mod Preparing
 pub mod LogsGrow
 pub mod LogEnds
 pub mod Trailing
-pub mod Preparing

@@ -75,6 +75,17 @@ not_from producer sign b h same = by_marker b.marker h where
   by_marker None h = by_sign (int_lt b.header.producer_id (pos 0)) refl h
   by_marker (Some x) h = h same
 
+one_before : (producer : ℤ) (o : Ending) (b : BatchData) (bs : List BatchData) → IsNotFrom producer b → IsSplit producer o bs → IsSplit producer o (b ∷ bs)
+one_before producer o b bs other is = record {
+  between = b ∷ is.between;
+  marker = is.marker;
+  after = is.after;
+  parts = ap (λ l. b ∷ l) is.parts;
+  by = is.by;
+  ends = is.ends;
+  nothing = (other, is.nothing);
+}
+
 split : (bs : List BatchData) (before behind : List Entry) (pair : Pair) (o : Ending) → int_lt pair.producer (pos 0) ≡ false → map entry_of bs ≡ before ++ Marker pair o ∷ behind → Each (IsNotOf pair.producer) before → IsSplit pair.producer o bs
 split [] [] behind pair o sign e h = absurd (let clash : [] ≡ Marker pair o ∷ behind = e in cc)
 split [] (x ∷ before) behind pair o sign e h = absurd (let clash : [] ≡ x ∷ (before ++ Marker pair o ∷ behind) = e in cc)
@@ -85,16 +96,7 @@ split (b ∷ bs) [] behind pair o sign e h =
 split (b ∷ bs) (x ∷ before) behind pair o sign e h =
     let front : entry_of b ≡ x = cc in
     let later : map entry_of bs ≡ before ++ Marker pair o ∷ behind = cc in
-    let rest = split bs before behind pair o sign later h.1 in
-    record {
-      between = b ∷ rest.between;
-      marker = rest.marker;
-      after = rest.after;
-      parts = ap (λ l. b ∷ l) rest.parts;
-      by = rest.by;
-      ends = rest.ends;
-      nothing = (not_from pair.producer sign b (subst (IsNotOf pair.producer) (sym front) h.0), rest.nothing);
-    }
+    one_before pair.producer o b bs (not_from pair.producer sign b (subst (IsNotOf pair.producer) (sym front) h.0)) (split bs before behind pair o sign later h.1)
 
 -- ---- the first marker
 

@@ -27,7 +27,7 @@ use Rattle.txn_coordinator.specs.declared.transaction.Transaction.{Transaction}
 use Rattle.txn_laws.specs.Small.{World as SmallWorld, Entry, Move, first_world as first_small_world, moved, moved_all, marks as small_marks}
 use Rattle.txn_laws.specs.Small.Move.{AddPartitions, Send, Plain}
 use Rattle.txn_laws.specs.Sound.{IsSound}
-use Rattle.txn_laws.specs.Laws.{IsEnded, IsDone, expiries}
+use Rattle.txn_laws.specs.Laws.{IsEnded, expiries}
 use Rattle.txn_laws.specs.Kept.{kept_pair, kept_entries, kept_world, kept_moved_all}
 use Rattle.txn_laws.proofs.GroupsKeep.{kept_law, kept_end_law}
 use Rattle.txn_laws.proofs.Moves.{moves_sound, first_sound}
@@ -102,12 +102,6 @@ ended_kept w v before after target pair o h =
     subst (λ old. IsEnded (kept_pair target pair) o old (entries_in v target)) (before.keeps target)
     (subst (λ new. IsEnded (kept_pair target pair) o (kept_entries target (before.entries target)) new) (after.keeps target)
     (kept_end_law target pair o (before.entries target) (after.entries target) h))
-
-pub done_kept : (w v : World) (before : IsGood w) (after : IsGood v) (producer : ℤ) (o : Ending) (target : Target) → IsDone producer o (before.entries target) (after.entries target) → IsDone producer o (entries_in w target) (entries_in v target)
-done_kept w v before after producer o target (pair, is, h) = (kept_pair target pair, same_producer target ∙ is, ended_kept w v before after target pair o h) where
-  same_producer : (t : Target) → (kept_pair t pair).producer ≡ pair.producer
-  same_producer (Partition p) = refl
-  same_producer (Group g) = refl
 
 -- ---- the first world
 

@@ -1,29 +1,39 @@
 -- Where a trail's entries, and the events of a run, lead.
 use Rattle.std.proofs.Common.{◌≡◌, ℕ, ◌≤◌, List, [], ◌∷◌, ◌++◌, length, Option, Some, None, Bool, true, false, refl, sym, ap, subst, ◌∙◌, inl, inr, ◌⊎◌, append_assoc, arith}
-use Rattle.std.proofs.lemmas.List.{map-append}
+use Rattle.std.specs.Prelude.{slice_get}
+use Rattle.std.proofs.lemmas.List.{map-append, length-map}
 use Rattle.record_batch.specs.declared.outcome.Outcome.{Outcome as Ending}
+use Rattle.record_batch.specs.declared.outcome.Outcome.TheVariants.{Abort}
+use Rattle.msg_admin.specs.declared.request.Request.TheVariants.{InitProducerId, EndTxn}
+use Rattle.msg_admin.specs.declared.reply.Reply.TheVariants as replies
 use Rattle.audit_trail.specs.declared.event.Event.{Event}
+use Rattle.audit_trail.specs.declared.event.Event.TheVariants.{Ask, Mark}
 use Rattle.audit_trail.specs.declared.trail.Entry.{Entry}
 use Rattle.audit_trail.specs.declared.trail.Receipt.{Receipt}
 use Rattle.txn_coordinator.specs.declared.transaction.Transaction.{Transaction}
+use Rattle.txn_coordinator.specs.declared.marker.OwedMarker.{OwedMarker}
+use Rattle.txn_coordinator.specs.Warrants.{written}
 use Rattle.txn_laws.specs.Sound.{Each}
 use Rattle.txn_laws.specs.Laws.{up_to_last}
 use Rattle.txn_laws.proofs.Base.{each_append}
 use Rattle.broker_world.specs.World.{World}
 use Rattle.broker_world.specs.First.{first_world}
-use Rattle.api_dispatch.specs.Step.{step, refusals_of, reached, is_reading}
+use Rattle.txn_handlers.specs.EndTxn.{ending}
+use Rattle.txn_handlers.specs.Marks.{mark_by}
+use Rattle.api_dispatch.specs.Step.{step, reply_to, refusals_of, reached, is_reading}
 use Rattle.request_handlers.specs.declared.stop.Stop.{Stop}
 use Rattle.request_handlers.specs.declared.stop.Stop.TheVariants.{NoMemory, TrailFull, Down}
-use Rattle.request_handlers.specs.Core.{CoreValue, IsHistory, IsPutDown, AfterNoMemory, StoppedBy, Ran, history, events_of, advanced}
+use Rattle.request_handlers.specs.Core.{CoreValue, IsHistory, IsPutDown, AfterNoMemory, StoppedBy, Ran, entry_of, history, events_of, advanced}
 use Rattle.broker_laws.specs.Moves.{marks}
 use Rattle.broker_laws.specs.Laws.{IsPreparedBy, IsCompletedBy}
-use Rattle.broker_laws.specs.Trails.{IsCompleted, IsUnrefusedMark, IsCompletedIn, world_behind, CompletesOverATrail, CompletesOverARun}
+use Rattle.broker_laws.specs.Trails.{IsCompleted, IsUnrefusedMark, IsCompletedIn, world_behind, TrailTells, CompletesOverATrail, CompletesBeforeIdle, CompletesOverARun}
 use Rattle.broker_laws.proofs.Reading.{marks_are_not_refused}
 use Rattle.broker_laws.proofs.Reached.{IsGood, good_step, good_reached, good}
 use Rattle.broker_laws.proofs.Completing.{prepared_completes}
 use Rattle.broker_laws.proofs.Deciding.{prepared_decides}
 use Rattle.broker_laws.proofs.LogEnds.{prepared_ends}
-use Rattle.broker_laws.proofs.Ending.{ends}
+use Rattle.broker_laws.proofs.Ending.{ends, enough}
+use Rattle.broker_laws.proofs.Preparing.{prepares}
 
 -- ---- a world
 
@@ -73,6 +83,70 @@ completes_over_a_trail core is before behind x parts id t o by enough =
     (trail_leads core is.history before behind x parts)
     (trail_unrefused core is.history)
     by enough
+
+-- ---- an entry
+
+history_at : (w : World) (before behind : List Event) (e : Event) → slice_get (history w (before ++ e ∷ behind)) (length before) ≡ Some (entry_of (reached w before) e)
+history_at w [] behind e = refl
+history_at w (x ∷ xs) behind e = history_at (step w x) xs behind e
+
+get_at : (before behind : List Entry) (x : Entry) → slice_get (before ++ x ∷ behind) (length before) ≡ Some x
+get_at [] behind x = refl
+get_at (y ∷ ys) behind x = get_at ys behind x
+
+-- it is what is kept of its event, in the world in which that was taken
+entry_is : (core : CoreValue) → IsHistory core → (before behind : List Entry) (x : Entry) → core.trail ≡ before ++ x ∷ behind → x ≡ entry_of (world_behind core before) x.event
+entry_is core h before behind x parts =
+    let first = first_world core.settings in
+    let events = ap events_of parts ∙ map-append (λ (y : Entry). y.event) before (x ∷ behind) in
+    let place : length before ≡ length (events_of before) = sym (length-map before (λ (y : Entry). y.event)) in
+    let told : slice_get core.trail (length before) ≡ Some (entry_of (world_behind core before) x.event) =
+    ap (λ l. slice_get l (length before)) (h.entries ∙ ap (history first) events)
+    ∙ ap (slice_get (history first (events_of before ++ x.event ∷ events_of behind))) place
+    ∙ history_at first (events_of before) (events_of behind) x.event in
+    let twice : Some x ≡ Some (entry_of (world_behind core before) x.event) = sym (ap (λ l. slice_get l (length before)) parts ∙ get_at before behind x) ∙ told in
+    cc
+
+reply_is : (core : CoreValue) → IsHistory core → (before behind : List Entry) (x : Entry) → core.trail ≡ before ++ x ∷ behind → (e : Event) → x.event ≡ e → x.reply ≡ reply_to (world_behind core before) e
+reply_is core h before behind x parts e is = ap (λ (y : Entry). y.reply) (entry_is core h before behind x parts) ∙ ap (reply_to (world_behind core before)) is
+
+pub trail_tells : TrailTells
+trail_tells core is before behind x parts =
+    let w = world_behind core before in
+    record {
+      ended = λ caller client r t event reply found ongoing.
+          let e = Ask caller client (EndTxn r) in
+          subst (λ y. IsPreparedBy w y r.transactional_id t (ending r.committed)) (sym event) ((prepares w).ended caller client r t found ongoing (sym (reply_is core is.history before behind x parts e event) ∙ reply));
+      taken_over = λ caller client r id t event own reply found ongoing.
+          let e = Ask caller client (InitProducerId r) in
+          subst (λ y. IsPreparedBy w y id t Abort) (sym event) ((prepares w).taken_over caller client r id t own found ongoing (sym (reply_is core is.history before behind x parts e event) ∙ reply));
+      timed_out = λ told id t event found due. subst (λ y. IsPreparedBy w y id t Abort) (sym event) ((prepares w).timed_out told id t found due);
+    }
+
+-- ---- a marker step that finds nothing to write
+
+none_owed : (w : World) (ws : List OwedMarker) → (mark_by w (slice_get ws 0)).reply ≡ replies.Idle → ws ≡ []
+none_owed w [] h = refl
+none_owed w (m ∷ ws) h = absurd (let clash : replies.Marked (length (written w.coordinator).warrants) ≡ replies.Idle = h in cc)
+
+marks_append : (xs ys : List Event) → marks xs ≤ marks (xs ++ ys)
+marks_append [] ys = omega arith
+marks_append (x ∷ xs) ys = let rest = marks_append xs ys in omega (arith, rest)
+
+pub completes_before_idle : CompletesBeforeIdle
+completes_before_idle core is before between rest x y parts id t o by event reply =
+    let w = world_behind core before in
+    let here = good core.settings (events_of before) in
+    let then = reached (step w x.event) (events_of between) in
+    let longer : core.trail ≡ (before ++ x ∷ between) ++ y ∷ rest = parts ∙ sym (append_assoc before (x ∷ between) (y ∷ rest)) in
+    let leads : world_behind core (before ++ x ∷ between) ≡ then =
+    ap (reached (first_world core.settings)) (map-append (λ (z : Entry). z.event) before (x ∷ between)) ∙ reached_append (first_world core.settings) (events_of before) (x.event ∷ events_of between) in
+    let idle : reply_to then Mark ≡ replies.Idle = ap (λ v. reply_to v Mark) (sym leads) ∙ sym (reply_is core is.history (before ++ x ∷ between) rest y longer Mark event) ∙ reply in
+    let none : then.coordinator.warrants ≡ [] = none_owed then then.coordinator.warrants idle in
+    let few = enough (events_of between) (step w x.event) (good_step w x.event here) id by.transaction o by.after by.waits none in
+    let all : marks (events_of between) ≤ marks (events_of (between ++ y ∷ rest)) =
+    subst (λ l. marks (events_of between) ≤ marks l) (sym (map-append (λ (z : Entry). z.event) between (y ∷ rest))) (marks_append (events_of between) (events_of (y ∷ rest))) in
+    completes_over_a_trail core is before (between ++ y ∷ rest) x parts id t o by (omega (arith, few, all))
 
 -- ---- a stop
 
@@ -135,7 +209,11 @@ ran_up old new es [] stop run [] behind e same = absurd (omega (arith, same))
 ran_up old new es [] stop run (y ∷ before) behind e same = absurd (omega (arith, same))
 
 pub completes_over_a_run : CompletesOverARun
-completes_over_a_run old new es rs stop is run before behind rest e parts same id t o by enough =
+completes_over_a_run old new es rs stop is (inr none) before behind rest e parts same id t o by enough = absurd (no_receipt none.0 before behind e same) where
+  no_receipt : rs ≡ [] → (before behind : List Event) (e : Event) → length rs ≡ length (before ++ e ∷ behind) → ⊥
+  no_receipt none [] behind e same = let zero = ap length none in omega (arith, same, zero)
+  no_receipt none (x ∷ before) behind e same = let zero = ap length none in omega (arith, same, zero)
+completes_over_a_run old new es rs stop is (inl run) before behind rest e parts same id t o by enough =
     let up = ran_up old new es rs stop run before behind e same in
     let here : IsGood old.world = subst IsGood (sym (is.history.world up)) (good old.settings (events_of old.trail)) in
     completed_in new (reached old.world before) (good_reached old.world before here) e id t o behind

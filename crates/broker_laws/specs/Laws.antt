@@ -121,7 +121,7 @@ abbrev pub marker_pair : Event → Pair → Pair
 marker_pair (Ask caller client (EndTxn r)) own = own
 marker_pair e own = raised own
 
--- An event that prepares a transaction writes nothing, and owes a marker of the outcome and of that pair to each partition
+-- An event that prepares a transaction changes no entry, and owes a marker of the outcome and of that pair to each partition
 -- and group that was added, behind the markers that were owed. Besides them it owes those of other transactions, where a
 -- tick ends several.
 pub record OwesEach (w : World) (e : Event) (id : List ℕ) (t : Transaction) (outcome : Ending) : Type 0 where
@@ -129,7 +129,7 @@ pub record OwesEach (w : World) (e : Event) (id : List ℕ) (t : Transaction) (o
   pub back : List OwedMarker
   pub owed : (step w e).coordinator.warrants ≡ w.coordinator.warrants ++ (front ++ (markers t (marker_pair e t.pair) outcome ++ back))
   pub entries : (target : Target) → entries_in (step w e) target ≡ entries_in w target
-  -- the id's record has that pair from then on
+  -- the id's record then has that pair
   pub pair : (u : Transaction) → recorded (step w e).coordinator.transactions id ≡ Some u → u.pair ≡ marker_pair e t.pair
 
 abbrev pub OwesPrepared : World → Type 0

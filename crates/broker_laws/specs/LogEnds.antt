@@ -50,7 +50,7 @@ pub record IsEndedLog (producer : ℤ) (outcome : Ending) (old new : LogValue) :
   pub nothing : Each (IsNotFrom producer) between
   pub by : marker.header.producer_id ≡ producer
   pub ends : marker.marker ≡ Some outcome
-  -- so each batch of the producer that stood open is ended so
+  -- so each batch of the producer that stood open is ended so, by what stands behind it now
   pub opened : (before behind : List BatchData) (b : BatchData) → old ≡ before ++ b ∷ behind → b.header.producer_id ≡ producer → is_open b behind ≡ true → IsEndedAs b (behind ++ (between ++ marker ∷ after)) outcome
   -- and behind the marker nothing of the producer is open
   pub settled : open_at producer ((old ++ between) ++ marker ∷ []) ≡ None

@@ -1,22 +1,35 @@
 -- Completion over a run, and over the trail that a core has so far: what was prepared at some place is completed in the
 -- world that the events behind it leave.
-use Rattle.std.specs.Prelude.{◌≡◌, false, ℕ, ◌≤◌, List, [], ◌∷◌, ◌++◌, length, Option}
+use Rattle.std.specs.Prelude.{◌≡◌, ◌⊎◌, true, false, ℕ, ◌≤◌, List, [], ◌∷◌, ◌++◌, length, Option, Some}
+use Rattle.acl_binding.specs.declared.question.Caller.{Caller}
+use Rattle.wire_types.specs.declared.error_code.ErrorCode.TheVariants as codes
 use Rattle.record_batch.specs.declared.outcome.Outcome.{Outcome as Ending}
+use Rattle.record_batch.specs.declared.outcome.Outcome.TheVariants.{Abort}
+use Rattle.msg_txn.specs.declared.init_producer_id.InitProducerIdRequest.{InitProducerIdRequest}
+use Rattle.msg_txn.specs.declared.end_txn.EndTxnRequest.{EndTxnRequest}
+use Rattle.msg_admin.specs.declared.request.Request.TheVariants.{InitProducerId, EndTxn}
+use Rattle.msg_admin.specs.declared.reply.Reply.TheVariants as replies
 use Rattle.audit_trail.specs.declared.event.Event.{Event}
-use Rattle.audit_trail.specs.declared.event.Event.TheVariants.{Mark}
+use Rattle.audit_trail.specs.declared.event.Event.TheVariants.{Ask, Mark, Tick}
 use Rattle.audit_trail.specs.declared.trail.Entry.{Entry}
 use Rattle.audit_trail.specs.declared.trail.Receipt.{Receipt}
 use Rattle.txn_coordinator.specs.declared.transaction.Transaction.{Transaction}
+use Rattle.txn_coordinator.specs.declared.transaction.Phase.TheVariants.{Ongoing}
 use Rattle.txn_coordinator.specs.Words.{targets}
+use Rattle.txn_coordinator.specs.Coordinator.{recorded}
+use Rattle.txn_coordinator.specs.Expiry.{is_due}
 use Rattle.group_offsets.specs.Groups.{group_of}
 use Rattle.txn_laws.specs.Sound.{Each}
 use Rattle.txn_laws.specs.Laws.{IsEnded, up_to_last}
 use Rattle.txn_laws.specs.Kept.{kept_pair}
 use Rattle.broker_world.specs.World.{World}
 use Rattle.broker_world.specs.First.{first_world}
+use Rattle.broker_world.specs.Clock.{moment_after}
+use Rattle.txn_handlers.specs.InitProducerId.{init_error}
+use Rattle.txn_handlers.specs.EndTxn.{ending, end_reply}
 use Rattle.api_dispatch.specs.Step.{step, reached}
 use Rattle.request_handlers.specs.declared.stop.Stop.{Stop}
-use Rattle.request_handlers.specs.Core.{CoreValue, IsCore, Ran, events_of}
+use Rattle.request_handlers.specs.Core.{CoreValue, IsCore, Ran, NoRoom, events_of}
 use Rattle.broker_laws.specs.Entries.{entries_in}
 use Rattle.broker_laws.specs.Moves.{marks}
 use Rattle.broker_laws.specs.Laws.{IsPreparedBy, marker_pair, IsDecided, IsCompletedBy}
@@ -52,6 +65,20 @@ pub record IsCompletedIn (core : CoreValue) (old : World) (e : Event) (behind : 
 abbrev pub world_behind : CoreValue → List Entry → World
 world_behind core before = reached (first_world core.settings) (events_of before)
 
+-- what an entry tells of a transaction that stood open in the world in which its event was taken
+pub record TellsOf (w : World) (x : Entry) : Type 0 where
+  -- an EndTxn that was answered no error prepared it, with the outcome that it names
+  pub ended : (caller : Caller) (client : Option (List ℕ)) (r : EndTxnRequest) (t : Transaction) → x.event ≡ Ask caller client (EndTxn r) → x.reply ≡ replies.EndTxn (end_reply codes.None)
+      → recorded w.coordinator.transactions r.transactional_id ≡ Some t → t.phase ≡ Ongoing → IsPreparedBy w x.event r.transactional_id t (ending r.committed)
+  -- an InitProducerId that was told to come again aborts it
+  pub taken_over : (caller : Caller) (client : Option (List ℕ)) (r : InitProducerIdRequest) (id : List ℕ) (t : Transaction) → x.event ≡ Ask caller client (InitProducerId r) → r.transactional_id ≡ Some id → x.reply ≡ replies.InitProducerId (init_error codes.ConcurrentTransactions)
+      → recorded w.coordinator.transactions id ≡ Some t → t.phase ≡ Ongoing → IsPreparedBy w x.event id t Abort
+  -- and so does a tick behind the end of its time
+  pub timed_out : (told : ℕ) (id : List ℕ) (t : Transaction) → x.event ≡ Tick told → recorded w.coordinator.transactions id ≡ Some t → is_due (moment_after w.moment told) t ≡ true → IsPreparedBy w x.event id t Abort
+
+abbrev pub TrailTells : Type 0
+TrailTells = (core : CoreValue) → IsCore core → (before behind : List Entry) (x : Entry) → core.trail ≡ before ++ x ∷ behind → TellsOf (world_behind core before) x
+
 -- If the event of an entry prepared a transaction, and behind it stand as many marker steps as markers stood then up to
 -- and including its last one, it is completed.
 abbrev pub CompletesOverATrail : Type 0
@@ -60,12 +87,19 @@ CompletesOverATrail = (core : CoreValue) → IsCore core → (before behind : Li
     → up_to_last (step (world_behind core before) x.event).coordinator.warrants id ≤ marks (events_of behind)
     → IsCompletedIn core (world_behind core before) x.event (events_of behind) id t outcome
 
+-- There is no need to count where a marker step behind it found nothing to write.
+abbrev pub CompletesBeforeIdle : Type 0
+CompletesBeforeIdle = (core : CoreValue) → IsCore core → (before between rest : List Entry) (x y : Entry) → core.trail ≡ before ++ x ∷ (between ++ y ∷ rest)
+    → (id : List ℕ) (t : Transaction) (outcome : Ending) → IsPreparedBy (world_behind core before) x.event id t outcome
+    → y.event ≡ Mark → y.reply ≡ replies.Idle
+    → IsCompletedIn core (world_behind core before) x.event (events_of (between ++ y ∷ rest)) id t outcome
+
 -- ---- a run
 
 -- So it is if a run took such an event and so many marker steps behind it. It took those for which there is a receipt:
 -- all but the rest.
 abbrev pub CompletesOverARun : Type 0
-CompletesOverARun = (old new : CoreValue) (es : List Event) (rs : List Receipt) (stop : Option Stop) → IsCore old → Ran old es rs stop new
+CompletesOverARun = (old new : CoreValue) (es : List Event) (rs : List Receipt) (stop : Option Stop) → IsCore old → Ran old es rs stop new ⊎ NoRoom old rs stop new
     → (before behind rest : List Event) (e : Event) → es ≡ before ++ e ∷ (behind ++ rest) → length rs ≡ length (before ++ e ∷ behind)
     → (id : List ℕ) (t : Transaction) (outcome : Ending) → IsPreparedBy (reached old.world before) e id t outcome
     → up_to_last (step (reached old.world before) e).coordinator.warrants id ≤ marks behind

@@ -9,7 +9,7 @@ ghost use Rattle.broker_laws.specs.Laws.{Prepares, OwesPrepared, CompletesPrepar
 ghost use Rattle.broker_laws.specs.Laws.{DecidesPrepared, DecidesWaiting, GroupsGoOn};
 ghost use Rattle.broker_laws.specs.Laws.{Fences, FencedWriteNothing, NoDataBehindAGreaterMarker};
 ghost use Rattle.broker_laws.specs.LogEnds.{LogsGoOn, EndsPrepared, EndsWaiting};
-ghost use Rattle.broker_laws.specs.Trails.{CompletesOverATrail, CompletesOverARun};
+ghost use Rattle.broker_laws.specs.Trails.{TrailTells, CompletesOverATrail, CompletesBeforeIdle, CompletesOverARun};
 
 /// What the laws see of a partition is its log, batch by batch, and of a group its offset events.
 pub fn entries_are_the_log()
@@ -95,10 +95,16 @@ pub fn marks_are_not_refused()
     ensures { MarksAreNotRefused }
 {}
 
+/// Which entries of a core's trail tell that their event prepared a transaction.
+pub fn trail_tells()
+    ensures { TrailTells }
+{}
+
 /// Where the trail of a core holds an event that prepared a transaction, and behind it as many marker steps as markers
-/// stood then up to and including its last one, the core's world has it completed.
+/// stood then up to and including its last one, or one that found nothing to write, the core's world has it completed.
 pub fn completes_over_a_trail()
-    ensures { CompletesOverATrail }
+    ensures counted { CompletesOverATrail }
+    ensures before_idle { CompletesBeforeIdle }
 {}
 
 /// And so where a core ran a list of events with such an event and so many marker steps behind it.

@@ -8,5 +8,5 @@ pub use laws::{
     completes_over_a_run, completes_over_a_trail, completes_prepared, completes_waiting,
     decides_groups, ends_batches, ends_complete, entries_are_the_log, events_are_moves,
     fenced_write_nothing, fences, groups_go_on, logs_go_on, marks_are_not_refused,
-    no_data_behind_a_greater_marker, owes_each, prepares, targets_exist,
+    no_data_behind_a_greater_marker, owes_each, prepares, targets_exist, trail_tells,
 };
