@@ -184,7 +184,7 @@ def start_next(rt, left, running, memory, needs):
         room, need = memory - sum(it.need for it in running), needs[crate]
         if idle < 1 or running and need > room:
             continue
-        share = max(idle // (len(ready) - at), LEAST_OF_FIRST if at == 0 else 1)
+        share = max(idle - len(ready) + 1, LEAST_OF_FIRST) if at == 0 else idle // (len(ready) - at)
         spare = min(MOST_JOBS, share, 1 + int((room / need - 1) / NEED_OF_JOB))
         lock = lock_of(crate)
         if lock is not None:

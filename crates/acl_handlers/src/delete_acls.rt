@@ -138,6 +138,7 @@ pub fn answer_delete_acls(
     ensures reply { IfOk result (λ o. o.reply ≡ (delete_acls_outcome state.old caller.now request.now).reply) }
     ensures refusals { IfOk result (λ o. o.refusals ≡ (delete_acls_outcome state.old caller.now request.now).refusals) }
     ensures paid { IfOk result (λ o. o.paid ≡ part_paid (rules_of state.old) (alter_questions caller.now)) }
+    ensures spent { IfOk result (λ o. o.spent ≡ 0) }
 {
     let question = asks_cluster(alloc, caller, Operation::Alter)?;
     let filters = request.filters.as_slice();

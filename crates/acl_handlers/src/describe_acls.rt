@@ -111,6 +111,7 @@ pub fn answer_describe_acls(
     ensures reply { IfOk result (λ o. o.reply ≡ (describe_acls_outcome state.now caller.now request.now).reply) }
     ensures refusals { IfOk result (λ o. o.refusals ≡ (describe_acls_outcome state.now caller.now request.now).refusals) }
     ensures paid { IfOk result (λ o. o.paid ≡ part_paid (rules_of state.now) (describe_acls_questions caller.now)) }
+    ensures spent { IfOk result (λ o. o.spent ≡ 0) }
 {
     let question = asks_cluster(alloc, caller, Operation::Describe)?;
     let policy = state.policy();

@@ -19,7 +19,7 @@
 --   DescribeAcls          the request: to describe the cluster
 --   CreateAcls, DeleteAcls
 --                         the request: to alter the cluster
-use Rattle.std.specs.Prelude.{ℕ, ℤ, Bool, false, List, [], ◌∷◌, map, Option, Some, None, is_none}
+use Rattle.std.specs.Prelude.{ℕ, ℤ, Bool, false, List, [], ◌∷◌, map, Option, Some, None, is_none, if◌then◌else◌}
 use Rattle.std.specs.List.{flat_map}
 use Rattle.acl_binding.specs.declared.question.Caller.{Caller}
 use Rattle.acl_binding.specs.declared.question.Question.{Question}
@@ -31,15 +31,17 @@ use Rattle.msg_admin.specs.declared.request.Request.{Request}
 use Rattle.msg_admin.specs.declared.request.Request.TheVariants as requests
 use Rattle.audit_trail.specs.declared.event.Event.{Event}
 use Rattle.audit_trail.specs.declared.event.Event.TheVariants.{Ask, Mark, Tick}
+use Rattle.broker_world.specs.World.{World, rules_of}
 use Rattle.broker_world.specs.Questions.{topic_part}
+use Rattle.data_handlers.specs.Metadata.{metadata_parts}
 use Rattle.data_handlers.specs.Produce.{produce_questions}
 use Rattle.broker_world.specs.Questions.{read_question}
 use Rattle.group_handlers.specs.OffsetCommit.{commit_questions}
-use Rattle.group_handlers.specs.OffsetFetch.{group_question}
+use Rattle.group_handlers.specs.OffsetFetch.{group_question, fetch_parts}
 use Rattle.group_handlers.specs.FindCoordinator.{kind_of, find_questions}
 use Rattle.txn_handlers.specs.InitProducerId.{init_question}
 use Rattle.broker_world.specs.Questions.{id_question}
-use Rattle.txn_handlers.specs.AddPartitions.{add_questions}
+use Rattle.txn_handlers.specs.AddPartitions.{add_questions, is_cut}
 use Rattle.txn_handlers.specs.AddOffsets.{add_offsets_questions}
 use Rattle.txn_handlers.specs.TxnOffsetCommit.{staging, stage_questions}
 use Rattle.acl_handlers.specs.DescribeAcls.{describe_acls_questions}
@@ -107,6 +109,25 @@ parts_of caller (requests.OffsetFetch r) = asks_itself caller (requests.OffsetFe
 parts_of caller (requests.AddPartitionsToTxn r) = partition_parts (asks_at caller (requests.AddPartitionsToTxn r)) r.topics
 parts_of caller (requests.TxnOffsetCommit r) = partition_parts (asks_at caller (requests.TxnOffsetCommit r)) r.topics
 parts_of caller request = asks_itself caller request ∷ []
+
+-- The parts that are walked, one after the other, where permits are spent for them: all but the part that stands for the
+-- request. Of an AddPartitionsToTxn that is cut none, behind a group that may not be described none; and under a null list
+-- each topic there is, though it may not be described.
+abbrev pub parts_walked : World → Caller → Request → List (List Question)
+parts_walked w caller (requests.Produce r) = partition_parts (asks_at caller (requests.Produce r)) r.topics
+parts_walked w caller (requests.Fetch r) = partition_parts (asks_at caller (requests.Fetch r)) r.topics
+parts_walked w caller (requests.ListOffsets r) = partition_parts (asks_at caller (requests.ListOffsets r)) r.topics
+parts_walked w caller (requests.Metadata r) = metadata_parts w caller r.topics
+parts_walked w caller (requests.OffsetCommit r) = partition_parts (asks_at caller (requests.OffsetCommit r)) r.topics
+parts_walked w caller (requests.OffsetFetch r) = fetch_parts w caller r
+parts_walked w caller (requests.AddPartitionsToTxn r) = if is_cut caller r.transactional_id w.topics (rules_of w) r.topics then [] else partition_parts (asks_at caller (requests.AddPartitionsToTxn r)) r.topics
+parts_walked w caller (requests.TxnOffsetCommit r) = partition_parts (asks_at caller (requests.TxnOffsetCommit r)) r.topics
+parts_walked w caller request = []
+
+abbrev pub event_parts : World → Event → List (List Question)
+event_parts w (Ask caller client request) = parts_walked w caller request
+event_parts w Mark = []
+event_parts w (Tick told) = []
 
 -- all questions of all parts
 abbrev pub questions_of : Caller → Request → List Question

@@ -5,7 +5,8 @@ ghost use Rattle.msg_admin.specs.Request.{Fits};
 ghost use Rattle.broker_world.specs.Logs.{room_of};
 ghost use Rattle.authorizer.specs.Asking.{part_paid};
 ghost use Rattle.broker_world.specs.World.{rules_of};
-ghost use Rattle.api_dispatch.specs.Questions.{asks_itself, event_asks};
+ghost use Rattle.authorizer.specs.Tally.{counted as tallied};
+ghost use Rattle.api_dispatch.specs.Questions.{asks_itself, event_asks, parts_walked, event_parts};
 ghost use Rattle.api_dispatch.specs.Bounds.{EventFits, most_parts, most_events, GenerationsWithin};
 ghost use Rattle.api_dispatch.specs.Step.{request_outcome, outcome, reply_to, refusals_of, counted, is_reading, is_reading_request};
 
@@ -36,6 +37,7 @@ pub fn apply(alloc: Global, state: &mut State, event: &Event) -> Result<Outcome,
     ensures reply { IfOk result (λ o. o.reply ≡ reply_to state.old event.now) }
     ensures refusals { IfOk result (λ o. o.refusals ≡ refusals_of state.old event.now) }
     ensures paid { IfOk result (λ o. o.paid ≡ part_paid (rules_of state.old) (event_asks event.now)) }
+    ensures spent { IfOk result (λ o. o.spent ≡ tallied (rules_of state.old) 0 (event_parts state.old event.now)) }
     ensures reading { OnErr result (is_reading event.now ≡ true → state.new ≡ state.old) }
 {
     match event {
@@ -64,6 +66,7 @@ fn answer(
     ensures reply { IfOk result (λ o. o.reply ≡ (request_outcome state.old caller.now request.now).reply) }
     ensures refusals { IfOk result (λ o. o.refusals ≡ (request_outcome state.old caller.now request.now).refusals) }
     ensures paid { IfOk result (λ o. o.paid ≡ part_paid (rules_of state.old) (asks_itself caller.now request.now)) }
+    ensures spent { IfOk result (λ o. o.spent ≡ tallied (rules_of state.old) 0 (parts_walked state.old caller.now request.now)) }
     ensures reading { OnErr result (is_reading_request request.now ≡ true → state.new ≡ state.old) }
 {
     match request {

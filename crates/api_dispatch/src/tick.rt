@@ -19,6 +19,7 @@ pub(crate) fn answer_tick(
     ensures reply { IfOk result (λ o. o.reply ≡ (tick_outcome state.old told).reply) }
     ensures refusals { IfOk result (λ o. o.refusals ≡ (tick_outcome state.old told).refusals) }
     ensures paid { IfOk result (λ o. o.paid ≡ []) }
+    ensures spent { IfOk result (λ o. o.spent ≡ 0) }
 {
     state.moment.go_on(told);
     let moment = state.moment.milliseconds();

@@ -15,6 +15,7 @@ mod names;
 mod paid;
 mod permit;
 mod policy;
+mod tally;
 
 pub use answer::{Answer, Refusal, Why};
 pub use asking::{GivenPermits, ThreePermits, TwoPermits, ask_given, ask_one, ask_three, ask_two};
@@ -22,3 +23,4 @@ pub use laws::permit_ends_with_edit;
 pub use paid::Paid;
 pub use permit::{Permit, Spent};
 pub use policy::Policy;
+pub use tally::Tally;

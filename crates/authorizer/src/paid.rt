@@ -8,9 +8,9 @@ use std::marker::Model;
 
 /// The questions whose permits were spent for a part, in order and at most three. It takes no memory.
 pub struct Paid {
-    first: Option<Spent>,
-    second: Option<Spent>,
-    third: Option<Spent>,
+    pub(crate) first: Option<Spent>,
+    pub(crate) second: Option<Spent>,
+    pub(crate) third: Option<Spent>,
 }
 
 /// Written out, so that a crate which lets it go calls this once, and proves nothing of its questions.

@@ -12,7 +12,7 @@ use Rattle.broker_world.specs.Whole.{Served, whole_by, whole}
 
 -- the reply of a request that was refused
 pub refused_told : {E : Type 0} (w : World) (rules : Rules) (q p : Question) (refused : ErrorCode → Reply) (served : Served) (r : Refusal) (reply : Reply) (result : Result Told E)
-    → rules_of w ≡ rules → q ≡ p → part_refusal rules (q ∷ []) ≡ Some r → reply ≡ refused (refusal_code r) → IfOk result (λ o. o ≡ record { reply = reply; refusals = r ∷ []; paid = [] })
+    → rules_of w ≡ rules → q ≡ p → part_refusal rules (q ∷ []) ≡ Some r → reply ≡ refused (refusal_code r) → IfOk result (λ o. o ≡ record { reply = reply; refusals = r ∷ []; paid = []; spent = 0 })
     → IfOk result (λ o. o.reply ≡ (whole w (p ∷ []) refused served).reply)
 refused_told w rules q p refused served r reply (Err e) same asked is told all = tt
 refused_told w rules q p refused served r reply (Ok o) same asked is told all =

@@ -3,6 +3,7 @@ use Rattle.std.specs.Prelude.{ℕ, zero, suc, ◌+◌, ℤ, pos, false, List, []
 use Rattle.std.specs.List.{filter_map}
 use Rattle.std.specs.Option.{option_map}
 use Rattle.acl_binding.specs.declared.question.Caller.{Caller}
+use Rattle.acl_binding.specs.declared.question.Question.{Question}
 use Rattle.authorizer.specs.declared.answer.Refusal.{Refusal}
 use Rattle.authorizer.specs.Asking.{Rules}
 use Rattle.wire_types.specs.declared.error_code.ErrorCode.{ErrorCode}
@@ -18,7 +19,7 @@ use Rattle.broker_world.specs.Outcome.{Outcome}
 use Rattle.msg_admin.specs.declared.reply.Reply.TheVariants as replies
 use Rattle.walk.specs.Codes.{refusal_code}
 use Rattle.walk.specs.Weave.{weave}
-use Rattle.broker_world.specs.Questions.{topic_refusal}
+use Rattle.broker_world.specs.Questions.{topic_part, topic_refusal}
 
 -- ---- the plain broker, which knows no permission
 
@@ -64,6 +65,11 @@ refused_topic rules caller name = option_map (λ r. topic_error (refusal_code r)
 abbrev pub refused_topics : Rules → Caller → Option (List (List ℕ)) → List (Option TopicInfo)
 refused_topics rules caller None = []
 refused_topics rules caller (Some names) = map (refused_topic rules caller) names
+
+-- what each topic asks that is described; a null list asks for all
+abbrev pub metadata_parts : World → Caller → Option (List (List ℕ)) → List (List Question)
+metadata_parts w caller None = map (topic_part caller) (topic_names w.topics)
+metadata_parts w caller (Some names) = map (topic_part caller) names
 
 -- ---- the answer
 

@@ -2,7 +2,10 @@
 
 ghost use Rattle.std.specs.Prelude.{◌≡◌, [], IfOk};
 ghost use Rattle.std.specs.Option.{option_copied};
-ghost use Rattle.data_handlers.specs.Fetch.{room_for, less, served_by, served_at, fetched_error, batch_bytes, list_told, fetched, room_after, whole_room, fetch_outcome};
+ghost use Rattle.authorizer.specs.Tally.{counted};
+ghost use Rattle.walk.specs.Walk.{asked_in};
+ghost use Rattle.broker_world.specs.World.{rules_of};
+ghost use Rattle.data_handlers.specs.Fetch.{fetch_rule, room_for, less, served_by, served_at, fetched_error, batch_bytes, list_told, fetched, room_after, whole_room, fetch_outcome};
 
 use crate::room::Room;
 use acl_binding::{Caller, Kind, Operation};
@@ -196,6 +199,7 @@ pub fn answer_fetch(
     ensures reply { IfOk result (λ o. o.reply ≡ (fetch_outcome state.now caller.now request.now).reply) }
     ensures refusals { IfOk result (λ o. o.refusals ≡ (fetch_outcome state.now caller.now request.now).refusals) }
     ensures paid { IfOk result (λ o. o.paid ≡ []) }
+    ensures spent { IfOk result (λ o. o.spent ≡ counted (rules_of state.now) 0 (asked_in (fetch_rule caller.now request.now.isolation state.now.topics) request.now.topics)) }
 {
     let api = Fetching {
         caller,
@@ -214,7 +218,7 @@ pub fn answer_fetch(
         throttle: 0,
         topics: walked.topics,
     };
-    Ok(served_in_parts(Reply::Fetch(reply), walked.refusals))
+    Ok(served_in_parts(Reply::Fetch(reply), walked.refusals, walked.spent))
 }
 
 /// The room of a whole answer.

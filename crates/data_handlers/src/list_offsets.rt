@@ -2,7 +2,10 @@
 
 ghost use Rattle.std.specs.Prelude.{◌≡◌, [], IfOk};
 ghost use Rattle.std.specs.Option.{option_copied};
-ghost use Rattle.data_handlers.specs.ListOffsets.{listed_error, listed_at, listed_by, listed, list_offsets_outcome};
+ghost use Rattle.authorizer.specs.Tally.{counted};
+ghost use Rattle.walk.specs.Walk.{asked_in};
+ghost use Rattle.broker_world.specs.World.{rules_of};
+ghost use Rattle.data_handlers.specs.ListOffsets.{list_rule, listed_error, listed_at, listed_by, listed, list_offsets_outcome};
 
 use acl_binding::{Caller, Kind, Operation};
 use authorizer::{Paid, Policy, ask_one};
@@ -110,6 +113,7 @@ pub fn answer_list_offsets(
     ensures reply { IfOk result (λ o. o.reply ≡ (list_offsets_outcome state.now caller.now request.now).reply) }
     ensures refusals { IfOk result (λ o. o.refusals ≡ (list_offsets_outcome state.now caller.now request.now).refusals) }
     ensures paid { IfOk result (λ o. o.paid ≡ []) }
+    ensures spent { IfOk result (λ o. o.spent ≡ counted (rules_of state.now) 0 (asked_in (list_rule caller.now request.now.isolation state.now.topics) request.now.topics)) }
 {
     let api = Listing {
         caller,
@@ -127,5 +131,5 @@ pub fn answer_list_offsets(
         throttle: 0,
         topics: walked.topics,
     };
-    Ok(served_in_parts(Reply::ListOffsets(reply), walked.refusals))
+    Ok(served_in_parts(Reply::ListOffsets(reply), walked.refusals, walked.spent))
 }

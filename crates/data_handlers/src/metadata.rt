@@ -1,15 +1,16 @@
 //! Metadata: the cluster's one broker, and topics with their partitions.
 
-ghost use Rattle.std.specs.Prelude.{◌≡◌, ◌<◌, ◌^◌, [], false, IfOk, Some, None, pos};
+ghost use Rattle.std.specs.Prelude.{◌≡◌, ◌<◌, ◌^◌, [], ◌∷◌, false, IfOk, Some, None, pos};
 ghost use Rattle.std.specs.Option.{option_map};
-ghost use Rattle.authorizer.specs.Asking.{part_refusal};
+ghost use Rattle.authorizer.specs.Asking.{part_paid};
+ghost use Rattle.authorizer.specs.Tally.{counted};
 ghost use Rattle.broker_world.specs.World.{rules_of, topic_names};
-ghost use Rattle.data_handlers.specs.Metadata.{topic_error, partition_info, partitions_from, plain_topic, plain_topics, topic_refusals, topic_answer, describable, described_topic, metadata_topics, broker_info, metadata_answer, metadata_refusals, metadata_outcome};
+ghost use Rattle.data_handlers.specs.Metadata.{topic_error, partition_info, partitions_from, plain_topic, plain_topics, topic_refusals, topic_answer, describable, described_topic, metadata_topics, metadata_parts, broker_info, metadata_answer, metadata_outcome};
 ghost use Rattle.broker_world.specs.Questions.{topic_part, topic_refusal};
-ghost use Rattle.walk.specs.Steps.{ending_by, refusal_in};
+ghost use Rattle.walk.specs.Steps.{ending_by, refusal_in, spent_in};
 
 use acl_binding::{Caller, Kind, Operation};
-use authorizer::{Paid, Refusal, ask_one};
+use authorizer::{Paid, Refusal, Tally, ask_one};
 use broker_world::{Node, Outcome, State, served_in_parts};
 use msg_admin::Reply;
 use msg_data::{BrokerInfo, MetadataReply, MetadataRequest, PartitionInfo, TopicInfo};
@@ -17,39 +18,47 @@ use std::alloc::{AllocError, Global};
 use walk::Part;
 use wire_types::{ErrorCode, Items, Text};
 
-/// The answers to the parts of a request, and the refusals of those that were refused.
+/// The answers to the parts of a request, the refusals of those that were refused, and how many permits were spent for
+/// the others.
 #[derive(Drop)]
 pub(crate) struct Answered {
     pub(crate) topics: Items<TopicInfo>,
     pub(crate) refusals: Items<Refusal>,
+    pub(crate) spent: Tally,
 }
 
-/// The answer to a Metadata request, and its refusals.
-fn metadata_told(
+/// The answers for the topics that are asked for: those that are named, or all.
+fn wanted_topics(
     alloc: Global,
     state: &State,
     caller: &Caller,
-    request: &MetadataRequest,
-) -> Result<(MetadataReply, Items<Refusal>), AllocError>
-    ensures reply { IfOk result (λ r. r.0 ≡ metadata_answer state.now caller.now request.now) }
-    ensures refusals { IfOk result (λ r. r.1 ≡ metadata_refusals (rules_of state.now) caller.now request.now) }
+    names: &Option<Items<Text>>,
+) -> Result<Answered, AllocError>
+    ensures topics { IfOk result (λ a. a.topics ≡ metadata_topics state.now caller.now names.now) }
+    ensures refusals { IfOk result (λ a. a.refusals ≡ topic_refusals (rules_of state.now) caller.now names.now) }
+    ensures spent { IfOk result (λ a. a.spent ≡ counted (rules_of state.now) 0 (metadata_parts state.now caller.now names.now)) }
 {
-    let answered = match &request.topics {
-        Some(names) => named_topics(alloc, state, caller, names.as_slice())?,
-        None => Answered {
-            topics: described_topics(alloc, state, caller)?,
-            refusals: Items::new(alloc),
-        },
-    };
+    match names {
+        Some(names) => named_topics(alloc, state, caller, names.as_slice()),
+        None => described_topics(alloc, state, caller),
+    }
+}
+
+/// The reply with these topics.
+fn metadata_reply(
+    alloc: Global,
+    node: &Node,
+    topics: Items<TopicInfo>,
+) -> Result<MetadataReply, AllocError>
+    ensures { IfOk result (λ reply. reply ≡ record { brokers = broker_info node.now ∷ []; controller = node.now.node_id; topics = topics }) }
+{
     let mut brokers = Items::new(alloc);
-    let node = state.node();
     brokers.push(broker_info(node)?)?;
-    let reply = MetadataReply {
+    Ok(MetadataReply {
         brokers,
         controller: node.node_id,
-        topics: answered.topics,
-    };
-    Ok((reply, answered.refusals))
+        topics,
+    })
 }
 
 /// What a Metadata is answered.
@@ -62,9 +71,11 @@ pub fn answer_metadata(
     ensures reply { IfOk result (λ o. o.reply ≡ (metadata_outcome state.now caller.now request.now).reply) }
     ensures refusals { IfOk result (λ o. o.refusals ≡ (metadata_outcome state.now caller.now request.now).refusals) }
     ensures paid { IfOk result (λ o. o.paid ≡ []) }
+    ensures spent { IfOk result (λ o. o.spent ≡ counted (rules_of state.now) 0 (metadata_parts state.now caller.now request.now.topics)) }
 {
-    let (reply, refusals) = metadata_told(alloc, state, caller, request)?;
-    Ok(served_in_parts(Reply::Metadata(reply), refusals))
+    let answered = wanted_topics(alloc, state, caller, &request.topics)?;
+    let reply = metadata_reply(alloc, state.node(), answered.topics)?;
+    Ok(served_in_parts(Reply::Metadata(reply), answered.refusals, answered.spent))
 }
 
 /// The answers for topics that are named, one after the other.
@@ -76,15 +87,21 @@ fn named_topics(
 ) -> Result<Answered, AllocError>
     ensures topics { IfOk result (λ a. a.topics ≡ metadata_topics state.now caller.now (Some names.now)) }
     ensures refusals { IfOk result (λ a. a.refusals ≡ topic_refusals (rules_of state.now) caller.now (Some names.now)) }
+    ensures spent { IfOk result (λ a. a.spent ≡ counted (rules_of state.now) 0 (metadata_parts state.now caller.now (Some names.now))) }
 {
     let mut topics = Items::new(alloc);
     let mut refusals = Items::new(alloc);
+    let mut spent = Tally::none();
     for name in names {
         let part = named_topic(alloc, state, caller, name)?;
         topics.push(part.answer)?;
-        refusals.push_some(part.ending.refusal())?;
+        refusals.push_some(part.ending.counted(&mut spent))?;
     }
-    Ok(Answered { topics, refusals })
+    Ok(Answered {
+        topics,
+        refusals,
+        spent,
+    })
 }
 
 /// The answer for a topic that is named: permission comes before existence.
@@ -97,6 +114,7 @@ fn named_topic(
     ensures answer { IfOk result (λ part. part.answer ≡ topic_answer state.now caller.now name.now) }
     ensures ending { IfOk result (λ part. part.ending ≡ ending_by false (topic_refusal (rules_of state.now) caller.now name.now) (topic_part caller.now name.now)) }
     ensures refusal { IfOk result (λ part. refusal_in part.ending ≡ topic_refusal (rules_of state.now) caller.now name.now) }
+    ensures spent { IfOk result (λ part. spent_in part.ending ≡ part_paid (rules_of state.now) (topic_part caller.now name.now)) }
 {
     let question = caller.asks(Operation::Describe, Kind::Topic, name)?;
     let policy = state.policy();
@@ -113,20 +131,24 @@ fn named_topic(
 }
 
 /// The answers for all topics that may be described.
-fn described_topics(
-    alloc: Global,
-    state: &State,
-    caller: &Caller,
-) -> Result<Items<TopicInfo>, AllocError>
-    ensures { IfOk result (λ t. t ≡ metadata_topics state.now caller.now None) }
+fn described_topics(alloc: Global, state: &State, caller: &Caller) -> Result<Answered, AllocError>
+    ensures topics { IfOk result (λ a. a.topics ≡ metadata_topics state.now caller.now None) }
+    ensures refusals { IfOk result (λ a. a.refusals ≡ []) }
+    ensures spent { IfOk result (λ a. a.spent ≡ counted (rules_of state.now) 0 (metadata_parts state.now caller.now None)) }
 {
     let mut topics = Items::new(alloc);
+    let mut spent = Tally::none();
     let names = state.topics();
     for place in 0..names.len() {
-        let topic = described_topic(alloc, state, caller, names.name(place))?;
-        topics.push_some(topic.answer)?;
+        let part = described_topic(alloc, state, caller, names.name(place))?;
+        topics.push_some(part.answer)?;
+        let _untold = part.ending.counted(&mut spent);
     }
-    Ok(topics)
+    Ok(Answered {
+        topics,
+        refusals: Items::new(alloc),
+        spent,
+    })
 }
 
 /// The answer for a topic, if it may be described. That it may not is told to nobody.
@@ -138,6 +160,7 @@ fn described_topic(
 ) -> Result<Part<Option<TopicInfo>>, AllocError>
     ensures answer { IfOk result (λ part. part.answer ≡ described_topic state.now caller.now name.now) }
     ensures ending { IfOk result (λ part. part.ending ≡ ending_by false (topic_refusal (rules_of state.now) caller.now name.now) (topic_part caller.now name.now)) }
+    ensures spent { IfOk result (λ part. spent_in part.ending ≡ part_paid (rules_of state.now) (topic_part caller.now name.now)) }
 {
     let question = caller.asks(Operation::Describe, Kind::Topic, name)?;
     let policy = state.policy();

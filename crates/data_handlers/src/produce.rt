@@ -2,7 +2,9 @@
 
 ghost use Rattle.std.specs.Prelude.{◌≡◌, ◌≤◌, ◌+◌, [], length, IfOk, OnOk};
 ghost use Rattle.std.specs.Option.{option_copied};
-ghost use Rattle.walk.specs.Walk.{topics_weight};
+ghost use Rattle.walk.specs.Walk.{asked_in, topics_weight};
+ghost use Rattle.authorizer.specs.Tally.{counted};
+ghost use Rattle.broker_world.specs.World.{rules_of};
 ghost use Rattle.broker_world.specs.Logs.{MayWrite, room_of, most_end};
 ghost use Rattle.data_handlers.specs.Sent.{sent};
 ghost use Rattle.data_handlers.specs.Judged.{partition_at, pair_of, held_code, are_acks, given_code, producer_code, passed, batch_in, judged, topics_produced, records_size};
@@ -314,6 +316,7 @@ pub fn answer_produce(
     ensures reply { IfOk result (λ o. o.reply ≡ (produce_outcome state.old caller.now request.now).reply) }
     ensures refusals { IfOk result (λ o. o.refusals ≡ (produce_outcome state.old caller.now request.now).refusals) }
     ensures paid { IfOk result (λ o. o.paid ≡ []) }
+    ensures spent { IfOk result (λ o. o.spent ≡ counted (rules_of state.old) 0 (asked_in (producing state.old caller.now request.now) request.now.topics)) }
 {
     let api = Producing {
         caller,
@@ -325,5 +328,5 @@ pub fn answer_produce(
     let topics = request.topics.as_slice();
     let walked = walk(alloc, &api, &state.policy, &mut state.topics, topics)?;
     let reply = produce_reply(request.acks, walked.topics);
-    Ok(served_in_parts(reply, walked.refusals))
+    Ok(served_in_parts(reply, walked.refusals, walked.spent))
 }

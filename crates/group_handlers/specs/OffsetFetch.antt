@@ -1,7 +1,7 @@
 -- OffsetFetch: the request is asked first, then each partition (Kafka protocol guide, "OffsetFetch API (Key: 9)"). No
 -- existence is looked up.
-use Rattle.std.specs.Prelude.{ℕ, ◌+◌, zero, suc, ℤ, pos, negsuc, Bool, List, [], ◌∷◌, ◌++◌, length, Option, Some, None, is_none, Result, Ok, Err, if◌then◌else◌}
-use Rattle.std.specs.List.{filter_map}
+use Rattle.std.specs.Prelude.{ℕ, ◌+◌, zero, suc, ℤ, pos, negsuc, Bool, List, [], ◌∷◌, ◌++◌, length, map, Option, Some, None, is_none, Result, Ok, Err, if◌then◌else◌}
+use Rattle.std.specs.List.{filter_map, flat_map}
 use Rattle.std.proofs.Common.{zero-le}
 use Rattle.acl_binding.specs.declared.question.Caller.{Caller}
 use Rattle.acl_binding.specs.declared.question.Question.{Question}
@@ -26,7 +26,7 @@ use Rattle.group_offsets.specs.Groups.{group_of}
 use Rattle.group_offsets.specs.Offsets.{fetched, is_told}
 use Rattle.broker_world.specs.World.{World, TopicValue, rules_of}
 use Rattle.broker_world.specs.Outcome.{Outcome}
-use Rattle.broker_world.specs.Questions.{topic_refusal}
+use Rattle.broker_world.specs.Questions.{topic_part, topic_refusal}
 
 -- ---- what is asked
 
@@ -78,6 +78,21 @@ told_topic rules caller es stable t = if is_none (topic_refusal rules caller t.n
 
 abbrev pub told_topics : Rules → Caller → List OffsetEvent → Bool → List TopicValue → List (Topic FetchedOffset)
 told_topics rules caller es stable topics = filter_map (told_topic rules caller es stable) topics
+
+-- ---- the parts for which permits are spent
+
+-- each partition that is named; a null list asks for each topic
+abbrev pub parts_asked : World → Caller → Option (List (Topic ℤ)) → List (List Question)
+parts_asked w caller None = map (λ (t : TopicValue). topic_part caller t.name) w.topics
+parts_asked w caller (Some ts) = flat_map (λ (t : Topic ℤ). map (λ index. topic_part caller t.name) t.partitions) ts
+
+-- where the group is refused, nothing else is asked
+abbrev pub parts_behind : Option Refusal → World → Caller → Option (List (Topic ℤ)) → List (List Question)
+parts_behind None w caller ts = parts_asked w caller ts
+parts_behind (Some refusal) w caller ts = []
+
+abbrev pub fetch_parts : World → Caller → OffsetFetchRequest → List (List Question)
+fetch_parts w caller r = parts_behind (part_refusal (rules_of w) (group_question caller r.group ∷ [])) w caller r.topics
 
 -- ---- the request
 

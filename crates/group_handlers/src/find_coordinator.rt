@@ -61,6 +61,7 @@ pub fn answer_find_coordinator(
     ensures reply { IfOk result (λ o. o.reply ≡ (find_coordinator_outcome state.now caller.now request.now).reply) }
     ensures refusals { IfOk result (λ o. o.refusals ≡ (find_coordinator_outcome state.now caller.now request.now).refusals) }
     ensures paid { IfOk result (λ o. o.paid ≡ part_paid (rules_of state.now) (find_questions caller.now (kind_of request.now.key_type) request.now.key)) }
+    ensures spent { IfOk result (λ o. o.spent ≡ 0) }
 {
     let Some(kind) = kind_of(request.key_type) else {
         let reply = find_error(alloc, ErrorCode::InvalidRequest)?;

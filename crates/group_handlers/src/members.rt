@@ -120,6 +120,7 @@ pub fn answer_join_group(
     ensures reply { IfOk result (λ o. o.reply ≡ (join_group_outcome state.old caller.now request.now).reply) }
     ensures refusals { IfOk result (λ o. o.refusals ≡ (join_group_outcome state.old caller.now request.now).refusals) }
     ensures paid { IfOk result (λ o. o.paid ≡ part_paid (rules_of state.old) (read_question caller.now request.now.group ∷ [])) }
+    ensures spent { IfOk result (λ o. o.spent ≡ 0) }
 {
     let question = read_question(caller, &request.group)?;
     match ask_one(&state.policy, question) {
@@ -148,6 +149,7 @@ pub fn answer_sync_group(
     ensures reply { IfOk result (λ o. o.reply ≡ (sync_group_outcome state.old caller.now request.now).reply) }
     ensures refusals { IfOk result (λ o. o.refusals ≡ (sync_group_outcome state.old caller.now request.now).refusals) }
     ensures paid { IfOk result (λ o. o.paid ≡ part_paid (rules_of state.old) (read_question caller.now request.now.group ∷ [])) }
+    ensures spent { IfOk result (λ o. o.spent ≡ 0) }
 {
     let question = read_question(caller, &request.group)?;
     match ask_one(&state.policy, question) {
@@ -175,6 +177,7 @@ pub fn answer_heartbeat(
     ensures reply { IfOk result (λ o. o.reply ≡ (heartbeat_outcome state.old caller.now request.now).reply) }
     ensures refusals { IfOk result (λ o. o.refusals ≡ (heartbeat_outcome state.old caller.now request.now).refusals) }
     ensures paid { IfOk result (λ o. o.paid ≡ part_paid (rules_of state.old) (read_question caller.now request.now.group ∷ [])) }
+    ensures spent { IfOk result (λ o. o.spent ≡ 0) }
 {
     let question = read_question(caller, &request.group)?;
     match ask_one(&state.policy, question) {
@@ -202,6 +205,7 @@ pub fn answer_leave_group(
     ensures reply { IfOk result (λ o. o.reply ≡ (leave_group_outcome state.old caller.now request.now).reply) }
     ensures refusals { IfOk result (λ o. o.refusals ≡ (leave_group_outcome state.old caller.now request.now).refusals) }
     ensures paid { IfOk result (λ o. o.paid ≡ part_paid (rules_of state.old) (read_question caller.now request.now.group ∷ [])) }
+    ensures spent { IfOk result (λ o. o.spent ≡ 0) }
 {
     let question = read_question(caller, &request.group)?;
     match ask_one(&state.policy, question) {

@@ -4,7 +4,10 @@ ghost use Rattle.std.specs.Prelude.{◌≡◌, [], IfOk, OnOk};
 ghost use Rattle.std.specs.Option.{option_copied};
 ghost use Rattle.acl_binding.specs.declared.words.Operation.TheVariants as operations;
 ghost use Rattle.group_offsets.specs.Groups.{MayUse};
-ghost use Rattle.group_handlers.specs.OffsetCommit.{offset_of, committed_code, code_by, groups_by, offset_commit_outcome};
+ghost use Rattle.authorizer.specs.Tally.{counted};
+ghost use Rattle.walk.specs.Walk.{asked_in};
+ghost use Rattle.broker_world.specs.World.{rules_of};
+ghost use Rattle.group_handlers.specs.OffsetCommit.{committing_rule, offset_of, committed_code, code_by, groups_by, offset_commit_outcome};
 
 use acl_binding::{Caller, Kind, Operation};
 use authorizer::{Paid, Permit, Policy, Spent, TwoPermits, ask_two};
@@ -124,6 +127,7 @@ pub fn answer_offset_commit(
     ensures reply { IfOk result (λ o. o.reply ≡ (offset_commit_outcome state.old caller.now request.now).reply) }
     ensures refusals { IfOk result (λ o. o.refusals ≡ (offset_commit_outcome state.old caller.now request.now).refusals) }
     ensures paid { IfOk result (λ o. o.paid ≡ []) }
+    ensures spent { IfOk result (λ o. o.spent ≡ counted (rules_of state.old) 0 (asked_in (committing_rule state.old caller.now request.now) request.now.topics)) }
 {
     let api = Committing {
         caller,
@@ -137,5 +141,5 @@ pub fn answer_offset_commit(
     let reply = OffsetCommitReply {
         topics: walked.topics,
     };
-    Ok(served_in_parts(Reply::OffsetCommit(reply), walked.refusals))
+    Ok(served_in_parts(Reply::OffsetCommit(reply), walked.refusals, walked.spent))
 }

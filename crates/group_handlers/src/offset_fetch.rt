@@ -1,16 +1,18 @@
 //! OffsetFetch: the committed offsets of a group.
 
-ghost use Rattle.std.specs.Prelude.{◌≡◌, ◌≤◌, ◌<◌, ◌^◌, ◌∷◌, [], ◌++◌, false, length, pos, IfOk, OnOk};
+ghost use Rattle.std.specs.Prelude.{◌≡◌, ◌≤◌, ◌<◌, ◌^◌, ◌∷◌, [], ◌++◌, false, length, map, pos, IfOk, OnOk};
 ghost use Rattle.authorizer.specs.Asking.{policy_rules, part_paid};
-ghost use Rattle.walk.specs.Steps.{ending_by};
+ghost use Rattle.authorizer.specs.Tally.{counted};
+ghost use Rattle.walk.specs.Steps.{ending_by, spent_in};
+ghost use Rattle.broker_world.specs.World.{TopicValue};
 ghost use Rattle.broker_world.specs.World.{rules_of};
 ghost use Rattle.broker_world.specs.Questions.{topic_part, topic_refusal};
-ghost use Rattle.group_handlers.specs.OffsetFetch.{group_question, fetched_code, fetched_at, fetched_offset, fetch_reply, told_at, told_from, told_as, told_topic, told_topics, fetched_outcome, offset_fetch_outcome};
+ghost use Rattle.group_handlers.specs.OffsetFetch.{group_question, fetched_code, fetched_at, fetched_offset, fetch_reply, told_at, told_from, told_as, told_topic, told_topics, parts_asked, fetch_parts, fetched_outcome, offset_fetch_outcome};
 ghost use Rattle.group_offsets.specs.Offsets.{fetched};
 
 use acl_binding::{Caller, Kind, Operation, Question};
-use authorizer::{Paid, Policy, ask_one};
-use broker_world::{Outcome, Slot, State, refused_whole, served_whole};
+use authorizer::{Paid, Policy, Tally, ask_one};
+use broker_world::{Outcome, Slot, State, refused_whole};
 use group_offsets::{Offsets, PartitionOffset};
 use msg_admin::Reply;
 use msg_group::{FetchedOffset, OffsetFetchReply, OffsetFetchRequest};
@@ -181,6 +183,7 @@ fn told_topic(
 ) -> Result<Part<Option<Topic<FetchedOffset>>>, AllocError>
     ensures answer { IfOk result (λ part. part.answer ≡ told_topic (policy_rules policy.now) caller.now offsets.now stable slot.now) }
     ensures ending { IfOk result (λ part. part.ending ≡ ending_by false (topic_refusal (policy_rules policy.now) caller.now slot.now.name) (topic_part caller.now slot.now.name)) }
+    ensures spent { IfOk result (λ part. spent_in part.ending ≡ part_paid (policy_rules policy.now) (topic_part caller.now slot.now.name)) }
 {
     let question = caller.asks(Operation::Describe, Kind::Topic, &slot.name)?;
     match ask_one(policy, question) {
@@ -193,7 +196,7 @@ fn told_topic(
     }
 }
 
-/// What is told of all topics that may be described.
+/// What is told of all topics that may be described. What is spent for them is counted.
 fn told_topics(
     alloc: Global,
     caller: &Caller,
@@ -201,13 +204,16 @@ fn told_topics(
     offsets: &Offsets,
     stable: bool,
     slots: &[Slot],
+    spent: &mut Tally,
 ) -> Result<Items<Topic<FetchedOffset>>, AllocError>
-    ensures { IfOk result (λ told. told ≡ told_topics (policy_rules policy.now) caller.now offsets.now stable slots.now) }
+    ensures spent { OnOk result (spent.new ≡ counted (policy_rules policy.now) spent.old (map (λ (t : TopicValue). topic_part caller.now t.name) slots.now)) }
+    ensures told { IfOk result (λ told. told ≡ told_topics (policy_rules policy.now) caller.now offsets.now stable slots.now) }
 {
     let mut topics = Items::new(alloc);
     for slot in slots {
         let told = told_topic(alloc, caller, policy, offsets, stable, slot)?;
         topics.push_some(told.answer)?;
+        let _untold = told.ending.counted(spent);
     }
     Ok(topics)
 }
@@ -222,6 +228,7 @@ pub fn answer_offset_fetch(
     ensures reply { IfOk result (λ o. o.reply ≡ (offset_fetch_outcome state.now caller.now request.now).reply) }
     ensures refusals { IfOk result (λ o. o.refusals ≡ (offset_fetch_outcome state.now caller.now request.now).refusals) }
     ensures paid { IfOk result (λ o. o.paid ≡ part_paid (rules_of state.now) (group_question caller.now request.now.group ∷ [])) }
+    ensures spent { IfOk result (λ o. o.spent ≡ counted (rules_of state.now) 0 (fetch_parts state.now caller.now request.now)) }
 {
     let question = group_question(caller, &request.group)?;
     let policy = state.policy();
@@ -249,15 +256,21 @@ fn fetched_offsets(
     ensures reply { IfOk result (λ o. o.reply ≡ (fetched_outcome state.now caller.now offsets.now request.now.require_stable request.now.topics).reply) }
     ensures refusals { IfOk result (λ o. o.refusals ≡ (fetched_outcome state.now caller.now offsets.now request.now.require_stable request.now.topics).refusals) }
     ensures paid { IfOk result (λ o. o.paid ≡ paid) }
+    ensures spent { IfOk result (λ o. o.spent ≡ counted (rules_of state.now) 0 (parts_asked state.now caller.now request.now.topics)) }
 {
     let stable = request.require_stable;
     let policy = state.policy();
     match &request.topics {
         None => {
             let slots = state.topics().slots();
-            let topics = told_topics(alloc, caller, policy, offsets, stable, slots)?;
-            let reply = fetch_reply(ErrorCode::None, topics);
-            Ok(served_whole(alloc, reply, paid))
+            let mut spent = Tally::none();
+            let topics = told_topics(alloc, caller, policy, offsets, stable, slots, &mut spent)?;
+            Ok(Outcome {
+                reply: fetch_reply(ErrorCode::None, topics),
+                refusals: Items::new(alloc),
+                paid,
+                spent,
+            })
         }
         Some(topics) => {
             let api = Telling {
@@ -270,6 +283,7 @@ fn fetched_offsets(
                 reply: fetch_reply(ErrorCode::None, walked.topics),
                 refusals: walked.refusals,
                 paid,
+                spent: walked.spent,
             })
         }
     }

@@ -17,7 +17,7 @@ use Rattle.msg_txn.specs.declared.add_partitions.AddedPartition.{AddedPartition}
 use Rattle.msg_admin.specs.declared.reply.Reply.{Reply}
 use Rattle.msg_admin.specs.declared.reply.Reply.TheVariants as replies
 use Rattle.walk.specs.Rule.{PartRule}
-use Rattle.walk.specs.Walk.{plain_topics, answers, refusals}
+use Rattle.walk.specs.Walk.{plain_topics, answers, refusals, asked_in}
 use Rattle.walk.specs.Woven.{has_any}
 use Rattle.txn_coordinator.specs.declared.target.TopicPartition.{TopicPartition}
 use Rattle.txn_coordinator.specs.declared.turn.Turn.{Turn}
@@ -81,6 +81,10 @@ told_rule code = record {
 -- who is told so has asked for each of them
 abbrev pub told_for : Caller → List ℕ → ErrorCode → PartRule ℤ AddedPartition (Unit {0})
 told_for caller id code = record (told_rule code) { questions = λ name index. add_questions caller id name }
+
+-- the parts for which permits are spent: none of a request that is cut, and else all
+abbrev pub added_parts : World → Caller → AddPartitionsToTxnRequest → List (List Question)
+added_parts w caller r = if is_cut caller r.transactional_id w.topics (rules_of w) r.topics then [] else asked_in (cut_rule caller r.transactional_id w.topics) r.topics
 
 abbrev pub partitions_in : List ℕ → List ℤ → List TopicPartition
 partitions_in name indices = map (λ index. record { topic = name; index = index }) indices

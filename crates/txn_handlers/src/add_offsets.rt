@@ -58,6 +58,7 @@ pub fn answer_add_offsets(
     ensures reply { IfOk result (λ o. o.reply ≡ (add_offsets_outcome state.old caller.now request.now).reply) }
     ensures refusals { IfOk result (λ o. o.refusals ≡ (add_offsets_outcome state.old caller.now request.now).refusals) }
     ensures paid { IfOk result (λ o. o.paid ≡ part_paid (rules_of state.old) (add_offsets_questions caller.now request.now.transactional_id request.now.group)) }
+    ensures spent { IfOk result (λ o. o.spent ≡ 0) }
 {
     let id = id_question(caller, &request.transactional_id)?;
     let group = read_question(caller, &request.group)?;

@@ -4,13 +4,14 @@ ghost use Rattle.std.specs.Prelude.{◌≡◌, ◌++◌, [], None, IfOk, OnOk};
 ghost use Rattle.std.specs.Option.{option_copied};
 ghost use Rattle.authorizer.specs.Asking.{policy_rules, question_refusal};
 ghost use Rattle.authorizer.specs.Policy.{IsGranted};
-ghost use Rattle.walk.specs.Walk.{plain_topics, answers, refusals};
+ghost use Rattle.authorizer.specs.Tally.{counted};
+ghost use Rattle.walk.specs.Walk.{plain_topics, answers, refusals, asked_in};
 ghost use Rattle.txn_coordinator.specs.Coordinator.{turn_code};
 ghost use Rattle.broker_world.specs.World.{rules_of};
-ghost use Rattle.txn_handlers.specs.AddPartitions.{added_partition, cut_code, is_missing_in, is_missing, cut_rule, told_rule, told_for, partitions_in, partitions_of, add_turn, add_reply, added_outcome, add_partitions_outcome};
+ghost use Rattle.txn_handlers.specs.AddPartitions.{added_partition, cut_code, is_missing_in, is_missing, cut_rule, told_rule, told_for, added_parts, partitions_in, partitions_of, add_turn, add_reply, added_outcome, add_partitions_outcome};
 
 use acl_binding::{Caller, Kind, Operation, Question};
-use authorizer::{Permit, Policy, TwoPermits, ask_one, ask_two};
+use authorizer::{Permit, Policy, Tally, TwoPermits, ask_one, ask_two};
 use broker_world::{Outcome, State, Topics, id_question, served_in_parts};
 use msg_admin::Reply;
 use msg_txn::{AddPartitionsToTxnReply, AddPartitionsToTxnRequest, AddedPartition};
@@ -169,7 +170,8 @@ fn add_reply(topics: Items<Topic<AddedPartition>>) -> Reply
     })
 }
 
-/// The reply that tells each partition one code. None is refused, and the permits of all are spent.
+/// The reply that tells each partition one code. None is refused, and the permits of all are spent, of which this is the
+/// number.
 fn told(
     alloc: Global,
     policy: &Policy,
@@ -177,13 +179,14 @@ fn told(
     id: &Text,
     code: ErrorCode,
     named: &[Topic<i32>],
-) -> Result<Reply, AllocError>
+) -> Result<(Reply, Tally), AllocError>
     requires { refusals (told_for caller.now id.now code) (policy_rules policy.now) named.now ≡ [] }
-    ensures { IfOk result (λ reply. reply ≡ add_reply (plain_topics (told_rule code) tt named.now)) }
+    ensures reply { IfOk result (λ r. r.0 ≡ add_reply (plain_topics (told_rule code) tt named.now)) }
+    ensures spent { IfOk result (λ r. r.1 ≡ counted (policy_rules policy.now) 0 (asked_in (told_for caller.now id.now code) named.now)) }
 {
     let api = Telling { caller, id, code };
-    let topics = walk_granted(alloc, &api, policy, &mut (), named)?;
-    Ok(add_reply(topics))
+    let walked = walk_granted(alloc, &api, policy, &mut (), named)?;
+    Ok((add_reply(walked.topics), walked.spent))
 }
 
 /// The permit of a question that is known to be granted.
@@ -208,16 +211,17 @@ pub fn answer_add_partitions(
     ensures reply { IfOk result (λ o. o.reply ≡ (add_partitions_outcome state.old caller.now request.now).reply) }
     ensures refusals { IfOk result (λ o. o.refusals ≡ (add_partitions_outcome state.old caller.now request.now).refusals) }
     ensures paid { IfOk result (λ o. o.paid ≡ []) }
+    ensures spent { IfOk result (λ o. o.spent ≡ counted (rules_of state.old) 0 (added_parts state.old caller.now request.now)) }
 {
     let named = request.topics.as_slice();
     let cut = cut(alloc, state, caller, request)?;
     if cut.refusals.len() != 0 || is_missing(&state.topics, named) {
-        return Ok(served_in_parts(add_reply(cut.topics), cut.refusals));
+        return Ok(served_in_parts(add_reply(cut.topics), cut.refusals, cut.spent));
     }
     let code = add_all(alloc, state, caller, request)?;
     let id = &request.transactional_id;
-    let reply = told(alloc, &state.policy, caller, id, code, named)?;
-    Ok(served_in_parts(reply, cut.refusals))
+    let (reply, spent) = told(alloc, &state.policy, caller, id, code, named)?;
+    Ok(served_in_parts(reply, cut.refusals, spent))
 }
 
 /// The answers where nothing is added, and what is refused.
@@ -229,6 +233,7 @@ fn cut(
 ) -> Result<Walked<AddedPartition>, AllocError>
     ensures answers { IfOk result (λ r. r.topics ≡ answers (cut_rule caller.now request.now.transactional_id state.now.topics) (rules_of state.now) tt request.now.topics) }
     ensures refusals { IfOk result (λ r. r.refusals ≡ refusals (cut_rule caller.now request.now.transactional_id state.now.topics) (rules_of state.now) request.now.topics) }
+    ensures spent { IfOk result (λ r. r.spent ≡ 0) }
 {
     let api = Cutting {
         caller,

@@ -70,6 +70,7 @@ pub fn answer_end_txn(
     ensures reply { IfOk result (λ o. o.reply ≡ (end_txn_outcome state.old caller.now request.now).reply) }
     ensures refusals { IfOk result (λ o. o.refusals ≡ (end_txn_outcome state.old caller.now request.now).refusals) }
     ensures paid { IfOk result (λ o. o.paid ≡ part_paid (rules_of state.old) (id_question caller.now request.now.transactional_id ∷ [])) }
+    ensures spent { IfOk result (λ o. o.spent ≡ 0) }
 {
     let question = id_question(caller, &request.transactional_id)?;
     match ask_one(&state.policy, question) {

@@ -70,6 +70,7 @@ pub fn answer_init_producer_id(
     ensures reply { IfOk result (λ o. o.reply ≡ (init_producer_id_outcome state.old caller.now request.now).reply) }
     ensures refusals { IfOk result (λ o. o.refusals ≡ (init_producer_id_outcome state.old caller.now request.now).refusals) }
     ensures paid { IfOk result (λ o. o.paid ≡ part_paid (rules_of state.old) (init_question caller.now request.now.transactional_id ∷ [])) }
+    ensures spent { IfOk result (λ o. o.spent ≡ 0) }
 {
     let question = init_question(alloc, caller, &request.transactional_id)?;
     match ask_one(&state.policy, question) {

@@ -47,6 +47,7 @@ pub fn answer_mark(alloc: Global, state: &mut State) -> Result<Outcome, AllocErr
     ensures reply { IfOk result (λ o. o.reply ≡ (mark_outcome state.old).reply) }
     ensures refusals { IfOk result (λ o. o.refusals ≡ (mark_outcome state.old).refusals) }
     ensures paid { IfOk result (λ o. o.paid ≡ []) }
+    ensures spent { IfOk result (λ o. o.spent ≡ 0) }
 {
     let Some(warrant) = state.coordinator.next_warrant()? else {
         return Ok(served_whole(alloc, Reply::Idle, Paid::nothing()));

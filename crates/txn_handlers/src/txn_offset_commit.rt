@@ -7,8 +7,10 @@ ghost use Rattle.group_offsets.specs.Groups.{MayUse, turned};
 ghost use Rattle.group_offsets.specs.Turn.{answered};
 ghost use Rattle.broker_world.specs.Codes.{code_in};
 ghost use Rattle.authorizer.specs.Asking.{policy_rules};
-ghost use Rattle.walk.specs.Walk.{world_after, answers, refusals};
-ghost use Rattle.txn_handlers.specs.TxnOffsetCommit.{staging, offset_staged, staged_code, staging_refusal, turn_by, stage_rule, txn_offset_commit_outcome};
+ghost use Rattle.authorizer.specs.Tally.{counted};
+ghost use Rattle.broker_world.specs.World.{rules_of};
+ghost use Rattle.walk.specs.Walk.{world_after, answers, refusals, asked_in};
+ghost use Rattle.txn_handlers.specs.TxnOffsetCommit.{staging, offset_staged, staged_code, staging_refusal, turn_by, stage_rule, staging_rule, txn_offset_commit_outcome};
 
 use acl_binding::{Caller, Kind, Operation};
 use authorizer::{Paid, Permit, Policy, Spent, ThreePermits, ask_three};
@@ -162,6 +164,7 @@ fn stage_all(
     ensures groups { OnOk result (groups.new ≡ world_after (stage_rule caller.now (staging request.now) refusal topics.now) (policy_rules policy.now) groups.old request.now.topics) }
     ensures answers { IfOk result (λ walked. walked.topics ≡ answers (stage_rule caller.now (staging request.now) refusal topics.now) (policy_rules policy.now) groups.old request.now.topics) }
     ensures refusals { IfOk result (λ walked. walked.refusals ≡ refusals (stage_rule caller.now (staging request.now) refusal topics.now) (policy_rules policy.now) request.now.topics) }
+    ensures spent { IfOk result (λ walked. walked.spent ≡ counted (policy_rules policy.now) 0 (asked_in (stage_rule caller.now (staging request.now) refusal topics.now) request.now.topics)) }
 {
     let api = Staging {
         caller,
@@ -190,6 +193,7 @@ pub fn answer_txn_offset_commit(
     ensures reply { IfOk result (λ o. o.reply ≡ (txn_offset_commit_outcome state.old caller.now request.now).reply) }
     ensures refusals { IfOk result (λ o. o.refusals ≡ (txn_offset_commit_outcome state.old caller.now request.now).refusals) }
     ensures paid { IfOk result (λ o. o.paid ≡ []) }
+    ensures spent { IfOk result (λ o. o.spent ≡ counted (rules_of state.old) 0 (asked_in (staging_rule state.old caller.now request.now) request.now.topics)) }
 {
     let refusal = staging_refusal(&state.coordinator, request)?;
     let (policy, groups) = (&state.policy, &mut state.groups);
@@ -206,5 +210,5 @@ pub fn answer_txn_offset_commit(
         throttle: 0,
         topics: walked.topics,
     };
-    Ok(served_in_parts(Reply::TxnOffsetCommit(reply), walked.refusals))
+    Ok(served_in_parts(Reply::TxnOffsetCommit(reply), walked.refusals, walked.spent))
 }

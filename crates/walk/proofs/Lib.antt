@@ -1,4 +1,5 @@
 pub mod Endings
+pub mod Spending
 pub mod Weaving
 pub mod Weights
 pub mod Granted

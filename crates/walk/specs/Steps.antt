@@ -3,6 +3,7 @@ use Rattle.std.specs.Prelude.{ℕ, Bool, true, false, List, [], ◌∷◌, Optio
 use Rattle.acl_binding.specs.declared.question.Question.{Question}
 use Rattle.authorizer.specs.declared.answer.Refusal.{Refusal}
 use Rattle.authorizer.specs.Asking.{Rules}
+use Rattle.authorizer.specs.Tally.{raised}
 use Rattle.wire_types.specs.declared.topic.Topic.{Topic}
 use Rattle.walk.specs.declared.part.Part.{Part}
 use Rattle.walk.specs.declared.part.Ending.{Ending}
@@ -33,12 +34,22 @@ refusal_in (Served paid) = None
 refusal_in (Refused r) = Some r
 refusal_in Cut = None
 
+-- what was spent for it
+abbrev pub spent_in : Ending → List Question
+spent_in (Served paid) = paid
+spent_in (Refused r) = []
+spent_in Cut = []
+
 abbrev pub part_done : {P A W : Type 0} → Bool → PartRule P A W → Rules → W → List ℕ → P → Part A
 part_done cuts api rules w name p = record { answer = answer_by api (refusal_of api rules name p) w name p; ending = ending_by cuts (refusal_of api rules name p) (api.questions name p) }
 
 -- what is told of it
 abbrev pub part_told : {P A W : Type 0} → PartRule P A W → Rules → W → List ℕ → P → Told A
 part_told api rules w name p = record { answer = answer_by api (refusal_of api rules name p) w name p; refusal = refusal_of api rules name p }
+
+-- how many permits are spent behind it
+abbrev pub part_spent : {P A W : Type 0} → Bool → PartRule P A W → Rules → ℕ → List ℕ → P → ℕ
+part_spent cuts api rules n name p = raised n (spent_in (ending_by cuts (refusal_of api rules name p) (api.questions name p)))
 
 abbrev pub part_world : {P A W : Type 0} → PartRule P A W → Rules → W → List ℕ → P → W
 part_world api rules w name p = world_by api (refusal_of api rules name p) w name p
@@ -53,6 +64,10 @@ abbrev pub parts_answers : {P A W : Type 0} → PartRule P A W → Rules → W �
 parts_answers api rules w name [] = []
 parts_answers api rules w name (p ∷ ps) = (part_told api rules w name p).answer ∷ parts_answers api rules (part_world api rules w name p) name ps
 
+abbrev pub parts_spent : {P A W : Type 0} → Bool → PartRule P A W → Rules → ℕ → List ℕ → List P → ℕ
+parts_spent cuts api rules n name [] = n
+parts_spent cuts api rules n name (p ∷ ps) = parts_spent cuts api rules (part_spent cuts api rules n name p) name ps
+
 -- ---- the topics
 
 abbrev pub topics_world : {P A W : Type 0} → PartRule P A W → Rules → W → List (Topic P) → W
@@ -62,3 +77,7 @@ topics_world api rules w (t ∷ ts) = topics_world api rules (parts_world api ru
 abbrev pub topics_answers : {P A W : Type 0} → PartRule P A W → Rules → W → List (Topic P) → List (Topic A)
 topics_answers api rules w [] = []
 topics_answers api rules w (t ∷ ts) = record { name = t.name; partitions = parts_answers api rules w t.name t.partitions } ∷ topics_answers api rules (parts_world api rules w t.name t.partitions) ts
+
+abbrev pub topics_spent : {P A W : Type 0} → Bool → PartRule P A W → Rules → ℕ → List (Topic P) → ℕ
+topics_spent cuts api rules n [] = n
+topics_spent cuts api rules n (t ∷ ts) = topics_spent cuts api rules (parts_spent cuts api rules n t.name t.partitions) ts

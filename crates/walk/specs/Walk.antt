@@ -2,7 +2,8 @@
 -- refused parts put back at their places.
 use Rattle.std.specs.Prelude.{ℕ, ◌+◌, List, [], ◌∷◌, ◌++◌, map, filter, Option}
 use Rattle.std.specs.Option.{option_map}
-use Rattle.std.specs.List.{filter_map}
+use Rattle.std.specs.List.{filter_map, flat_map}
+use Rattle.acl_binding.specs.declared.question.Question.{Question}
 use Rattle.authorizer.specs.declared.answer.Refusal.{Refusal}
 use Rattle.authorizer.specs.Asking.{Rules}
 use Rattle.wire_types.specs.declared.topic.Topic.{Topic}
@@ -68,6 +69,11 @@ parts_refused api rules name ps = filter_map (refusal_of api rules name) ps
 abbrev pub refusals : {P A W : Type 0} → PartRule P A W → Rules → List (Topic P) → List Refusal
 refusals api rules [] = []
 refusals api rules (t ∷ ts) = parts_refused api rules t.name t.partitions ++ refusals api rules ts
+
+-- ---- what each part asks, in order
+
+abbrev pub asked_in : {P A W : Type 0} → PartRule P A W → List (Topic P) → List (List Question)
+asked_in {P} api ts = flat_map (λ (t : Topic P). map (api.questions t.name) t.partitions) ts
 
 -- ---- how much a request may add to the world
 

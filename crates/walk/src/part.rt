@@ -3,10 +3,11 @@
 ghost use Rattle.std.specs.Prelude.{◌≡◌, ◌≤◌, Bool, IfOk, OnOk};
 ghost use Rattle.authorizer.specs.Asking.{policy_rules};
 ghost use Rattle.walk.specs.Rule.{PartRule};
-ghost use Rattle.walk.specs.Steps.{refusal_in, part_done, part_world};
+ghost use Rattle.authorizer.specs.Tally.{raised};
+ghost use Rattle.walk.specs.Steps.{refusal_in, spent_in, part_done, part_world};
 ghost use Rattle.walk.specs.declared.part.Ending.TheVariants as endings;
 
-use authorizer::{Paid, Policy, Refusal};
+use authorizer::{Paid, Policy, Refusal, Tally};
 use std::alloc::{AllocError, Global};
 use wire_types::Text;
 
@@ -22,13 +23,18 @@ pub enum Ending {
 }
 
 impl Ending {
-    /// The refusal of a part that was refused.
-    pub fn refusal(self) -> Option<Refusal>
-        ensures { result ≡ refusal_in self }
+    /// Counts what was spent for a part that was served, and gives the refusal of one that was refused.
+    pub fn counted(self, spent: &mut Tally) -> Option<Refusal>
+        ensures refusal { result ≡ refusal_in self }
+        ensures spent { spent.new ≡ raised spent.old (spent_in self) }
     {
         match self {
+            Ending::Served(paid) => {
+                spent.add(paid);
+                None
+            }
             Ending::Refused(refusal) => Some(refusal),
-            Ending::Served(_) | Ending::Cut => None,
+            Ending::Cut => None,
         }
     }
 }

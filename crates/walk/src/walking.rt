@@ -2,23 +2,25 @@
 
 ghost use Rattle.std.specs.Prelude.{◌≡◌, true, false, ◌+◌, ◌≤◌, [], ◌++◌, IfOk, OnOk};
 ghost use Rattle.authorizer.specs.Asking.{policy_rules};
-ghost use Rattle.walk.specs.Walk.{plain_world, plain_topics, world_after, answers, parts_refused, refusals, parts_weight, topics_weight};
-ghost use Rattle.walk.specs.Steps.{part_world, part_told, parts_world, parts_answers, topics_world, topics_answers};
+ghost use Rattle.authorizer.specs.Tally.{counted};
+ghost use Rattle.walk.specs.Walk.{asked_in, plain_world, plain_topics, world_after, answers, parts_refused, refusals, parts_weight, topics_weight};
+ghost use Rattle.walk.specs.Steps.{part_world, part_told, part_spent, parts_world, parts_answers, parts_spent, topics_world, topics_answers, topics_spent};
 
 use crate::part::{Part, PartApi};
-use authorizer::{Policy, Refusal};
+use authorizer::{Policy, Refusal, Tally};
 use std::alloc::{AllocError, Global};
 use wire_types::{Items, Text, Topic};
 
-/// The answers for the topics, and the refusals of the parts that were refused.
+/// The answers for the topics, the refusals of the parts that were refused, and how many permits were spent for the others.
 #[derive(Drop)]
 pub struct Walked<A> {
     pub topics: Items<Topic<A>>,
     pub refusals: Items<Refusal>,
+    pub spent: Tally,
 }
 
 /// The plain answers to the parts that are allowed, with a code in place of each other part, and the refusals of those.
-#[tactic(auto, using(crate::proofs::Weaving::woven))]
+#[tactic(auto, using(crate::proofs::Weaving::woven, crate::proofs::Spending::all_counted))]
 pub fn walk<P, A: Drop, W, X: PartApi<P, A, W>>(
     alloc: Global,
     api: &X,
@@ -31,31 +33,34 @@ pub fn walk<P, A: Drop, W, X: PartApi<P, A, W>>(
     ensures world { OnOk result (world.new ≡ world_after (X.rule api.now) (policy_rules policy.now) world.old topics.now) }
     ensures answers { IfOk result (λ r. r.topics ≡ answers (X.rule api.now) (policy_rules policy.now) world.old topics.now) }
     ensures refusals { IfOk result (λ r. r.refusals ≡ refusals (X.rule api.now) (policy_rules policy.now) topics.now) }
+    ensures spent { IfOk result (λ r. r.spent ≡ counted (policy_rules policy.now) 0 (asked_in (X.rule api.now) topics.now)) }
 {
     walk_topics(alloc, api, policy, world, topics)
 }
 
-/// The plain answers to all parts, where none is refused.
-#[tactic(auto, using(crate::proofs::Weaving::granted))]
+/// The plain answers to all parts, where none is refused, and how many permits were spent for them.
+#[tactic(auto, using(crate::proofs::Weaving::granted, crate::proofs::Spending::all_counted))]
 pub fn walk_granted<P, A: Drop, W, X: PartApi<P, A, W>>(
     alloc: Global,
     api: &X,
     policy: &Policy,
     world: &mut W,
     topics: &[Topic<P>],
-) -> Result<Items<Topic<A>>, AllocError>
+) -> Result<Walked<A>, AllocError>
     requires served { X.cuts api.now ≡ false }
     requires granted { refusals (X.rule api.now) (policy_rules policy.now) topics.now ≡ [] }
     requires room { topics_weight (X.rule api.now) topics.now ≤ (X.rule api.now).room world.old }
     ensures world { OnOk result (world.new ≡ plain_world (X.rule api.now) world.old topics.now) }
-    ensures answers { IfOk result (λ r. r ≡ plain_topics (X.rule api.now) world.old topics.now) }
+    ensures answers { IfOk result (λ r. r.topics ≡ plain_topics (X.rule api.now) world.old topics.now) }
+    ensures refusals { IfOk result (λ r. r.refusals ≡ []) }
+    ensures spent { IfOk result (λ r. r.spent ≡ counted (policy_rules policy.now) 0 (asked_in (X.rule api.now) topics.now)) }
 {
-    Ok(walk_topics(alloc, api, policy, world, topics)?.topics)
+    walk_topics(alloc, api, policy, world, topics)
 }
 
 /// The answers to the parts of a request of which nothing is served: there is no world that it could change, and for
 /// what is granted nothing is spent.
-#[tactic(auto, using(crate::proofs::Weaving::woven))]
+#[tactic(auto, using(crate::proofs::Weaving::woven, crate::proofs::Spending::none_counted))]
 pub fn walk_cut<P, A: Drop, X: PartApi<P, A, ()>>(
     alloc: Global,
     api: &X,
@@ -66,6 +71,7 @@ pub fn walk_cut<P, A: Drop, X: PartApi<P, A, ()>>(
     requires room { topics_weight (X.rule api.now) topics.now ≤ (X.rule api.now).room tt }
     ensures answers { IfOk result (λ r. r.topics ≡ answers (X.rule api.now) (policy_rules policy.now) tt topics.now) }
     ensures refusals { IfOk result (λ r. r.refusals ≡ refusals (X.rule api.now) (policy_rules policy.now) topics.now) }
+    ensures spent { IfOk result (λ r. r.spent ≡ 0) }
 {
     walk_topics(alloc, api, policy, &mut (), topics)
 }
@@ -82,12 +88,23 @@ fn walk_topics<P, A: Drop, W, X: PartApi<P, A, W>>(
     ensures world { OnOk result (world.new ≡ topics_world (X.rule api.now) (policy_rules policy.now) world.old topics.now) }
     ensures answers { IfOk result (λ r. r.topics ≡ topics_answers (X.rule api.now) (policy_rules policy.now) world.old topics.now) }
     ensures refusals { IfOk result (λ r. r.refusals ≡ refusals (X.rule api.now) (policy_rules policy.now) topics.now) }
+    ensures spent { IfOk result (λ r. r.spent ≡ topics_spent (X.cuts api.now) (X.rule api.now) (policy_rules policy.now) 0 topics.now) }
 {
     let mut answers = Items::new(alloc);
     let mut refusals = Items::new(alloc);
+    let mut spent = Tally::none();
     for topic in topics {
         let parts = topic.partitions.as_slice();
-        let partitions = walk_parts(alloc, api, policy, world, &topic.name, parts, &mut refusals)?;
+        let partitions = walk_parts(
+            alloc,
+            api,
+            policy,
+            world,
+            &topic.name,
+            parts,
+            &mut refusals,
+            &mut spent,
+        )?;
         answers.push(Topic {
             name: topic.name.clone()?,
             partitions,
@@ -96,10 +113,11 @@ fn walk_topics<P, A: Drop, W, X: PartApi<P, A, W>>(
     Ok(Walked {
         topics: answers,
         refusals,
+        spent,
     })
 }
 
-/// One partition after the other. Their refusals go behind those that are there.
+/// One partition after the other. Their refusals go behind those that are there, and what is spent is counted.
 #[tactic(auto, using(crate::proofs::Weights::part_takes))]
 fn walk_parts<P, A: Drop, W, X: PartApi<P, A, W>>(
     alloc: Global,
@@ -109,16 +127,18 @@ fn walk_parts<P, A: Drop, W, X: PartApi<P, A, W>>(
     name: &Text,
     parts: &[P],
     refusals: &mut Items<Refusal>,
+    spent: &mut Tally,
 ) -> Result<Items<A>, AllocError>
     requires { parts_weight (X.rule api.now) parts.now ≤ (X.rule api.now).room world.old }
     ensures world { OnOk result (world.new ≡ parts_world (X.rule api.now) (policy_rules policy.now) world.old name.now parts.now) }
     ensures answers { IfOk result (λ r. r ≡ parts_answers (X.rule api.now) (policy_rules policy.now) world.old name.now parts.now) }
     ensures refusals { OnOk result (refusals.new ≡ refusals.old ++ parts_refused (X.rule api.now) (policy_rules policy.now) name.now parts.now) }
+    ensures spent { OnOk result (spent.new ≡ parts_spent (X.cuts api.now) (X.rule api.now) (policy_rules policy.now) spent.old name.now parts.now) }
     ensures room { OnOk result ((X.rule api.now).room world.old ≤ parts_weight (X.rule api.now) parts.now + (X.rule api.now).room world.new) }
 {
     let mut answers = Items::new(alloc);
     for part in parts {
-        let told = tell(alloc, api, policy, world, name, part)?;
+        let told = tell(alloc, api, policy, world, name, part, spent)?;
         answers.push(told.answer)?;
         refusals.push_some(told.refusal)?;
     }
@@ -132,7 +152,7 @@ struct Told<A> {
     refusal: Option<Refusal>,
 }
 
-/// Serves one part or refuses it. What was spent for it is let go.
+/// Serves one part or refuses it, and counts what was spent for it.
 #[tactic(auto, using(crate::proofs::Endings::refusal_in_ending))]
 fn tell<P, A: Drop, W, X: PartApi<P, A, W>>(
     alloc: Global,
@@ -141,14 +161,16 @@ fn tell<P, A: Drop, W, X: PartApi<P, A, W>>(
     world: &mut W,
     name: &Text,
     part: &P,
+    spent: &mut Tally,
 ) -> Result<Told<A>, AllocError>
     requires { (X.rule api.now).weight part.now ≤ (X.rule api.now).room world.old }
     ensures world { OnOk result (world.new ≡ part_world (X.rule api.now) (policy_rules policy.now) world.old name.now part.now) }
+    ensures spent { OnOk result (spent.new ≡ part_spent (X.cuts api.now) (X.rule api.now) (policy_rules policy.now) spent.old name.now part.now) }
     ensures told { IfOk result (λ told. told ≡ part_told (X.rule api.now) (policy_rules policy.now) world.old name.now part.now) }
 {
     let Part { answer, ending } = api.serve(alloc, policy, world, name, part)?;
     Ok(Told {
         answer,
-        refusal: ending.refusal(),
+        refusal: ending.counted(spent),
     })
 }

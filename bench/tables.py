@@ -1,0 +1,259 @@
+"""What look-ups cost among few and among four times as many: `kbroker replay` over scripts that this program makes.
+
+Each row is measured at n and at 4n in one run. What stands before the work is run alone too, and taken off, so that a
+row tells the work itself; the best of three runs counts.
+"""
+
+import resource
+import struct
+import subprocess
+import sys
+import tempfile
+import time
+from pathlib import Path
+
+sys.path.append(str(Path(__file__).resolve().parent.parent / "scripts"))
+
+from histories import TRANSACTIONAL, array, batch, fetch, frame, only, string  # noqa: E402
+
+RUNS = 3
+WORK = 2000
+PLACE = ("t", 0)
+DEFAULT_TRAIL = 10_000_000
+RATIO_OF_LOOK_UPS = 5
+
+
+# ---- scripts
+
+
+def settings(topics=1, partitions=1, acls=()):
+    """Settings with so many topics, `t` the last of them."""
+    names = [f"topic{it}" for it in range(topics - 1)] + ["t"]
+    lines = [f'node_id = 1\nhost = "h"\nport = 9092\nsupers = ["User:root"]\ntrail_limit = {DEFAULT_TRAIL}\n']
+    lines += [f'[[topic]]\nname = "{it}"\npartitions = {partitions}\n' for it in names]
+    return "".join([*lines, *acls])
+
+
+def acl(name, principal):
+    words = f'kind = "Topic"\nname = "{name}"\npattern = "LITERAL"\nprincipal = "User:{principal}"\n'
+    return f'[[acl]]\n{words}host = "*"\noperation = "READ"\npermission = "ALLOW"\n'
+
+
+def ask(text):
+    return f"req root h {text}\n"
+
+
+def pair(name, producer=0, epoch=0):
+    return string(name) + struct.pack(">qh", producer, epoch)
+
+
+def init(name):
+    return ask(frame(22, 0, string(name) + struct.pack(">i", 900_000)))
+
+
+def add(name, producer, indices, topic="t"):
+    listed = array([struct.pack(">i", it) for it in indices])
+    return ask(frame(24, 0, pair(name, producer) + array([string(topic) + listed])))
+
+
+def end(name, producer, is_commit):
+    return ask(frame(26, 0, pair(name, producer) + bytes([is_commit])))
+
+
+def produce(place=PLACE, name=None, producer=-1, sequence=-1):
+    """A Produce of one record."""
+    sent = batch(1, producer, 0 if producer >= 0 else -1, sequence, TRANSACTIONAL if name else 0)
+    body = string(name) + struct.pack(">hi", 1, 0) + only(place, struct.pack(">i", len(sent)) + sent)
+    return ask(frame(0, 3, body))
+
+
+def flexible(key, version, body):
+    text = struct.pack(">hhih", key, version, 7, -1) + b"\0" + body
+    return ask((struct.pack(">i", len(text)) + text).hex())
+
+
+def count(number):
+    """A number in groups of seven bits, as lengths and counts of flexible messages are."""
+    out = b""
+    while number >= 128:
+        out, number = out + bytes([number & 127 | 128]), number >> 7
+    return out + bytes([number])
+
+
+def short(text):
+    return count(len(text) + 1) + text.encode()
+
+
+def commits(offsets):
+    """An OffsetCommit of the group `g`, of partition 0 of `t` again and again."""
+    listed = array([struct.pack(">iq", 0, it) + string("") for it in offsets])
+    body = string("g") + struct.pack(">i", -1) + string("") + struct.pack(">q", -1)
+    return ask(frame(8, 2, body + array([string("t") + listed])))
+
+
+def fetch_offsets(index=0):
+    topic = short("t") + count(2) + struct.pack(">i", index) + b"\0"
+    return flexible(9, 7, short("g") + count(2) + topic + b"\0" + b"\0")
+
+
+def stage(name, producer, entries):
+    """A TxnOffsetCommit of so many offsets of the group `g`, over the thousand partitions of `t`."""
+    listed = b"".join(struct.pack(">iqi", it % 1000, it, -1) + short("") + b"\0" for it in range(entries))
+    topic = short("t") + count(entries + 1) + listed + b"\0"
+    head = short(name) + short("g") + struct.pack(">qhi", producer, 0, -1) + short("") + b"\0"
+    return flexible(28, 3, head + count(2) + topic + b"\0")
+
+
+def add_group(name, producer):
+    return ask(frame(25, 0, pair(name, producer) + string("g")))
+
+
+def describe_acls(name):
+    body = bytes([2]) + string(name) + bytes([3]) + string(None) + string(None) + bytes([1, 1])
+    return ask(frame(29, 1, body))
+
+
+# ---- rows: what stands before the work, the work, and how many look-ups it is
+
+
+def produce_among_topics(n):
+    head = settings(n, 100) + "---\n"
+    return head, [produce(("t", 99))] * WORK, WORK
+
+
+def produce_among_ids(n):
+    head = settings() + "---\n" + "".join(init(f"id{it}") for it in range(n))
+    head += add(f"id{n - 1}", n - 1, [0])
+    return head, [produce(PLACE, f"id{n - 1}", n - 1, it) for it in range(WORK)], WORK
+
+
+def fetch_behind_open(n):
+    head = settings() + "---\n" + init("id") + add("id", 0, [0]) + produce(PLACE, "id", 0, 0)
+    head += produce() * (n - 1)
+    return head, [ask(fetch(PLACE, n - 1, 1, 1000))] * WORK, WORK
+
+
+def fetch_behind_aborted(n):
+    head = settings() + "---\n" + init("id")
+    for it in range(n):
+        head += add("id", 0, [0]) + produce(PLACE, "id", 0, it) + end("id", 0, 0) + "mark\n"
+    return head, [ask(fetch(PLACE, 2 * n - 2, 1, 1000))] * WORK, WORK
+
+
+def fetch_offsets_behind_commits(n):
+    head = settings() + "---\n" + "".join(commits(range(it, min(it + 1000, n))) for it in range(0, n, 1000))
+    return head, [fetch_offsets()] * WORK, WORK
+
+
+def stage_at_once(n):
+    head = settings(1, 1000) + "---\n" + init("id") + add_group("id", 0)
+    return head, [stage("id", 0, n)], n
+
+
+def decide_staged(n):
+    head = settings(1, 1000) + "---\n" + init("id") + add_group("id", 0) + stage("id", 0, n)
+    return head, [end("id", 0, 1), "mark\n", fetch_offsets(999)], n
+
+
+def markers_owed(n):
+    head = settings(-(-n // 1000), min(n, 1000)) + "---\n" + init("id")
+    for it in range(-(-n // 1000)):
+        topic = "t" if it == -(-n // 1000) - 1 else f"topic{it}"
+        head += add("id", 0, range(min(n, 1000)), topic)
+    return head + end("id", 0, 1), ["mark\n"] * n, n
+
+
+def open_many_names(n):
+    return settings(), [acl(f"name{it}", "ann") for it in range(n)] + ["---\n"], n
+
+
+def open_one_name(n):
+    return settings(), [acl("name", f"user{it}") for it in range(n)] + ["---\n"], n
+
+
+def describe_by_name(n):
+    head = settings(acls=[acl(f"name{it}", f"user{it}") for it in range(n)]) + "---\n"
+    return head, [describe_acls(f"name{n - 1}")] * WORK, WORK
+
+
+def describe_all(n):
+    head = settings(acls=[acl(f"name{it}", f"user{it}") for it in range(n)]) + "---\n"
+    return head, [describe_acls(None)], n
+
+
+def describe_one_name(n):
+    head = settings(acls=[acl("name", f"user{it}") for it in range(n)]) + "---\n"
+    return head, [describe_acls("name")], n
+
+
+ROWS = [
+    ("a Produce among n topics of 100 partitions", produce_among_topics, [10, 100, 250]),
+    ("a transactional Produce among n ids", produce_among_ids, [10, 1_000, 25_000]),
+    ("a read_committed Fetch at the end of n batches, behind an open transaction", fetch_behind_open, [1_000, 10_000, 25_000]),
+    ("a read_committed Fetch at the end, behind n aborted transactions", fetch_behind_aborted, [2_500]),
+    ("an OffsetFetch behind n commits", fetch_offsets_behind_commits, [1_000, 10_000, 100_000]),
+    ("one of n entries of a TxnOffsetCommit", stage_at_once, [1_000, 25_000]),
+    ("one of n staged offsets, decided", decide_staged, [1_000, 25_000]),
+    ("a marker step with n owed", markers_owed, [250, 1_000, 25_000]),
+    ("a binding of n on as many names, read at the opening", open_many_names, [1_000, 25_000]),
+    ("a binding of n on one name, read at the opening", open_one_name, [1_000, 25_000]),
+    ("a DescribeAcls by one name among n", describe_by_name, [1_000, 25_000]),
+    ("one of n bindings on as many names, described", describe_all, [1_000, 25_000]),
+    ("one of n bindings on one name, described", describe_one_name, [1_000, 25_000]),
+]
+
+
+# ---- measuring
+
+
+def run(program, script):
+    """Seconds and the peak of memory in bytes, of the best of some runs."""
+    best, peak = float("inf"), 0
+    with tempfile.NamedTemporaryFile("w+") as text:
+        text.write(script)
+        text.flush()
+        for _ in range(RUNS):
+            text.seek(0)
+            start = time.monotonic()
+            process = subprocess.Popen([program, "replay"], stdin=text, stdout=subprocess.DEVNULL)
+            _, status, usage = _wait(process)
+            if status:
+                sys.exit(f"tables: the program ended with {status}")
+            best, peak = min(best, time.monotonic() - start), usage.ru_maxrss * 1024
+    return best, peak
+
+
+def _wait(process):
+    """Waits for a process, with what it used."""
+    import os
+
+    number, status, usage = os.wait4(process.pid, 0)
+    process.returncode = os.waitstatus_to_exitcode(status)
+    return number, process.returncode, usage
+
+
+def measured(program, row, n):
+    """Microseconds for each of the row's look-ups, and the peak of memory."""
+    head, work, steps = row(n)
+    ends_head = head if "---\n" in head else head + "---\n"
+    before, _ = run(program, ends_head)
+    after, peak = run(program, head + "".join(work))
+    return max(after - before, 0.0) * 1e6 / steps, peak
+
+
+def main():
+    program = sys.argv[1]
+    most = int(sys.argv[2]) if len(sys.argv) > 2 else None
+    print("| | n | at n | at 4n | ratio | memory for one more |\n|---|--:|--:|--:|--:|--:|")
+    for name, row, sizes in ROWS:
+        for n in sizes:
+            if most and n > most:
+                continue
+            small, low = measured(program, row, n)
+            large, high = measured(program, row, 4 * n)
+            ratio = f"{large / small:.1f}" if small else ""
+            print(f"| {name} | {n:,} | {small:.2f} µs | {large:.2f} µs | {ratio} | {(high - low) // (3 * n):,} |", flush=True)
+
+
+if __name__ == "__main__":
+    main()

@@ -1,0 +1,50 @@
+//! How many permits were spent.
+
+ghost use Rattle.std.specs.Prelude.{◌≡◌, []};
+ghost use Rattle.std.specs.List.{cons_option};
+ghost use Rattle.authorizer.specs.Tally.{raised};
+
+use crate::paid::Paid;
+use crate::permit::Spent;
+use std::marker::Model;
+
+/// The number of permits that were spent. It can't be copied, and nothing raises it but what was spent, which is used up
+/// so that it counts once. It stands still at the greatest number of 64 bits.
+#[derive(Drop)]
+pub struct Tally {
+    spent: u64,
+}
+
+impl Model for Tally {
+    ghost use Rattle.std.specs.Prelude.{ℕ};
+
+    ghost Value = { ℕ };
+
+    ghost view = { λ t. t.spent };
+}
+
+impl Tally {
+    /// Nothing was spent.
+    pub fn none() -> Tally
+        ensures { result ≡ 0 }
+    {
+        Tally { spent: 0 }
+    }
+
+    /// Counts what was spent for a part.
+    pub fn add(&mut self, paid: Paid)
+        ensures { self.new ≡ raised self.old paid }
+    {
+        self.count(&paid.first);
+        self.count(&paid.second);
+        self.count(&paid.third);
+    }
+
+    fn count(&mut self, spent: &Option<Spent>)
+        ensures { self.new ≡ raised self.old (cons_option spent.now []) }
+    {
+        if spent.is_some() && self.spent < u64::MAX {
+            self.spent += 1;
+        }
+    }
+}
