@@ -3,4 +3,5 @@ pub mod Turn
 pub mod Group
 pub mod Joining
 pub mod Groups
+pub mod Named
 pub mod Laws
