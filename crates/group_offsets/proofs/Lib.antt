@@ -3,4 +3,7 @@ pub mod Following
 pub mod Waiting
 pub mod Apart
 pub mod Named
+pub mod Reading
+pub mod Describing
+pub mod Placing
 pub mod Rows

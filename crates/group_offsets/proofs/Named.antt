@@ -1,5 +1,5 @@
 -- The groups' names: where a name stands, and what a call leaves of them.
-use Rattle.std.proofs.Common.{◌≡◌, ℕ, zero, suc, ◌+◌, ◌<◌, List, [], ◌∷◌, ◌++◌, length, map, get_or, set, Option, Some, None, Bool, true, false, cond, refl, sym, ap, ◌∙◌, arith}
+use Rattle.std.proofs.Common.{◌≡◌, ℕ, zero, suc, ◌+◌, List, [], ◌∷◌, ◌++◌, length, map, get_or, set, Option, Some, None, Bool, true, false, cond, refl, sym, ap, ◌∙◌, arith}
 use Rattle.std.specs.Prelude.{not, ◌||◌, nat_lt}
 use Rattle.std.specs.Option.{option_map}
 use Rattle.std.specs.List.{list_any, position, position_or_len}
@@ -16,6 +16,7 @@ use Rattle.group_offsets.specs.declared.group.Group.{Group}
 use Rattle.group_offsets.specs.Group.{expired}
 use Rattle.group_offsets.specs.Groups.{place_of}
 use Rattle.group_offsets.specs.Named.{AreNamed}
+use Rattle.group_offsets.proofs.Places.{not_some}
 use Rattle.group_offsets.proofs.Apart.{expired_name}
 
 -- ---- places
@@ -89,14 +90,10 @@ none_any (n ∷ ns) (g ∷ gs) k name is h none =
     let head : string_bytes n ≡ g.name = cc in
     let tail : bytes_of ns ≡ names_of gs = cc in
     by_test (bytes_eq g.name name) (nat_list_eq_equiv.symm (string_bytes k) (string_bytes n) ∙ ap (λ (m : List ℕ). bytes_eq m (string_bytes k)) head ∙ ap (bytes_eq g.name) is) none (none_any ns gs k name is tail) where
-      later_none : (o : Option ℕ) → option_map (λ i. i + 1) o ≡ None → o ≡ None
-      later_none None e = refl
-      later_none (Some i) e = absurd (let clash : Some (i + 1) ≡ None = e in cc)
-
       by_test : (b : Bool) → string_eq k n ≡ b → cond b (Some 0) (option_map (λ i. i + 1) (place_of gs name)) ≡ None → (place_of gs name ≡ None → list_any (string_eq k) ns ≡ false)
           → (string_eq k n || list_any (string_eq k) ns) ≡ false
       by_test true e none rest = absurd (let clash : Some 0 ≡ None = none in cc)
-      by_test false e none rest = ap (λ (t : Bool). t || list_any (string_eq k) ns) e ∙ rest (later_none (place_of gs name) none)
+      by_test false e none rest = ap (λ (t : Bool). t || list_any (string_eq k) ns) e ∙ rest (not_some (place_of gs name) none)
 
 names_push : (names : List (String Global)) (k : String Global) → bytes_of (names ++ k ∷ []) ≡ bytes_of names ++ string_bytes k ∷ []
 names_push [] k = refl

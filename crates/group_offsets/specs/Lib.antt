@@ -4,4 +4,6 @@ pub mod Group
 pub mod Joining
 pub mod Groups
 pub mod Named
+pub mod Partitions
 pub mod Laws
+pub mod Kept

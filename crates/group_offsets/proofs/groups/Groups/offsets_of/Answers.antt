@@ -1,4 +1,4 @@
-use Rattle.std.proofs.Common.{◌≡◌, Some, None, sym, ap, ◌∙◌, rules}
+use Rattle.std.proofs.Common.{◌≡◌, Some, None, sym, ap, ◌∙◌}
 use Rattle.group_offsets.specs.declared.group.Group.{Group}
 use Rattle.group_offsets.specs.Groups.{place_of}
 use Rattle.group_offsets.proofs.Places.{group_at, fresh_at}
