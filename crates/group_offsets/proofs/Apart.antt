@@ -117,7 +117,7 @@ turn_own gs hs own name turn named is same =
     turn_found gs hs name (turn (group_of gs own)) (group_of gs own) (named (group_of gs own) ∙ name_of gs own ∙ same_text own name is) same
     ∙ ap (λ (g : Group). find_group (turned hs (turn g)) name) (group_same gs hs own name is same)
 
-expired_name : (moment : ℕ) (g : Group) → (expired moment g).name ≡ g.name
+pub expired_name : (moment : ℕ) (g : Group) → (expired moment g).name ≡ g.name
 expired_name moment g = by_test (is_lapsed moment g.member) where
   by_test : (b : Bool) → (cond b (left g) g).name ≡ g.name
   by_test true = refl

@@ -2,4 +2,8 @@ pub mod Places
 pub mod Following
 pub mod Waiting
 pub mod Apart
+pub mod Named
+pub mod Reading
+pub mod Describing
+pub mod Placing
 pub mod Rows

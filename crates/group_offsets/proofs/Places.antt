@@ -14,18 +14,18 @@ use Rattle.group_offsets.specs.Turn.{Turn, Stays, Puts, answered, group_after}
 use Rattle.group_offsets.specs.Group.{fresh_group, is_empty, sync_group, beat_group, leave_group}
 use Rattle.group_offsets.specs.Groups.{find_group, group_of, put, turned, nobody, place_of}
 
-no_zero : (o : Option ℕ) → option_map (λ j. j + 1) o ≡ Some 0 → ⊥
+pub no_zero : (o : Option ℕ) → option_map (λ j. j + 1) o ≡ Some 0 → ⊥
 no_zero None h = cc
 no_zero (Some n) h = let e : n + 1 ≡ 0 = cc in omega arith
 
-down_one : (o : Option ℕ) (j : ℕ) → option_map (λ j. j + 1) o ≡ Some (suc j) → o ≡ Some j
+pub down_one : (o : Option ℕ) (j : ℕ) → option_map (λ j. j + 1) o ≡ Some (suc j) → o ≡ Some j
 down_one None j h = absurd (let clash : None ≡ Some (suc j) = h in cc)
 down_one (Some n) j h = let e : n + 1 ≡ suc j = cc in let f : n ≡ j = omega arith in ap Some f
 
-not_first : (j : ℕ) → Some 0 ≡ Some (suc j) → ⊥
+pub not_first : (j : ℕ) → Some 0 ≡ Some (suc j) → ⊥
 not_first j h = let e : 0 ≡ suc j = cc in omega arith
 
-not_some : (o : Option ℕ) → option_map (λ j. j + 1) o ≡ None → o ≡ None
+pub not_some : (o : Option ℕ) → option_map (λ j. j + 1) o ≡ None → o ≡ None
 not_some None h = refl
 not_some (Some n) h = absurd (let clash : Some (n + 1) ≡ None = h in cc)
 

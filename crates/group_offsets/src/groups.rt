@@ -1,6 +1,6 @@
 //! The groups, by their names.
 
-ghost use Rattle.std.specs.Prelude.{◌≡◌, ◌↔◌, IsTrue, ◌<◌, ◌<ℤ◌, pos, [], ◌∷◌, ◌++◌, if◌then◌else◌, is_ok, map, length, IfOk, IfSome, OnOk, OnErr};
+ghost use Rattle.std.specs.Prelude.{◌≡◌, ◌↔◌, IsTrue, ◌<◌, ◌<ℤ◌, pos, [], ◌∷◌, ◌++◌, if◌then◌else◌, is_ok, map, length, IfOk, IfSome, OnOk, OnErr, None};
 ghost use Rattle.acl_binding.specs.declared.words.Operation.TheVariants as operations;
 ghost use Rattle.group_offsets.specs.Turn.{answered};
 ghost use Rattle.group_offsets.specs.Group.{expired};
@@ -12,6 +12,7 @@ use crate::member::Joined;
 use crate::offsets::Offsets;
 use authorizer::{Permit, Policy, Spent};
 use bytes::Bytes;
+use indexmap::IndexSet;
 use msg_group::{HeartbeatRequest, JoinGroupRequest, LeaveGroupRequest, SyncGroupRequest};
 use record_batch::Outcome;
 use std::alloc::{AllocError, Global};
@@ -22,18 +23,22 @@ use wire_types::{ErrorCode, Text};
 #[derive(Drop)]
 pub struct Groups {
     groups: Vec<Group>,
+    /// The groups' names, in the same order.
+    names: IndexSet<String>,
     nothing: Offsets,
 }
 
 impl Model for Groups {
-    ghost use Rattle.std.specs.Prelude.{List, ◌≡◌, []};
+    ghost use Rattle.std.specs.Prelude.{List};
     ghost use Rattle.group_offsets.specs.declared.group.Group.{Group};
 
     ghost Value = { List Group };
 
+    ghost use Rattle.group_offsets.specs.Named.{AreNamed};
+
     ghost view = { λ g. g.groups.items };
 
-    ghost invariant = { λ g. g.nothing ≡ [] };
+    ghost invariant = { λ g. AreNamed g.names.keys g.nothing g.groups.items };
 }
 
 impl Groups {
@@ -43,6 +48,7 @@ impl Groups {
     {
         Groups {
             groups: Vec::new(alloc),
+            names: IndexSet::new(alloc),
             nothing: Offsets::new(alloc),
         }
     }
@@ -51,7 +57,7 @@ impl Groups {
     pub fn may_begin(&self, name: &Text) -> bool
         ensures { IsTrue result ↔ ((group_of self.now name.now).generation <ℤ pos 2147483647) }
     {
-        match place_of(&self.groups, name) {
+        match self.place_of(name) {
             Some(at) => self.groups[at].may_begin(),
             None => true,
         }
@@ -92,7 +98,7 @@ impl Groups {
         ensures answer { IfOk result (λ answer. answer ≡ answered (join self.old request.now place moment)) }
         ensures err { OnErr result (self.new ≡ self.old) }
     {
-        if let Some(at) = place_of(&self.groups, &request.group) {
+        if let Some(at) = self.place_of(&request.group) {
             return self.groups[at].join(alloc, request, place, moment);
         }
         let mut group = Group::fresh(alloc, &request.group)?;
@@ -127,7 +133,7 @@ impl Groups {
         ensures answer { IfOk result (λ answer. answer ≡ answered (sync self.old request.now moment)) }
         ensures err { OnErr result (self.new ≡ self.old) }
     {
-        match place_of(&self.groups, &request.group) {
+        match self.place_of(&request.group) {
             Some(at) => self.groups[at].sync(request, moment),
             None => Ok(Err(nobody(&request.group))),
         }
@@ -153,7 +159,7 @@ impl Groups {
         ensures groups { self.new ≡ turned self.old (beat self.old request.now moment) }
         ensures answer { result ≡ answered (beat self.old request.now moment) }
     {
-        match place_of(&self.groups, &request.group) {
+        match self.place_of(&request.group) {
             Some(at) => self.groups[at].beat(request, moment),
             None => Err(nobody(&request.group)),
         }
@@ -178,7 +184,7 @@ impl Groups {
         ensures groups { self.new ≡ turned self.old (leave self.old request.now) }
         ensures answer { result ≡ answered (leave self.old request.now) }
     {
-        match place_of(&self.groups, &request.group) {
+        match self.place_of(&request.group) {
             Some(at) => self.groups[at].leave(request),
             None => Err(nobody(&request.group)),
         }
@@ -220,7 +226,7 @@ impl Groups {
         ensures answer { IfOk result (λ answer. answer ≡ answered (commit self.old name.now generation member.now offset)) }
         ensures err { OnErr result (self.new ≡ self.old) }
     {
-        if let Some(at) = place_of(&self.groups, name) {
+        if let Some(at) = self.place_of(name) {
             return self.groups[at].commit(generation, member, offset);
         }
         let mut group = Group::fresh(alloc, name)?;
@@ -266,7 +272,7 @@ impl Groups {
         ensures answer { IfOk result (λ answer. answer ≡ answered (stage self.old name.now producer generation member.now offset)) }
         ensures err { OnErr result (self.new ≡ self.old) }
     {
-        if let Some(at) = place_of(&self.groups, name) {
+        if let Some(at) = self.place_of(name) {
             return self.groups[at].stage(producer, generation, member, offset);
         }
         let mut group = Group::fresh(alloc, name)?;
@@ -286,13 +292,12 @@ impl Groups {
         ensures ok { OnOk result (self.new ≡ turned self.old (decide self.old name.now producer outcome)) }
         ensures err { OnErr result (self.new ≡ self.old) }
     {
-        if let Some(at) = place_of(&self.groups, name) {
+        if let Some(at) = self.place_of(name) {
             return self.groups[at].decide(producer, outcome);
         }
         let mut group = Group::fresh(alloc, name)?;
         group.decide(producer, outcome)?;
-        self.groups.push(group)?;
-        Ok(())
+        self.begin(group)
     }
 
     /// What is committed and staged for a group. It needs a permit of DESCRIBE.
@@ -307,7 +312,7 @@ impl Groups {
     fn offsets_of(&self, name: &Text) -> &Offsets
         ensures { result.now ≡ (group_of self.now name.now).offsets }
     {
-        match place_of(&self.groups, name) {
+        match self.place_of(name) {
             Some(at) => &self.groups[at].offsets,
             None => &self.nothing,
         }
@@ -315,13 +320,35 @@ impl Groups {
 
     /// Keeps a group that begins, where its first call wasn't refused.
     fn keep<A>(&mut self, group: Group, answer: &Result<A, ErrorCode>) -> Result<(), AllocError>
+        requires { place_of self.old group.name ≡ None }
         ensures ok { OnOk result (self.new ≡ (if is_ok answer.now then self.old ++ group ∷ [] else self.old)) }
         ensures err { OnErr result (self.new ≡ self.old) }
     {
         if answer.is_ok() {
-            self.groups.push(group)?;
+            self.begin(group)?;
         }
         Ok(())
+    }
+
+    /// A group begins. All that may fail comes before the first change.
+    fn begin(&mut self, group: Group) -> Result<(), AllocError>
+        requires { place_of self.old group.name ≡ None }
+        ensures ok { OnOk result (self.new ≡ self.old ++ group ∷ []) }
+        ensures err { OnErr result (self.new ≡ self.old) }
+    {
+        let name = String::from(group.name.clone()?);
+        self.groups.reserve(1)?;
+        self.names.insert(name)?;
+        self.groups.push_reserved(group);
+        Ok(())
+    }
+
+    /// The place of the group of this name.
+    fn place_of(&self, name: &Text) -> Option<usize>
+        ensures place { result ≡ place_of self.now name.now }
+        ensures within { IfSome result (λ place. place < length self.now) }
+    {
+        self.names.get_index_of(name.as_str())
     }
 
     /// Lets each member go that was not heard of for longer than its session timeout.
@@ -349,17 +376,4 @@ fn nobody(name: &Text) -> ErrorCode
     } else {
         ErrorCode::UnknownMemberId
     }
-}
-
-/// The place of the first group of this name.
-fn place_of(groups: &[Group], name: &Text) -> Option<usize>
-    ensures place { result ≡ place_of groups.now name.now }
-    ensures within { IfSome result (λ place. place < length groups.now) }
-{
-    for (place, group) in groups.iter().enumerate() {
-        if group.name == *name {
-            return Some(place);
-        }
-    }
-    None
 }

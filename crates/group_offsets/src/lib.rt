@@ -11,6 +11,10 @@ mod joining;
 mod laws;
 mod member;
 mod offsets;
+mod partition;
+mod row;
+mod staged;
+mod table;
 
 pub use event::{OffsetEvent, PartitionOffset};
 pub use group::Group;

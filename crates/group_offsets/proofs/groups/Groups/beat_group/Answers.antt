@@ -3,24 +3,28 @@ use Rattle.group_offsets.specs.declared.group.Group.{Group}
 use Rattle.group_offsets.specs.Group.{beat_group}
 use Rattle.group_offsets.specs.Groups.{place_of}
 use Rattle.group_offsets.proofs.Places.{turned_at, answered_at, refused_fresh, refusal_fresh, beat_fresh}
+use Rattle.group_offsets.proofs.Named.{are_named_set}
 use Rattle.group_offsets.proofs.groups.Groups.beat_group.Goals as goal
 
 pub returns-in-Some-clause-groups : goal.returns-in-Some-clause-groups
 returns-in-Some-clause-groups c =
-    let at : place_of c.self.inside.groups.items c.args.request.now.group ≡ Some c.in-Some.at = search rules in
+    let at : place_of c.self.inside.groups.items c.args.request.now.group ≡ Some c.in-Some.at = cc in
     rw (← c.self.view_is) (turned_at c.self.inside.groups.items c.in-Some.at c.index_mut.result.now c.beat.new.self c.args.request.now.group (λ (g : Group). beat_group g c.args.request.now c.args.moment) at c.index_mut.ensures.value c.beat.ensures.group c.beat.ensures.name)
 
 pub returns-in-Some-clause-answer : goal.returns-in-Some-clause-answer
 returns-in-Some-clause-answer c =
-    let at : place_of c.self.inside.groups.items c.args.request.now.group ≡ Some c.in-Some.at = search rules in
+    let at : place_of c.self.inside.groups.items c.args.request.now.group ≡ Some c.in-Some.at = cc in
     rw (← c.self.view_is) (c.beat.ensures.answer ∙ answered_at c.self.inside.groups.items c.in-Some.at c.index_mut.result.now c.args.request.now.group (λ (g : Group). beat_group g c.args.request.now c.args.moment) at c.index_mut.ensures.value)
 
 pub returns-in-None-clause-groups : goal.returns-in-None-clause-groups
 returns-in-None-clause-groups c =
-    let none : place_of c.self.inside.groups.items c.args.request.now.group ≡ None = search rules in
-    rw (← c.self.view_is) (refused_fresh c.self.inside.groups.items c.args.request.now.group (λ (g : Group). beat_group g c.args.request.now c.args.moment) none (beat_fresh c.args.request.now c.args.moment))
+    let none : place_of c.args.self.now c.args.request.now.group ≡ None = search rules in
+    (refused_fresh c.args.self.now c.args.request.now.group (λ (g : Group). beat_group g c.args.request.now c.args.moment) none (beat_fresh c.args.request.now c.args.moment))
 
 pub returns-in-None-clause-answer : goal.returns-in-None-clause-answer
 returns-in-None-clause-answer c =
-    let none : place_of c.self.inside.groups.items c.args.request.now.group ≡ None = search rules in
-    rw (← c.self.view_is, c.nobody.ensures) (refusal_fresh c.self.inside.groups.items c.args.request.now.group (λ (g : Group). beat_group g c.args.request.now c.args.moment) none (beat_fresh c.args.request.now c.args.moment))
+    let none : place_of c.args.self.now c.args.request.now.group ≡ None = search rules in
+    rw (c.nobody.ensures) (refusal_fresh c.args.self.now c.args.request.now.group (λ (g : Group). beat_group g c.args.request.now c.args.moment) none (beat_fresh c.args.request.now c.args.moment))
+
+pub invariant_of-self : goal.invariant_of-self
+invariant_of-self c = are_named_set c.self.inside.names.keys c.self.inside.nothing c.self.inside.groups.items c.in-Some.at c.index_mut.result.now c.beat.new.self c.index_mut.ensures.value c.beat.ensures.name c.self.invariant

@@ -1,4 +1,4 @@
-use Rattle.std.proofs.Common.{◌≡◌, ◌++◌, [], ◌∷◌, List, Some, None, cond, ap, subst, ◌∙◌, w32, rules}
+use Rattle.std.proofs.Common.{◌≡◌, ◌++◌, [], ◌∷◌, Some, None, cond, ap, ◌∙◌, w32, rules}
 use Rattle.std.specs.Prelude.{Result, is_ok}
 use Rattle.std.proofs.lemmas.Int.{to_z-of_z}
 use Rattle.std.proofs.lemmas.Result.{on_ok_weaker, IfOk-weaker}
@@ -7,24 +7,25 @@ use Rattle.group_offsets.specs.declared.group.Group.{Group}
 use Rattle.group_offsets.specs.Group.{commit_group}
 use Rattle.group_offsets.specs.Groups.{place_of}
 use Rattle.group_offsets.proofs.Places.{turned_at, answered_at, kept_fresh, answered_fresh}
+use Rattle.group_offsets.proofs.Named.{are_named_set}
 use Rattle.group_offsets.proofs.groups.Groups.commit_offset.Goals as goal
 
 pub returns-in-Some-clause-groups : goal.returns-in-Some-clause-groups
 returns-in-Some-clause-groups c =
     let back = to_z-of_z w32 c.args.generation c.ranges.generation in
-    let at : place_of c.self.inside.groups.items c.args.name.now ≡ Some c.in-Some.at = search rules in
+    let at : place_of c.self.inside.groups.items c.args.name.now ≡ Some c.in-Some.at = cc in
     rw (← c.self.view_is) (on_ok_weaker c.commit.result (λ made. turned_at c.self.inside.groups.items c.in-Some.at c.index_mut.result.now c.commit.new.self c.args.name.now (λ (g : Group). commit_group g c.args.generation c.args.member.now c.args.offset) at c.index_mut.ensures.value made c.commit.ensures.name) (rw (back) at c.commit.ensures.group))
 
 pub returns-in-Some-clause-answer : goal.returns-in-Some-clause-answer
 returns-in-Some-clause-answer c =
     let back = to_z-of_z w32 c.args.generation c.ranges.generation in
-    let at : place_of c.self.inside.groups.items c.args.name.now ≡ Some c.in-Some.at = search rules in
+    let at : place_of c.self.inside.groups.items c.args.name.now ≡ Some c.in-Some.at = cc in
     rw (← c.self.view_is) (IfOk-weaker c.commit.result _ _ (λ answer e. e ∙ answered_at c.self.inside.groups.items c.in-Some.at c.index_mut.result.now c.args.name.now (λ (g : Group). commit_group g c.args.generation c.args.member.now c.args.offset) at c.index_mut.ensures.value) (rw (back) at c.commit.ensures.answer))
 
 pub returns-clause-groups : goal.returns-clause-groups
 returns-clause-groups c =
     let back = to_z-of_z w32 c.args.generation c.ranges.generation in
-    let none : place_of c.args.self.now c.args.name.now ≡ None = subst (λ (l : List Group). place_of l c.args.name.now ≡ None) c.self.view_is (search rules) in
+    let none : place_of c.args.self.now c.args.name.now ≡ None = search rules in
     let made = rw (c.in_ok-group.ensures, back) at c.in_ok-answer.ensures.group in
     let answer = rw (c.in_ok-group.ensures, back) at c.in_ok-answer.ensures.answer in
     c.in_ok-keep.ensures.ok
@@ -34,6 +35,14 @@ returns-clause-groups c =
 pub returns-clause-answer : goal.returns-clause-answer
 returns-clause-answer c =
     let back = to_z-of_z w32 c.args.generation c.ranges.generation in
-    let none : place_of c.args.self.now c.args.name.now ≡ None = subst (λ (l : List Group). place_of l c.args.name.now ≡ None) c.self.view_is (search rules) in
+    let none : place_of c.args.self.now c.args.name.now ≡ None = search rules in
     let answer = rw (c.in_ok-group.ensures, back) at c.in_ok-answer.ensures.answer in
     answer ∙ answered_fresh c.args.self.now c.args.name.now (λ (g : Group). commit_group g c.args.generation c.args.member.now c.args.offset) none
+
+pub keep-requires : goal.keep-requires
+keep-requires c =
+    let none : place_of c.args.self.now c.args.name.now ≡ None = search rules in
+    ap (place_of c.args.self.now) (c.in_ok-answer.ensures.name ∙ ap (λ (g : Group). g.name) c.in_ok-group.ensures) ∙ none
+
+pub invariant_of-self : goal.invariant_of-self
+invariant_of-self c = are_named_set c.self.inside.names.keys c.self.inside.nothing c.self.inside.groups.items c.in-Some.at c.index_mut.result.now c.commit.new.self c.index_mut.ensures.value c.commit.ensures.name c.self.invariant

@@ -1,4 +1,4 @@
-use Rattle.std.proofs.Common.{◌≡◌, ◌++◌, [], ◌∷◌, List, Some, None, cond, ap, subst, ◌∙◌, w32, w64, rules}
+use Rattle.std.proofs.Common.{◌≡◌, ◌++◌, [], ◌∷◌, Some, None, cond, ap, ◌∙◌, w32, w64, rules}
 use Rattle.std.specs.Prelude.{Result, is_ok}
 use Rattle.std.proofs.lemmas.Int.{to_z-of_z}
 use Rattle.std.proofs.lemmas.Result.{on_ok_weaker, on_err_weaker, IfOk-weaker}
@@ -7,20 +7,21 @@ use Rattle.group_offsets.specs.declared.group.Group.{Group}
 use Rattle.group_offsets.specs.Group.{stage_group}
 use Rattle.group_offsets.specs.Groups.{place_of}
 use Rattle.group_offsets.proofs.Places.{turned_at, answered_at, kept_fresh, answered_fresh, unchanged_at}
+use Rattle.group_offsets.proofs.Named.{are_named_set}
 use Rattle.group_offsets.proofs.groups.Groups.stage_offset.Goals as goal
 
 pub returns-in-Some-clause-groups : goal.returns-in-Some-clause-groups
 returns-in-Some-clause-groups c =
     let own = to_z-of_z w64 c.args.producer c.ranges.producer in
     let back = to_z-of_z w32 c.args.generation c.ranges.generation in
-    let at : place_of c.self.inside.groups.items c.args.name.now ≡ Some c.in-Some.at = search rules in
+    let at : place_of c.self.inside.groups.items c.args.name.now ≡ Some c.in-Some.at = cc in
     rw (← c.self.view_is) (on_ok_weaker c.stage.result (λ made. turned_at c.self.inside.groups.items c.in-Some.at c.index_mut.result.now c.stage.new.self c.args.name.now (λ (g : Group). stage_group g c.args.producer c.args.generation c.args.member.now c.args.offset) at c.index_mut.ensures.value made c.stage.ensures.name) (rw (own, back) at c.stage.ensures.group))
 
 pub returns-in-Some-clause-answer : goal.returns-in-Some-clause-answer
 returns-in-Some-clause-answer c =
     let own = to_z-of_z w64 c.args.producer c.ranges.producer in
     let back = to_z-of_z w32 c.args.generation c.ranges.generation in
-    let at : place_of c.self.inside.groups.items c.args.name.now ≡ Some c.in-Some.at = search rules in
+    let at : place_of c.self.inside.groups.items c.args.name.now ≡ Some c.in-Some.at = cc in
     rw (← c.self.view_is) (IfOk-weaker c.stage.result _ _ (λ answer e. e ∙ answered_at c.self.inside.groups.items c.in-Some.at c.index_mut.result.now c.args.name.now (λ (g : Group). stage_group g c.args.producer c.args.generation c.args.member.now c.args.offset) at c.index_mut.ensures.value) (rw (own, back) at c.stage.ensures.answer))
 
 pub returns-in-Some-clause-err : goal.returns-in-Some-clause-err
@@ -31,7 +32,7 @@ pub returns-clause-groups : goal.returns-clause-groups
 returns-clause-groups c =
     let own = to_z-of_z w64 c.args.producer c.ranges.producer in
     let back = to_z-of_z w32 c.args.generation c.ranges.generation in
-    let none : place_of c.args.self.now c.args.name.now ≡ None = subst (λ (l : List Group). place_of l c.args.name.now ≡ None) c.self.view_is (search rules) in
+    let none : place_of c.args.self.now c.args.name.now ≡ None = search rules in
     let made = rw (c.in_ok-group.ensures, own, back) at c.in_ok-answer.ensures.group in
     let answer = rw (c.in_ok-group.ensures, own, back) at c.in_ok-answer.ensures.answer in
     c.in_ok-keep.ensures.ok
@@ -42,6 +43,14 @@ pub returns-clause-answer : goal.returns-clause-answer
 returns-clause-answer c =
     let own = to_z-of_z w64 c.args.producer c.ranges.producer in
     let back = to_z-of_z w32 c.args.generation c.ranges.generation in
-    let none : place_of c.args.self.now c.args.name.now ≡ None = subst (λ (l : List Group). place_of l c.args.name.now ≡ None) c.self.view_is (search rules) in
+    let none : place_of c.args.self.now c.args.name.now ≡ None = search rules in
     let answer = rw (c.in_ok-group.ensures, own, back) at c.in_ok-answer.ensures.answer in
     answer ∙ answered_fresh c.args.self.now c.args.name.now (λ (g : Group). stage_group g c.args.producer c.args.generation c.args.member.now c.args.offset) none
+
+pub keep-requires : goal.keep-requires
+keep-requires c =
+    let none : place_of c.args.self.now c.args.name.now ≡ None = search rules in
+    ap (place_of c.args.self.now) (c.in_ok-answer.ensures.name ∙ ap (λ (g : Group). g.name) c.in_ok-group.ensures) ∙ none
+
+pub invariant_of-self : goal.invariant_of-self
+invariant_of-self c = are_named_set c.self.inside.names.keys c.self.inside.nothing c.self.inside.groups.items c.in-Some.at c.index_mut.result.now c.stage.new.self c.index_mut.ensures.value c.stage.ensures.name c.self.invariant
