@@ -14,7 +14,7 @@ ghost use Rattle.txn_coordinator.specs.Permission.{MayWrite};
 use crate::ending::EndForm;
 use crate::expiry::expiry_markers;
 use crate::init::{created, timeout_within};
-use crate::marker::{OwedMarker, owes};
+use crate::owed::Owed;
 use crate::pair::{Given, Pair, PairAnswer};
 use crate::records::Records;
 use crate::target::{Target, TopicPartition};
@@ -25,14 +25,14 @@ use authorizer::{Permit, Policy, Spent};
 use record_batch::Outcome;
 use std::alloc::{AllocError, Global};
 use std::marker::Model;
-use wire_types::{ErrorCode, Shared, Text};
+use wire_types::{ErrorCode, Text};
 
 /// What is kept of transactional ids, of producer ids and of markers that are owed.
 #[derive(Drop)]
 pub struct Coordinator {
     records: Records,
     given: Vec<Option<Text>>,
-    warrants: Vec<Shared<OwedMarker>>,
+    owed: Owed,
 }
 
 impl Model for Coordinator {
@@ -41,7 +41,7 @@ impl Model for Coordinator {
 
     ghost Value = { CoordinatorValue };
 
-    ghost view = { λ c. record { transactions = c.records.list; given = c.given.items; warrants = c.warrants.items } };
+    ghost view = { λ c. record { transactions = c.records.list; given = c.given.items; warrants = c.owed } };
 
     ghost use Rattle.std.specs.Prelude.{length};
 
@@ -56,7 +56,7 @@ impl Coordinator {
         Coordinator {
             records: Records::new(alloc),
             given: Vec::new(alloc),
-            warrants: Vec::new(alloc),
+            owed: Owed::new(alloc),
         }
     }
 
@@ -249,7 +249,7 @@ impl Coordinator {
         ensures err { OnErr result (self.new ≡ self.old) }
     {
         let owed = expiry_markers(alloc, self.records.as_slice(), moment)?;
-        self.warrants.append(&mut Vec::from(owed))?;
+        self.owed.append(owed)?;
         self.records.expire(moment);
         Ok(())
     }
@@ -258,14 +258,14 @@ impl Coordinator {
     pub fn owed(&self) -> usize
         ensures { result ≡ length self.now.warrants }
     {
-        self.warrants.len()
+        self.owed.len()
     }
 
     /// A warrant for the front marker, if one is owed. The marker stays owed until it is written.
     pub fn next_warrant(&self) -> Result<Option<Warrant>, AllocError>
         ensures { IfOk result (λ warrant. warrant ≡ next_warrant self.now) }
     {
-        match self.warrants.first() {
+        match self.owed.front() {
             Some(marker) => Ok(Some(Warrant::new(marker.share()?))),
             None => Ok(None),
         }
@@ -277,9 +277,9 @@ impl Coordinator {
         ensures { self.new ≡ written self.old }
     {
         warrant.give_back();
-        let front = self.warrants.remove(0);
+        let front = self.owed.pop();
         let marker = front.value();
-        if !owes(&self.warrants, &marker.id) {
+        if !self.owed.owes(&marker.id) {
             self.records.complete(&marker.id, marker.outcome);
         }
     }
@@ -439,7 +439,7 @@ impl Coordinator {
                 let id = transaction.id.clone()?;
                 self.records.reserve()?;
                 self.given.reserve(given.len())?;
-                self.warrants.append(&mut Vec::from(owed))?;
+                self.owed.append(owed)?;
                 self.given.append(&mut given).unwrap();
                 self.records.put(id, transaction);
                 Ok(code)

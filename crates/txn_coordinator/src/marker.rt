@@ -3,7 +3,6 @@
 ghost use Rattle.std.specs.Prelude.{◌≡◌, ◌++◌, IfOk, map};
 ghost use Rattle.txn_coordinator.specs.declared.target.Target.TheVariants.{Partition, Group};
 ghost use Rattle.txn_coordinator.specs.Preparing.{marker_for, markers};
-ghost use Rattle.txn_coordinator.specs.Warrants.{owes};
 
 use crate::pair::Pair;
 use crate::target::Target;
@@ -93,11 +92,4 @@ impl Transaction {
         };
         Ok(Shared::new(alloc, marker)?)
     }
-}
-
-/// Whether the id still owes a marker.
-pub(crate) fn owes(owed: &[Shared<OwedMarker>], id: &Text) -> bool
-    ensures { result ≡ owes owed.now id.now }
-{
-    owed.iter().any(|marker| marker.value().id == *id)
 }
