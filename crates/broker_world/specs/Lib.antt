@@ -8,3 +8,4 @@ pub mod Outcome
 pub mod Whole
 pub mod Questions
 pub mod Codes
+pub mod Kept

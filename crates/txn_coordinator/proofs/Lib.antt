@@ -2,3 +2,4 @@ pub mod Table
 pub mod Ranges
 pub mod Rows
 pub mod Kept
+pub mod Counting

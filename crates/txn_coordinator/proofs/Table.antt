@@ -1,12 +1,16 @@
--- Where a record stands, and putting one there.
-use Rattle.std.proofs.Common.{◌≡◌, ℕ, zero, suc, ◌+◌, List, [], ◌∷◌, ◌++◌, get_or, set, Option, Some, None, Bool, true, false, cond, refl, sym, ap, ◌∙◌, arith}
+-- Where a record stands, putting one there, and what that leaves of the ids.
+use Rattle.std.proofs.Common.{◌≡◌, ℕ, zero, suc, ◌+◌, List, [], ◌∷◌, ◌++◌, map, get_or, set, Option, Some, None, Bool, true, false, cond, refl, sym, ap, ◌∙◌, arith}
 use Rattle.std.specs.Option.{option_map}
 use Rattle.std.proofs.lemmas.Slice.Eq.{bytes_eq-Decides}
 use Rattle.std.specs.Str.{bytes_eq}
+use Rattle.name_places.specs.Places.{place_in}
 use Rattle.txn_coordinator.specs.declared.transaction.Transaction.{Transaction}
 use Rattle.record_batch.specs.declared.outcome.Outcome.{Outcome}
 use Rattle.txn_coordinator.specs.Coordinator.{has_id, recorded, place_of, put}
+use Rattle.txn_coordinator.specs.Preparing.{fenced}
+use Rattle.txn_coordinator.specs.Expiry.{is_due, expired}
 use Rattle.txn_coordinator.specs.Warrants.{completed, with_completed}
+use Rattle.txn_coordinator.specs.Kept.{ids}
 
 pub same_is : (a b : List ℕ) → bytes_eq a b ≡ true → a ≡ b
 same_is a b h = (bytes_eq-Decides a b).0 h
@@ -74,3 +78,32 @@ pub completed_at : (ts : List Transaction) (j : ℕ) (t : Transaction) (id : Lis
 completed_at ts j t id o h is =
     let found = recorded_at ts j t id h is in
     put_at ts j (completed o t) (ap (place_of ts) (recorded_id ts id t found) ∙ h) ∙ ap (λ f. with_completed o f ts) (sym found)
+
+-- ---- the ids
+
+-- a record stands where its id does
+pub place_is : (ts : List Transaction) (id : List ℕ) → place_in (ids ts) id ≡ place_of ts id
+place_is [] id = refl
+place_is (t ∷ ts) id = ap (λ (o : Option ℕ). cond (has_id id t) (Some 0) (option_map (λ i. i + 1) o)) (place_is ts id)
+
+-- a record in place of that of its id
+pub ids_set : (ts : List Transaction) (j : ℕ) (r : Transaction) → place_of ts r.id ≡ Some j → ids (set ts j r) ≡ ids ts
+ids_set [] j r h = absurd (let clash : None ≡ Some j = h in cc)
+ids_set (t ∷ ts) zero r h = by_same (has_id r.id t) refl h where
+  by_same : (b : Bool) → has_id r.id t ≡ b → cond b (Some 0) (option_map (λ i. i + 1) (place_of ts r.id)) ≡ Some 0 → r.id ∷ ids ts ≡ t.id ∷ ids ts
+  by_same true same h = ap (λ (id : List ℕ). id ∷ ids ts) (sym (same_is t.id r.id same))
+  by_same false same h = absurd (no_zero (place_of ts r.id) h)
+ids_set (t ∷ ts) (suc j) r h = by_same (ids_set ts j r) (has_id r.id t) h where
+  by_same : (place_of ts r.id ≡ Some j → ids (set ts j r) ≡ ids ts) → (b : Bool) → cond b (Some 0) (option_map (λ i. i + 1) (place_of ts r.id)) ≡ Some (suc j) → t.id ∷ ids (set ts j r) ≡ t.id ∷ ids ts
+  by_same rest true h = absurd (not_first j h)
+  by_same rest false h = ap (λ l. t.id ∷ l) (rest (down_one (place_of ts r.id) j h))
+
+pub ids_completed : (ts : List Transaction) (j : ℕ) (t : Transaction) (id : List ℕ) (o : Outcome) → place_of ts id ≡ Some j → t ≡ get_or ts j t → ids (set ts j (completed o t)) ≡ ids ts
+ids_completed ts j t id o h is = ids_set ts j (completed o t) (ap (place_of ts) (recorded_id ts id t (recorded_at ts j t id h is)) ∙ h)
+
+pub ids_expired : (moment : ℕ) (ts : List Transaction) → ids (map (expired moment) ts) ≡ ids ts
+ids_expired moment [] = refl
+ids_expired moment (t ∷ ts) = by_due (ids_expired moment ts) (is_due moment t) where
+  by_due : ids (map (expired moment) ts) ≡ ids ts → (b : Bool) → (cond b (fenced t) t).id ∷ ids (map (expired moment) ts) ≡ t.id ∷ ids ts
+  by_due rest true = ap (λ l. t.id ∷ l) rest
+  by_due rest false = ap (λ l. t.id ∷ l) rest

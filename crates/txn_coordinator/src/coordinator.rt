@@ -12,11 +12,11 @@ ghost use Rattle.txn_coordinator.specs.Bounds.{IsInRange, IsTurnInRange};
 ghost use Rattle.txn_coordinator.specs.Permission.{MayWrite};
 
 use crate::ending::EndForm;
-use crate::expiry::{expire_all, expiry_markers};
+use crate::expiry::expiry_markers;
 use crate::init::{created, timeout_within};
-use crate::marker::OwedMarker;
+use crate::owed::Owed;
 use crate::pair::{Given, Pair, PairAnswer};
-use crate::records::{complete, owes, put, recorded};
+use crate::records::Records;
 use crate::target::{Target, TopicPartition};
 use crate::transaction::{LAST_EPOCH, Transaction};
 use crate::turn::Turn;
@@ -25,14 +25,14 @@ use authorizer::{Permit, Policy, Spent};
 use record_batch::Outcome;
 use std::alloc::{AllocError, Global};
 use std::marker::Model;
-use wire_types::{ErrorCode, Shared, Text};
+use wire_types::{ErrorCode, Text};
 
 /// What is kept of transactional ids, of producer ids and of markers that are owed.
 #[derive(Drop)]
 pub struct Coordinator {
-    transactions: Vec<Transaction>,
+    records: Records,
     given: Vec<Option<Text>>,
-    warrants: Vec<Shared<OwedMarker>>,
+    owed: Owed,
 }
 
 impl Model for Coordinator {
@@ -41,11 +41,11 @@ impl Model for Coordinator {
 
     ghost Value = { CoordinatorValue };
 
-    ghost view = { λ c. record { transactions = c.transactions.items; given = c.given.items; warrants = c.warrants.items } };
+    ghost view = { λ c. record { transactions = c.records.list; given = c.given.items; warrants = c.owed } };
 
     ghost use Rattle.std.specs.Prelude.{length};
 
-    ghost invariant = { λ c. AreInRange (length c.given.items) c.transactions.items };
+    ghost invariant = { λ c. AreInRange (length c.given.items) c.records.list };
 }
 
 impl Coordinator {
@@ -54,9 +54,9 @@ impl Coordinator {
         ensures { result ≡ no_transactions }
     {
         Coordinator {
-            transactions: Vec::new(alloc),
+            records: Records::new(alloc),
             given: Vec::new(alloc),
-            warrants: Vec::new(alloc),
+            owed: Owed::new(alloc),
         }
     }
 
@@ -227,7 +227,7 @@ impl Coordinator {
     pub fn holds(&self, id: &Text, pair: Pair, target: &Target) -> ErrorCode
         ensures { result ≡ holds self.now id.now pair target.now }
     {
-        let Some(transaction) = recorded(&self.transactions, id) else {
+        let Some(transaction) = self.records.get(id) else {
             return ErrorCode::InvalidProducerIdMapping;
         };
         if transaction.pair.producer != pair.producer {
@@ -248,9 +248,9 @@ impl Coordinator {
         ensures ok { OnOk result (self.new ≡ expire self.old moment) }
         ensures err { OnErr result (self.new ≡ self.old) }
     {
-        let owed = expiry_markers(alloc, &self.transactions, moment)?;
-        self.warrants.append(&mut Vec::from(owed))?;
-        expire_all(&mut self.transactions, moment);
+        let owed = expiry_markers(alloc, self.records.as_slice(), moment)?;
+        self.owed.append(owed)?;
+        self.records.expire(moment);
         Ok(())
     }
 
@@ -258,14 +258,14 @@ impl Coordinator {
     pub fn owed(&self) -> usize
         ensures { result ≡ length self.now.warrants }
     {
-        self.warrants.len()
+        self.owed.len()
     }
 
     /// A warrant for the front marker, if one is owed. The marker stays owed until it is written.
     pub fn next_warrant(&self) -> Result<Option<Warrant>, AllocError>
         ensures { IfOk result (λ warrant. warrant ≡ next_warrant self.now) }
     {
-        match self.warrants.first() {
+        match self.owed.front() {
             Some(marker) => Ok(Some(Warrant::new(marker.share()?))),
             None => Ok(None),
         }
@@ -277,10 +277,10 @@ impl Coordinator {
         ensures { self.new ≡ written self.old }
     {
         warrant.give_back();
-        let front = self.warrants.remove(0);
+        let front = self.owed.pop();
         let marker = front.value();
-        if !owes(&self.warrants, &marker.id) {
-            complete(&mut self.transactions, &marker.id, marker.outcome);
+        if !self.owed.owes(&marker.id) {
+            self.records.complete(&marker.id, marker.outcome);
         }
     }
 }
@@ -295,7 +295,7 @@ impl Coordinator {
     fn answer(&self, id: &Text, code: ErrorCode) -> PairAnswer
         ensures { result ≡ pair_answer code (recorded self.now.transactions id.now) }
     {
-        match (code, recorded(&self.transactions, id)) {
+        match (code, self.records.get(id)) {
             (ErrorCode::None, Some(transaction)) => PairAnswer {
                 code,
                 pair: transaction.pair,
@@ -323,7 +323,7 @@ impl Coordinator {
         let Some(timeout) = timeout_within(timeout, greatest) else {
             return Ok(Turn::Stays(ErrorCode::InvalidTransactionTimeout));
         };
-        match recorded(&self.transactions, id) {
+        match self.records.get(id) {
             Some(transaction) => transaction.inited(alloc, self.next_id(), timeout),
             None => created(alloc, id, self.next_id(), timeout),
         }
@@ -342,7 +342,7 @@ impl Coordinator {
         if id.is_empty() {
             return Ok(Err(ErrorCode::InvalidRequest));
         }
-        let Some(transaction) = recorded(&self.transactions, id) else {
+        let Some(transaction) = self.records.get(id) else {
             return Ok(Err(ErrorCode::InvalidProducerIdMapping));
         };
         match transaction.pair_refusal(ErrorCode::InvalidProducerEpoch, pair) {
@@ -402,7 +402,7 @@ impl Coordinator {
         if id.is_empty() {
             return Ok(Turn::Stays(ErrorCode::InvalidRequest));
         }
-        match recorded(&self.transactions, id) {
+        match self.records.get(id) {
             Some(transaction) => transaction.ended(alloc, form, self.next_id(), pair, outcome),
             None => Ok(Turn::Stays(ErrorCode::InvalidProducerIdMapping)),
         }
@@ -436,11 +436,12 @@ impl Coordinator {
             Turn::Stays(code) => Ok(code),
             Turn::Puts(code, transaction, given, owed) => {
                 let mut given = Vec::from(given);
-                self.transactions.reserve(1)?;
+                let id = transaction.id.clone()?;
+                self.records.reserve()?;
                 self.given.reserve(given.len())?;
-                self.warrants.append(&mut Vec::from(owed))?;
+                self.owed.append(owed)?;
                 self.given.append(&mut given).unwrap();
-                put(&mut self.transactions, transaction);
+                self.records.put(id, transaction);
                 Ok(code)
             }
         }

@@ -7,11 +7,13 @@
 
 mod adding;
 mod coordinator;
+mod counts;
 mod ending;
 mod expiry;
 mod init;
 mod laws;
 mod marker;
+mod owed;
 mod pair;
 mod records;
 mod target;

@@ -1,63 +1,113 @@
 //! The records of transactional ids, in the order of their creation.
 
-ghost use Rattle.std.specs.Prelude.{◌≡◌, ◌<◌, ◌+◌, IfSome, length, vec_len, vec_capacity};
+ghost use Rattle.std.specs.Prelude.{◌≡◌, ◌<◌, [], IfSome, OnOk, length, map};
 ghost use Rattle.std.specs.Option.{option_copied};
 ghost use Rattle.txn_coordinator.specs.Coordinator.{recorded, place_of, put};
-ghost use Rattle.txn_coordinator.specs.Warrants.{owes, with_completed};
+ghost use Rattle.txn_coordinator.specs.Expiry.{expired};
+ghost use Rattle.txn_coordinator.specs.Bounds.{AllCanRaise};
+ghost use Rattle.txn_coordinator.specs.Warrants.{with_completed};
 
-use crate::marker::OwedMarker;
-use crate::transaction::{Phase, Transaction};
+use crate::expiry::expire_all;
+use crate::transaction::Transaction;
+use name_places::Places;
 use record_batch::Outcome;
-use wire_types::{Items, Shared, Text};
+use std::alloc::{AllocError, Global};
+use std::marker::Model;
+use wire_types::Text;
 
-/// The record of a transactional id, if it has one.
-pub(crate) fn recorded<'a>(transactions: &'a [Transaction], id: &Text) -> Option<&'a Transaction>
-    ensures { option_copied result ≡ recorded transactions.now id.now }
-{
-    transactions
-        .iter()
-        .find(|transaction| transaction.id == *id)
+/// The record of each transactional id, and where each id stands among them.
+#[derive(Drop)]
+pub struct Records {
+    list: Vec<Transaction>,
+    places: Places,
 }
 
-fn place_of(transactions: &[Transaction], id: &Text) -> Option<usize>
-    ensures place { result ≡ place_of transactions.now id.now }
-    ensures within { IfSome result (λ place. place < length transactions.now) }
-{
-    for (place, transaction) in transactions.iter().enumerate() {
-        if transaction.id == *id {
-            return Some(place);
+impl Model for Records {
+    ghost use Rattle.std.specs.Prelude.{◌-◌, min, vec_len, vec_capacity};
+    ghost use Rattle.name_places.specs.Places.{ArePlaces, room_for};
+    ghost use Rattle.txn_coordinator.specs.Kept.{RecordsValue, ids};
+
+    ghost Value = { RecordsValue };
+
+    ghost view = { λ r. record { list = r.list.items; room = min (vec_capacity r.list - vec_len r.list) (room_for r.places) } };
+
+    ghost invariant = { λ r. ArePlaces r.places (ids r.list.items) };
+}
+
+impl Records {
+    /// No record. It takes no memory.
+    pub(crate) fn new(alloc: Global) -> Records
+        ensures { result.list ≡ [] }
+    {
+        Records {
+            list: Vec::new(alloc),
+            places: Places::new(alloc),
         }
     }
-    None
-}
 
-/// Puts a record in place of that of the same id, or behind the others, where there must be room.
-pub(crate) fn put(transactions: &mut Vec<Transaction>, transaction: Transaction)
-    requires { vec_len transactions.old < vec_capacity transactions.old }
-    ensures { transactions.new.items ≡ put transactions.old.items transaction }
-{
-    match place_of(transactions, &transaction.id) {
-        Some(place) => transactions[place] = transaction,
-        None => transactions.push(transaction).unwrap(),
+    pub(crate) fn as_slice(&self) -> &[Transaction]
+        ensures { result.now ≡ self.now.list }
+    {
+        &self.list
     }
-}
 
-/// Whether the id still owes a marker.
-pub(crate) fn owes(owed: &[Shared<OwedMarker>], id: &Text) -> bool
-    ensures { result ≡ owes owed.now id.now }
-{
-    owed.iter().any(|marker| marker.value().id == *id)
-}
+    /// The record of a transactional id, if it has one.
+    pub(crate) fn get(&self, id: &Text) -> Option<&Transaction>
+        ensures { option_copied result ≡ recorded self.now.list id.now }
+    {
+        match self.place_of(id) {
+            Some(place) => Some(&self.list[place]),
+            None => None,
+        }
+    }
 
-/// The transaction of the id has its outcome, and nothing is added to it any more.
-pub(crate) fn complete(transactions: &mut Vec<Transaction>, id: &Text, outcome: Outcome)
-    ensures { transactions.new.items ≡ with_completed outcome (recorded transactions.old.items id.now) transactions.old.items }
-{
-    let alloc = *transactions.allocator();
-    if let Some(place) = place_of(transactions, id) {
-        let transaction = &mut transactions[place];
-        transaction.phase = Phase::complete(outcome);
-        transaction.partitions = Items::new(alloc);
-        transaction.groups = Items::new(alloc);
+    fn place_of(&self, id: &Text) -> Option<usize>
+        ensures place { result ≡ place_of self.now.list id.now }
+        ensures within { IfSome result (λ place. place < length self.now.list) }
+    {
+        self.places.look_up(id)
+    }
+
+    /// Makes room for one more record.
+    pub(crate) fn reserve(&mut self) -> Result<(), AllocError>
+        ensures room { OnOk result (0 < self.new.room) }
+        ensures same { self.new.list ≡ self.old.list }
+    {
+        self.list.reserve(1)?;
+        self.places.reserve()
+    }
+
+    /// Puts a record in place of that of the same id, or behind the others under this copy of its id, where there must
+    /// be room. It takes no memory.
+    pub(crate) fn put(&mut self, id: Text, transaction: Transaction)
+        requires room { 0 < self.old.room }
+        requires named { id ≡ transaction.id }
+        ensures { self.new.list ≡ put self.old.list transaction }
+    {
+        match self.place_of(&transaction.id) {
+            Some(place) => self.list[place] = transaction,
+            None => {
+                self.places.push(id, self.list.len());
+                self.list.push_reserved(transaction);
+            }
+        }
+    }
+
+    /// The transaction of the id has its outcome. It takes no memory.
+    pub(crate) fn complete(&mut self, id: &Text, outcome: Outcome)
+        ensures { self.new.list ≡ with_completed outcome (recorded self.old.list id.now) self.old.list }
+    {
+        if let Some(place) = self.place_of(id) {
+            let alloc = *self.list.allocator();
+            self.list[place].complete(alloc, outcome);
+        }
+    }
+
+    /// Fences each whose time is over. It takes no memory.
+    pub(crate) fn expire(&mut self, moment: u64)
+        requires { AllCanRaise self.old.list }
+        ensures { self.new.list ≡ map (expired moment) self.old.list }
+    {
+        expire_all(&mut self.list, moment);
     }
 }

@@ -3,11 +3,12 @@
 ghost use Rattle.std.specs.Prelude.{◌≡◌, IfOk};
 ghost use Rattle.txn_coordinator.specs.Words.{is_ongoing, has_target, prepared, complete};
 ghost use Rattle.txn_coordinator.specs.Preparing.{pair_refusal};
+ghost use Rattle.txn_coordinator.specs.Warrants.{completed};
 
 use crate::pair::Pair;
 use crate::target::{Target, TopicPartition, has_group, has_partition};
 use record_batch::Outcome;
-use std::alloc::AllocError;
+use std::alloc::{AllocError, Global};
 use wire_types::{ErrorCode, Items, Text};
 
 /// The greatest epoch, in which nobody writes.
@@ -101,5 +102,14 @@ impl Transaction {
         } else {
             Some(other_epoch)
         }
+    }
+
+    /// The transaction has its outcome, and nothing is added to it any more.
+    pub(crate) fn complete(&mut self, alloc: Global, outcome: Outcome)
+        ensures { self.new ≡ completed outcome self.old }
+    {
+        self.phase = Phase::complete(outcome);
+        self.partitions = Items::new(alloc);
+        self.groups = Items::new(alloc);
     }
 }

@@ -6,5 +6,5 @@ use Rattle.txn_coordinator.proofs.coordinator.Coordinator.fresh.Goals as goal
 pub invariant_of-self-2 : goal.invariant_of-self-2
 invariant_of-self-2 c =
     let given_is : c.push.new.self.items ≡ c.self.inside.given.items ++ None ∷ [] = search rules in
-    subst (λ (given : List (Option (List ℕ))). AreInRange (length given) c.self.inside.transactions.items) (sym given_is)
-    (given_range c.self.inside.given.items (None ∷ []) c.self.inside.transactions.items c.self.invariant)
+    subst (λ (given : List (Option (List ℕ))). AreInRange (length given) c.self.inside.records.list) (sym given_is)
+    (given_range c.self.inside.given.items (None ∷ []) c.self.inside.records.list c.self.invariant)
