@@ -4,3 +4,4 @@ pub mod Permits
 pub mod Index
 pub mod Looking
 pub mod Kept
+pub mod Contents

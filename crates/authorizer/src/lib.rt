@@ -7,6 +7,7 @@
 mod answer;
 mod asking;
 mod bucket;
+mod content;
 mod index;
 mod indexed;
 mod laws;
