@@ -5,3 +5,4 @@ pub mod Index
 pub mod Looking
 pub mod Kept
 pub mod Contents
+pub mod Picking

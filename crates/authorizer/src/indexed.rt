@@ -1,6 +1,6 @@
 //! The book of bindings with its index.
 
-ghost use Rattle.std.specs.Prelude.{◌≡◌, ◌+◌, ◌^◌, ◌<◌, ◌≤◌, length, None, IfOk, OnOk, OnErr};
+ghost use Rattle.std.specs.Prelude.{◌≡◌, ◌+◌, ◌^◌, ◌<◌, ◌≤◌, length, Some, None, IfOk, OnOk, OnErr};
 ghost use Rattle.std.specs.Str.{chars};
 ghost use Rattle.acl_binding.specs.Adding.{adding_answer};
 ghost use Rattle.acl_binding.specs.Book.{empty_book, number_of, added, appended};
@@ -12,14 +12,13 @@ ghost use Rattle.acl_binding.specs.declared.words.Pattern.TheVariants.{Prefixed}
 use crate::content::Content;
 use crate::index::Index;
 use crate::looking::{Finding, look, look_prefixes};
+use crate::names::ANY_NAME;
+use crate::picking::{Picked, copies};
 use acl_binding::{Added, Binding, Book, Filter, Numbered, Question, Verdict};
 use indexmap::IndexSet;
 use std::alloc::{AllocError, Global};
 use std::marker::Model;
-use wire_types::{Items, Shared};
-
-/// The name that stands for all of them.
-const ANY_NAME: &str = "*";
+use wire_types::{Items, Shared, Text};
 
 /// The bindings in the order of their creation, by what they say, and by kind, pattern and name.
 pub struct IndexedBook {
@@ -121,7 +120,26 @@ impl IndexedBook {
     ) -> Result<Items<Binding>, AllocError>
         ensures { IfOk result (λ picked. picked ≡ matching self.now.entries filter.now) }
     {
-        self.book.matching(alloc, filter)
+        match &filter.name {
+            Some(name) => self.matching_named(alloc, name, filter),
+            None => self.book.matching(alloc, filter),
+        }
+    }
+
+    /// The same for a filter with this name, which picks among the bindings under the names that it can mean.
+    fn matching_named(
+        &self,
+        alloc: Global,
+        name: &Text,
+        filter: &Filter,
+    ) -> Result<Items<Binding>, AllocError>
+        requires { filter.now.name ≡ Some name.now }
+        ensures { IfOk result (λ picked. picked ≡ matching self.now.entries filter.now) }
+    {
+        let _entries = self.book.entries();
+        let mut picked = Picked::new(alloc);
+        self.index.pick(name, filter, &mut picked)?;
+        copies(alloc, &picked)
     }
 
     /// Takes out the bindings that the filter picks, and answers them in creation order.

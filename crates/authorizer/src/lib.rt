@@ -15,6 +15,7 @@ mod looking;
 mod names;
 mod paid;
 mod permit;
+mod picking;
 mod policy;
 
 pub use answer::{Answer, Refusal, Why};

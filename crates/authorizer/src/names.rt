@@ -12,6 +12,9 @@ use std::alloc::{AllocError, Global};
 use std::marker::Model;
 use wire_types::Shared;
 
+/// The name that stands for all of them.
+pub(crate) const ANY_NAME: &str = "*";
+
 /// Each name with its bindings in creation order, seen as a list of both. A name without bindings isn't in the table.
 #[derive(Drop)]
 pub struct Names {
@@ -37,7 +40,8 @@ impl Names {
         }
     }
 
-    fn held(&self, name: &str) -> &[Shared<Numbered>]
+    /// The bindings of this name.
+    pub(crate) fn held(&self, name: &str) -> &[Shared<Numbered>]
         ensures { result.now ≡ held_by self.now name.now }
     {
         match self.buckets.get(name) {
