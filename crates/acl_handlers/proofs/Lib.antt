@@ -1,2 +1,3 @@
 pub mod AclParts
 pub mod BookBounds
+pub mod Groups

@@ -1,3 +1,4 @@
 pub mod DescribeAcls
 pub mod CreateAcls
 pub mod DeleteAcls
+pub mod Groups

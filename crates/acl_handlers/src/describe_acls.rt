@@ -1,16 +1,19 @@
 //! DescribeAcls: the bindings that a filter picks, resource by resource.
 
-ghost use Rattle.std.specs.Prelude.{◌≡◌, ◌≤◌, length, take, map, filter, IfOk};
-ghost use Rattle.std.specs.List.{list_any};
+ghost use Rattle.std.specs.Prelude.{◌≡◌, List, [], ◌∷◌, ◌++◌, IfOk, OnOk};
+ghost use Rattle.acl_binding.specs.declared.binding.Binding.{Binding as AnyBinding};
 ghost use Rattle.acl_binding.specs.Entries.{filter_of};
 ghost use Rattle.authorizer.specs.Asking.{part_paid};
 ghost use Rattle.broker_world.specs.World.{rules_of};
-ghost use Rattle.acl_handlers.specs.DescribeAcls.{describe_acls_questions, same_resource, described_acl, described_resource, described, describe_acls_error, describe_acls_reply, describe_acls_outcome};
+ghost use Rattle.acl_handlers.specs.DescribeAcls.{describe_acls_questions, described_acl, described, describe_acls_error, describe_acls_reply, describe_acls_outcome};
+ghost use Rattle.acl_handlers.specs.Groups.{begun, groups_of};
 
 use crate::filters::filter_in;
+use crate::resource::Resource;
 use acl_binding::{Binding, Caller, Operation};
 use authorizer::{Paid, ask_one};
 use broker_world::{Outcome, State, asks_cluster, refused_whole, served_whole};
+use indexmap::IndexMap;
 use msg_acl::{
     DescribeAclsReply, DescribeAclsRequest, DescribedAcl, DescribedResource, FilterEntry,
 };
@@ -18,20 +21,6 @@ use msg_admin::Reply;
 use std::alloc::{AllocError, Global};
 use walk::refusal_code;
 use wire_types::{ErrorCode, Items};
-
-/// Whether the bindings are about one resource.
-fn same_resource(one: &Binding, other: &Binding) -> bool
-    ensures { result ≡ same_resource one.now other.now }
-{
-    one.kind == other.kind && (one.pattern == other.pattern && one.name == other.name)
-}
-
-/// Whether one of the bindings is about the resource of this one.
-fn is_seen(seen: &[Binding], binding: &Binding) -> bool
-    ensures { result ≡ list_any (same_resource binding.now) seen.now }
-{
-    seen.iter().any(|other| same_resource(binding, other))
-}
 
 fn described_acl(binding: &Binding) -> Result<DescribedAcl, AllocError>
     ensures { IfOk result (λ acl. acl ≡ described_acl binding.now) }
@@ -44,50 +33,48 @@ fn described_acl(binding: &Binding) -> Result<DescribedAcl, AllocError>
     })
 }
 
-/// Those of the bindings that are about the resource of the first.
-fn described_acls(
-    alloc: Global,
-    bindings: &[Binding],
-    first: &Binding,
-) -> Result<Items<DescribedAcl>, AllocError>
-    ensures { IfOk result (λ acls. acls ≡ map described_acl (filter (same_resource first.now) bindings.now)) }
+/// The resource of a binding, with that binding alone.
+fn begun(alloc: Global, binding: &Binding) -> Result<DescribedResource, AllocError>
+    ensures { IfOk result (λ resource. resource ≡ begun binding.now) }
 {
     let mut acls = Items::new(alloc);
-    for binding in bindings {
-        if same_resource(first, binding) {
-            acls.push(described_acl(binding)?)?;
-        }
-    }
-    Ok(acls)
+    acls.push(described_acl(binding)?)?;
+    Ok(DescribedResource {
+        kind: binding.kind.number(),
+        name: binding.name.clone()?,
+        pattern: binding.pattern.number(),
+        acls,
+    })
 }
 
-/// The resource of a binding, with those of the bindings that are about it.
-fn described_resource(
+/// One more binding: it is the last one of its resource, or begins it.
+fn enter(
     alloc: Global,
-    bindings: &[Binding],
-    first: &Binding,
-) -> Result<DescribedResource, AllocError>
-    ensures { IfOk result (λ resource. resource ≡ described_resource bindings.now first.now) }
+    groups: &mut IndexMap<Resource, DescribedResource>,
+    binding: &Binding,
+) -> Result<(), AllocError>
+    ensures { OnOk result ((seen : List AnyBinding) → groups.old.entries ≡ groups_of seen → groups.new.entries ≡ groups_of (seen ++ binding.now ∷ [])) }
 {
-    Ok(DescribedResource {
-        kind: first.kind.number(),
-        name: first.name.clone()?,
-        pattern: first.pattern.number(),
-        acls: described_acls(alloc, bindings, first)?,
-    })
+    let resource = Resource::of(binding)?;
+    match groups.get_mut(&resource) {
+        Some(group) => group.acls.push(described_acl(binding)?)?,
+        None => {
+            groups.insert(resource, begun(alloc, binding)?)?;
+        }
+    }
+    Ok(())
 }
 
 /// The resources in the order of the first binding of each.
 fn described(alloc: Global, bindings: &[Binding]) -> Result<Items<DescribedResource>, AllocError>
     ensures { IfOk result (λ resources. resources ≡ described bindings.now) }
 {
-    let mut resources = Items::new(alloc);
-    for (place, binding) in bindings.iter().enumerate() {
-        if !is_seen(&bindings[..place], binding) {
-            resources.push(described_resource(alloc, bindings, binding)?)?;
-        }
+    let mut groups = IndexMap::new(alloc);
+    for binding in bindings {
+        enter(alloc, &mut groups, binding)?;
     }
-    Ok(resources)
+    let resources: Vec<DescribedResource> = groups.into_values().collect(alloc)?;
+    Ok(Items::from(resources))
 }
 
 fn describe_acls_error(alloc: Global, error: ErrorCode) -> DescribeAclsReply

@@ -5,6 +5,7 @@ mod create_acls;
 mod delete_acls;
 mod describe_acls;
 mod filters;
+mod resource;
 
 pub use create_acls::answer_create_acls;
 pub use delete_acls::answer_delete_acls;

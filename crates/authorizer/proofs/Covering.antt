@@ -69,9 +69,9 @@ named_filter p (e ∷ es) all = by (p e) (named_filter p es all.1) where
   by true rest = (all.0, rest)
   by false rest = rest
 
-pub kept_appended : (index : Index) (book : BookValue) (e : Numbered) → e.number ≡ book.next → IsNamed e →
-    AllByRecursion IsNamed book.entries → IsIndexed index (book.entries ++ e ∷ []) → IsKept index (appended book e.binding)
-kept_appended index book e number n named indexed =
+pub kept_appended : (index : Index) (old new : List Numbered) (book : BookValue) (e : Numbered) → e.number ≡ book.next → IsNamed e →
+    old ≡ book.entries → new ≡ old ++ e ∷ [] → AllByRecursion IsNamed book.entries → IsIndexed index (book.entries ++ e ∷ []) → IsKept index new (appended book e.binding)
+kept_appended index old new book e number n contents more named indexed =
     let is : appended book e.binding ≡ record { entries = book.entries ++ e ∷ []; next = book.next + 1 } =
     ap (λ (m : ℕ). record { entries = book.entries ++ record { number = m; binding = e.binding } ∷ []; next = book.next + 1 }) (sym number) in
-    subst (IsKept index) (sym is) (record { indexed = indexed; named = named_push book.entries e named n })
+    subst (IsKept index new) (sym is) (record { contents = more ∙ ap (λ (l : List Numbered). l ++ e ∷ []) contents; indexed = indexed; named = named_push book.entries e named n })

@@ -29,7 +29,7 @@ and_or false b x y = refl
 and_same : (a b x y : Bool) → x ≡ y → (a && (b && x)) ≡ (a && (b && y))
 and_same a b x y h = ap (λ (z : Bool). a && (b && z)) h
 
-one_longer : (kind : Kind) (name rest : List ℕ) (k c : ℕ) (e : Numbered) → IsUtf8 e.binding.name → IsCharBoundary name k → drop k name ≡ encode_utf8 c ++ rest →
+pub one_longer : (kind : Kind) (name rest : List ℕ) (k c : ℕ) (e : Numbered) → IsUtf8 e.binding.name → IsCharBoundary name k → drop k name ≡ encode_utf8 c ++ rest →
     (is_at kind Prefixed (take (k + len_utf8 c) name) e || is_longer kind name (k + len_utf8 c) e) ≡ is_longer kind name k e
 one_longer kind name rest k c e text boundary next =
     and_or (kind_number e.binding.kind == kind_number kind) (pattern_number e.binding.pattern == 4) _ _

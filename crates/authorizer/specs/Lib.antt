@@ -5,3 +5,5 @@ pub mod Permits
 pub mod Index
 pub mod Looking
 pub mod Kept
+pub mod Contents
+pub mod Picking

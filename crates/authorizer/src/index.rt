@@ -4,13 +4,12 @@ ghost use Rattle.std.specs.Prelude.{◌≡◌, List, [], ◌∷◌, ◌++◌, On
 ghost use Rattle.std.specs.Str.{IsUtf8};
 ghost use Rattle.acl_binding.specs.declared.binding.Numbered.{Numbered as Entry};
 ghost use Rattle.acl_binding.specs.declared.words.Kind.{Kind as AnyKind};
-ghost use Rattle.acl_binding.specs.Book.{number_of};
 ghost use Rattle.acl_binding.specs.Filter.{stays};
 ghost use Rattle.acl_binding.specs.Words.{kind_number};
 ghost use Rattle.authorizer.specs.Looking.{IsKindIndexed, IsIndexed, kind_index};
 
 use crate::names::Names;
-use acl_binding::{Binding, Filter, Kind, Numbered, Pattern};
+use acl_binding::{Filter, Kind, Numbered, Pattern};
 use std::alloc::{AllocError, Global};
 use wire_types::Shared;
 
@@ -37,15 +36,6 @@ impl KindIndex {
         KindIndex {
             literal: Names::new(alloc),
             prefixed: Names::new(alloc),
-        }
-    }
-
-    fn number_of(&self, binding: &Binding) -> Option<u64>
-        ensures { (es : List Entry) → IsKindIndexed self.now binding.now.kind es → result ≡ number_of es binding.now }
-    {
-        match binding.pattern {
-            Pattern::Literal => self.literal.number_of(binding),
-            Pattern::Prefixed => self.prefixed.number_of(binding),
         }
     }
 
@@ -92,13 +82,6 @@ impl Index {
             Kind::Cluster => &self.cluster,
             Kind::TransactionalId => &self.ids,
         }
-    }
-
-    /// The creation number of an equal binding.
-    pub(crate) fn number_of(&self, binding: &Binding) -> Option<u64>
-        ensures { (es : List Entry) → IsIndexed self.now es → result ≡ number_of es binding.now }
-    {
-        self.of(binding.kind).number_of(binding)
     }
 
     /// One more binding, after all others.

@@ -1,8 +1,7 @@
 //! The book of bindings with its index.
 
-ghost use Rattle.std.specs.Prelude.{◌≡◌, ◌+◌, ◌^◌, ◌<◌, ◌≤◌, length, None, IfOk, OnOk, OnErr};
+ghost use Rattle.std.specs.Prelude.{◌≡◌, ◌+◌, ◌^◌, ◌<◌, ◌≤◌, length, Some, None, IfOk, OnOk, OnErr};
 ghost use Rattle.std.specs.Str.{chars};
-ghost use Rattle.acl_binding.specs.declared.book.Added.TheVariants as answers;
 ghost use Rattle.acl_binding.specs.Adding.{adding_answer};
 ghost use Rattle.acl_binding.specs.Book.{empty_book, number_of, added, appended};
 ghost use Rattle.acl_binding.specs.Filter.{matching, removed};
@@ -10,19 +9,21 @@ ghost use Rattle.acl_binding.specs.Verdict.{verdict_of};
 ghost use Rattle.authorizer.specs.Looking.{finding};
 ghost use Rattle.acl_binding.specs.declared.words.Pattern.TheVariants.{Prefixed};
 
+use crate::content::Content;
 use crate::index::Index;
 use crate::looking::{Finding, look, look_prefixes};
+use crate::names::ANY_NAME;
+use crate::picking::{Picked, copies};
 use acl_binding::{Added, Binding, Book, Filter, Numbered, Question, Verdict};
+use indexmap::IndexSet;
 use std::alloc::{AllocError, Global};
 use std::marker::Model;
-use wire_types::{Items, Shared};
+use wire_types::{Items, Shared, Text};
 
-/// The name that stands for all of them.
-const ANY_NAME: &str = "*";
-
-/// The bindings in the order of their creation, and by kind, pattern and name.
+/// The bindings in the order of their creation, by what they say, and by kind, pattern and name.
 pub struct IndexedBook {
     book: Book,
+    contents: IndexSet<Content>,
     index: Index,
 }
 
@@ -31,6 +32,7 @@ impl Drop for IndexedBook {
     fn drop(self) {
         let IndexedBook {
             book: _book,
+            contents: _contents,
             index: _index,
         } = self;
     }
@@ -44,7 +46,7 @@ impl Model for IndexedBook {
 
     ghost view = { λ b. b.book.book };
 
-    ghost invariant = { λ b. IsKept b.index b.book.book };
+    ghost invariant = { λ b. IsKept b.index b.contents.keys b.book.book };
 }
 
 impl IndexedBook {
@@ -53,6 +55,7 @@ impl IndexedBook {
     {
         IndexedBook {
             book: Book::new(alloc),
+            contents: IndexSet::new(alloc),
             index: Index::new(alloc),
         }
     }
@@ -66,27 +69,47 @@ impl IndexedBook {
         ensures grows { self.new.next ≤ self.old.next + 1 }
         ensures err { OnErr result (self.new ≡ self.old) }
     {
-        if let Some(number) = self.index.number_of(&binding) {
-            return Ok(Added::There(number));
-        }
-        self.insert(alloc, binding)
-    }
-
-    /// Takes a new binding under the next number.
-    fn insert(&mut self, alloc: Global, binding: Binding) -> Result<Added, AllocError>
-        requires next { self.old.next + 1 < 2 ^ 64 }
-        requires named { binding.pattern ≡ Prefixed → 0 < length binding.name }
-        requires absent { number_of self.old.entries binding ≡ None }
-        ensures ok { OnOk result (self.new ≡ appended self.old binding) }
-        ensures number { IfOk result (λ answer. answer ≡ answers.Added self.old.next) }
-        ensures err { OnErr result (self.new ≡ self.old) }
-    {
         let number = self.book.next();
         let entry = Shared::new(alloc, Numbered { number, binding })?;
-        self.book.reserve()?;
-        self.index.add(alloc, &entry)?;
-        self.book.append(entry).unwrap();
+        let content = Content::of(&entry)?;
+        if let Some(number) = self.number_of(&content) {
+            return Ok(Added::There(number));
+        }
+        self.insert(alloc, entry, content)?;
         Ok(Added::Added(number))
+    }
+
+    /// The creation number of the binding that says the same.
+    fn number_of(&self, content: &Content) -> Option<u64>
+        ensures { result ≡ number_of self.now.entries content.now.binding }
+    {
+        match self.contents.get(content) {
+            Some(there) => Some(there.number()),
+            None => None,
+        }
+    }
+
+    /// Takes a new binding, which has the next number.
+    fn insert(
+        &mut self,
+        alloc: Global,
+        entry: Shared<Numbered>,
+        content: Content,
+    ) -> Result<(), AllocError>
+        requires next { self.old.next + 1 < 2 ^ 64 }
+        requires number { entry.number ≡ self.old.next }
+        requires content { content ≡ entry }
+        requires named { entry.binding.pattern ≡ Prefixed → 0 < length entry.binding.name }
+        requires absent { number_of self.old.entries entry.binding ≡ None }
+        ensures ok { OnOk result (self.new ≡ appended self.old entry.binding) }
+        ensures err { OnErr result (self.new ≡ self.old) }
+    {
+        self.book.reserve()?;
+        self.contents.reserve(1)?;
+        self.index.add(alloc, &entry)?;
+        self.contents.insert(content).unwrap();
+        self.book.append(entry).unwrap();
+        Ok(())
     }
 
     /// Copies of the bindings that the filter picks, in creation order.
@@ -97,7 +120,26 @@ impl IndexedBook {
     ) -> Result<Items<Binding>, AllocError>
         ensures { IfOk result (λ picked. picked ≡ matching self.now.entries filter.now) }
     {
-        self.book.matching(alloc, filter)
+        match &filter.name {
+            Some(name) => self.matching_named(alloc, name, filter),
+            None => self.book.matching(alloc, filter),
+        }
+    }
+
+    /// The same for a filter with this name, which picks among the bindings under the names that it can mean.
+    fn matching_named(
+        &self,
+        alloc: Global,
+        name: &Text,
+        filter: &Filter,
+    ) -> Result<Items<Binding>, AllocError>
+        requires { filter.now.name ≡ Some name.now }
+        ensures { IfOk result (λ picked. picked ≡ matching self.now.entries filter.now) }
+    {
+        let _entries = self.book.entries();
+        let mut picked = Picked::new(alloc);
+        self.index.pick(name, filter, &mut picked)?;
+        copies(alloc, &picked)
     }
 
     /// Takes out the bindings that the filter picks, and answers them in creation order.
@@ -111,6 +153,8 @@ impl IndexedBook {
         ensures err { OnErr result (self.new ≡ self.old) }
     {
         let picked = self.book.remove(alloc, filter)?;
+        self.contents
+            .retain(|content| !filter.matches(content.binding()));
         self.index.clean(filter);
         Ok(picked)
     }

@@ -7,6 +7,7 @@
 mod answer;
 mod asking;
 mod bucket;
+mod content;
 mod index;
 mod indexed;
 mod laws;
@@ -14,6 +15,7 @@ mod looking;
 mod names;
 mod paid;
 mod permit;
+mod picking;
 mod policy;
 mod tally;
 

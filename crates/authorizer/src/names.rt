@@ -3,15 +3,17 @@
 ghost use Rattle.std.specs.Prelude.{◌≡◌, ◌+◌, ◌^◌, ◌<◌, [], ◌∷◌, List, ℕ, Some, if◌then◌else◌, OnOk, OnErr};
 ghost use Rattle.std.specs.HashMap.{get_by_text};
 ghost use Rattle.std.specs.Str.{bytes_eq};
-ghost use Rattle.acl_binding.specs.Book.{number_of};
 ghost use Rattle.authorizer.specs.Index.{held_by, HasMore, HasSame, HasLess};
 
 use crate::bucket::Bucket;
-use acl_binding::{Binding, Filter, Numbered, number_of};
+use acl_binding::{Filter, Numbered};
 use indexmap::IndexMap;
 use std::alloc::{AllocError, Global};
 use std::marker::Model;
 use wire_types::Shared;
+
+/// The name that stands for all of them.
+pub(crate) const ANY_NAME: &str = "*";
 
 /// Each name with its bindings in creation order, seen as a list of both. A name without bindings isn't in the table.
 #[derive(Drop)]
@@ -38,7 +40,8 @@ impl Names {
         }
     }
 
-    fn held(&self, name: &str) -> &[Shared<Numbered>]
+    /// The bindings of this name.
+    pub(crate) fn held(&self, name: &str) -> &[Shared<Numbered>]
         ensures { result.now ≡ held_by self.now name.now }
     {
         match self.buckets.get(name) {
@@ -55,13 +58,6 @@ impl Names {
     {
         *looked += 1;
         self.held(name)
-    }
-
-    /// The creation number of an equal binding under its name.
-    pub(crate) fn number_of(&self, binding: &Binding) -> Option<u64>
-        ensures { result ≡ number_of (held_by self.now binding.now.name) binding.now }
-    {
-        number_of(self.held(binding.name.as_str()), binding)
     }
 
     /// One more binding, the last one of its name.

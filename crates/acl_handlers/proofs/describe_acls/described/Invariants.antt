@@ -1,7 +1,7 @@
-use Rattle.std.proofs.Common.{◌≡◌, ◌++◌, [], take, drop, map}
-use Rattle.acl_handlers.specs.DescribeAcls.{described_resource, firsts}
+use Rattle.std.proofs.Common.{◌≡◌, take}
+use Rattle.acl_handlers.specs.Groups.{groups_of}
 use Rattle.acl_handlers.proofs.describe_acls.described.Given as goal
 
--- the resources so far, and then those that are left
-abbrev pub invariant-loop-place : goal.invariant-loop-place
-invariant-loop-place l = l.resources ++ map (described_resource l.bindings) (firsts (take l.place l.bindings) (drop l.place l.bindings)) ≡ map (described_resource l.bindings) (firsts [] l.bindings)
+-- those that were read stand by resource
+abbrev pub invariant-loop-binding : goal.invariant-loop-binding
+invariant-loop-binding l = l.groups.entries ≡ groups_of (take l.binding-index l.bindings)

@@ -1,0 +1,46 @@
+//! The resources that bindings are about, as keys.
+
+ghost use Rattle.std.specs.Prelude.{◌≡◌, ◌++◌, IfOk};
+ghost use Rattle.std.proofs.Common.{rules};
+ghost use Rattle.std.specs.Cmp.Rules.{hashing};
+ghost use Rattle.std.specs.Hash as fed;
+ghost use Rattle.acl_handlers.specs.Groups.{resource_of};
+
+use acl_binding::Binding;
+use std::alloc::AllocError;
+use std::hash::{Hash, Hasher};
+use wire_types::Text;
+
+/// What a binding is about, its kind and its pattern by their numbers: bindings of equal resources are about one.
+#[derive(Drop, PartialEq, Eq)]
+pub struct Resource {
+    kind: i8,
+    pattern: i8,
+    name: Text,
+}
+
+/// Written out, since a text has no hash of its own.
+impl Hash for Resource {
+    ghost hash_input = { λ r. fed.i8 r.kind ++ (fed.i8 r.pattern ++ fed.str r.name) };
+
+    ghost respects_eq = { Prim.search (hashing, rules) };
+
+    fn hash<H: Hasher>(&self, state: &mut H) {
+        self.kind.hash(state);
+        self.pattern.hash(state);
+        self.name.as_str().hash(state);
+    }
+}
+
+impl Resource {
+    /// What the binding is about.
+    pub(crate) fn of(binding: &Binding) -> Result<Resource, AllocError>
+        ensures { IfOk result (λ resource. resource ≡ resource_of binding.now) }
+    {
+        Ok(Resource {
+            kind: binding.kind.number(),
+            pattern: binding.pattern.number(),
+            name: binding.name.clone()?,
+        })
+    }
+}

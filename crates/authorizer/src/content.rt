@@ -1,0 +1,80 @@
+//! A binding of the book as a key.
+
+ghost use Rattle.std.specs.Prelude.{◌≡◌, IfOk};
+ghost use Rattle.std.specs.Cmp.{partial_equiv_from_equiv};
+ghost use Rattle.authorizer.specs.Contents.{says_same, says_same_laws, said, said_alike};
+
+use acl_binding::{Binding, Numbered};
+use std::alloc::AllocError;
+use std::hash::{Hash, Hasher};
+use std::marker::Model;
+use wire_types::Shared;
+
+/// A numbered binding, which is equal to each that says the same, whatever their numbers.
+#[derive(Drop)]
+pub struct Content {
+    entry: Shared<Numbered>,
+}
+
+impl Model for Content {
+    ghost use Rattle.acl_binding.specs.declared.binding.Numbered.{Numbered};
+
+    ghost Value = { Numbered };
+
+    ghost view = { λ c. c.entry };
+}
+
+impl PartialEq for Content {
+    ghost eq = { says_same };
+
+    ghost laws = { partial_equiv_from_equiv says_same_laws };
+
+    fn eq(&self, other: &Content) -> bool {
+        self.binding() == other.binding()
+    }
+}
+
+impl Eq for Content {
+    ghost laws = { says_same_laws };
+}
+
+/// Written out, since a text has no hash of its own.
+impl Hash for Content {
+    ghost hash_input = { said };
+
+    ghost respects_eq = { said_alike.fed };
+
+    fn hash<H: Hasher>(&self, state: &mut H) {
+        let binding = self.binding();
+        binding.kind.number().hash(state);
+        binding.name.as_str().hash(state);
+        binding.pattern.number().hash(state);
+        binding.principal.as_str().hash(state);
+        binding.host.as_str().hash(state);
+        binding.operation.number().hash(state);
+        binding.permission.number().hash(state);
+    }
+}
+
+impl Content {
+    /// The binding with one more owner.
+    pub(crate) fn of(entry: &Shared<Numbered>) -> Result<Content, AllocError>
+        ensures { IfOk result (λ content. content ≡ entry.now) }
+    {
+        Ok(Content {
+            entry: entry.share()?,
+        })
+    }
+
+    pub(crate) fn number(&self) -> u64
+        ensures { result ≡ self.now.number }
+    {
+        self.entry.value().number
+    }
+
+    pub(crate) fn binding(&self) -> &Binding
+        ensures { result.now ≡ self.now.binding }
+    {
+        &self.entry.value().binding
+    }
+}
