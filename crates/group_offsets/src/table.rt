@@ -22,6 +22,7 @@ pub struct Table {
     pub partitions: IndexSet<Partition>,
     /// The rows of the partitions, in the same order.
     pub rows: Vec<Row>,
+    /// Of each producer the rows in which it waits.
     pub staged: IndexMap<i64, IndexSet<usize>>,
     pub alloc: Global,
 }
