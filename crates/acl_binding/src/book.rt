@@ -139,9 +139,16 @@ impl Book {
         ensures err { OnErr result (self.new.book ≡ self.old.book) }
     {
         let picked = self.matching(alloc, filter)?;
+        self.clean(filter);
+        Ok(picked)
+    }
+
+    /// Takes out the bindings that the filter picks.
+    pub fn clean(&mut self, filter: &Filter)
+        ensures { self.new.book ≡ removed self.old.book filter.now }
+    {
         self.entries
             .retain(|entry| !filter.matches(&entry.value().binding));
-        Ok(picked)
     }
 
     /// What the bindings answer to the question: deny before allow.

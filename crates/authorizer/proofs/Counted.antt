@@ -1,5 +1,5 @@
 -- Each removal takes a binding out, so that edit numbers stay below twice the creation numbers.
-use Rattle.std.proofs.Common.{◌≡◌, ℕ, suc, ◌+◌, ◌<◌, Bool, true, false, cond, not, List, [], ◌∷◌, filter, length, refl, arith}
+use Rattle.std.proofs.Common.{◌≡◌, ℕ, suc, ◌+◌, ◌<◌, Bool, true, false, cond, not, List, [], ◌∷◌, filter, length, refl, ap, arith}
 use Rattle.acl_binding.specs.declared.binding.Numbered.{Numbered}
 use Rattle.acl_binding.specs.declared.filter.Filter.{Filter}
 use Rattle.acl_binding.specs.Book.{BookValue}
@@ -14,6 +14,17 @@ split_size f (e ∷ es) = by_match (matches f e.binding) (split_size f es) where
       → length (cond (not m) (e ∷ filter (stays f) es) (filter (stays f) es)) + length (cond m (e.binding ∷ matching es f) (matching es f)) ≡ suc (length es)
   by_match true rest = omega (arith, rest)
   by_match false rest = omega (arith, rest)
+
+-- where nothing is taken out all stays
+all_stay : (f : Filter) (es : List Numbered) → matching es f ≡ [] → es ≡ filter (stays f) es
+all_stay f [] none = refl
+all_stay f (e ∷ es) none = by_match (matches f e.binding) none (all_stay f es) where
+  by_match : (m : Bool) → cond m (e.binding ∷ matching es f) (matching es f) ≡ [] → (matching es f ≡ [] → es ≡ filter (stays f) es) → e ∷ es ≡ cond (not m) (e ∷ filter (stays f) es) (filter (stays f) es)
+  by_match true h rest = absurd (let clash : e.binding ∷ matching es f ≡ [] = h in cc)
+  by_match false h rest = ap (λ (l : List Numbered). e ∷ l) (rest h)
+
+pub none_removed : (book : BookValue) (f : Filter) → matching book.entries f ≡ [] → book ≡ removed book f
+none_removed book f none = λ i. record { entries = all_stay f book.entries none i; next = book.next }
 
 pub counted_removed : (edit : ℕ) (book : BookValue) (f : Filter) → 0 < length (matching book.entries f) → IsCounted edit book → IsCounted (edit + 1) (removed book f)
 counted_removed edit book f some counted = omega (arith, split_size f book.entries, some, counted)

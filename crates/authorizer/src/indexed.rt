@@ -152,7 +152,11 @@ impl IndexedBook {
         ensures picked { IfOk result (λ list. list ≡ matching self.old.entries filter.now) }
         ensures err { OnErr result (self.new ≡ self.old) }
     {
-        let picked = self.book.remove(alloc, filter)?;
+        let picked = self.matching(alloc, filter)?;
+        if picked.is_empty() {
+            return Ok(picked);
+        }
+        self.book.clean(filter);
         self.contents
             .retain(|content| !filter.matches(content.binding()));
         self.index.clean(filter);

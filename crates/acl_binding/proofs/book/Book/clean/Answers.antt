@@ -2,7 +2,7 @@ use Rattle.std.proofs.Common.{rules}
 use Rattle.std.proofs.lemmas.Fn.{filter_same}
 use Rattle.acl_binding.specs.Filter.{stays}
 use Rattle.acl_binding.proofs.Kept.{rising_filter, below_filter, distinct_filter}
-use Rattle.acl_binding.proofs.book.Book.remove.Goals as goal
+use Rattle.acl_binding.proofs.book.Book.clean.Goals as goal
 
 pub invariant_of-self : goal.invariant_of-self
 invariant_of-self c =
@@ -14,7 +14,7 @@ invariant_of-self c =
       distinct = distinct_filter _ _ c.self.invariant.distinct;
     })
 
-pub returns-clause-ok : goal.returns-clause-ok
-returns-clause-ok c =
+pub returns : goal.returns
+returns c =
     let kept = filter_same _ (stays c.args.filter.now) _ (λ x b f' k. search rules) _ _ c.retain.ensures.filtered in
     rw (← c.self.view_is) (λ i. record { entries = kept i; next = c.self.inside.next })
