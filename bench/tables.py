@@ -4,12 +4,13 @@ Each row is measured at n and at 4n in one run. What stands before the work is r
 row tells the work itself; the best of three runs counts.
 """
 
-import resource
+import os
+import signal
 import struct
 import subprocess
 import sys
 import tempfile
-import time
+import threading
 from pathlib import Path
 
 sys.path.append(str(Path(__file__).resolve().parent.parent / "scripts"))
@@ -17,10 +18,10 @@ sys.path.append(str(Path(__file__).resolve().parent.parent / "scripts"))
 from histories import TRANSACTIONAL, array, batch, fetch, frame, only, string  # noqa: E402
 
 RUNS = 3
-WORK = 2000
+WORK = 20_000
+LONGEST = 60  # seconds of a run
 PLACE = ("t", 0)
-DEFAULT_TRAIL = 10_000_000
-RATIO_OF_LOOK_UPS = 5
+TRAIL_LIMIT = 10_000_000
 
 
 # ---- scripts
@@ -29,7 +30,7 @@ RATIO_OF_LOOK_UPS = 5
 def settings(topics=1, partitions=1, acls=()):
     """Settings with so many topics, `t` the last of them."""
     names = [f"topic{it}" for it in range(topics - 1)] + ["t"]
-    lines = [f'node_id = 1\nhost = "h"\nport = 9092\nsupers = ["User:root"]\ntrail_limit = {DEFAULT_TRAIL}\n']
+    lines = [f'node_id = 1\nhost = "h"\nport = 9092\nsupers = ["User:root"]\ntrail_limit = {TRAIL_LIMIT}\n']
     lines += [f'[[topic]]\nname = "{it}"\npartitions = {partitions}\n' for it in names]
     return "".join([*lines, *acls])
 
@@ -207,52 +208,51 @@ ROWS = [
 
 
 def run(program, script):
-    """Seconds and the peak of memory in bytes, of the best of some runs."""
+    """Processor seconds and the peak of memory in bytes, of the best of some runs; or nothing where one takes too long."""
     best, peak = float("inf"), 0
     with tempfile.NamedTemporaryFile("w+") as text:
         text.write(script)
         text.flush()
         for _ in range(RUNS):
             text.seek(0)
-            start = time.monotonic()
             process = subprocess.Popen([program, "replay"], stdin=text, stdout=subprocess.DEVNULL)
-            _, status, usage = _wait(process)
-            if status:
-                sys.exit(f"tables: the program ended with {status}")
-            best, peak = min(best, time.monotonic() - start), usage.ru_maxrss * 1024
+            timer = threading.Timer(LONGEST, process.kill)
+            timer.start()
+            _, status, usage = os.wait4(process.pid, 0)
+            timer.cancel()
+            process.returncode = os.waitstatus_to_exitcode(status)
+            if process.returncode == -signal.SIGKILL:
+                return None
+            if process.returncode:
+                sys.exit(f"tables: the program ended with {process.returncode}")
+            best, peak = min(best, usage.ru_utime + usage.ru_stime), usage.ru_maxrss * 1024
     return best, peak
 
 
-def _wait(process):
-    """Waits for a process, with what it used."""
-    import os
-
-    number, status, usage = os.wait4(process.pid, 0)
-    process.returncode = os.waitstatus_to_exitcode(status)
-    return number, process.returncode, usage
-
-
 def measured(program, row, n):
-    """Microseconds for each of the row's look-ups, and the peak of memory."""
+    """Microseconds for each of the row's look-ups, and the peak of memory; or nothing."""
     head, work, steps = row(n)
-    ends_head = head if "---\n" in head else head + "---\n"
-    before, _ = run(program, ends_head)
-    after, peak = run(program, head + "".join(work))
-    return max(after - before, 0.0) * 1e6 / steps, peak
+    before = run(program, head if "---\n" in head else head + "---\n")
+    after = before and run(program, head + "".join(work))
+    return after and (max(after[0] - before[0], 0.0) * 1e6 / steps, after[1])
+
+
+def told(small, large, n):
+    """The last columns of a row."""
+    times = [f"{it[0]:,.2f} µs" if it else f"above {LONGEST} s in all" for it in (small, large)]
+    ratio = f"{large[0] / small[0]:.1f}" if small and large and small[0] else ""
+    memory = f"{(large[1] - small[1]) // (3 * n):,}" if small and large else ""
+    return [*times, ratio, memory]
 
 
 def main():
     program = sys.argv[1]
-    most = int(sys.argv[2]) if len(sys.argv) > 2 else None
-    print("| | n | at n | at 4n | ratio | memory for one more |\n|---|--:|--:|--:|--:|--:|")
+    print("| | n | at n | at 4n | ratio | bytes for one more |\n|---|--:|--:|--:|--:|--:|")
     for name, row, sizes in ROWS:
         for n in sizes:
-            if most and n > most:
-                continue
-            small, low = measured(program, row, n)
-            large, high = measured(program, row, 4 * n)
-            ratio = f"{large / small:.1f}" if small else ""
-            print(f"| {name} | {n:,} | {small:.2f} µs | {large:.2f} µs | {ratio} | {(high - low) // (3 * n):,} |", flush=True)
+            small = measured(program, row, n)
+            large = small and measured(program, row, 4 * n)
+            print("| " + " | ".join([name, f"{n:,}", *told(small, large, n)]) + " |", flush=True)
 
 
 if __name__ == "__main__":
