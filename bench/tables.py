@@ -1,7 +1,7 @@
 """What look-ups cost among few and among four times as many: `kbroker replay` over scripts that this program makes.
 
-Each row is measured at n and at 4n in one run. What stands before the work is run alone too, and taken off, so that a
-row tells the work itself; the best of three runs counts.
+Each row is measured at n and at 4n in one run, in processor time. What stands before the work is run alone too, and
+taken off, so that a row tells the work itself; the best of three runs counts.
 """
 
 import os
