@@ -157,11 +157,11 @@ def decide_staged(n):
 
 
 def markers_owed(n):
-    head = settings(-(-n // 1000), min(n, 1000)) + "---\n" + init("id")
-    for it in range(-(-n // 1000)):
-        topic = "t" if it == -(-n // 1000) - 1 else f"topic{it}"
-        head += add("id", 0, range(min(n, 1000)), topic)
-    return head + end("id", 0, 1), ["mark\n"] * n, n
+    """Of each transactional id a thousand, or all where there are fewer."""
+    each, head = min(n, 1000), settings(1, min(n, 1000)) + "---\n"
+    for it in range(n // each):
+        head += init(f"id{it}") + add(f"id{it}", it, range(each)) + end(f"id{it}", it, 1)
+    return head, ["mark\n"] * n, n
 
 
 def open_many_names(n):
