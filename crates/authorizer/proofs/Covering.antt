@@ -1,5 +1,5 @@
 -- The names that are looked up are all that can cover.
-use Rattle.std.proofs.Common.{◌≡◌, ℕ, ◌+◌, ◌<◌, List, [], ◌∷◌, ◌++◌, length, filter, Bool, true, false, cond, ◌&&◌, ◌||◌, refl, sym, ap, subst, ◌∙◌}
+use Rattle.std.proofs.Common.{◌≡◌, ℕ, ◌<◌, List, [], ◌∷◌, ◌++◌, length, filter, Bool, true, false, cond, ◌&&◌, ◌||◌, refl, sym, ap, subst, ◌∙◌}
 use Rattle.std.specs.Prelude.{nat_eq, nat_lt, ◌==◌}
 use Rattle.std.specs.List.{AllByRecursion, starts_with}
 use Rattle.std.proofs.lemmas.Bool.Decides.{Decides-ltb}
@@ -11,12 +11,11 @@ use Rattle.acl_binding.specs.declared.binding.Numbered.{Numbered}
 use Rattle.acl_binding.specs.declared.question.Question.{Question}
 use Rattle.acl_binding.specs.Words.{kind_number, pattern_number}
 use Rattle.acl_binding.specs.Binding.{name_covers, star}
-use Rattle.acl_binding.specs.Book.{BookValue, IsRising, appended}
+use Rattle.acl_binding.specs.Book.{IsRising}
 use Rattle.acl_binding.proofs.Kept.{rising_filter}
 use Rattle.std.specs.Str.{bytes_eq}
 use Rattle.authorizer.specs.Index.{held_by}
 use Rattle.authorizer.specs.Looking.{finding, joined, is_at, is_longer, about, kind_index, IsNamed, IsTableOf, IsKindIndexed, IsIndexed}
-use Rattle.authorizer.specs.Kept.{IsKept}
 use Rattle.authorizer.specs.declared.index.KindIndex.{KindIndex}
 use Rattle.authorizer.specs.declared.index.Index.{Index}
 use Rattle.authorizer.proofs.Findings.{joined_parts, covering, each_of}
@@ -58,7 +57,7 @@ found_all k es q is named =
 
 -- ---- what a policy keeps
 
-named_push : (es : List Numbered) (e : Numbered) → AllByRecursion IsNamed es → IsNamed e → AllByRecursion IsNamed (es ++ e ∷ [])
+pub named_push : (es : List Numbered) (e : Numbered) → AllByRecursion IsNamed es → IsNamed e → AllByRecursion IsNamed (es ++ e ∷ [])
 named_push [] e all n = (n, tt)
 named_push (x ∷ es) e all n = (all.0, named_push es e all.1 n)
 
@@ -68,10 +67,3 @@ named_filter p (e ∷ es) all = by (p e) (named_filter p es all.1) where
   by : (b : Bool) → AllByRecursion IsNamed (filter p es) → AllByRecursion IsNamed (cond b (e ∷ filter p es) (filter p es))
   by true rest = (all.0, rest)
   by false rest = rest
-
-pub kept_appended : (index : Index) (old new : List Numbered) (book : BookValue) (e : Numbered) → e.number ≡ book.next → IsNamed e →
-    old ≡ book.entries → new ≡ old ++ e ∷ [] → AllByRecursion IsNamed book.entries → IsIndexed index (book.entries ++ e ∷ []) → IsKept index new (appended book e.binding)
-kept_appended index old new book e number n contents more named indexed =
-    let is : appended book e.binding ≡ record { entries = book.entries ++ e ∷ []; next = book.next + 1 } =
-    ap (λ (m : ℕ). record { entries = book.entries ++ record { number = m; binding = e.binding } ∷ []; next = book.next + 1 }) (sym number) in
-    subst (IsKept index new) (sym is) (record { contents = more ∙ ap (λ (l : List Numbered). l ++ e ∷ []) contents; indexed = indexed; named = named_push book.entries e named n })

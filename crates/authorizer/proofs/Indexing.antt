@@ -110,7 +110,7 @@ filter_swap p s (e ∷ es) = by (filter_swap p s es) (p e) (s e) refl refl where
   by rest false true pe se = rest ∙ sym (ap (λ (b : Bool). cond b (e ∷ filter p (filter s es)) (filter p (filter s es))) pe)
   by rest false false pe se = rest
 
-filtered : (s : Numbered → Bool) (xs : List Numbered) → option_and_then (λ held. nonempty (filter s held)) (nonempty xs) ≡ nonempty (filter s xs)
+pub filtered : (s : Numbered → Bool) (xs : List Numbered) → option_and_then (λ held. nonempty (filter s held)) (nonempty xs) ≡ nonempty (filter s xs)
 filtered s [] = refl
 filtered s (x ∷ xs) = refl
 

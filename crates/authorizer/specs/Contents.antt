@@ -1,17 +1,28 @@
 -- A binding of the book as a key, told from others by what it says and not by its number.
-use Rattle.std.specs.Prelude.{ℕ, pos, Bool, ◌++◌}
+use Rattle.std.specs.Prelude.{◌≡◌, ℕ, pos, Bool, List, ◌++◌, None, if◌then◌else◌}
 use Rattle.std.specs.Cmp.{IsEquivalence, and_equiv, on_equiv, nat_eq_equiv, unsigned_Decides}
 use Rattle.std.specs.Cmp.Lexicographic.{nat_list_eq_equiv, bytes_decides}
 use Rattle.std.specs.Hash as fed
 use Rattle.std.specs.Hash.{HashWrites, Alike, and-Alike, on_Alike, same_Alike}
+use Rattle.std.specs.List.{list_any}
+use Rattle.std.specs.Map.{lookup}
 use Rattle.acl_binding.specs.declared.binding.Numbered.{Numbered}
 use Rattle.acl_binding.specs.Words.{kind_number, pattern_number, operation_number, permission_number}
 use Rattle.acl_binding.specs.WireNumbers.{kind_code, pattern_code, operation_code, permission_code}
 use Rattle.acl_binding.specs.Binding.{same_binding}
+use Rattle.acl_binding.specs.Book.{number_of}
 
 -- both say the same
 abbrev pub says_same : Numbered → Numbered → Bool
 says_same a b = same_binding a.binding b.binding
+
+-- for whatever a binding says, the table has the number of the one among these that says the same
+abbrev pub IsContentsOf : List (Numbered × ℕ) → List Numbered → Type 0
+IsContentsOf table es = (e : Numbered) → lookup (says_same e) table ≡ number_of es e.binding
+
+-- the table no longer has what these say
+abbrev pub HasForgotten : List (Numbered × ℕ) → List (Numbered × ℕ) → List Numbered → Type 0
+HasForgotten old new these = (e : Numbered) → lookup (says_same e) new ≡ (if list_any (λ x. says_same x e) these then None else lookup (says_same e) old)
 
 pub says_same_laws : IsEquivalence says_same
 says_same_laws =

@@ -37,3 +37,7 @@ HasSame old new = (other : List ℕ) → found new other ≡ found old other
 -- under each name the table has what the filter doesn't pick, and no name of which nothing is left
 abbrev pub HasLess : List (List ℕ × List Numbered) → List (List ℕ × List Numbered) → Filter → Type 0
 HasLess old new f = (other : List ℕ) → found new other ≡ option_and_then (λ held. nonempty (filter (stays f) held)) (found old other)
+
+-- under this name the table has what the filter doesn't pick, if that is anything, and under each other what it had
+abbrev pub HasLessAt : List (List ℕ × List Numbered) → List (List ℕ × List Numbered) → List ℕ → Filter → Type 0
+HasLessAt old new name f = (other : List ℕ) → found new other ≡ (if bytes_eq name other then option_and_then (λ held. nonempty (filter (stays f) held)) (found old other) else found old other)

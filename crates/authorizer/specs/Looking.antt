@@ -38,6 +38,10 @@ pub record IsIndexed (index : Index) (es : List Numbered) : Type 0 where
   pub cluster : IsKindIndexed index.cluster Cluster es
   pub ids : IsKindIndexed index.ids TransactionalId es
 
+abbrev pub pattern_names : KindIndex → Pattern → List (List ℕ × List Numbered)
+pattern_names k Literal = k.literal
+pattern_names k Prefixed = k.prefixed
+
 abbrev pub kind_index : Index → Kind → KindIndex
 kind_index index Topic = index.topics
 kind_index index Group = index.groups

@@ -66,6 +66,13 @@ impl Content {
         })
     }
 
+    /// The same with one more owner.
+    pub(crate) fn share(&self) -> Result<Content, AllocError>
+        ensures { IfOk result (λ content. content ≡ self.now) }
+    {
+        Content::of(&self.entry)
+    }
+
     pub(crate) fn number(&self) -> u64
         ensures { result ≡ self.now.number }
     {

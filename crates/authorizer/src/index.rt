@@ -6,9 +6,11 @@ ghost use Rattle.acl_binding.specs.declared.binding.Numbered.{Numbered as Entry}
 ghost use Rattle.acl_binding.specs.declared.words.Kind.{Kind as AnyKind};
 ghost use Rattle.acl_binding.specs.Filter.{stays};
 ghost use Rattle.acl_binding.specs.Words.{kind_number};
-ghost use Rattle.authorizer.specs.Looking.{IsKindIndexed, IsIndexed, kind_index};
+ghost use Rattle.authorizer.specs.Looking.{about, is_at, IsKindIndexed, IsIndexed, kind_index, pattern_names};
+ghost use Rattle.authorizer.specs.Picking.{left_of, stands_at, stands_in};
 
 use crate::names::Names;
+use crate::place::Place;
 use acl_binding::{Filter, Kind, Numbered, Pattern};
 use std::alloc::{AllocError, Global};
 use wire_types::Shared;
@@ -39,6 +41,16 @@ impl KindIndex {
         }
     }
 
+    /// The bindings of this pattern.
+    fn of(&self, pattern: Pattern) -> &Names
+        ensures { result.now ≡ pattern_names self.now pattern }
+    {
+        match pattern {
+            Pattern::Literal => &self.literal,
+            Pattern::Prefixed => &self.prefixed,
+        }
+    }
+
     fn add(&mut self, alloc: Global, entry: &Shared<Numbered>) -> Result<(), AllocError>
         ensures ok { OnOk result ((kind : AnyKind) (es : List Entry) → kind_number entry.now.binding.kind ≡ kind_number kind → IsKindIndexed self.old kind es → IsKindIndexed self.new kind (es ++ entry.now ∷ [])) }
         ensures err { OnErr result ((kind : AnyKind) (es : List Entry) → IsKindIndexed self.old kind es → IsKindIndexed self.new kind es) }
@@ -57,6 +69,16 @@ impl KindIndex {
     {
         self.literal.clean(filter);
         self.prefixed.clean(filter);
+    }
+
+    /// Takes out the bindings of this pattern and name that the filter picks.
+    fn clean_at(&mut self, pattern: Pattern, name: &str, filter: &Filter)
+        ensures { (kind : AnyKind) (es : List Entry) → IsKindIndexed self.old kind es → IsKindIndexed self.new kind (kept (left_of filter.now (is_at kind pattern name.now)) es) }
+    {
+        match pattern {
+            Pattern::Literal => self.literal.clean_at(name, filter),
+            Pattern::Prefixed => self.prefixed.clean_at(name, filter),
+        }
     }
 }
 
@@ -84,6 +106,13 @@ impl Index {
         }
     }
 
+    /// The bindings at the place.
+    pub(crate) fn held(&self, place: &Place) -> &[Shared<Numbered>]
+        ensures { (es : List Entry) → IsIndexed self.now es → result.now ≡ about place.now.kind place.now.pattern place.now.name.now es }
+    {
+        self.of(place.kind).of(place.pattern).held(place.name)
+    }
+
     /// One more binding, after all others.
     pub(crate) fn add(&mut self, alloc: Global, entry: &Shared<Numbered>) -> Result<(), AllocError>
         ensures ok { OnOk result ((es : List Entry) → IsIndexed self.old es → IsIndexed self.new (es ++ entry.now ∷ [])) }
@@ -106,5 +135,26 @@ impl Index {
         self.groups.clean(filter);
         self.cluster.clean(filter);
         self.ids.clean(filter);
+    }
+
+    /// Takes out the bindings at the place that the filter picks.
+    fn clean_at(&mut self, place: &Place, filter: &Filter)
+        ensures { (es : List Entry) → IsIndexed self.old es → IsIndexed self.new (kept (left_of filter.now (stands_at place.now)) es) }
+    {
+        match place.kind {
+            Kind::Topic => self.topics.clean_at(place.pattern, place.name, filter),
+            Kind::Group => self.groups.clean_at(place.pattern, place.name, filter),
+            Kind::Cluster => self.cluster.clean_at(place.pattern, place.name, filter),
+            Kind::TransactionalId => self.ids.clean_at(place.pattern, place.name, filter),
+        }
+    }
+
+    /// Takes out the bindings at these places that the filter picks.
+    pub(crate) fn clean_places(&mut self, places: &[Place], filter: &Filter)
+        ensures { (es : List Entry) → IsIndexed self.old es → IsIndexed self.new (kept (left_of filter.now (stands_in places.now)) es) }
+    {
+        for place in places {
+            self.clean_at(place, filter);
+        }
     }
 }

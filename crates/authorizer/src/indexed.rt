@@ -1,29 +1,33 @@
 //! The book of bindings with its index.
 
-ghost use Rattle.std.specs.Prelude.{◌≡◌, ◌+◌, ◌^◌, ◌<◌, ◌≤◌, length, Some, None, IfOk, OnOk, OnErr};
+ghost use Rattle.std.specs.Prelude.{◌≡◌, ◌+◌, ◌^◌, ◌<◌, ◌≤◌, length, Some, None, IfOk, OnOk, OnErr, filter as kept};
 ghost use Rattle.std.specs.Str.{chars};
 ghost use Rattle.acl_binding.specs.Adding.{adding_answer};
 ghost use Rattle.acl_binding.specs.Book.{empty_book, number_of, added, appended};
 ghost use Rattle.acl_binding.specs.Filter.{matching, removed};
 ghost use Rattle.acl_binding.specs.Verdict.{verdict_of};
 ghost use Rattle.authorizer.specs.Looking.{finding};
+ghost use Rattle.authorizer.specs.Picking.{numbered, picks, AreAllAt};
 ghost use Rattle.acl_binding.specs.declared.words.Pattern.TheVariants.{Prefixed};
 
 use crate::content::Content;
 use crate::index::Index;
 use crate::looking::{Finding, look, look_prefixes};
 use crate::names::ANY_NAME;
-use crate::picking::{Picked, copies};
-use acl_binding::{Added, Binding, Book, Filter, Numbered, Question, Verdict};
-use indexmap::IndexSet;
+use crate::picking::{ByNumber, copies, forget, pick_from_all, take_out};
+use crate::place::{Place, places};
+use acl_binding::{Added, Binding, Filter, Numbered, Question, Verdict};
+use indexmap::IndexMap;
 use std::alloc::{AllocError, Global};
 use std::marker::Model;
-use wire_types::{Items, Shared, Text};
+use wire_types::{Items, Shared};
 
-/// The bindings in the order of their creation, by what they say, and by kind, pattern and name.
+/// The bindings by their creation numbers, the numbers by what the bindings say, and the bindings by kind, pattern and
+/// name.
 pub struct IndexedBook {
-    book: Book,
-    contents: IndexSet<Content>,
+    entries: ByNumber,
+    next: u64,
+    contents: IndexMap<Content, u64>,
     index: Index,
 }
 
@@ -31,7 +35,8 @@ pub struct IndexedBook {
 impl Drop for IndexedBook {
     fn drop(self) {
         let IndexedBook {
-            book: _book,
+            entries: _entries,
+            next: _next,
             contents: _contents,
             index: _index,
         } = self;
@@ -40,13 +45,13 @@ impl Drop for IndexedBook {
 
 impl Model for IndexedBook {
     ghost use Rattle.acl_binding.specs.Book.{BookValue};
-    ghost use Rattle.authorizer.specs.Kept.{IsKept};
+    ghost use Rattle.authorizer.specs.Kept.{book_of, IsKept};
 
     ghost Value = { BookValue };
 
-    ghost view = { λ b. b.book.book };
+    ghost view = { λ b. book_of b.entries.entries b.next };
 
-    ghost invariant = { λ b. IsKept b.index b.contents.keys b.book.book };
+    ghost invariant = { λ b. IsKept b.index b.contents.entries b.entries.entries b.next };
 }
 
 impl IndexedBook {
@@ -54,8 +59,9 @@ impl IndexedBook {
         ensures { result ≡ empty_book }
     {
         IndexedBook {
-            book: Book::new(alloc),
-            contents: IndexSet::new(alloc),
+            entries: ByNumber::new(alloc),
+            next: 1,
+            contents: IndexMap::new(alloc),
             index: Index::new(alloc),
         }
     }
@@ -69,13 +75,13 @@ impl IndexedBook {
         ensures grows { self.new.next ≤ self.old.next + 1 }
         ensures err { OnErr result (self.new ≡ self.old) }
     {
-        let number = self.book.next();
+        let number = self.next;
         let entry = Shared::new(alloc, Numbered { number, binding })?;
         let content = Content::of(&entry)?;
         if let Some(number) = self.number_of(&content) {
             return Ok(Added::There(number));
         }
-        self.insert(alloc, entry, content)?;
+        self.insert(alloc, &entry, content)?;
         Ok(Added::Added(number))
     }
 
@@ -83,32 +89,33 @@ impl IndexedBook {
     fn number_of(&self, content: &Content) -> Option<u64>
         ensures { result ≡ number_of self.now.entries content.now.binding }
     {
-        match self.contents.get(content) {
-            Some(there) => Some(there.number()),
-            None => None,
-        }
+        self.contents.get(content).copied()
     }
 
     /// Takes a new binding, which has the next number.
     fn insert(
         &mut self,
         alloc: Global,
-        entry: Shared<Numbered>,
+        entry: &Shared<Numbered>,
         content: Content,
     ) -> Result<(), AllocError>
         requires next { self.old.next + 1 < 2 ^ 64 }
-        requires number { entry.number ≡ self.old.next }
-        requires content { content ≡ entry }
-        requires named { entry.binding.pattern ≡ Prefixed → 0 < length entry.binding.name }
-        requires absent { number_of self.old.entries entry.binding ≡ None }
-        ensures ok { OnOk result (self.new ≡ appended self.old entry.binding) }
+        requires number { entry.now.number ≡ self.old.next }
+        requires content { content ≡ entry.now }
+        requires named { entry.now.binding.pattern ≡ Prefixed → 0 < length entry.now.binding.name }
+        requires absent { number_of self.old.entries entry.now.binding ≡ None }
+        ensures ok { OnOk result (self.new ≡ appended self.old entry.now.binding) }
         ensures err { OnErr result (self.new ≡ self.old) }
     {
-        self.book.reserve()?;
+        let number = self.next;
         self.contents.reserve(1)?;
-        self.index.add(alloc, &entry)?;
-        self.contents.insert(content).unwrap();
-        self.book.append(entry).unwrap();
+        self.entries.insert(number, content.share()?)?;
+        if let Err(fault) = self.index.add(alloc, entry) {
+            self.entries.remove(&number);
+            return Err(fault);
+        }
+        self.contents.insert(content, number).unwrap();
+        self.next += 1;
         Ok(())
     }
 
@@ -120,26 +127,28 @@ impl IndexedBook {
     ) -> Result<Items<Binding>, AllocError>
         ensures { IfOk result (λ picked. picked ≡ matching self.now.entries filter.now) }
     {
-        match &filter.name {
-            Some(name) => self.matching_named(alloc, name, filter),
-            None => self.book.matching(alloc, filter),
-        }
+        let places = places(alloc, filter)?;
+        copies(alloc, &self.picked(alloc, filter, &places)?)
     }
 
-    /// The same for a filter with this name, which picks among the bindings under the names that it can mean.
-    fn matching_named(
+    /// The bindings that the filter picks: those at the places, and without places those of all.
+    fn picked(
         &self,
         alloc: Global,
-        name: &Text,
         filter: &Filter,
-    ) -> Result<Items<Binding>, AllocError>
-        requires { filter.now.name ≡ Some name.now }
-        ensures { IfOk result (λ picked. picked ≡ matching self.now.entries filter.now) }
+        places: &Option<Items<Place>>,
+    ) -> Result<ByNumber, AllocError>
+        requires { AreAllAt places.now filter.now }
+        ensures { IfOk result (λ picked. picked.entries ≡ numbered (kept (picks filter.now) self.now.entries)) }
     {
-        let _entries = self.book.entries();
-        let mut picked = Picked::new(alloc);
-        self.index.pick(name, filter, &mut picked)?;
-        copies(alloc, &picked)
+        match places {
+            Some(places) => {
+                let mut picked = ByNumber::new(alloc);
+                self.index.pick(places.as_slice(), filter, &mut picked)?;
+                Ok(picked)
+            }
+            None => pick_from_all(alloc, &self.entries, filter),
+        }
     }
 
     /// Takes out the bindings that the filter picks, and answers them in creation order.
@@ -152,15 +161,25 @@ impl IndexedBook {
         ensures picked { IfOk result (λ list. list ≡ matching self.old.entries filter.now) }
         ensures err { OnErr result (self.new ≡ self.old) }
     {
-        let picked = self.matching(alloc, filter)?;
-        if picked.is_empty() {
-            return Ok(picked);
+        let places = places(alloc, filter)?;
+        let picked = self.picked(alloc, filter, &places)?;
+        let copies = copies(alloc, &picked)?;
+        self.take_out(filter, &places, &picked);
+        Ok(copies)
+    }
+
+    /// Takes out what the filter picks, which stands at the places.
+    fn take_out(&mut self, filter: &Filter, places: &Option<Items<Place>>, picked: &ByNumber)
+        requires places { AreAllAt places.now filter.now }
+        requires picked { picked.now.entries ≡ numbered (kept (picks filter.now) self.old.entries) }
+        ensures { self.new ≡ removed self.old filter.now }
+    {
+        take_out(&mut self.entries, picked);
+        forget(&mut self.contents, picked);
+        match places {
+            Some(places) => self.index.clean_places(places.as_slice(), filter),
+            None => self.index.clean(filter),
         }
-        self.book.clean(filter);
-        self.contents
-            .retain(|content| !filter.matches(content.binding()));
-        self.index.clean(filter);
-        Ok(picked)
     }
 
     /// What the bindings answer to the question, deny before allow, and how often a name was looked up for it.
@@ -177,7 +196,6 @@ impl IndexedBook {
         ensures finding { result.0 ≡ finding self.now.entries question.now }
         ensures looked { result.1 ≡ length (chars question.now.name) + 2 }
     {
-        let _entries = self.book.entries();
         let names = self.index.of(question.kind);
         let mut looked = 0;
         let own = look(

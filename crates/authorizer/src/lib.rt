@@ -16,6 +16,7 @@ mod names;
 mod paid;
 mod permit;
 mod picking;
+mod place;
 mod policy;
 mod tally;
 

@@ -3,7 +3,7 @@
 ghost use Rattle.std.specs.Prelude.{◌≡◌, ◌+◌, ◌^◌, ◌<◌, [], ◌∷◌, List, ℕ, Some, if◌then◌else◌, OnOk, OnErr};
 ghost use Rattle.std.specs.HashMap.{get_by_text};
 ghost use Rattle.std.specs.Str.{bytes_eq};
-ghost use Rattle.authorizer.specs.Index.{held_by, HasMore, HasSame, HasLess};
+ghost use Rattle.authorizer.specs.Index.{held_by, HasMore, HasSame, HasLess, HasLessAt};
 
 use crate::bucket::Bucket;
 use acl_binding::{Filter, Numbered};
@@ -85,6 +85,18 @@ impl Names {
             return;
         }
         self.buckets.retain(|_, bucket| bucket.leave(filter));
+    }
+
+    /// Takes out those of this name that the filter picks, and the name where nothing is left of it.
+    pub(crate) fn clean_at(&mut self, name: &str, filter: &Filter)
+        ensures { HasLessAt self.old self.new name.now filter.now }
+    {
+        let Some(bucket) = self.buckets.get_mut(name) else {
+            return;
+        };
+        if !bucket.leave(filter) {
+            self.buckets.swap_remove(name);
+        }
     }
 }
 

@@ -1,5 +1,6 @@
 use Rattle.authorizer.specs.declared.index.KindIndex.{KindIndex}
 use Rattle.std.proofs.Common.{◌≡◌, ℕ, List, ap, ◌∙◌}
+use Rattle.std.specs.Map.{values_of}
 use Rattle.acl_binding.specs.declared.words.Pattern.TheVariants.{Literal, Prefixed}
 use Rattle.acl_binding.specs.Binding.{star}
 use Rattle.authorizer.specs.Index.{held_by}
@@ -10,17 +11,17 @@ use Rattle.authorizer.proofs.indexed.IndexedBook.found.Goals as goal
 pub look-own-requires-clause-rising : goal.look-own-requires-clause-rising
 look-own-requires-clause-rising c =
     let k = kind_indexed c.self.inside.index _ c.self.invariant.indexed c.args.question.now.kind in
-    rw c.of-names.ensures (held_rising _ _ Literal _ k.literal c.entries-entries.ensures.book.rising _)
+    rw c.of-names.ensures (held_rising _ _ Literal _ k.literal c.self.invariant.book.rising _)
 
 pub look-any-requires-clause-rising : goal.look-any-requires-clause-rising
 look-any-requires-clause-rising c =
     let k = kind_indexed c.self.inside.index _ c.self.invariant.indexed c.args.question.now.kind in
-    rw c.of-names.ensures (held_rising _ _ Literal _ k.literal c.entries-entries.ensures.book.rising star)
+    rw c.of-names.ensures (held_rising _ _ Literal _ k.literal c.self.invariant.book.rising star)
 
 pub look_prefixes-prefixed-requires-clause-rising : goal.look_prefixes-prefixed-requires-clause-rising
 look_prefixes-prefixed-requires-clause-rising c =
     let k = kind_indexed c.self.inside.index _ c.self.invariant.indexed c.args.question.now.kind in
-    rw c.of-names.ensures (held_rising _ _ Prefixed _ k.prefixed c.entries-entries.ensures.book.rising)
+    rw c.of-names.ensures (held_rising _ _ Prefixed _ k.prefixed c.self.invariant.book.rising)
 
 pub returns-clause-finding : goal.returns-clause-finding
 returns-clause-finding c =
@@ -30,8 +31,8 @@ returns-clause-finding c =
     let own : c.look-own.result ≡ finding (held_by index.literal c.args.question.now.name) c.args.question.now =
     c.look-own.ensures.finding ∙ ap (λ (n : List ℕ). finding (held_by c.of-names.result.now.literal n) c.args.question.now) c.as_str.ensures ∙ ap (λ (x : KindIndex). finding (held_by x.literal c.args.question.now.name) c.args.question.now) names in
     let every : c.look-any.result ≡ finding (held_by index.literal star) c.args.question.now = c.look-any.ensures.finding ∙ ap (λ (x : KindIndex). finding (held_by x.literal star) c.args.question.now) names in
-    let longer = c.look_prefixes-prefixed.ensures.finding c.self.inside.book.book.entries c.self.invariant.named (rw names k.prefixed) in
+    let longer = c.look_prefixes-prefixed.ensures.finding (values_of c.self.inside.entries.entries) c.self.invariant.named (rw names k.prefixed) in
     rw (← c.self.view_is) (
     c.joined-2.ensures ∙ ap (joined c.look-own.result) c.joined.ensures
     ∙ (λ i. joined (own i) (joined (every i) (longer i)))
-    ∙ found_all index c.self.inside.book.book.entries c.args.question.now k c.self.invariant.named)
+    ∙ found_all index (values_of c.self.inside.entries.entries) c.args.question.now k c.self.invariant.named)

@@ -1,6 +1,6 @@
 use Rattle.std.proofs.Common.{◌≡◌, drop, filter}
 use Rattle.authorizer.specs.Picking.{entered, picks}
-use Rattle.authorizer.proofs.picking.pick.Given as goal
+use Rattle.authorizer.proofs.picking.pick_from.Given as goal
 
 -- what was picked, and then what the filter picks of the rest
 abbrev pub invariant-loop-entry : goal.invariant-loop-entry

@@ -1,17 +1,17 @@
-use Rattle.std.proofs.Common.{◌≡◌, ℕ, ◌+◌, ◌-◌, ◌≤◌, List, length, take, sym, ap, subst, ◌∙◌, arith, rules}
+use Rattle.std.proofs.Common.{◌≡◌, ℕ, ◌+◌, ◌-◌, ◌≤◌, ◌||◌, List, length, take, refl, sym, ap, ◌∙◌, arith, rules}
 use Rattle.std.specs.Char.{len_utf8}
 use Rattle.std.specs.Prelude.{slice_range}
 use Rattle.std.proofs.lemmas.Str.{IsCharBoundary-start}
 use Rattle.acl_binding.specs.declared.words.Pattern.TheVariants.{Prefixed}
 use Rattle.authorizer.specs.Looking.{is_at}
-use Rattle.authorizer.specs.Picking.{HasPicked}
+use Rattle.authorizer.specs.Picking.{stands_in}
 use Rattle.authorizer.proofs.Prefixes.{past, rest_past}
 use Rattle.authorizer.proofs.Looked.{end_reached}
-use Rattle.authorizer.proofs.Picks.{picked_beginning, picked_end}
-use Rattle.authorizer.proofs.picking.pick_beginnings.Goals as goal
+use Rattle.authorizer.proofs.Places.{one_beginning, last_beginning}
+use Rattle.authorizer.proofs.place.add_beginnings.Goals as goal
 
 pub loop-c-init : goal.loop-c-init
-loop-c-init c = record { rest = search rules; boundary = IsCharBoundary-start _ c.utf8.name; left = λ kind es all rising named table rest. rest }
+loop-c-init c = record { rest = search rules; boundary = IsCharBoundary-start _ c.utf8.name; left = λ e n. refl }
 
 pub range-requires-clause-end_boundary : goal.range-requires-clause-end_boundary
 range-requires-clause-end_boundary c =
@@ -28,13 +28,11 @@ loop-c-preserved c =
     rw width (record {
       rest = rest_past c.args.name.now _ c.loop-c.end c.in-Some.c next;
       boundary = past c.args.name.now _ c.loop-c.end c.in-Some.c c.utf8.name c.loop-c.invariant.boundary next;
-      left = λ kind es all rising named table rest.
-          c.loop-c.invariant.left kind es all rising named table
-          (picked_beginning kind c.args.name.now _ c.loop-c.end c.in-Some.c c.args.filter.now es _ _ all named c.loop-c.invariant.boundary next
-          (subst (λ (n : List ℕ). HasPicked c.loop-c.picked.entries c.pick_named.new.picked.entries c.args.filter.now es (is_at kind Prefixed n)) prefix (c.in_ok-pick_named.ensures kind Prefixed es rising table)) rest);
+      left = λ e n. one_beginning (stands_in c.loop-c.places e) (stands_in c.add.new.places e) (stands_in c.args.places.now e) c.args.kind c.args.name.now _ c.loop-c.end c.in-Some.c e n c.loop-c.invariant.boundary next
+          (c.in_ok-add.ensures e ∙ ap (λ (at : List ℕ). stands_in c.loop-c.places e || is_at c.args.kind Prefixed at e) prefix) (c.loop-c.invariant.left e n);
     })
 
 pub returns : goal.returns
-returns c = λ kind es rising named table.
+returns c = λ e n.
     let le : length c.args.name.now ≤ c.loop-c.end = end_reached _ _ (ap length (sym c.loop-c.invariant.rest) ∙ c.in-None.ensures.steps.0.0) in
-    c.loop-c.invariant.left kind es _ rising named table (picked_end kind c.args.name.now c.loop-c.end c.args.filter.now es _ le)
+    last_beginning (stands_in c.loop-c.places e) (stands_in c.args.places.now e) c.args.kind c.args.name.now c.loop-c.end e le (c.loop-c.invariant.left e n)

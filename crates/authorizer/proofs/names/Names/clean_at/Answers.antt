@@ -1,0 +1,24 @@
+use Rattle.std.proofs.Common.{None, sym, ◌∙◌, rules}
+use Rattle.std.proofs.lemmas.Map.Text.{hash_map_updates_text}
+use Rattle.authorizer.proofs.Tables.{less_kept, less_gone, less_absent}
+use Rattle.authorizer.proofs.names.Names.clean_at.Goals as goal
+
+pub returns-in_default : goal.returns-in_default
+returns-in_default c = rw (← c.self.view_is, c.get_mut.follows.holds-at-none) (less_absent c.self.inside.buckets.entries c.args.name.now c.args.filter.now c.in_default.ensures.value)
+
+pub returns-then-not-leave : goal.returns-then-not-leave
+returns-then-not-leave c =
+    let lent = c.get_mut.follows.lender c.leave.new.self in
+    let writes = (c.get_mut.follows.holds c.leave.new.self).3 (search rules) in
+    let gone = less_gone c.self.inside.buckets.entries lent.entries c.swap_remove.new.self.entries c.args.name.now c.args.filter.now c.in-Some.bucket.now c.leave.new.self
+    (hash_map_updates_text c.args.name.now c.self.inside.buckets lent _ writes)
+    (hash_map_updates_text c.args.name.now lent c.swap_remove.new.self None c.swap_remove.ensures.updates)
+    c.in-Some.ensures.value c.leave.ensures.left (sym c.if-not-leave.true ∙ c.leave.ensures.any) in
+    rw (← c.self.view_is) (search (rules, gone))
+
+pub returns-else-not-leave : goal.returns-else-not-leave
+returns-else-not-leave c =
+    let writes = (c.get_mut.follows.holds c.leave.new.self).3 (search rules) in
+    rw (← c.self.view_is) (less_kept c.self.inside.buckets.entries (c.get_mut.follows.lender c.leave.new.self).entries c.args.name.now c.args.filter.now c.in-Some.bucket.now c.leave.new.self
+    (hash_map_updates_text c.args.name.now c.self.inside.buckets (c.get_mut.follows.lender c.leave.new.self) _ writes)
+    c.in-Some.ensures.value c.leave.ensures.left (sym c.if-not-leave.false ∙ c.leave.ensures.any))
