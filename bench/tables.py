@@ -109,9 +109,17 @@ def add_group(name, producer):
     return ask(frame(25, 0, pair(name, producer) + string("g")))
 
 
-def describe_acls(name):
-    body = bytes([2]) + string(name) + bytes([3]) + string(None) + string(None) + bytes([1, 1])
-    return ask(frame(29, 1, body))
+def acl_filter(name=None, principal=None):
+    """A filter over topics, of this literal name and principal, or of any."""
+    return bytes([2]) + string(name) + bytes([3]) + string(principal) + string(None) + bytes([1, 1])
+
+
+def describe_acls(name=None, principal=None):
+    return ask(frame(29, 1, acl_filter(name, principal)))
+
+
+def delete_acls(name):
+    return ask(frame(31, 1, array([acl_filter(name)])))
 
 
 # ---- rows: what stands before the work, the work, and how many look-ups it is
@@ -179,7 +187,18 @@ def describe_by_name(n):
 
 def describe_all(n):
     head = settings(acls=[acl(f"name{it}", f"user{it}") for it in range(n)]) + "---\n"
-    return head, [describe_acls(None)], n
+    return head, [describe_acls()], n
+
+
+def describe_one_principal(n):
+    head = settings(acls=[acl(f"name{it}", "ann") for it in range(n)]) + "---\n"
+    return head, [describe_acls(principal="User:ann")], n
+
+
+def delete_by_name(n):
+    """Of the bindings a thousand are taken out, one by one."""
+    head = settings(acls=[acl(f"name{it}", f"user{it}") for it in range(n)]) + "---\n"
+    return head, [delete_acls(f"name{it}") for it in range(0, n, n // 1000)], 1000
 
 
 def describe_one_name(n):
@@ -201,6 +220,8 @@ ROWS = [
     ("a DescribeAcls by one name among n", describe_by_name, [1_000, 25_000]),
     ("one of n bindings on as many names, described", describe_all, [1_000, 25_000]),
     ("one of n bindings on one name, described", describe_one_name, [1_000, 25_000]),
+    ("one of n bindings of one principal, described", describe_one_principal, [1_000, 25_000]),
+    ("a DeleteAcls of one name among n, which takes it out", delete_by_name, [1_000, 25_000]),
 ]
 
 

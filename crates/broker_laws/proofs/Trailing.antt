@@ -9,7 +9,7 @@ use Rattle.msg_admin.specs.declared.reply.Reply.TheVariants as replies
 use Rattle.audit_trail.specs.declared.event.Event.{Event}
 use Rattle.audit_trail.specs.declared.event.Event.TheVariants.{Ask, Mark}
 use Rattle.audit_trail.specs.declared.trail.Entry.{Entry}
-use Rattle.audit_trail.specs.declared.trail.Receipt.{Receipt}
+use Rattle.request_handlers.specs.Receipt.{ReceiptValue}
 use Rattle.txn_coordinator.specs.declared.transaction.Transaction.{Transaction}
 use Rattle.txn_coordinator.specs.declared.marker.OwedMarker.{OwedMarker}
 use Rattle.txn_coordinator.specs.Warrants.{written}
@@ -171,7 +171,7 @@ stopped_world old new (inr put) up = absurd (let clash : true ≡ false = sym pu
 
 -- ---- a run
 
-ran_unrefused : (old new : CoreValue) (es : List Event) (rs : List Receipt) (stop : Option Stop) → Ran old es rs stop new → Each IsUnrefusedMark old.trail → Each IsUnrefusedMark new.trail
+ran_unrefused : (old new : CoreValue) (es : List Event) (rs : List ReceiptValue) (stop : Option Stop) → Ran old es rs stop new → Each IsUnrefusedMark old.trail → Each IsUnrefusedMark new.trail
 ran_unrefused old new [] [] None run h = subst (λ (c : CoreValue). Each IsUnrefusedMark c.trail) (sym run) h
 ran_unrefused old new [] [] (Some stop) run h = absurd run
 ran_unrefused old new [] (r ∷ rs) stop run h = absurd run
@@ -188,7 +188,7 @@ same_rest : (x y : Event) (xs ys : List Event) → x ∷ xs ≡ y ∷ ys → xs 
 same_rest x y xs ys h = cc
 
 -- the events with a receipt lead to the new world
-ran_leads : (old new : CoreValue) (es : List Event) (rs : List Receipt) (stop : Option Stop) → Ran old es rs stop new → (taken rest : List Event) → es ≡ taken ++ rest → length rs ≡ length taken → new.down ≡ false → new.world ≡ reached old.world taken
+ran_leads : (old new : CoreValue) (es : List Event) (rs : List ReceiptValue) (stop : Option Stop) → Ran old es rs stop new → (taken rest : List Event) → es ≡ taken ++ rest → length rs ≡ length taken → new.down ≡ false → new.world ≡ reached old.world taken
 ran_leads old new [] [] None run [] rest parts same up = ap (λ (c : CoreValue). c.world) run
 ran_leads old new [] [] None run (x ∷ taken) rest parts same up = absurd (omega (arith, same))
 ran_leads old new [] [] (Some stop) run taken rest parts same up = absurd run
@@ -202,7 +202,7 @@ ran_leads old new (e ∷ es) (r ∷ rs) stop run (x ∷ taken) rest parts same u
     ∙ ap (λ y. reached (step old.world y) taken) (same_first e x es (taken ++ rest) parts)
 
 -- a core that took an event was up
-ran_up : (old new : CoreValue) (es : List Event) (rs : List Receipt) (stop : Option Stop) → Ran old es rs stop new → (before behind : List Event) (e : Event) → length rs ≡ length (before ++ e ∷ behind) → old.down ≡ false
+ran_up : (old new : CoreValue) (es : List Event) (rs : List ReceiptValue) (stop : Option Stop) → Ran old es rs stop new → (before behind : List Event) (e : Event) → length rs ≡ length (before ++ e ∷ behind) → old.down ≡ false
 ran_up old new [] (r ∷ rs) stop run before behind e same = absurd run
 ran_up old new (x ∷ es) (r ∷ rs) stop run before behind e same = run.0.up
 ran_up old new es [] stop run [] behind e same = absurd (omega (arith, same))

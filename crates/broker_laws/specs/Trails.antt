@@ -12,7 +12,7 @@ use Rattle.msg_admin.specs.declared.reply.Reply.TheVariants as replies
 use Rattle.audit_trail.specs.declared.event.Event.{Event}
 use Rattle.audit_trail.specs.declared.event.Event.TheVariants.{Ask, Mark, Tick}
 use Rattle.audit_trail.specs.declared.trail.Entry.{Entry}
-use Rattle.audit_trail.specs.declared.trail.Receipt.{Receipt}
+use Rattle.request_handlers.specs.Receipt.{ReceiptValue}
 use Rattle.txn_coordinator.specs.declared.transaction.Transaction.{Transaction}
 use Rattle.txn_coordinator.specs.declared.transaction.Phase.TheVariants.{Ongoing}
 use Rattle.txn_coordinator.specs.Words.{targets}
@@ -99,7 +99,7 @@ CompletesBeforeIdle = (core : CoreValue) → IsCore core → (before between res
 -- So it is if a run took such an event and so many marker steps behind it. It took those for which there is a receipt:
 -- all but the rest.
 abbrev pub CompletesOverARun : Type 0
-CompletesOverARun = (old new : CoreValue) (es : List Event) (rs : List Receipt) (stop : Option Stop) → IsCore old → Ran old es rs stop new ⊎ NoRoom old rs stop new
+CompletesOverARun = (old new : CoreValue) (es : List Event) (rs : List ReceiptValue) (stop : Option Stop) → IsCore old → Ran old es rs stop new ⊎ NoRoom old rs stop new
     → (before behind rest : List Event) (e : Event) → es ≡ before ++ e ∷ (behind ++ rest) → length rs ≡ length (before ++ e ∷ behind)
     → (id : List ℕ) (t : Transaction) (outcome : Ending) → IsPreparedBy (reached old.world before) e id t outcome
     → up_to_last (step (reached old.world before) e).coordinator.warrants id ≤ marks behind

@@ -5,7 +5,7 @@ use Rattle.std.proofs.lemmas.List.{length-map}
 use Rattle.std.proofs.lemmas.Bool.Decides.{Decides-ltb}
 use Rattle.audit_trail.specs.declared.event.Event.{Event}
 use Rattle.audit_trail.specs.declared.trail.Entry.{Entry}
-use Rattle.audit_trail.specs.declared.trail.Receipt.{Receipt}
+use Rattle.request_handlers.specs.Receipt.{ReceiptValue}
 use Rattle.request_handlers.specs.Core.{CoreValue, IsReady, trail_limit, events_of}
 use Rattle.request_handlers.specs.Headline.{behind, entry_told, IsTaken}
 use Rattle.request_handlers.proofs.Histories.{events_push}
@@ -29,7 +29,7 @@ module _ (core : CoreValue) (correlation : ℤ) (e : Event) where
     room : nat_lt (length before) (trail_limit core.settings) ≡ true
     room = ap (λ (n : ℕ). nat_lt n (trail_limit core.settings)) (events_number core) ∙ (Decides-ltb (length core.trail) (trail_limit core.settings)).1 ready.room
 
-  pub printed : (new : CoreValue) (receipt : Receipt) (text : List ℕ)
+  pub printed : (new : CoreValue) (receipt : ReceiptValue) (text : List ℕ)
       → IsReady core → IsTaken core e receipt new
       → text ≡ reply_line correlation receipt.reply ++ audit_lines (refusals_at new.trail receipt.place)
       → (step_turn core.settings before correlation e ≡ goes (events_of new.trail) text) × IsUp core.settings new

@@ -12,10 +12,10 @@ use crate::lines::content;
 use crate::order::{Order, Sent, parse_order};
 use crate::text::{closed_text, push_audit_lines, reply_text, stop_text, unreadable_text};
 use acl_binding::Caller;
-use audit_trail::{Event, Receipt};
+use audit_trail::Event;
 use authorizer::Refusal;
 use msg_admin::{FRAME_LIMIT, Header, Request, read_request};
-use request_handlers::{Core, Stop};
+use request_handlers::{Core, Receipt, Stop};
 use std::alloc::{AllocError, Global};
 use wire_types::ReadFault;
 
@@ -47,8 +47,8 @@ fn receipt_text(
 ) -> Result<String, AllocError>
     ensures { IfOk result (λ text. string_bytes text ≡ reply_line correlation receipt.now.reply ++ audit_lines (refusals_at core.now.trail receipt.now.place)) }
 {
-    let mut text = reply_text(alloc, correlation, receipt.reply.value())?;
-    push_audit_lines(alloc, &mut text, refusals_at(core, receipt.place))?;
+    let mut text = reply_text(alloc, correlation, receipt.reply())?;
+    push_audit_lines(alloc, &mut text, refusals_at(core, receipt.place()))?;
     Ok(text)
 }
 

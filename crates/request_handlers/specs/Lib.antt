@@ -1,2 +1,3 @@
+pub mod Receipt
 pub mod Core
 pub mod Headline

@@ -3,7 +3,9 @@
 #![tactic(auto)]
 
 mod machine;
+mod receipt;
 mod stop;
 
 pub use machine::Core;
+pub use receipt::Receipt;
 pub use stop::Stop;

@@ -67,7 +67,7 @@ fn step(core: &mut Core, event: Option<Event>) -> Answer
         return Answer::Stopped;
     };
     match core.step(event) {
-        Ok(receipt) => left_in(receipt.reply.value()),
+        Ok(receipt) => left_in(receipt.reply()),
         Err(_) => Answer::Stopped,
     }
 }
