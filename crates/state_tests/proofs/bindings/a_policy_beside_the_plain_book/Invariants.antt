@@ -1,5 +1,5 @@
 use Rattle.std.proofs.Common.{◌+◌, ◌≤◌}
-use Rattle.unserved_tests.proofs.bindings.a_policy_beside_the_plain_book.Given as goal
+use Rattle.state_tests.proofs.bindings.a_policy_beside_the_plain_book.Given as goal
 
 -- each step gives out one number at most
 abbrev pub invariant-loop-step : goal.invariant-loop-step
