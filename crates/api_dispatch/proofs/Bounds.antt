@@ -27,7 +27,7 @@ use Rattle.msg_acl.specs.declared.create_acls.CreateAclsRequest.{CreateAclsReque
 use Rattle.walk.specs.Rule.{PartRule, refusal_of}
 use Rattle.walk.specs.Walk.{world_after, parts_refused, refusals, parts_weight, topics_weight}
 use Rattle.walk.proofs.Weights.{walk_takes}
-use Rattle.msg_admin.specs.declared.request.Request.TheVariants.{Produce, Fetch, ListOffsets, Metadata, OffsetCommit, OffsetFetch, FindCoordinator, JoinGroup, Heartbeat, LeaveGroup, SyncGroup, InitProducerId, AddPartitionsToTxn, AddOffsetsToTxn, EndTxn, TxnOffsetCommit, DescribeAcls, CreateAcls, DeleteAcls}
+use Rattle.msg_admin.specs.declared.request.Request.TheVariants.{Produce, Fetch, ListOffsets, Metadata, OffsetCommit, OffsetFetch, FindCoordinator, JoinGroup, Heartbeat, LeaveGroup, SyncGroup, SaslHandshake, ApiVersions, InitProducerId, AddPartitionsToTxn, AddOffsetsToTxn, EndTxn, TxnOffsetCommit, DescribeAcls, CreateAcls, DeleteAcls, SaslAuthenticate}
 use Rattle.msg_admin.specs.Request.{Fits}
 use Rattle.msg_admin.specs.Bodies.{request_body}
 use Rattle.audit_trail.specs.declared.event.Event.{Event}
@@ -319,6 +319,9 @@ few_refusals w (Ask caller client (EndTxn r)) fits =
     omega (arith, few)
 few_refusals w (Ask caller client (TxnOffsetCommit r)) fits =
     omega (arith, fits.1, few_walked (staging_rule w caller r) (rules_of w) r.topics, within_flexible offset_to_stage (λ p. 1) stage_some r.topics, stage_topics r)
+few_refusals w (Ask caller client (SaslHandshake r)) fits = omega arith
+few_refusals w (Ask caller client ApiVersions) fits = omega arith
+few_refusals w (Ask caller client (SaslAuthenticate r)) fits = omega arith
 few_refusals w (Ask caller client (DescribeAcls r)) fits =
     let few : length (refusals_of w (Ask caller client (DescribeAcls r))) ≤ 1 = whole_refusals (part_refusal (rules_of w) (describe_acls_questions caller)) w _ _ in
     omega (arith, few)
@@ -368,6 +371,9 @@ ends_outcome w (Ask caller client (AddPartitionsToTxn r)) fits room = same_ends 
 ends_outcome w (Ask caller client (AddOffsetsToTxn r)) fits room = same_ends (whole_topics (part_refusal (rules_of w) (add_offsets_questions caller r.transactional_id r.group)) w _ _ refl)
 ends_outcome w (Ask caller client (EndTxn r)) fits room = same_ends (whole_topics (part_refusal (rules_of w) (id_question caller r.transactional_id ∷ [])) w _ _ refl)
 ends_outcome w (Ask caller client (TxnOffsetCommit r)) fits room = omega arith
+ends_outcome w (Ask caller client (SaslHandshake r)) fits room = omega arith
+ends_outcome w (Ask caller client ApiVersions) fits room = omega arith
+ends_outcome w (Ask caller client (SaslAuthenticate r)) fits room = omega arith
 ends_outcome w (Ask caller client (DescribeAcls r)) fits room = same_ends (whole_topics (part_refusal (rules_of w) (describe_acls_questions caller)) w _ _ refl)
 ends_outcome w (Ask caller client (CreateAcls r)) fits room = same_ends (whole_topics (part_refusal (rules_of w) (alter_questions caller)) w _ _ refl)
 ends_outcome w (Ask caller client (DeleteAcls r)) fits room = same_ends (whole_topics (part_refusal (rules_of w) (alter_questions caller)) w _ _ refl)
@@ -408,6 +414,9 @@ numbers_outcome w (Ask caller client (AddPartitionsToTxn r)) fits = omega (arith
 numbers_outcome w (Ask caller client (AddOffsetsToTxn r)) fits = whole_next (part_refusal (rules_of w) (add_offsets_questions caller r.transactional_id r.group)) w _ _ most_parts (omega arith)
 numbers_outcome w (Ask caller client (EndTxn r)) fits = whole_next (part_refusal (rules_of w) (id_question caller r.transactional_id ∷ [])) w _ _ most_parts (omega arith)
 numbers_outcome w (Ask caller client (TxnOffsetCommit r)) fits = omega arith
+numbers_outcome w (Ask caller client (SaslHandshake r)) fits = omega arith
+numbers_outcome w (Ask caller client ApiVersions) fits = omega arith
+numbers_outcome w (Ask caller client (SaslAuthenticate r)) fits = omega arith
 numbers_outcome w (Ask caller client (DescribeAcls r)) fits = whole_next (part_refusal (rules_of w) (describe_acls_questions caller)) w _ _ most_parts (omega arith)
 numbers_outcome w (Ask caller client (CreateAcls r)) fits =
     let few : (book_created w.book r.creations).next ≤ w.book.next + most_parts = omega (arith, created_next w.book r.creations, creations_fit r fits) in

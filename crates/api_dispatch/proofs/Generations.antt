@@ -17,7 +17,7 @@ use Rattle.msg_group.specs.declared.heartbeat.HeartbeatRequest.{HeartbeatRequest
 use Rattle.msg_group.specs.declared.leave_group.LeaveGroupRequest.{LeaveGroupRequest}
 use Rattle.msg_group.specs.declared.offset_commit.OffsetToCommit.{OffsetToCommit}
 use Rattle.msg_admin.specs.declared.reply.Reply.{Reply}
-use Rattle.msg_admin.specs.declared.request.Request.TheVariants.{Produce, Fetch, ListOffsets, Metadata, OffsetCommit, OffsetFetch, FindCoordinator, JoinGroup, Heartbeat, LeaveGroup, SyncGroup, InitProducerId, AddPartitionsToTxn, AddOffsetsToTxn, EndTxn, TxnOffsetCommit, DescribeAcls, CreateAcls, DeleteAcls}
+use Rattle.msg_admin.specs.declared.request.Request.TheVariants.{Produce, Fetch, ListOffsets, Metadata, OffsetCommit, OffsetFetch, FindCoordinator, JoinGroup, Heartbeat, LeaveGroup, SyncGroup, SaslHandshake, ApiVersions, InitProducerId, AddPartitionsToTxn, AddOffsetsToTxn, EndTxn, TxnOffsetCommit, DescribeAcls, CreateAcls, DeleteAcls, SaslAuthenticate}
 use Rattle.audit_trail.specs.declared.event.Event.{Event}
 use Rattle.audit_trail.specs.declared.event.Event.TheVariants.{Ask, Mark, Tick}
 use Rattle.walk.specs.Steps.{world_by, part_world, parts_world, topics_world}
@@ -256,6 +256,9 @@ generations_outcome w e n all = by_event e (generations_weaker n (n + 1) w.group
   by_event (Ask caller client (EndTxn r)) more = whole_within (part_refusal (rules_of w) (id_question caller r.transactional_id ∷ [])) w _ _ (n + 1) more more
   by_event (Ask caller client (TxnOffsetCommit r)) more =
       subst (GenerationsWithin (n + 1)) (woven (staging_rule w caller r) (rules_of w) w.groups r.topics).world (staged_topics_within (rules_of w) caller (staging r) (staging_refusal w.coordinator (staging r)) w.topics (n + 1) w.groups r.topics more)
+  by_event (Ask caller client (SaslHandshake r)) more = more
+  by_event (Ask caller client ApiVersions) more = more
+  by_event (Ask caller client (SaslAuthenticate r)) more = more
   by_event (Ask caller client (DescribeAcls r)) more = whole_within (part_refusal (rules_of w) (describe_acls_questions caller)) w _ _ (n + 1) more more
   by_event (Ask caller client (CreateAcls r)) more = whole_within (part_refusal (rules_of w) (alter_questions caller)) w _ _ (n + 1) more more
   by_event (Ask caller client (DeleteAcls r)) more = whole_within (part_refusal (rules_of w) (alter_questions caller)) w _ _ (n + 1) more more

@@ -12,7 +12,7 @@ use Rattle.wire_types.specs.declared.topic.Topic.{Topic}
 use Rattle.msg_group.specs.declared.offset_fetch.OffsetFetchRequest.{OffsetFetchRequest}
 use Rattle.msg_txn.specs.declared.add_partitions.AddPartitionsToTxnRequest.{AddPartitionsToTxnRequest}
 use Rattle.msg_admin.specs.declared.request.Request.{Request}
-use Rattle.msg_admin.specs.declared.request.Request.TheVariants.{Produce, Fetch, ListOffsets, Metadata, OffsetCommit, OffsetFetch, FindCoordinator, JoinGroup, Heartbeat, LeaveGroup, SyncGroup, InitProducerId, AddPartitionsToTxn, AddOffsetsToTxn, EndTxn, TxnOffsetCommit, DescribeAcls, CreateAcls, DeleteAcls}
+use Rattle.msg_admin.specs.declared.request.Request.TheVariants.{Produce, Fetch, ListOffsets, Metadata, OffsetCommit, OffsetFetch, FindCoordinator, JoinGroup, Heartbeat, LeaveGroup, SyncGroup, SaslHandshake, ApiVersions, InitProducerId, AddPartitionsToTxn, AddOffsetsToTxn, EndTxn, TxnOffsetCommit, DescribeAcls, CreateAcls, DeleteAcls, SaslAuthenticate}
 use Rattle.msg_admin.specs.declared.reply.Reply.{Reply}
 use Rattle.walk.specs.Rule.{PartRule}
 use Rattle.walk.specs.Walk.{parts_refused, refusals}
@@ -120,6 +120,9 @@ module _ (w : World) (caller : Caller) where
   told (AddOffsetsToTxn r) = asked_told (add_offsets_questions caller r.transactional_id r.group) _ (offsets_added w r)
   told (EndTxn r) = asked_told (id_question caller r.transactional_id ∷ []) _ (ended w r)
   told (TxnOffsetCommit r) = walk_told (rules_of w) (stage_questions caller (staging r)) (staging_rule w caller r) (λ name p. refl) r.topics
+  told (SaslHandshake r) = refl
+  told ApiVersions = refl
+  told (SaslAuthenticate r) = refl
   told (DescribeAcls r) = asked_told (describe_acls_questions caller) _ _
   told (CreateAcls r) = asked_told (alter_questions caller) _ _
   told (DeleteAcls r) = asked_told (alter_questions caller) _ _

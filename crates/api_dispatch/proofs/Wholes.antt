@@ -7,7 +7,7 @@ use Rattle.wire_types.specs.declared.error_code.ErrorCode.{ErrorCode}
 use Rattle.msg_acl.specs.declared.describe_acls.DescribeAclsRequest.{DescribeAclsRequest}
 use Rattle.msg_admin.specs.declared.reply.Reply.{Reply}
 use Rattle.msg_admin.specs.declared.request.Request.{Request}
-use Rattle.msg_admin.specs.declared.request.Request.TheVariants.{Produce, Fetch, ListOffsets, Metadata, OffsetCommit, OffsetFetch, FindCoordinator, JoinGroup, Heartbeat, LeaveGroup, SyncGroup, InitProducerId, AddPartitionsToTxn, AddOffsetsToTxn, EndTxn, TxnOffsetCommit, DescribeAcls, CreateAcls, DeleteAcls}
+use Rattle.msg_admin.specs.declared.request.Request.TheVariants.{Produce, Fetch, ListOffsets, Metadata, OffsetCommit, OffsetFetch, FindCoordinator, JoinGroup, Heartbeat, LeaveGroup, SyncGroup, SaslHandshake, ApiVersions, InitProducerId, AddPartitionsToTxn, AddOffsetsToTxn, EndTxn, TxnOffsetCommit, DescribeAcls, CreateAcls, DeleteAcls, SaslAuthenticate}
 use Rattle.audit_trail.specs.declared.event.Event.{Event}
 use Rattle.audit_trail.specs.declared.event.Event.TheVariants.{Ask, Mark, Tick}
 use Rattle.broker_world.specs.World.{World, rules_of}
@@ -76,6 +76,9 @@ reading_keeps w (Ask caller client (AddPartitionsToTxn r)) reads = absurd (let c
 reading_keeps w (Ask caller client (AddOffsetsToTxn r)) reads = absurd (let clash : false ≡ true = reads in cc)
 reading_keeps w (Ask caller client (EndTxn r)) reads = absurd (let clash : false ≡ true = reads in cc)
 reading_keeps w (Ask caller client (TxnOffsetCommit r)) reads = absurd (let clash : false ≡ true = reads in cc)
+reading_keeps w (Ask caller client (SaslHandshake r)) reads = refl
+reading_keeps w (Ask caller client ApiVersions) reads = refl
+reading_keeps w (Ask caller client (SaslAuthenticate r)) reads = refl
 reading_keeps w (Ask caller client (DescribeAcls r)) reads = describe_keeps w caller r
 reading_keeps w (Ask caller client (CreateAcls r)) reads = absurd (let clash : false ≡ true = reads in cc)
 reading_keeps w (Ask caller client (DeleteAcls r)) reads = absurd (let clash : false ≡ true = reads in cc)

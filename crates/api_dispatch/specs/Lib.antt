@@ -1,4 +1,5 @@
 pub mod Ticks
+pub mod Logins
 pub mod Step
 pub mod Bounds
 pub mod Questions

@@ -19,6 +19,8 @@
 --   DescribeAcls          the request: to describe the cluster
 --   CreateAcls, DeleteAcls
 --                         the request: to alter the cluster
+--   ApiVersions, SaslHandshake, SaslAuthenticate
+--                         nothing
 use Rattle.std.specs.Prelude.{ℕ, ℤ, Bool, false, List, [], ◌∷◌, map, Option, Some, None, is_none, if◌then◌else◌}
 use Rattle.std.specs.List.{flat_map}
 use Rattle.acl_binding.specs.declared.question.Caller.{Caller}

@@ -20,6 +20,7 @@ use Rattle.txn_handlers.specs.EndTxn.{end_txn_outcome}
 use Rattle.txn_handlers.specs.TxnOffsetCommit.{txn_offset_commit_outcome}
 use Rattle.txn_handlers.specs.Marks.{mark_outcome}
 use Rattle.api_dispatch.specs.Ticks.{tick_outcome}
+use Rattle.api_dispatch.specs.Logins.{api_versions_outcome, sasl_handshake_outcome, sasl_authenticate_outcome}
 use Rattle.group_handlers.specs.Members.{join_group_outcome, sync_group_outcome, heartbeat_outcome, leave_group_outcome}
 use Rattle.group_handlers.specs.FindCoordinator.{find_coordinator_outcome}
 use Rattle.group_handlers.specs.OffsetCommit.{offset_commit_outcome}
@@ -41,6 +42,8 @@ request_outcome w caller (requests.JoinGroup r) = join_group_outcome w caller r
 request_outcome w caller (requests.Heartbeat r) = heartbeat_outcome w caller r
 request_outcome w caller (requests.LeaveGroup r) = leave_group_outcome w caller r
 request_outcome w caller (requests.SyncGroup r) = sync_group_outcome w caller r
+request_outcome w caller (requests.SaslHandshake r) = sasl_handshake_outcome w
+request_outcome w caller requests.ApiVersions = api_versions_outcome w
 request_outcome w caller (requests.InitProducerId r) = init_producer_id_outcome w caller r
 request_outcome w caller (requests.AddPartitionsToTxn r) = add_partitions_outcome w caller r
 request_outcome w caller (requests.AddOffsetsToTxn r) = add_offsets_outcome w caller r
@@ -49,6 +52,7 @@ request_outcome w caller (requests.TxnOffsetCommit r) = txn_offset_commit_outcom
 request_outcome w caller (requests.DescribeAcls r) = describe_acls_outcome w caller r
 request_outcome w caller (requests.CreateAcls r) = create_acls_outcome w caller r
 request_outcome w caller (requests.DeleteAcls r) = delete_acls_outcome w caller r
+request_outcome w caller (requests.SaslAuthenticate r) = sasl_authenticate_outcome w
 
 abbrev pub outcome : World → Event → Outcome
 outcome w (Ask caller client request) = request_outcome w caller request
@@ -87,6 +91,8 @@ is_reading_request (requests.JoinGroup r) = false
 is_reading_request (requests.Heartbeat r) = false
 is_reading_request (requests.LeaveGroup r) = false
 is_reading_request (requests.SyncGroup r) = false
+is_reading_request (requests.SaslHandshake r) = true
+is_reading_request requests.ApiVersions = true
 is_reading_request (requests.InitProducerId r) = false
 is_reading_request (requests.AddPartitionsToTxn r) = false
 is_reading_request (requests.AddOffsetsToTxn r) = false
@@ -95,6 +101,7 @@ is_reading_request (requests.TxnOffsetCommit r) = false
 is_reading_request (requests.DescribeAcls r) = true
 is_reading_request (requests.CreateAcls r) = false
 is_reading_request (requests.DeleteAcls r) = false
+is_reading_request (requests.SaslAuthenticate r) = true
 
 -- the event changes nothing but the number of events
 abbrev pub is_reading : Event → Bool

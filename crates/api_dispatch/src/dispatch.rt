@@ -10,6 +10,7 @@ ghost use Rattle.api_dispatch.specs.Questions.{asks_itself, event_asks, parts_wa
 ghost use Rattle.api_dispatch.specs.Bounds.{EventFits, most_parts, most_events, GenerationsWithin};
 ghost use Rattle.api_dispatch.specs.Step.{request_outcome, outcome, reply_to, refusals_of, counted, is_reading, is_reading_request};
 
+use crate::login::{answer_api_versions, answer_sasl_authenticate, answer_sasl_handshake};
 use crate::tick::answer_tick;
 use acl_binding::Caller;
 use acl_handlers::{answer_create_acls, answer_delete_acls, answer_describe_acls};
@@ -83,6 +84,9 @@ fn answer(
         Request::Heartbeat(request) => answer_heartbeat(alloc, state, caller, request),
         Request::LeaveGroup(request) => answer_leave_group(alloc, state, caller, request),
         Request::SyncGroup(request) => answer_sync_group(alloc, state, caller, request),
+        Request::SaslHandshake(_) => answer_sasl_handshake(alloc),
+        Request::ApiVersions => answer_api_versions(alloc),
+        Request::SaslAuthenticate(_) => Ok(answer_sasl_authenticate(alloc)),
         Request::InitProducerId(request) => answer_init_producer_id(alloc, state, caller, request),
         Request::AddPartitionsToTxn(request) => answer_add_partitions(
             alloc, state, caller, request,

@@ -2,6 +2,7 @@
 #![tactic(auto)]
 
 mod dispatch;
+mod login;
 mod reading;
 mod tick;
 

@@ -21,6 +21,8 @@ fn is_reading_request(request: &Request) -> bool
         Request::Heartbeat(_) => false,
         Request::LeaveGroup(_) => false,
         Request::SyncGroup(_) => false,
+        Request::SaslHandshake(_) => true,
+        Request::ApiVersions => true,
         Request::InitProducerId(_) => false,
         Request::AddPartitionsToTxn(_) => false,
         Request::AddOffsetsToTxn(_) => false,
@@ -29,6 +31,7 @@ fn is_reading_request(request: &Request) -> bool
         Request::DescribeAcls(_) => true,
         Request::CreateAcls(_) => false,
         Request::DeleteAcls(_) => false,
+        Request::SaslAuthenticate(_) => true,
     }
 }
 

@@ -18,7 +18,7 @@ use Rattle.producer_state.proofs.Accepting.{accepted_once}
 use Rattle.partition_log.specs.Log.{end_of, at_end}
 use Rattle.partition_log.proofs.Accepted.{accepted_none, accepted_push, follows_written}
 use Rattle.msg_data.specs.declared.produce.ProducedRecords.{ProducedRecords}
-use Rattle.msg_admin.specs.declared.request.Request.TheVariants.{Produce, Fetch, ListOffsets, Metadata, OffsetCommit, OffsetFetch, FindCoordinator, JoinGroup, Heartbeat, LeaveGroup, SyncGroup, InitProducerId, AddPartitionsToTxn, AddOffsetsToTxn, EndTxn, TxnOffsetCommit, DescribeAcls, CreateAcls, DeleteAcls}
+use Rattle.msg_admin.specs.declared.request.Request.TheVariants.{Produce, Fetch, ListOffsets, Metadata, OffsetCommit, OffsetFetch, FindCoordinator, JoinGroup, Heartbeat, LeaveGroup, SyncGroup, SaslHandshake, ApiVersions, InitProducerId, AddPartitionsToTxn, AddOffsetsToTxn, EndTxn, TxnOffsetCommit, DescribeAcls, CreateAcls, DeleteAcls, SaslAuthenticate}
 use Rattle.audit_trail.specs.declared.event.Event.{Event}
 use Rattle.audit_trail.specs.declared.event.Event.TheVariants.{Ask, Mark, Tick}
 use Rattle.walk.specs.Steps.{world_by, part_world, parts_world, topics_world}
@@ -161,6 +161,9 @@ outcome_all w (Ask caller client (AddPartitionsToTxn r)) all = subst AllLogs (sy
 outcome_all w (Ask caller client (AddOffsetsToTxn r)) all = subst AllLogs (sym (whole_topics (part_refusal (rules_of w) (add_offsets_questions caller r.transactional_id r.group)) w _ _ refl)) all
 outcome_all w (Ask caller client (EndTxn r)) all = subst AllLogs (sym (whole_topics (part_refusal (rules_of w) (id_question caller r.transactional_id ∷ [])) w _ _ refl)) all
 outcome_all w (Ask caller client (TxnOffsetCommit r)) all = all
+outcome_all w (Ask caller client (SaslHandshake r)) all = all
+outcome_all w (Ask caller client ApiVersions) all = all
+outcome_all w (Ask caller client (SaslAuthenticate r)) all = all
 outcome_all w (Ask caller client (DescribeAcls r)) all = subst AllLogs (sym (whole_topics (part_refusal (rules_of w) (describe_acls_questions caller)) w _ _ refl)) all
 outcome_all w (Ask caller client (CreateAcls r)) all = subst AllLogs (sym (whole_topics (part_refusal (rules_of w) (alter_questions caller)) w _ _ refl)) all
 outcome_all w (Ask caller client (DeleteAcls r)) all = subst AllLogs (sym (whole_topics (part_refusal (rules_of w) (alter_questions caller)) w _ _ refl)) all

@@ -1,6 +1,6 @@
 -- A transaction that an event prepares, and one that waits, is completed by marker steps.
 use Rattle.std.proofs.Common.{◌≡◌, ℕ, ◌≤◌, List, [], ◌∷◌, ◌++◌, map, Some, refl, sym, subst, ◌∙◌, arith}
-use Rattle.msg_admin.specs.declared.request.Request.TheVariants.{Produce, Fetch, ListOffsets, Metadata, OffsetCommit, OffsetFetch, FindCoordinator, JoinGroup, Heartbeat, LeaveGroup, SyncGroup, InitProducerId, AddPartitionsToTxn, AddOffsetsToTxn, EndTxn, TxnOffsetCommit, DescribeAcls, CreateAcls, DeleteAcls}
+use Rattle.msg_admin.specs.declared.request.Request.TheVariants.{Produce, Fetch, ListOffsets, Metadata, OffsetCommit, OffsetFetch, FindCoordinator, JoinGroup, Heartbeat, LeaveGroup, SyncGroup, SaslHandshake, ApiVersions, InitProducerId, AddPartitionsToTxn, AddOffsetsToTxn, EndTxn, TxnOffsetCommit, DescribeAcls, CreateAcls, DeleteAcls, SaslAuthenticate}
 use Rattle.audit_trail.specs.declared.event.Event.{Event}
 use Rattle.audit_trail.specs.declared.event.Event.TheVariants.{Ask, Mark, Tick}
 use Rattle.txn_coordinator.specs.declared.pair.Pair.{Pair}
@@ -97,6 +97,9 @@ own_producer (Ask caller client (AddPartitionsToTxn r)) pair = refl
 own_producer (Ask caller client (AddOffsetsToTxn r)) pair = refl
 own_producer (Ask caller client (EndTxn r)) pair = refl
 own_producer (Ask caller client (TxnOffsetCommit r)) pair = refl
+own_producer (Ask caller client (SaslHandshake r)) pair = refl
+own_producer (Ask caller client ApiVersions) pair = refl
+own_producer (Ask caller client (SaslAuthenticate r)) pair = refl
 own_producer (Ask caller client (DescribeAcls r)) pair = refl
 own_producer (Ask caller client (CreateAcls r)) pair = refl
 own_producer (Ask caller client (DeleteAcls r)) pair = refl

@@ -5,7 +5,7 @@ use Rattle.authorizer.specs.declared.answer.Refusal.{Refusal}
 use Rattle.authorizer.specs.Asking.{part_refusal}
 use Rattle.wire_types.specs.declared.error_code.ErrorCode.{ErrorCode}
 use Rattle.msg_admin.specs.declared.reply.Reply.{Reply}
-use Rattle.msg_admin.specs.declared.request.Request.TheVariants.{Produce, Fetch, ListOffsets, Metadata, OffsetCommit, OffsetFetch, FindCoordinator, JoinGroup, Heartbeat, LeaveGroup, SyncGroup, InitProducerId, AddPartitionsToTxn, AddOffsetsToTxn, EndTxn, TxnOffsetCommit, DescribeAcls, CreateAcls, DeleteAcls}
+use Rattle.msg_admin.specs.declared.request.Request.TheVariants.{Produce, Fetch, ListOffsets, Metadata, OffsetCommit, OffsetFetch, FindCoordinator, JoinGroup, Heartbeat, LeaveGroup, SyncGroup, SaslHandshake, ApiVersions, InitProducerId, AddPartitionsToTxn, AddOffsetsToTxn, EndTxn, TxnOffsetCommit, DescribeAcls, CreateAcls, DeleteAcls, SaslAuthenticate}
 use Rattle.audit_trail.specs.declared.event.Event.{Event}
 use Rattle.audit_trail.specs.declared.event.Event.TheVariants.{Ask, Mark, Tick}
 use Rattle.walk.proofs.Weaving.{woven}
@@ -98,6 +98,9 @@ step_goes w (Ask caller client (TxnOffsetCommit r)) =
     let e = Ask caller client (TxnOffsetCommit r) in
     subst (GoOn (ComesBy w e) w.groups) (woven (staging_rule w caller r) (rules_of w) w.groups r.topics).world
     (go_stages (ComesBy w e) w caller r (λ held o. record { caller = caller; client = client; request = r; event = refl; group = refl; by = refl; held = held }))
+step_goes w (Ask caller client (SaslHandshake r)) = unchanged w (Ask caller client (SaslHandshake r))
+step_goes w (Ask caller client ApiVersions) = unchanged w (Ask caller client ApiVersions)
+step_goes w (Ask caller client (SaslAuthenticate r)) = unchanged w (Ask caller client (SaslAuthenticate r))
 step_goes w (Ask caller client (DescribeAcls r)) = let e = Ask caller client (DescribeAcls r) in unless_refused (part_refusal (rules_of w) (describe_acls_questions caller)) w e _ _ (unchanged w e)
 step_goes w (Ask caller client (CreateAcls r)) = let e = Ask caller client (CreateAcls r) in unless_refused (part_refusal (rules_of w) (alter_questions caller)) w e _ _ (unchanged w e)
 step_goes w (Ask caller client (DeleteAcls r)) = let e = Ask caller client (DeleteAcls r) in unless_refused (part_refusal (rules_of w) (alter_questions caller)) w e _ _ (unchanged w e)

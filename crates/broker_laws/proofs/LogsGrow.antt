@@ -15,7 +15,7 @@ use Rattle.partition_log.specs.Log.{at_end}
 use Rattle.msg_data.specs.declared.produce.ProduceRequest.{ProduceRequest}
 use Rattle.msg_data.specs.declared.produce.ProducedRecords.{ProducedRecords}
 use Rattle.msg_admin.specs.declared.reply.Reply.{Reply}
-use Rattle.msg_admin.specs.declared.request.Request.TheVariants.{Produce, Fetch, ListOffsets, Metadata, OffsetCommit, OffsetFetch, FindCoordinator, JoinGroup, Heartbeat, LeaveGroup, SyncGroup, InitProducerId, AddPartitionsToTxn, AddOffsetsToTxn, EndTxn, TxnOffsetCommit, DescribeAcls, CreateAcls, DeleteAcls}
+use Rattle.msg_admin.specs.declared.request.Request.TheVariants.{Produce, Fetch, ListOffsets, Metadata, OffsetCommit, OffsetFetch, FindCoordinator, JoinGroup, Heartbeat, LeaveGroup, SyncGroup, SaslHandshake, ApiVersions, InitProducerId, AddPartitionsToTxn, AddOffsetsToTxn, EndTxn, TxnOffsetCommit, DescribeAcls, CreateAcls, DeleteAcls, SaslAuthenticate}
 use Rattle.audit_trail.specs.declared.event.Event.{Event}
 use Rattle.audit_trail.specs.declared.event.Event.TheVariants.{Ask, Mark, Tick}
 use Rattle.walk.specs.Steps.{topics_world}
@@ -134,6 +134,9 @@ step_grows w (Ask caller client (AddPartitionsToTxn r)) = by_cut (is_cut caller 
 step_grows w (Ask caller client (AddOffsetsToTxn r)) = unless_refused (part_refusal (rules_of w) (add_offsets_questions caller r.transactional_id r.group)) w _ (offsets_added w r) (grow_same w.topics)
 step_grows w (Ask caller client (EndTxn r)) = unless_refused (part_refusal (rules_of w) (id_question caller r.transactional_id ∷ [])) w _ (ended w r) (grow_same w.topics)
 step_grows w (Ask caller client (TxnOffsetCommit r)) = grow_same w.topics
+step_grows w (Ask caller client (SaslHandshake r)) = grow_same w.topics
+step_grows w (Ask caller client ApiVersions) = grow_same w.topics
+step_grows w (Ask caller client (SaslAuthenticate r)) = grow_same w.topics
 step_grows w (Ask caller client (DescribeAcls r)) = unless_refused (part_refusal (rules_of w) (describe_acls_questions caller)) w _ _ (grow_same w.topics)
 step_grows w (Ask caller client (CreateAcls r)) = unless_refused (part_refusal (rules_of w) (alter_questions caller)) w _ _ (grow_same w.topics)
 step_grows w (Ask caller client (DeleteAcls r)) = unless_refused (part_refusal (rules_of w) (alter_questions caller)) w _ _ (grow_same w.topics)

@@ -14,7 +14,7 @@ use Rattle.msg_txn.specs.declared.add_offsets.AddOffsetsToTxnRequest.{AddOffsets
 use Rattle.msg_txn.specs.declared.end_txn.EndTxnRequest.{EndTxnRequest}
 use Rattle.msg_admin.specs.declared.reply.Reply.{Reply}
 use Rattle.msg_admin.specs.declared.reply.Reply.TheVariants as replies
-use Rattle.msg_admin.specs.declared.request.Request.TheVariants.{Produce, Fetch, ListOffsets, Metadata, OffsetCommit, OffsetFetch, FindCoordinator, JoinGroup, Heartbeat, LeaveGroup, SyncGroup, InitProducerId, AddPartitionsToTxn, AddOffsetsToTxn, EndTxn, TxnOffsetCommit, DescribeAcls, CreateAcls, DeleteAcls}
+use Rattle.msg_admin.specs.declared.request.Request.TheVariants.{Produce, Fetch, ListOffsets, Metadata, OffsetCommit, OffsetFetch, FindCoordinator, JoinGroup, Heartbeat, LeaveGroup, SyncGroup, SaslHandshake, ApiVersions, InitProducerId, AddPartitionsToTxn, AddOffsetsToTxn, EndTxn, TxnOffsetCommit, DescribeAcls, CreateAcls, DeleteAcls, SaslAuthenticate}
 use Rattle.audit_trail.specs.declared.event.Event.{Event}
 use Rattle.audit_trail.specs.declared.event.Event.TheVariants.{Ask, Mark, Tick}
 use Rattle.txn_coordinator.specs.declared.pair.Pair.{Pair}
@@ -390,6 +390,9 @@ module _ (w : World) (good : IsGood w) (id : List ℕ) (t u : Transaction) (o : 
   event_owes (Ask caller client (AddOffsetsToTxn r)) after = group_event caller client r after
   event_owes (Ask caller client (EndTxn r)) after = end_event caller client r after
   event_owes (Ask caller client (TxnOffsetCommit r)) after = unchanged _ refl after
+  event_owes (Ask caller client (SaslHandshake r)) after = unchanged _ refl after
+  event_owes (Ask caller client ApiVersions) after = unchanged _ refl after
+  event_owes (Ask caller client (SaslAuthenticate r)) after = unchanged _ refl after
   event_owes (Ask caller client (DescribeAcls r)) after = unless_refused _ (part_refusal (rules_of w) (describe_acls_questions caller)) _ _ refl after
   event_owes (Ask caller client (CreateAcls r)) after = unless_refused _ (part_refusal (rules_of w) (alter_questions caller)) _ _ refl after
   event_owes (Ask caller client (DeleteAcls r)) after = unless_refused _ (part_refusal (rules_of w) (alter_questions caller)) _ _ refl after

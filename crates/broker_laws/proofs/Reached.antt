@@ -16,7 +16,7 @@ use Rattle.producer_state.specs.declared.judgment.Judgment.TheVariants.{Next, Re
 use Rattle.producer_state.specs.Sequences.{judged as judged_by_log}
 use Rattle.msg_data.specs.declared.produce.ProduceRequest.{ProduceRequest}
 use Rattle.msg_data.specs.declared.produce.ProducedRecords.{ProducedRecords}
-use Rattle.msg_admin.specs.declared.request.Request.TheVariants.{Produce, Fetch, ListOffsets, Metadata, OffsetCommit, OffsetFetch, FindCoordinator, JoinGroup, Heartbeat, LeaveGroup, SyncGroup, InitProducerId, AddPartitionsToTxn, AddOffsetsToTxn, EndTxn, TxnOffsetCommit, DescribeAcls, CreateAcls, DeleteAcls}
+use Rattle.msg_admin.specs.declared.request.Request.TheVariants.{Produce, Fetch, ListOffsets, Metadata, OffsetCommit, OffsetFetch, FindCoordinator, JoinGroup, Heartbeat, LeaveGroup, SyncGroup, SaslHandshake, ApiVersions, InitProducerId, AddPartitionsToTxn, AddOffsetsToTxn, EndTxn, TxnOffsetCommit, DescribeAcls, CreateAcls, DeleteAcls, SaslAuthenticate}
 use Rattle.audit_trail.specs.declared.event.Event.{Event}
 use Rattle.audit_trail.specs.declared.event.Event.TheVariants.{Ask, Mark, Tick}
 use Rattle.txn_coordinator.specs.declared.pair.Pair.{Pair}
@@ -206,6 +206,9 @@ event_marks w (Ask caller client (AddPartitionsToTxn r)) = by_cut (is_cut caller
 event_marks w (Ask caller client (AddOffsetsToTxn r)) = unmarked_refusal (part_refusal (rules_of w) (add_offsets_questions caller r.transactional_id r.group)) _ refl
 event_marks w (Ask caller client (EndTxn r)) = unmarked_refusal (part_refusal (rules_of w) (id_question caller r.transactional_id ∷ [])) _ refl
 event_marks w (Ask caller client (TxnOffsetCommit r)) = unmarked_stages w caller r
+event_marks w (Ask caller client (SaslHandshake r)) = refl
+event_marks w (Ask caller client ApiVersions) = refl
+event_marks w (Ask caller client (SaslAuthenticate r)) = refl
 event_marks w (Ask caller client (DescribeAcls r)) = refl
 event_marks w (Ask caller client (CreateAcls r)) = refl
 event_marks w (Ask caller client (DeleteAcls r)) = refl

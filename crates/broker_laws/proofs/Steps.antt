@@ -12,7 +12,7 @@ use Rattle.partition_log.specs.Log.{at_end}
 use Rattle.msg_data.specs.declared.produce.ProduceRequest.{ProduceRequest}
 use Rattle.msg_data.specs.declared.produce.ProducedRecords.{ProducedRecords}
 use Rattle.msg_admin.specs.declared.reply.Reply.{Reply}
-use Rattle.msg_admin.specs.declared.request.Request.TheVariants.{Produce, Fetch, ListOffsets, Metadata, OffsetCommit, OffsetFetch, FindCoordinator, JoinGroup, Heartbeat, LeaveGroup, SyncGroup, InitProducerId, AddPartitionsToTxn, AddOffsetsToTxn, EndTxn, TxnOffsetCommit, DescribeAcls, CreateAcls, DeleteAcls}
+use Rattle.msg_admin.specs.declared.request.Request.TheVariants.{Produce, Fetch, ListOffsets, Metadata, OffsetCommit, OffsetFetch, FindCoordinator, JoinGroup, Heartbeat, LeaveGroup, SyncGroup, SaslHandshake, ApiVersions, InitProducerId, AddPartitionsToTxn, AddOffsetsToTxn, EndTxn, TxnOffsetCommit, DescribeAcls, CreateAcls, DeleteAcls, SaslAuthenticate}
 use Rattle.audit_trail.specs.declared.event.Event.{Event}
 use Rattle.audit_trail.specs.declared.event.Event.TheVariants.{Ask, Mark, Tick}
 use Rattle.walk.specs.Rule.{refusal_of}
@@ -151,6 +151,9 @@ step_moved w (Ask caller client (EndTxn r)) all own = granted_moved (part_refusa
 step_moved w (Ask caller client (TxnOffsetCommit r)) all own =
     ap (λ gs. small (record w { groups = gs })) (sym (woven (staging_rule w caller r) (rules_of w) w.groups r.topics).world)
     ∙ stages_moved w caller r
+step_moved w (Ask caller client (SaslHandshake r)) all own = refl
+step_moved w (Ask caller client ApiVersions) all own = refl
+step_moved w (Ask caller client (SaslAuthenticate r)) all own = refl
 step_moved w (Ask caller client (DescribeAcls r)) all own = unmoved (part_refusal (rules_of w) (describe_acls_questions caller)) w _ _ refl
 step_moved w (Ask caller client (CreateAcls r)) all own = unmoved (part_refusal (rules_of w) (alter_questions caller)) w _ _ refl
 step_moved w (Ask caller client (DeleteAcls r)) all own = unmoved (part_refusal (rules_of w) (alter_questions caller)) w _ _ refl
@@ -261,6 +264,9 @@ step_targets w (Ask caller client (EndTxn r)) all =
     granted_all (part_refusal (rules_of w) (id_question caller r.transactional_id ∷ [])) w _ (ended w r) all
     (turned_exist w.topics w.coordinator (end_turn w.coordinator r) all (end_exists w.topics w.coordinator r.transactional_id _ (ending r.committed) all))
 step_targets w (Ask caller client (TxnOffsetCommit r)) all = all
+step_targets w (Ask caller client (SaslHandshake r)) all = all
+step_targets w (Ask caller client ApiVersions) all = all
+step_targets w (Ask caller client (SaslAuthenticate r)) all = all
 step_targets w (Ask caller client (DescribeAcls r)) all = granted_all (part_refusal (rules_of w) (describe_acls_questions caller)) w _ _ all all
 step_targets w (Ask caller client (CreateAcls r)) all = granted_all (part_refusal (rules_of w) (alter_questions caller)) w _ _ all all
 step_targets w (Ask caller client (DeleteAcls r)) all = granted_all (part_refusal (rules_of w) (alter_questions caller)) w _ _ all all

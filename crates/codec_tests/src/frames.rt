@@ -16,7 +16,7 @@ const ALL_TOPICS: &[u8] =
     b"\x00\x00\x00\x0e\x00\x03\x00\x01\x00\x00\x00\x01\xff\xff\xff\xff\xff\xff";
 
 /// A frame of each form.
-const FRAMES: [&[u8]; 12] = [
+const FRAMES: [&[u8]; 15] = [
     // Metadata of all topics
     ALL_TOPICS,
     // Metadata of no topics
@@ -33,6 +33,12 @@ const FRAMES: [&[u8]; 12] = [
     b"\x00\x00\x00\x18\x00\x09\x00\x07\x00\x00\x00\x06\xff\xff\x00\x02g\x02\x02b\x02\x00\x00\x00\x00\x00\x01\x00",
     // JoinGroup of a new member
     b"\x00\x00\x00\x28\x00\x0b\x00\x02\x00\x00\x00\x07\xff\xff\x00\x01g\x00\x00\x17\x70\x00\x00\x75\x30\x00\x00\x00\x02cc\x00\x00\x00\x01\x00\x01r\x00\x00\x00\x02\x00\xff",
+    // SaslHandshake of PLAIN
+    b"\x00\x00\x00\x11\x00\x11\x00\x01\x00\x00\x00\x01\xff\xff\x00\x05PLAIN",
+    // ApiVersions, whose body is empty
+    b"\x00\x00\x00\x0a\x00\x12\x00\x00\x00\x00\x00\x07\xff\xff",
+    // SaslAuthenticate of `ann` by her password
+    b"\x00\x00\x00\x15\x00\x24\x00\x00\x00\x00\x00\x02\xff\xff\x00\x00\x00\x07\x00ann\x00pw",
     // AddPartitionsToTxn of partition 0 of `b`
     b"\x00\x00\x00\x26\x00\x18\x00\x00\x00\x00\x00\x05\xff\xff\x00\x01t\x00\x00\x00\x00\x00\x00\x00\x07\x00\x02\x00\x00\x00\x01\x00\x01b\x00\x00\x00\x01\x00\x00\x00\x00",
     // AddOffsetsToTxn of the group `g`
@@ -106,6 +112,8 @@ fn apis(rt: HostRuntime) {
     assert_eq!(rt; Api::of(25, 0), Some(Api::AddOffsetsToTxn));
     assert_eq!(rt; Api::of(25, 1), None);
     assert_eq!(rt; Api::of(27, 0), None);
+    assert_eq!(rt; Api::of(18, 0), Some(Api::ApiVersions));
+    assert_eq!(rt; Api::of(18, 3), None);
     assert_eq!(rt; Api::of(28, 2), None);
     assert_eq!(rt; Api::of(28, 3), Some(Api::TxnOffsetCommit));
     assert_eq!(rt; (Api::Metadata.key(), Api::Metadata.version()), (3, 1));

@@ -12,6 +12,7 @@ use Rattle.msg_admin.specs.declared.reply.Reply.{Reply}
 use Rattle.msg_admin.specs.declared.request.Request.{Request}
 use Rattle.msg_admin.specs.Request.{request_at}
 use Rattle.msg_admin.specs.Response.{response, is_sendable}
+use Rattle.msg_admin.specs.Versions.{unsupported_at, unsupported_response}
 use Rattle.audit_trail.specs.declared.event.Event.{Event}
 use Rattle.audit_trail.specs.declared.event.Event.TheVariants as events
 use Rattle.audit_trail.specs.declared.trail.Entry.{Entry}
@@ -99,9 +100,14 @@ pub data Turn : Type 0 where
 abbrev pub step_turn : Settings → List Event → ℤ → Event → Turn
 step_turn s before correlation e = if nat_lt (length before) (trail_limit s) then goes (before ++ e ∷ []) (event_text correlation (told (behind s before) e)) else ends (stop_line TrailFull)
 
--- what is no request closes, and is no event
+-- A frame that is no request closes, but for one that asks ApiVersions in a version that is not served: it is told which is.
+abbrev pub no_request : Option ℤ → List ℕ
+no_request None = closed
+no_request (Some correlation) = frame_line (unsupported_response correlation)
+
+-- what is no request is no event
 abbrev pub request_turn : Settings → List Event → Sent → Result (Header × Request) Malformed → Turn
-request_turn s before sent (Err fault) = goes before closed
+request_turn s before sent (Err fault) = goes before (no_request (unsupported_at sent.frame))
 request_turn s before sent (Ok x) = step_turn s before x.0.correlation (events.Ask sent.caller x.0.client x.1)
 
 -- a frame above the limit closes before it is read

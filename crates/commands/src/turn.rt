@@ -10,7 +10,9 @@ ghost use Rattle.commands.specs.Replay.{refusals_at, reply_line, audit_lines, Tu
 use crate::cause::Cause;
 use crate::lines::content;
 use crate::order::{Order, Sent, parse_order};
-use crate::text::{closed_text, push_audit_lines, reply_text, stop_text, unreadable_text};
+use crate::text::{
+    closed_text, no_request_text, push_audit_lines, reply_text, stop_text, unreadable_text,
+};
 use acl_binding::Caller;
 use audit_trail::Event;
 use authorizer::Refusal;
@@ -95,7 +97,7 @@ fn request_turn(alloc: Global, core: &mut Core, sent: Sent) -> Result<Turn, Allo
     let Sent { caller, frame } = sent;
     match read_request(alloc, &frame) {
         Ok((header, request)) => ask(alloc, core, caller, header, request),
-        Err(ReadFault::Malformed(_)) => Ok(Turn::Goes(closed_text(alloc)?)),
+        Err(ReadFault::Malformed(_)) => Ok(Turn::Goes(no_request_text(alloc, &frame)?)),
         Err(ReadFault::NoMemory) => Err(AllocError),
     }
 }

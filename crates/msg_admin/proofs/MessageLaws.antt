@@ -28,6 +28,8 @@ use Rattle.msg_txn.specs.AddPartitions.{add_partitions_to_txn_request}
 use Rattle.msg_txn.specs.AddOffsets.{add_offsets_to_txn_request}
 use Rattle.msg_txn.specs.EndTxn.{end_txn_request}
 use Rattle.msg_txn.specs.TxnOffsetCommit.{txn_offset_commit_request}
+use Rattle.msg_login.specs.SaslHandshake.{sasl_handshake_request}
+use Rattle.msg_login.specs.SaslAuthenticate.{sasl_authenticate_request}
 use Rattle.msg_admin.specs.declared.api.Api.{Api}
 use Rattle.msg_admin.specs.declared.api.Api.TheVariants as apis
 use Rattle.msg_admin.specs.declared.header.Header.{Header}
@@ -36,7 +38,7 @@ use Rattle.msg_admin.specs.declared.request.Request.TheVariants as requests
 use Rattle.msg_admin.specs.declared.reply.Reply.{Reply}
 use Rattle.msg_admin.specs.Api.{api_at, is_flexible}
 use Rattle.msg_admin.specs.Header.{header, request_header, response_header, least_header}
-use Rattle.msg_admin.specs.Bodies.{api_of, sent_as, request_body, reply_body, asked_produce, produce-asked, asked_fetch, fetch-asked, asked_list_offsets, list_offsets-asked, asked_metadata, metadata-asked, asked_offset_commit, offset_commit-asked, asked_offset_fetch, offset_fetch-asked, asked_find_coordinator, find_coordinator-asked, asked_join_group, join_group-asked, asked_heartbeat, heartbeat-asked, asked_leave_group, leave_group-asked, asked_sync_group, sync_group-asked, asked_init_producer_id, init_producer_id-asked, asked_add_partitions_to_txn, add_partitions_to_txn-asked, asked_add_offsets_to_txn, add_offsets_to_txn-asked, asked_end_txn, end_txn-asked, asked_txn_offset_commit, txn_offset_commit-asked, asked_describe_acls, describe_acls-asked, asked_create_acls, create_acls-asked, asked_delete_acls, delete_acls-asked}
+use Rattle.msg_admin.specs.Bodies.{api_of, sent_as, request_body, reply_body, asked_produce, produce-asked, asked_fetch, fetch-asked, asked_list_offsets, list_offsets-asked, asked_metadata, metadata-asked, asked_offset_commit, offset_commit-asked, asked_offset_fetch, offset_fetch-asked, asked_find_coordinator, find_coordinator-asked, asked_join_group, join_group-asked, asked_heartbeat, heartbeat-asked, asked_leave_group, leave_group-asked, asked_sync_group, sync_group-asked, asked_init_producer_id, init_producer_id-asked, asked_add_partitions_to_txn, add_partitions_to_txn-asked, asked_add_offsets_to_txn, add_offsets_to_txn-asked, asked_end_txn, end_txn-asked, asked_txn_offset_commit, txn_offset_commit-asked, asked_describe_acls, describe_acls-asked, asked_create_acls, create_acls-asked, asked_delete_acls, delete_acls-asked, asked_sasl_handshake, sasl_handshake-asked, asked_sasl_authenticate, sasl_authenticate-asked}
 use Rattle.msg_admin.specs.Frame.{framed}
 use Rattle.msg_admin.specs.Request.{IsRequest, Fits, is_writable}
 use Rattle.msg_admin.specs.Response.{response_as, response_text, sendable_as}
@@ -77,6 +79,8 @@ spelled_api apis.JoinGroup text r h = ap api_of (sym (of_variant requests.JoinGr
 spelled_api apis.Heartbeat text r h = ap api_of (sym (of_variant requests.Heartbeat asked_heartbeat (heartbeat_request.Spells text) r (heartbeat-asked r) (asked_heartbeat r) refl h).1)
 spelled_api apis.LeaveGroup text r h = ap api_of (sym (of_variant requests.LeaveGroup asked_leave_group (leave_group_request.Spells text) r (leave_group-asked r) (asked_leave_group r) refl h).1)
 spelled_api apis.SyncGroup text r h = ap api_of (sym (of_variant requests.SyncGroup asked_sync_group (sync_group_request.Spells text) r (sync_group-asked r) (asked_sync_group r) refl h).1)
+spelled_api apis.SaslHandshake text r h = ap api_of (sym (of_variant requests.SaslHandshake asked_sasl_handshake (sasl_handshake_request.Spells text) r (sasl_handshake-asked r) (asked_sasl_handshake r) refl h).1)
+spelled_api apis.ApiVersions text r h = ap api_of h.1
 spelled_api apis.InitProducerId text r h = ap api_of (sym (of_variant requests.InitProducerId asked_init_producer_id (init_producer_id_request.Spells text) r (init_producer_id-asked r) (asked_init_producer_id r) refl h).1)
 spelled_api apis.AddPartitionsToTxn text r h = ap api_of (sym (of_variant requests.AddPartitionsToTxn asked_add_partitions_to_txn (add_partitions_to_txn_request.Spells text) r (add_partitions_to_txn-asked r) (asked_add_partitions_to_txn r) refl h).1)
 spelled_api apis.AddOffsetsToTxn text r h = ap api_of (sym (of_variant requests.AddOffsetsToTxn asked_add_offsets_to_txn (add_offsets_to_txn_request.Spells text) r (add_offsets_to_txn-asked r) (asked_add_offsets_to_txn r) refl h).1)
@@ -85,6 +89,7 @@ spelled_api apis.TxnOffsetCommit text r h = ap api_of (sym (of_variant requests.
 spelled_api apis.DescribeAcls text r h = ap api_of (sym (of_variant requests.DescribeAcls asked_describe_acls (describe_acls_request.Spells text) r (describe_acls-asked r) (asked_describe_acls r) refl h).1)
 spelled_api apis.CreateAcls text r h = ap api_of (sym (of_variant requests.CreateAcls asked_create_acls (create_acls_request.Spells text) r (create_acls-asked r) (asked_create_acls r) refl h).1)
 spelled_api apis.DeleteAcls text r h = ap api_of (sym (of_variant requests.DeleteAcls asked_delete_acls (delete_acls_request.Spells text) r (delete_acls-asked r) (asked_delete_acls r) refl h).1)
+spelled_api apis.SaslAuthenticate text r h = ap api_of (sym (of_variant requests.SaslAuthenticate asked_sasl_authenticate (sasl_authenticate_request.Spells text) r (sasl_authenticate-asked r) (asked_sasl_authenticate r) refl h).1)
 
 pub read_fits : (bytes : List ℕ) → IsBytes bytes → SpellsFitting bytes
 read_fits bytes are within h r i =

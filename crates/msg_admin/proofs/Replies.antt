@@ -15,6 +15,7 @@ use Rattle.msg_acl.proofs.ReplyStrings.{describe_acls_tells, create_acls_tells, 
 use Rattle.msg_group.proofs.ReplyStrings.{offset_commit_tells, offset_fetch_tells, join_group_tells, heartbeat_tells, leave_group_tells, sync_group_tells}
 use Rattle.msg_txn.proofs.ReplyStrings.{find_coordinator_tells, init_producer_id_tells, add_partitions_to_txn_tells, add_offsets_to_txn_tells, end_txn_tells, txn_offset_commit_tells}
 use Rattle.msg_data.proofs.ReplyStrings.{produce_tells, fetch_tells, list_offsets_tells, metadata_tells}
+use Rattle.msg_login.proofs.ReplyStrings.{sasl_handshake_tells, sasl_authenticate_tells, api_versions_tells}
 use Rattle.msg_admin.specs.declared.api.Api.{Api}
 use Rattle.msg_admin.specs.declared.reply.Reply.{Reply}
 use Rattle.msg_admin.specs.declared.reply.Reply.TheVariants as replies
@@ -69,6 +70,8 @@ decided (replies.JoinGroup m) = (join_group_tells.short m, join_group_tells.fits
 decided (replies.Heartbeat m) = (heartbeat_tells.short m, heartbeat_tells.fits m)
 decided (replies.LeaveGroup m) = (leave_group_tells.short m, leave_group_tells.fits m)
 decided (replies.SyncGroup m) = (sync_group_tells.short m, sync_group_tells.fits m)
+decided (replies.SaslHandshake m) = (sasl_handshake_tells.short m, sasl_handshake_tells.fits m)
+decided (replies.ApiVersions m) = (api_versions_tells.short m, api_versions_tells.fits m)
 decided (replies.InitProducerId m) = (init_producer_id_tells.short m, init_producer_id_tells.fits m)
 decided (replies.AddPartitionsToTxn m) = (add_partitions_to_txn_tells.short m, add_partitions_to_txn_tells.fits m)
 decided (replies.AddOffsetsToTxn m) = (add_offsets_to_txn_tells.short m, add_offsets_to_txn_tells.fits m)
@@ -77,6 +80,7 @@ decided (replies.TxnOffsetCommit m) = (txn_offset_commit_tells.short m, txn_offs
 decided (replies.DescribeAcls m) = (describe_acls_tells.short m, describe_acls_tells.fits m)
 decided (replies.CreateAcls m) = (create_acls_tells.short m, create_acls_tells.fits m)
 decided (replies.DeleteAcls m) = (delete_acls_tells.short m, delete_acls_tells.fits m)
+decided (replies.SaslAuthenticate m) = (sasl_authenticate_tells.short m, sasl_authenticate_tells.fits m)
 decided (replies.Marked left) = tt
 decided replies.Idle = tt
 decided (replies.Ticked left) = tt

@@ -53,16 +53,19 @@ asked-again bytes c i =
     let other : not (int_eq i.2 (pos 0)) ≡ true = (other_version i.2).1 i.5 in
     ap unsupported_at i.3 ∙ rw (start.complete i.0 i.1 ((pos 18, i.2), c) i.4, other) refl
 
-unknown : (version : ℤ) → api_at (pos 18) version ≡ None
+unknown : (version : ℤ) → (version ≡ pos 0 → ⊥) → api_at (pos 18) version ≡ None
 unfolding api_at all_apis key_of version_of
-unknown version = refl
+unknown version other = by_test (int_eq (pos 0) version) refl where
+  by_test : (b : Bool) → int_eq (pos 0) version ≡ b → api_at (pos 18) version ≡ None
+  by_test false is = rw is refl
+  by_test true is = absurd (other (sym ((Decides-int_eq (pos 0) version).0 is)))
 
 unread_bytes : (bytes : List ℕ) (c : ℤ) → AsksUnsupported bytes c → request_at bytes ≡ Err Unknown
 unfolding request_at
 unread_bytes bytes c i =
     let s = i.4 in
     let regrouped : bytes ≡ s.0 ++ (s.1 ++ i.1) = i.3 ∙ ap (λ (t : List ℕ). t ++ i.1) s.2 ∙ append_assoc s.0 s.1 i.1 in
-    ap request_at regrouped ∙ rw (names.complete s.0 (s.1 ++ i.1) (pos 18, i.2) s.3, unknown i.2) refl
+    ap request_at regrouped ∙ rw (names.complete s.0 (s.1 ++ i.1) (pos 18, i.2) s.3, unknown i.2 i.5) refl
 
 pub unread : (bytes : List ℕ) (o : Option ℤ) → IfSome o (AsksUnsupported bytes) → OnSome o (request_at bytes ≡ Err Unknown)
 unread bytes None i = tt
@@ -71,7 +74,7 @@ unread bytes (Some c) i = unread_bytes bytes c i
 -- ---- the answer
 
 answer_fits : (c : ℤ) → frame_fits (int32 ⨟ api_versions_reply) (c, unsupported_reply) ≡ true
-unfolding frame_fits int_written behind_written behind_fits many_written many_fit null_count_fits
+unfolding frame_fits int_written behind_written behind_fits many_written many_fit null_count_fits key_of version_of
 answer_fits c = refl
 
 pub never_long : (c : ℤ) (r : ApiVersionsReply) (e : WriteFault) → r ≡ unsupported_reply → e ≡ faults.TooLong → GivesFrame (int32 ⨟ api_versions_reply) (c, r) (Err e) → ⊥

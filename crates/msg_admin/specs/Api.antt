@@ -17,6 +17,8 @@ key_of apis.JoinGroup = pos 11
 key_of apis.Heartbeat = pos 12
 key_of apis.LeaveGroup = pos 13
 key_of apis.SyncGroup = pos 14
+key_of apis.SaslHandshake = pos 17
+key_of apis.ApiVersions = pos 18
 key_of apis.InitProducerId = pos 22
 key_of apis.AddPartitionsToTxn = pos 24
 key_of apis.AddOffsetsToTxn = pos 25
@@ -25,6 +27,7 @@ key_of apis.TxnOffsetCommit = pos 28
 key_of apis.DescribeAcls = pos 29
 key_of apis.CreateAcls = pos 30
 key_of apis.DeleteAcls = pos 31
+key_of apis.SaslAuthenticate = pos 36
 
 unfoldable pub version_of : Api → ℤ
 version_of apis.Produce = pos 3
@@ -38,6 +41,8 @@ version_of apis.JoinGroup = pos 2
 version_of apis.Heartbeat = pos 1
 version_of apis.LeaveGroup = pos 1
 version_of apis.SyncGroup = pos 1
+version_of apis.SaslHandshake = pos 1
+version_of apis.ApiVersions = pos 0
 version_of apis.InitProducerId = pos 0
 version_of apis.AddPartitionsToTxn = pos 0
 version_of apis.AddOffsetsToTxn = pos 0
@@ -46,6 +51,7 @@ version_of apis.TxnOffsetCommit = pos 3
 version_of apis.DescribeAcls = pos 1
 version_of apis.CreateAcls = pos 1
 version_of apis.DeleteAcls = pos 1
+version_of apis.SaslAuthenticate = pos 0
 
 -- whether that version is a flexible one (KIP-482, "The Kafka Protocol should Support Optional Tagged Fields")
 unfoldable pub is_flexible : Api → Bool
@@ -60,6 +66,8 @@ is_flexible apis.JoinGroup = false
 is_flexible apis.Heartbeat = false
 is_flexible apis.LeaveGroup = false
 is_flexible apis.SyncGroup = false
+is_flexible apis.SaslHandshake = false
+is_flexible apis.ApiVersions = false
 is_flexible apis.InitProducerId = false
 is_flexible apis.AddPartitionsToTxn = false
 is_flexible apis.AddOffsetsToTxn = false
@@ -68,9 +76,10 @@ is_flexible apis.TxnOffsetCommit = true
 is_flexible apis.DescribeAcls = false
 is_flexible apis.CreateAcls = false
 is_flexible apis.DeleteAcls = false
+is_flexible apis.SaslAuthenticate = false
 
 unfoldable pub all_apis : List Api
-all_apis = apis.Produce ∷ apis.Fetch ∷ apis.ListOffsets ∷ apis.Metadata ∷ apis.OffsetCommit ∷ apis.OffsetFetch ∷ apis.FindCoordinator ∷ apis.JoinGroup ∷ apis.Heartbeat ∷ apis.LeaveGroup ∷ apis.SyncGroup ∷ apis.InitProducerId ∷ apis.AddPartitionsToTxn ∷ apis.AddOffsetsToTxn ∷ apis.EndTxn ∷ apis.TxnOffsetCommit ∷ apis.DescribeAcls ∷ apis.CreateAcls ∷ apis.DeleteAcls ∷ []
+all_apis = apis.Produce ∷ apis.Fetch ∷ apis.ListOffsets ∷ apis.Metadata ∷ apis.OffsetCommit ∷ apis.OffsetFetch ∷ apis.FindCoordinator ∷ apis.JoinGroup ∷ apis.Heartbeat ∷ apis.LeaveGroup ∷ apis.SyncGroup ∷ apis.SaslHandshake ∷ apis.ApiVersions ∷ apis.InitProducerId ∷ apis.AddPartitionsToTxn ∷ apis.AddOffsetsToTxn ∷ apis.EndTxn ∷ apis.TxnOffsetCommit ∷ apis.DescribeAcls ∷ apis.CreateAcls ∷ apis.DeleteAcls ∷ apis.SaslAuthenticate ∷ []
 
 -- the api that is served under a key in a version
 unfoldable pub api_at : ℤ → ℤ → Option Api
@@ -90,6 +99,8 @@ api_at-own apis.JoinGroup = refl
 api_at-own apis.Heartbeat = refl
 api_at-own apis.LeaveGroup = refl
 api_at-own apis.SyncGroup = refl
+api_at-own apis.SaslHandshake = refl
+api_at-own apis.ApiVersions = refl
 api_at-own apis.InitProducerId = refl
 api_at-own apis.AddPartitionsToTxn = refl
 api_at-own apis.AddOffsetsToTxn = refl
@@ -98,3 +109,4 @@ api_at-own apis.TxnOffsetCommit = refl
 api_at-own apis.DescribeAcls = refl
 api_at-own apis.CreateAcls = refl
 api_at-own apis.DeleteAcls = refl
+api_at-own apis.SaslAuthenticate = refl

@@ -1,7 +1,7 @@
 -- The grammars of the bodies: what each api is asked, and what it answers.
-use Rattle.std.specs.Prelude.{◌≡◌, ℕ, List, [], Option, Some, None, refl}
+use Rattle.std.specs.Prelude.{◌≡◌, ℕ, List, [], Bool, true, false, Option, Some, None, refl}
 use Rattle.wire_types.specs.Grammar.{Grammar, Body}
-use Rattle.wire_types.specs.Combinators.{variant, body_of}
+use Rattle.wire_types.specs.Combinators.{variant, body_of, empty_body}
 use Rattle.msg_data.specs.declared.produce.ProduceRequest.{ProduceRequest}
 use Rattle.msg_data.specs.declared.produce.ProduceReply.{ProduceReply}
 use Rattle.msg_data.specs.Produce.{produce_request, produce_reply, produce_strings}
@@ -60,6 +60,14 @@ use Rattle.msg_acl.specs.CreateAcls.{create_acls_request, create_acls_reply, cre
 use Rattle.msg_acl.specs.declared.delete_acls.DeleteAclsRequest.{DeleteAclsRequest}
 use Rattle.msg_acl.specs.declared.delete_acls.DeleteAclsReply.{DeleteAclsReply}
 use Rattle.msg_acl.specs.DeleteAcls.{delete_acls_request, delete_acls_reply, delete_acls_strings}
+use Rattle.msg_login.specs.declared.sasl_handshake.SaslHandshakeRequest.{SaslHandshakeRequest}
+use Rattle.msg_login.specs.declared.sasl_handshake.SaslHandshakeReply.{SaslHandshakeReply}
+use Rattle.msg_login.specs.SaslHandshake.{sasl_handshake_request, sasl_handshake_reply, sasl_handshake_strings}
+use Rattle.msg_login.specs.declared.api_versions.ApiVersionsReply.{ApiVersionsReply}
+use Rattle.msg_login.specs.ApiVersions.{api_versions_reply}
+use Rattle.msg_login.specs.declared.sasl_authenticate.SaslAuthenticateRequest.{SaslAuthenticateRequest}
+use Rattle.msg_login.specs.declared.sasl_authenticate.SaslAuthenticateReply.{SaslAuthenticateReply}
+use Rattle.msg_login.specs.SaslAuthenticate.{sasl_authenticate_request, sasl_authenticate_reply, sasl_authenticate_strings}
 use Rattle.msg_admin.specs.declared.api.Api.{Api}
 use Rattle.msg_admin.specs.declared.api.Api.TheVariants as apis
 use Rattle.msg_admin.specs.declared.request.Request.{Request}
@@ -80,6 +88,8 @@ api_of (requests.JoinGroup r) = apis.JoinGroup
 api_of (requests.Heartbeat r) = apis.Heartbeat
 api_of (requests.LeaveGroup r) = apis.LeaveGroup
 api_of (requests.SyncGroup r) = apis.SyncGroup
+api_of (requests.SaslHandshake r) = apis.SaslHandshake
+api_of requests.ApiVersions = apis.ApiVersions
 api_of (requests.InitProducerId r) = apis.InitProducerId
 api_of (requests.AddPartitionsToTxn r) = apis.AddPartitionsToTxn
 api_of (requests.AddOffsetsToTxn r) = apis.AddOffsetsToTxn
@@ -88,6 +98,7 @@ api_of (requests.TxnOffsetCommit r) = apis.TxnOffsetCommit
 api_of (requests.DescribeAcls r) = apis.DescribeAcls
 api_of (requests.CreateAcls r) = apis.CreateAcls
 api_of (requests.DeleteAcls r) = apis.DeleteAcls
+api_of (requests.SaslAuthenticate r) = apis.SaslAuthenticate
 
 -- the api whose answer a reply is sent as, if it is sent; what is no answer to a request is not
 abbrev pub sent_as : Reply → Option Api
@@ -103,6 +114,8 @@ sent_as (replies.JoinGroup r) = Some apis.JoinGroup
 sent_as (replies.Heartbeat r) = Some apis.Heartbeat
 sent_as (replies.LeaveGroup r) = Some apis.LeaveGroup
 sent_as (replies.SyncGroup r) = Some apis.SyncGroup
+sent_as (replies.SaslHandshake r) = Some apis.SaslHandshake
+sent_as (replies.ApiVersions r) = Some apis.ApiVersions
 sent_as (replies.InitProducerId r) = Some apis.InitProducerId
 sent_as (replies.AddPartitionsToTxn r) = Some apis.AddPartitionsToTxn
 sent_as (replies.AddOffsetsToTxn r) = Some apis.AddOffsetsToTxn
@@ -111,6 +124,7 @@ sent_as (replies.TxnOffsetCommit r) = Some apis.TxnOffsetCommit
 sent_as (replies.DescribeAcls r) = Some apis.DescribeAcls
 sent_as (replies.CreateAcls r) = Some apis.CreateAcls
 sent_as (replies.DeleteAcls r) = Some apis.DeleteAcls
+sent_as (replies.SaslAuthenticate r) = Some apis.SaslAuthenticate
 sent_as (replies.Marked left) = None
 sent_as replies.Idle = None
 sent_as (replies.Ticked left) = None
@@ -129,6 +143,8 @@ strings_of (replies.JoinGroup r) = join_group_strings r
 strings_of (replies.Heartbeat r) = no_strings r
 strings_of (replies.LeaveGroup r) = no_strings r
 strings_of (replies.SyncGroup r) = no_strings r
+strings_of (replies.SaslHandshake r) = sasl_handshake_strings r
+strings_of (replies.ApiVersions r) = no_strings r
 strings_of (replies.InitProducerId r) = no_strings r
 strings_of (replies.AddPartitionsToTxn r) = add_partitions_to_txn_strings r
 strings_of (replies.AddOffsetsToTxn r) = no_strings r
@@ -137,6 +153,7 @@ strings_of (replies.TxnOffsetCommit r) = no_strings r
 strings_of (replies.DescribeAcls r) = describe_acls_strings r
 strings_of (replies.CreateAcls r) = create_acls_strings r
 strings_of (replies.DeleteAcls r) = delete_acls_strings r
+strings_of (replies.SaslAuthenticate r) = sasl_authenticate_strings r
 strings_of (replies.Marked left) = []
 strings_of replies.Idle = []
 strings_of (replies.Ticked left) = []
@@ -339,6 +356,42 @@ pub sync_group-answered : (r : Reply) (x : SyncGroupReply) → answered_sync_gro
 sync_group-answered (replies.SyncGroup y) x e = cc
 sync_group-answered _ x e = absurd cc
 
+-- ---- SaslHandshake
+
+abbrev pub asked_sasl_handshake : Request → Option SaslHandshakeRequest
+asked_sasl_handshake (requests.SaslHandshake r) = Some r
+asked_sasl_handshake _ = None
+
+pub sasl_handshake-asked : (r : Request) (x : SaslHandshakeRequest) → asked_sasl_handshake r ≡ Some x → requests.SaslHandshake x ≡ r
+sasl_handshake-asked (requests.SaslHandshake y) x e = cc
+sasl_handshake-asked _ x e = absurd cc
+
+abbrev pub answered_sasl_handshake : Reply → Option SaslHandshakeReply
+answered_sasl_handshake (replies.SaslHandshake r) = Some r
+answered_sasl_handshake _ = None
+
+pub sasl_handshake-answered : (r : Reply) (x : SaslHandshakeReply) → answered_sasl_handshake r ≡ Some x → replies.SaslHandshake x ≡ r
+sasl_handshake-answered (replies.SaslHandshake y) x e = cc
+sasl_handshake-answered _ x e = absurd cc
+
+-- ---- ApiVersions
+
+abbrev pub is_api_versions : Request → Bool
+is_api_versions requests.ApiVersions = true
+is_api_versions _ = false
+
+pub api_versions-only : (r : Request) → is_api_versions r ≡ true → r ≡ requests.ApiVersions
+api_versions-only requests.ApiVersions e = refl
+api_versions-only _ e = absurd cc
+
+abbrev pub answered_api_versions : Reply → Option ApiVersionsReply
+answered_api_versions (replies.ApiVersions r) = Some r
+answered_api_versions _ = None
+
+pub api_versions-answered : (r : Reply) (x : ApiVersionsReply) → answered_api_versions r ≡ Some x → replies.ApiVersions x ≡ r
+api_versions-answered (replies.ApiVersions y) x e = cc
+api_versions-answered _ x e = absurd cc
+
 -- ---- InitProducerId
 
 abbrev pub asked_init_producer_id : Request → Option InitProducerIdRequest
@@ -483,6 +536,24 @@ pub delete_acls-answered : (r : Reply) (x : DeleteAclsReply) → answered_delete
 delete_acls-answered (replies.DeleteAcls y) x e = cc
 delete_acls-answered _ x e = absurd cc
 
+-- ---- SaslAuthenticate
+
+abbrev pub asked_sasl_authenticate : Request → Option SaslAuthenticateRequest
+asked_sasl_authenticate (requests.SaslAuthenticate r) = Some r
+asked_sasl_authenticate _ = None
+
+pub sasl_authenticate-asked : (r : Request) (x : SaslAuthenticateRequest) → asked_sasl_authenticate r ≡ Some x → requests.SaslAuthenticate x ≡ r
+sasl_authenticate-asked (requests.SaslAuthenticate y) x e = cc
+sasl_authenticate-asked _ x e = absurd cc
+
+abbrev pub answered_sasl_authenticate : Reply → Option SaslAuthenticateReply
+answered_sasl_authenticate (replies.SaslAuthenticate r) = Some r
+answered_sasl_authenticate _ = None
+
+pub sasl_authenticate-answered : (r : Reply) (x : SaslAuthenticateReply) → answered_sasl_authenticate r ≡ Some x → replies.SaslAuthenticate x ≡ r
+sasl_authenticate-answered (replies.SaslAuthenticate y) x e = cc
+sasl_authenticate-answered _ x e = absurd cc
+
 -- ---- by api
 
 unfoldable pub request_body : Api → Body Request
@@ -497,6 +568,8 @@ request_body apis.JoinGroup = body_of (variant requests.JoinGroup asked_join_gro
 request_body apis.Heartbeat = body_of (variant requests.Heartbeat asked_heartbeat (λ x. refl) heartbeat-asked heartbeat_request)
 request_body apis.LeaveGroup = body_of (variant requests.LeaveGroup asked_leave_group (λ x. refl) leave_group-asked leave_group_request)
 request_body apis.SyncGroup = body_of (variant requests.SyncGroup asked_sync_group (λ x. refl) sync_group-asked sync_group_request)
+request_body apis.SaslHandshake = body_of (variant requests.SaslHandshake asked_sasl_handshake (λ x. refl) sasl_handshake-asked sasl_handshake_request)
+request_body apis.ApiVersions = empty_body requests.ApiVersions is_api_versions refl api_versions-only
 request_body apis.InitProducerId = body_of (variant requests.InitProducerId asked_init_producer_id (λ x. refl) init_producer_id-asked init_producer_id_request)
 request_body apis.AddPartitionsToTxn = body_of (variant requests.AddPartitionsToTxn asked_add_partitions_to_txn (λ x. refl) add_partitions_to_txn-asked add_partitions_to_txn_request)
 request_body apis.AddOffsetsToTxn = body_of (variant requests.AddOffsetsToTxn asked_add_offsets_to_txn (λ x. refl) add_offsets_to_txn-asked add_offsets_to_txn_request)
@@ -505,6 +578,7 @@ request_body apis.TxnOffsetCommit = body_of (variant requests.TxnOffsetCommit as
 request_body apis.DescribeAcls = body_of (variant requests.DescribeAcls asked_describe_acls (λ x. refl) describe_acls-asked describe_acls_request)
 request_body apis.CreateAcls = body_of (variant requests.CreateAcls asked_create_acls (λ x. refl) create_acls-asked create_acls_request)
 request_body apis.DeleteAcls = body_of (variant requests.DeleteAcls asked_delete_acls (λ x. refl) delete_acls-asked delete_acls_request)
+request_body apis.SaslAuthenticate = body_of (variant requests.SaslAuthenticate asked_sasl_authenticate (λ x. refl) sasl_authenticate-asked sasl_authenticate_request)
 
 unfoldable pub reply_body : Api → Grammar Reply
 reply_body apis.Produce = variant replies.Produce answered_produce (λ x. refl) produce-answered produce_reply
@@ -518,6 +592,8 @@ reply_body apis.JoinGroup = variant replies.JoinGroup answered_join_group (λ x.
 reply_body apis.Heartbeat = variant replies.Heartbeat answered_heartbeat (λ x. refl) heartbeat-answered heartbeat_reply
 reply_body apis.LeaveGroup = variant replies.LeaveGroup answered_leave_group (λ x. refl) leave_group-answered leave_group_reply
 reply_body apis.SyncGroup = variant replies.SyncGroup answered_sync_group (λ x. refl) sync_group-answered sync_group_reply
+reply_body apis.SaslHandshake = variant replies.SaslHandshake answered_sasl_handshake (λ x. refl) sasl_handshake-answered sasl_handshake_reply
+reply_body apis.ApiVersions = variant replies.ApiVersions answered_api_versions (λ x. refl) api_versions-answered api_versions_reply
 reply_body apis.InitProducerId = variant replies.InitProducerId answered_init_producer_id (λ x. refl) init_producer_id-answered init_producer_id_reply
 reply_body apis.AddPartitionsToTxn = variant replies.AddPartitionsToTxn answered_add_partitions_to_txn (λ x. refl) add_partitions_to_txn-answered add_partitions_to_txn_reply
 reply_body apis.AddOffsetsToTxn = variant replies.AddOffsetsToTxn answered_add_offsets_to_txn (λ x. refl) add_offsets_to_txn-answered add_offsets_to_txn_reply
@@ -526,3 +602,4 @@ reply_body apis.TxnOffsetCommit = variant replies.TxnOffsetCommit answered_txn_o
 reply_body apis.DescribeAcls = variant replies.DescribeAcls answered_describe_acls (λ x. refl) describe_acls-answered describe_acls_reply
 reply_body apis.CreateAcls = variant replies.CreateAcls answered_create_acls (λ x. refl) create_acls-answered create_acls_reply
 reply_body apis.DeleteAcls = variant replies.DeleteAcls answered_delete_acls (λ x. refl) delete_acls-answered delete_acls_reply
+reply_body apis.SaslAuthenticate = variant replies.SaslAuthenticate answered_sasl_authenticate (λ x. refl) sasl_authenticate-answered sasl_authenticate_reply

@@ -1,6 +1,7 @@
--- ApiVersions in a version that is not served, which is answered all the same: a client asks it before it knows the
--- versions (Kafka protocol guide, "Retrieving Supported API versions"; KIP-511).
-use Rattle.std.specs.Prelude.{◌≡◌, ℕ, ℤ, pos, List, [], ◌∷◌, ◌++◌, not, ◌&&◌, Option, Some, None, if◌then◌else◌}
+-- What ApiVersions is answered (Kafka protocol guide, "Retrieving Supported API versions"). It is answered in a version that
+-- is not served too: a client asks it before it knows the versions (KIP-511).
+use Rattle.std.specs.Prelude.{◌≡◌, ℕ, ℤ, pos, List, [], ◌∷◌, ◌++◌, map, not, ◌&&◌, Option, Some, None, if◌then◌else◌, refl}
+use Rattle.std.specs.List.{find}
 use Rattle.std.specs.Option.{option_and_then}
 use Rattle.std.specs.Ordering.{int_eq}
 use Rattle.std.specs.Result.{result_ok}
@@ -8,11 +9,50 @@ use Rattle.wire_types.specs.declared.error_code.ErrorCode.TheVariants as codes
 use Rattle.wire_types.specs.Grammar.{Grammar}
 use Rattle.wire_types.specs.Combinators.{◌⨟◌}
 use Rattle.wire_types.specs.Schema.{int32}
+use Rattle.msg_login.specs.declared.api_versions.ServedVersions.{ServedVersions}
 use Rattle.msg_login.specs.declared.api_versions.ApiVersionsReply.{ApiVersionsReply}
 use Rattle.msg_login.specs.ApiVersions.{api_versions_reply}
-use Rattle.msg_admin.specs.declared.header.Header.{Header}
+use Rattle.msg_admin.specs.declared.api.Api.{Api}
+use Rattle.msg_admin.specs.declared.api.Api.TheVariants as apis
+use Rattle.msg_admin.specs.Api.{key_of, version_of, all_apis}
 use Rattle.msg_admin.specs.Header.{names}
 use Rattle.msg_admin.specs.Frame.{framed}
+
+-- an api with the versions in which it is served
+abbrev pub served_in : Api → ServedVersions
+served_in api = record { key = key_of api; min = version_of api; max = version_of api }
+
+-- every api that is served
+abbrev pub versions_reply : ApiVersionsReply
+versions_reply = record { error = codes.None; apis = map served_in all_apis }
+
+-- each api stands in it under its key
+pub served_in-listed : (api : Api) → find (λ v. int_eq v.key (key_of api)) versions_reply.apis ≡ Some (served_in api)
+unfolding all_apis key_of version_of
+served_in-listed apis.Produce = refl
+served_in-listed apis.Fetch = refl
+served_in-listed apis.ListOffsets = refl
+served_in-listed apis.Metadata = refl
+served_in-listed apis.OffsetCommit = refl
+served_in-listed apis.OffsetFetch = refl
+served_in-listed apis.FindCoordinator = refl
+served_in-listed apis.JoinGroup = refl
+served_in-listed apis.Heartbeat = refl
+served_in-listed apis.LeaveGroup = refl
+served_in-listed apis.SyncGroup = refl
+served_in-listed apis.SaslHandshake = refl
+served_in-listed apis.ApiVersions = refl
+served_in-listed apis.InitProducerId = refl
+served_in-listed apis.AddPartitionsToTxn = refl
+served_in-listed apis.AddOffsetsToTxn = refl
+served_in-listed apis.EndTxn = refl
+served_in-listed apis.TxnOffsetCommit = refl
+served_in-listed apis.DescribeAcls = refl
+served_in-listed apis.CreateAcls = refl
+served_in-listed apis.DeleteAcls = refl
+served_in-listed apis.SaslAuthenticate = refl
+
+-- ---- asked in a version that is not served
 
 -- what each request header starts with: request_api_key request_api_version correlation_id
 abbrev pub start : Grammar ((ℤ × ℤ) × ℤ)
@@ -36,14 +76,8 @@ unsupported_at bytes = option_and_then (λ x. asked_unsupported x.0) (result_ok 
 
 -- the error, and ApiVersions alone with the version that is served
 abbrev pub unsupported_reply : ApiVersionsReply
-unsupported_reply = record { error = codes.UnsupportedVersion; apis = record { key = pos 18; min = pos 0; max = pos 0 } ∷ [] }
+unsupported_reply = record { error = codes.UnsupportedVersion; apis = served_in apis.ApiVersions ∷ [] }
 
 -- the whole response, in version 0, which each client can read
 abbrev pub unsupported_response : ℤ → List ℕ
 unsupported_response correlation = framed (int32.written correlation ++ api_versions_reply.written unsupported_reply)
-
--- ---- a request in version 0
-
--- its header; the body is empty
-abbrev pub versions_header : ℤ → Option (List ℕ) → Header
-versions_header correlation client = record { key = pos 18; version = pos 0; correlation = correlation; client = client }

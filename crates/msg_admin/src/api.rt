@@ -19,6 +19,8 @@ pub enum Api {
     Heartbeat = 12,
     LeaveGroup = 13,
     SyncGroup = 14,
+    SaslHandshake = 17,
+    ApiVersions = 18,
     InitProducerId = 22,
     AddPartitionsToTxn = 24,
     AddOffsetsToTxn = 25,
@@ -27,11 +29,12 @@ pub enum Api {
     DescribeAcls = 29,
     CreateAcls = 30,
     DeleteAcls = 31,
+    SaslAuthenticate = 36,
 }
 
 impl Api {
     /// Every api, in rising order of keys.
-    pub const ALL: [Api; 19] = [
+    pub const ALL: [Api; 22] = [
         Api::Produce,
         Api::Fetch,
         Api::ListOffsets,
@@ -43,6 +46,8 @@ impl Api {
         Api::Heartbeat,
         Api::LeaveGroup,
         Api::SyncGroup,
+        Api::SaslHandshake,
+        Api::ApiVersions,
         Api::InitProducerId,
         Api::AddPartitionsToTxn,
         Api::AddOffsetsToTxn,
@@ -51,6 +56,7 @@ impl Api {
         Api::DescribeAcls,
         Api::CreateAcls,
         Api::DeleteAcls,
+        Api::SaslAuthenticate,
     ];
 
     /// The number under which a request names the api.
@@ -78,6 +84,8 @@ impl Api {
             Api::Heartbeat => 1,
             Api::LeaveGroup => 1,
             Api::SyncGroup => 1,
+            Api::SaslHandshake => 1,
+            Api::ApiVersions => 0,
             Api::InitProducerId => 0,
             Api::AddPartitionsToTxn => 0,
             Api::AddOffsetsToTxn => 0,
@@ -86,6 +94,7 @@ impl Api {
             Api::DescribeAcls => 1,
             Api::CreateAcls => 1,
             Api::DeleteAcls => 1,
+            Api::SaslAuthenticate => 0,
         }
     }
 
@@ -99,6 +108,7 @@ impl Api {
             Api::OffsetFetch => true,
             Api::OffsetCommit | Api::FindCoordinator | Api::JoinGroup => false,
             Api::Heartbeat | Api::LeaveGroup | Api::SyncGroup => false,
+            Api::SaslHandshake | Api::ApiVersions | Api::SaslAuthenticate => false,
             Api::InitProducerId | Api::AddPartitionsToTxn => false,
             Api::AddOffsetsToTxn | Api::EndTxn => false,
             Api::TxnOffsetCommit => true,

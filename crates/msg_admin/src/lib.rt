@@ -2,7 +2,8 @@
 //!
 //! `read_request` and `write_reply` are a broker's side, `write_request` a client's. A new api is a variant of
 //! `Api`, `Request` and `Reply`, a line where each of them is dispatched, and its grammar in `specs/Bodies.antt`.
-//! `Api::is_flexible` tells the form of its headers. `unsupported_versions` is for what `read_request` doesn't read.
+//! `Api::is_flexible` tells the form of its headers, and `versions_reply` lists each api that `Api::ALL` has.
+//! `unsupported_versions` is for what `read_request` doesn't read.
 #![tactic(auto)]
 
 mod api;
@@ -18,4 +19,4 @@ pub use header::Header;
 pub use laws::{one_reply, one_request, read_fits, written_is_read};
 pub use reply::{Reply, write_reply};
 pub use request::{FRAME_LIMIT, Request, read_request, write_request};
-pub use versions::{unsupported_versions, write_unsupported_versions, write_versions_request};
+pub use versions::{unsupported_versions, versions_reply, write_unsupported_versions};

@@ -13,6 +13,7 @@ use msg_group::{
     HeartbeatReply, JoinGroupReply, LeaveGroupReply, OffsetCommitReply, OffsetFetchReply,
     SyncGroupReply,
 };
+use msg_login::{ApiVersionsReply, SaslAuthenticateReply, SaslHandshakeReply};
 use msg_txn::{
     AddOffsetsToTxnReply, AddPartitionsToTxnReply, EndTxnReply, FindCoordinatorReply,
     InitProducerIdReply, TxnOffsetCommitReply,
@@ -36,6 +37,8 @@ pub enum Reply {
     Heartbeat(HeartbeatReply),
     LeaveGroup(LeaveGroupReply),
     SyncGroup(SyncGroupReply),
+    SaslHandshake(SaslHandshakeReply),
+    ApiVersions(ApiVersionsReply),
     InitProducerId(InitProducerIdReply),
     AddPartitionsToTxn(AddPartitionsToTxnReply),
     AddOffsetsToTxn(AddOffsetsToTxnReply),
@@ -44,6 +47,7 @@ pub enum Reply {
     DescribeAcls(DescribeAclsReply),
     CreateAcls(CreateAclsReply),
     DeleteAcls(DeleteAclsReply),
+    SaslAuthenticate(SaslAuthenticateReply),
     /// A marker was written, and so many are still owed.
     Marked { left: u64 },
     /// No marker was owed.
@@ -68,6 +72,8 @@ impl Drop for Reply {
             Reply::Heartbeat(body) => drop(body),
             Reply::LeaveGroup(body) => drop(body),
             Reply::SyncGroup(body) => drop(body),
+            Reply::SaslHandshake(body) => drop(body),
+            Reply::ApiVersions(body) => drop(body),
             Reply::InitProducerId(body) => drop(body),
             Reply::AddPartitionsToTxn(body) => drop(body),
             Reply::AddOffsetsToTxn(body) => drop(body),
@@ -76,6 +82,7 @@ impl Drop for Reply {
             Reply::DescribeAcls(body) => drop(body),
             Reply::CreateAcls(body) => drop(body),
             Reply::DeleteAcls(body) => drop(body),
+            Reply::SaslAuthenticate(body) => drop(body),
             Reply::Marked { left: _ } | Reply::Idle | Reply::Ticked { left: _ } => {}
         }
     }
@@ -137,6 +144,17 @@ fn write_response(alloc: Global, correlation: i32, reply: &Reply) -> Result<Byte
         Reply::SyncGroup(answer) => {
             write_frame(alloc, Api::SyncGroup.is_flexible(), &correlation, answer)
         }
+        Reply::SaslHandshake(answer) => {
+            write_frame(
+                alloc,
+                Api::SaslHandshake.is_flexible(),
+                &correlation,
+                answer,
+            )
+        }
+        Reply::ApiVersions(answer) => {
+            write_frame(alloc, Api::ApiVersions.is_flexible(), &correlation, answer)
+        }
         Reply::InitProducerId(answer) => {
             write_frame(
                 alloc,
@@ -180,6 +198,14 @@ fn write_response(alloc: Global, correlation: i32, reply: &Reply) -> Result<Byte
         }
         Reply::DeleteAcls(answer) => {
             write_frame(alloc, Api::DeleteAcls.is_flexible(), &correlation, answer)
+        }
+        Reply::SaslAuthenticate(answer) => {
+            write_frame(
+                alloc,
+                Api::SaslAuthenticate.is_flexible(),
+                &correlation,
+                answer,
+            )
         }
     }
 }

@@ -10,7 +10,7 @@ ghost use Rattle.msg_admin.specs.declared.header.Header.{Header};
 ghost use Rattle.msg_admin.specs.declared.request.Request.{Request};
 
 use crate::api::Api;
-use crate::frame::write_frame;
+use crate::frame::{write_frame, write_header_frame};
 use crate::header::{Header, least_header, read_sender};
 use crate::laws::read_fits;
 use bytes::Bytes;
@@ -20,12 +20,13 @@ use msg_group::{
     HeartbeatRequest, JoinGroupRequest, LeaveGroupRequest, OffsetCommitRequest, OffsetFetchRequest,
     SyncGroupRequest,
 };
+use msg_login::{SaslAuthenticateRequest, SaslHandshakeRequest};
 use msg_txn::{
     AddOffsetsToTxnRequest, AddPartitionsToTxnRequest, EndTxnRequest, FindCoordinatorRequest,
     InitProducerIdRequest, TxnOffsetCommitRequest,
 };
 use std::alloc::Global;
-use wire_types::{Cursor, Malformed, ReadFault, Wire, WriteFault};
+use wire_types::{Cursor, Malformed, ReadFault, Wire, WriteFault, room_behind};
 
 /// The greatest size that a request's frame may tell of itself.
 pub const FRAME_LIMIT: usize = 104_857_600;
@@ -44,6 +45,9 @@ pub enum Request {
     Heartbeat(HeartbeatRequest),
     LeaveGroup(LeaveGroupRequest),
     SyncGroup(SyncGroupRequest),
+    SaslHandshake(SaslHandshakeRequest),
+    /// Its body is empty.
+    ApiVersions,
     InitProducerId(InitProducerIdRequest),
     AddPartitionsToTxn(AddPartitionsToTxnRequest),
     AddOffsetsToTxn(AddOffsetsToTxnRequest),
@@ -52,6 +56,7 @@ pub enum Request {
     DescribeAcls(DescribeAclsRequest),
     CreateAcls(CreateAclsRequest),
     DeleteAcls(DeleteAclsRequest),
+    SaslAuthenticate(SaslAuthenticateRequest),
 }
 
 /// Written out, so that a crate which lets a request go calls this once, and proves nothing of the bodies.
@@ -69,6 +74,8 @@ impl Drop for Request {
             Request::Heartbeat(body) => drop(body),
             Request::LeaveGroup(body) => drop(body),
             Request::SyncGroup(body) => drop(body),
+            Request::SaslHandshake(body) => drop(body),
+            Request::ApiVersions => {}
             Request::InitProducerId(body) => drop(body),
             Request::AddPartitionsToTxn(body) => drop(body),
             Request::AddOffsetsToTxn(body) => drop(body),
@@ -77,6 +84,7 @@ impl Drop for Request {
             Request::DescribeAcls(body) => drop(body),
             Request::CreateAcls(body) => drop(body),
             Request::DeleteAcls(body) => drop(body),
+            Request::SaslAuthenticate(body) => drop(body),
         }
     }
 }
@@ -98,6 +106,8 @@ impl Request {
             Request::Heartbeat(_) => Api::Heartbeat,
             Request::LeaveGroup(_) => Api::LeaveGroup,
             Request::SyncGroup(_) => Api::SyncGroup,
+            Request::SaslHandshake(_) => Api::SaslHandshake,
+            Request::ApiVersions => Api::ApiVersions,
             Request::InitProducerId(_) => Api::InitProducerId,
             Request::AddPartitionsToTxn(_) => Api::AddPartitionsToTxn,
             Request::AddOffsetsToTxn(_) => Api::AddOffsetsToTxn,
@@ -106,6 +116,7 @@ impl Request {
             Request::DescribeAcls(_) => Api::DescribeAcls,
             Request::CreateAcls(_) => Api::CreateAcls,
             Request::DeleteAcls(_) => Api::DeleteAcls,
+            Request::SaslAuthenticate(_) => Api::SaslAuthenticate,
         }
     }
 
@@ -135,6 +146,8 @@ impl Request {
             Request::Heartbeat(body) => body.room_left(room),
             Request::LeaveGroup(body) => body.room_left(room),
             Request::SyncGroup(body) => body.room_left(room),
+            Request::SaslHandshake(body) => body.room_left(room),
+            Request::ApiVersions => room_behind(0, room),
             Request::InitProducerId(body) => body.room_left(room),
             Request::AddPartitionsToTxn(body) => body.room_left(room),
             Request::AddOffsetsToTxn(body) => body.room_left(room),
@@ -143,6 +156,7 @@ impl Request {
             Request::DescribeAcls(body) => body.room_left(room),
             Request::CreateAcls(body) => body.room_left(room),
             Request::DeleteAcls(body) => body.room_left(room),
+            Request::SaslAuthenticate(body) => body.room_left(room),
         }
     }
 }
@@ -185,6 +199,11 @@ fn read_body(alloc: Global, api: Api, cursor: &mut Cursor<'_>) -> Result<Request
             let body = SyncGroupRequest::read(alloc, cursor)?;
             Ok(Request::SyncGroup(body))
         }
+        Api::SaslHandshake => {
+            let body = SaslHandshakeRequest::read(alloc, cursor)?;
+            Ok(Request::SaslHandshake(body))
+        }
+        Api::ApiVersions => Ok(Request::ApiVersions),
         Api::InitProducerId => {
             let body = InitProducerIdRequest::read(alloc, cursor)?;
             Ok(Request::InitProducerId(body))
@@ -205,6 +224,10 @@ fn read_body(alloc: Global, api: Api, cursor: &mut Cursor<'_>) -> Result<Request
         Api::DescribeAcls => Ok(Request::DescribeAcls(DescribeAclsRequest::read(alloc, cursor)?)),
         Api::CreateAcls => Ok(Request::CreateAcls(CreateAclsRequest::read(alloc, cursor)?)),
         Api::DeleteAcls => Ok(Request::DeleteAcls(DeleteAclsRequest::read(alloc, cursor)?)),
+        Api::SaslAuthenticate => {
+            let body = SaslAuthenticateRequest::read(alloc, cursor)?;
+            Ok(Request::SaslAuthenticate(body))
+        }
     }
 }
 
@@ -273,6 +296,8 @@ pub fn write_request(alloc: Global, header: &Header, request: &Request) -> Resul
         Request::Heartbeat(body) => write_frame(alloc, flexible, header, body),
         Request::LeaveGroup(body) => write_frame(alloc, flexible, header, body),
         Request::SyncGroup(body) => write_frame(alloc, flexible, header, body),
+        Request::SaslHandshake(body) => write_frame(alloc, flexible, header, body),
+        Request::ApiVersions => write_header_frame(alloc, flexible, header),
         Request::InitProducerId(body) => write_frame(alloc, flexible, header, body),
         Request::AddPartitionsToTxn(body) => write_frame(alloc, flexible, header, body),
         Request::AddOffsetsToTxn(body) => write_frame(alloc, flexible, header, body),
@@ -281,5 +306,6 @@ pub fn write_request(alloc: Global, header: &Header, request: &Request) -> Resul
         Request::DescribeAcls(body) => write_frame(alloc, flexible, header, body),
         Request::CreateAcls(body) => write_frame(alloc, flexible, header, body),
         Request::DeleteAcls(body) => write_frame(alloc, flexible, header, body),
+        Request::SaslAuthenticate(body) => write_frame(alloc, flexible, header, body),
     }
 }

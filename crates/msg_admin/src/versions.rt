@@ -1,28 +1,52 @@
-//! ApiVersions in a version that isn't served, which is answered all the same.
+//! What ApiVersions is answered: each api that is served, with its versions.
 //!
-//! A client asks for the versions before it knows them. So of such a request only that is read which each header
-//! starts with, and the answer has the form of version 0.
+//! A client asks for the versions before it knows them, and so in any version. Of a request in another than the one that
+//! is served only that is read which each header starts with, and the answer has the form of version 0.
 
-ghost use Rattle.std.specs.Prelude.{◌≡◌, ℤ, IfOk, IfSome, OnSome, Some, Err};
+ghost use Rattle.std.specs.Prelude.{◌≡◌, ℤ, map, IfOk, IfSome, OnSome, Some, Err};
 ghost use Rattle.wire_types.specs.declared.fault.Malformed.TheVariants.{Unknown};
 ghost use Rattle.wire_types.specs.Reading.{Takes};
-ghost use Rattle.msg_admin.specs.Frame.{GivesFrame};
-ghost use Rattle.msg_admin.specs.Header.{header};
 ghost use Rattle.msg_admin.specs.Request.{request_at};
-ghost use Rattle.msg_admin.specs.Versions.{start, AsksUnsupported, unsupported_at, unsupported_reply, unsupported_response, versions_header};
+ghost use Rattle.msg_admin.specs.Versions.{start, served_in, versions_reply, AsksUnsupported, unsupported_at, unsupported_reply, unsupported_response};
 
-use crate::frame::{write_frame, write_header_frame};
-use crate::header::Header;
+use crate::api::Api;
+use crate::frame::write_frame;
 use bytes::Bytes;
 use msg_login::{ApiVersionsReply, ServedVersions};
 use std::alloc::{AllocError, Global};
-use wire_types::{Cursor, ErrorCode, Items, Malformed, Text, WriteFault};
+use wire_types::{Cursor, ErrorCode, Items, Malformed, WriteFault};
 
-/// The key of ApiVersions.
-const API_VERSIONS: i16 = 18;
+/// An api with the versions in which it is served.
+fn served_in(api: Api) -> ServedVersions
+    ensures { result ≡ served_in api }
+{
+    ServedVersions {
+        key: api.key(),
+        min: api.version(),
+        max: api.version(),
+    }
+}
 
-/// The version in which ApiVersions is served.
-const SERVED: i16 = 0;
+fn all_served(alloc: Global, apis: &[Api]) -> Result<Items<ServedVersions>, AllocError>
+    ensures { IfOk result (λ served. served ≡ map served_in apis.now) }
+{
+    let mut served = Items::new(alloc);
+    for api in apis {
+        served.push(served_in(*api))?;
+    }
+    Ok(served)
+}
+
+/// What ApiVersions is answered in version 0: each api with its versions, in rising order of keys.
+#[tactic(auto, unfolding(crate::specs::Api::all_apis))]
+pub fn versions_reply(alloc: Global) -> Result<ApiVersionsReply, AllocError>
+    ensures { IfOk result (λ answer. answer ≡ versions_reply) }
+{
+    Ok(ApiVersionsReply {
+        error: ErrorCode::None,
+        apis: all_served(alloc, &Api::ALL)?,
+    })
+}
 
 /// Key, version and correlation id.
 fn read_start(cursor: &mut Cursor<'_>) -> Result<((i16, i16), i32), Malformed>
@@ -34,13 +58,13 @@ fn read_start(cursor: &mut Cursor<'_>) -> Result<((i16, i16), i32), Malformed>
     Ok(((key, version), correlation))
 }
 
-#[tactic(auto, unfolding(crate::specs::Versions::unsupported_at))]
+#[tactic(auto, unfolding(crate::specs::Versions::unsupported_at, crate::specs::Api::key_of, crate::specs::Api::version_of))]
 fn asked_in_another(frame: &Bytes) -> Option<i32>
     ensures { result ≡ unsupported_at frame.now }
 {
     let mut cursor = Cursor::over(frame);
     let ((key, version), correlation) = read_start(&mut cursor).ok()?;
-    if key == API_VERSIONS && version != SERVED {
+    if key == Api::ApiVersions.key() && version != Api::ApiVersions.version() {
         Some(correlation)
     } else {
         None
@@ -64,11 +88,7 @@ pub fn unsupported_versions(frame: &Bytes) -> Option<i32>
 fn unsupported_reply(alloc: Global) -> Result<ApiVersionsReply, AllocError>
     ensures { IfOk result (λ answer. answer ≡ unsupported_reply) }
 {
-    let served = ServedVersions {
-        key: API_VERSIONS,
-        min: SERVED,
-        max: SERVED,
-    };
+    let served = served_in(Api::ApiVersions);
     Ok(ApiVersionsReply {
         error: ErrorCode::UnsupportedVersion,
         apis: Items::from(vec![in alloc; served]?),
@@ -85,21 +105,4 @@ pub fn write_unsupported_versions(alloc: Global, correlation: i32) -> Result<Byt
         Err(WriteFault::NoMemory) => Err(AllocError),
         Err(WriteFault::TooLong) => unreachable!(),
     }
-}
-
-/// The whole frame of a request for the versions that are served, in version 0, whose body is empty.
-pub fn write_versions_request(
-    alloc: Global,
-    correlation: i32,
-    client: Option<Text>,
-) -> Result<Bytes, WriteFault>
-    ensures { GivesFrame header (versions_header correlation client) result }
-{
-    let header = Header {
-        key: API_VERSIONS,
-        version: SERVED,
-        correlation,
-        client,
-    };
-    write_header_frame(alloc, false, &header)
 }

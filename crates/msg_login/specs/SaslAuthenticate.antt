@@ -1,8 +1,9 @@
 -- The grammars of the SaslAuthenticate messages, version 0 (Kafka protocol guide, "SaslAuthenticate API (Key: 36)").
-use Rattle.std.specs.Prelude.{ℕ, List, refl}
+use Rattle.std.specs.Prelude.{ℕ, List, [], None, refl}
 use Rattle.wire_types.specs.Grammar.{Grammar}
 use Rattle.wire_types.specs.Combinators.{struct, ◌⨟◌}
 use Rattle.wire_types.specs.Schema.{bytes, nullable_string}
+use Rattle.wire_types.specs.declared.error_code.ErrorCode.{ErrorCode}
 use Rattle.wire_types.specs.ErrorCode.{error_code}
 use Rattle.wire_types.specs.Strings.{text_of}
 use Rattle.msg_login.specs.declared.sasl_authenticate.SaslAuthenticateRequest.{SaslAuthenticateRequest}
@@ -30,3 +31,8 @@ sasl_authenticate_reply = struct
 
 abbrev pub sasl_authenticate_strings : SaslAuthenticateReply → List (List ℕ)
 sasl_authenticate_strings r = text_of r.message
+
+-- ---- what PLAIN has the broker tell: nothing but the error (RFC 4616, section 2)
+
+abbrev pub authenticate_reply : ErrorCode → SaslAuthenticateReply
+authenticate_reply error = record { error = error; message = None; auth = [] }

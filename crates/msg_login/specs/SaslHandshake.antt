@@ -1,8 +1,9 @@
 -- The grammars of the SaslHandshake messages, version 1 (Kafka protocol guide, "SaslHandshake API (Key: 17)").
-use Rattle.std.specs.Prelude.{ℕ, List, refl}
+use Rattle.std.specs.Prelude.{ℕ, List, [], ◌∷◌, codes, refl}
 use Rattle.wire_types.specs.Grammar.{Grammar}
 use Rattle.wire_types.specs.Combinators.{struct, ◌⨟◌}
 use Rattle.wire_types.specs.Schema.{string, array}
+use Rattle.wire_types.specs.declared.error_code.ErrorCode.{ErrorCode}
 use Rattle.wire_types.specs.ErrorCode.{error_code}
 use Rattle.msg_login.specs.declared.sasl_handshake.SaslHandshakeRequest.{SaslHandshakeRequest}
 use Rattle.msg_login.specs.declared.sasl_handshake.SaslHandshakeReply.{SaslHandshakeReply}
@@ -28,3 +29,13 @@ sasl_handshake_reply = struct
 
 abbrev pub sasl_handshake_strings : SaslHandshakeReply → List (List ℕ)
 sasl_handshake_strings r = r.mechanisms
+
+-- ---- what is offered
+
+-- PLAIN alone (RFC 4616, "The PLAIN Simple Authentication and Security Layer (SASL) Mechanism")
+abbrev pub plain : List ℕ
+plain = codes "PLAIN"
+
+-- it is listed beside each error
+abbrev pub handshake_reply : ErrorCode → SaslHandshakeReply
+handshake_reply error = record { error = error; mechanisms = plain ∷ [] }

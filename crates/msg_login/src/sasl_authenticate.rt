@@ -1,5 +1,8 @@
 //! SaslAuthenticate, version 0: what a mechanism has client and broker tell each other.
 
+ghost use Rattle.std.specs.Prelude.{◌≡◌};
+ghost use Rattle.msg_login.specs.SaslAuthenticate.{authenticate_reply};
+
 use bytes::Bytes;
 use std::alloc::Global;
 use wire_types::{
@@ -19,6 +22,19 @@ pub struct SaslAuthenticateReply {
     pub error: ErrorCode,
     pub message: Option<Text>,
     pub auth: Bytes,
+}
+
+impl SaslAuthenticateReply {
+    /// Tells the error and no more. So it is with PLAIN, which has the broker tell nothing.
+    pub fn telling(error: ErrorCode) -> SaslAuthenticateReply
+        ensures { result ≡ authenticate_reply error }
+    {
+        SaslAuthenticateReply {
+            error,
+            message: None,
+            auth: Bytes::new(),
+        }
+    }
 }
 
 impl Wire for SaslAuthenticateRequest {

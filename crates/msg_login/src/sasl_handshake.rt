@@ -1,6 +1,9 @@
-//! SaslHandshake, version 1: the mechanism that a client is going to log in by.
+//! SaslHandshake, version 1: the mechanism that a client is going to log in by. PLAIN alone is offered (RFC 4616).
 
-use std::alloc::Global;
+ghost use Rattle.std.specs.Prelude.{◌≡◌, IfOk};
+ghost use Rattle.msg_login.specs.SaslHandshake.{handshake_reply};
+
+use std::alloc::{AllocError, Global};
 use wire_types::{
     Cursor, ErrorCode, Items, ReadFault, Text, Wire, WriteFault, array_room, read_array,
     string_room, write_array, write_string,
@@ -17,6 +20,19 @@ pub struct SaslHandshakeRequest {
 pub struct SaslHandshakeReply {
     pub error: ErrorCode,
     pub mechanisms: Items<Text>,
+}
+
+impl SaslHandshakeReply {
+    /// Tells the error, and lists what is offered.
+    pub fn telling(alloc: Global, error: ErrorCode) -> Result<SaslHandshakeReply, AllocError>
+        ensures { IfOk result (λ reply. reply ≡ handshake_reply error) }
+    {
+        let plain = Text::of(alloc, "PLAIN")?;
+        Ok(SaslHandshakeReply {
+            error,
+            mechanisms: Items::from(vec![in alloc; plain]?),
+        })
+    }
 }
 
 impl Wire for SaslHandshakeRequest {

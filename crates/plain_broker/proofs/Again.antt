@@ -8,7 +8,7 @@ use Rattle.authorizer.specs.Asking.{Rules}
 use Rattle.wire_types.specs.declared.topic.Topic.{Topic}
 use Rattle.msg_txn.specs.declared.add_partitions.AddPartitionsToTxnRequest.{AddPartitionsToTxnRequest}
 use Rattle.msg_admin.specs.declared.request.Request.{Request}
-use Rattle.msg_admin.specs.declared.request.Request.TheVariants.{Produce, Fetch, ListOffsets, Metadata, OffsetCommit, OffsetFetch, FindCoordinator, JoinGroup, Heartbeat, LeaveGroup, SyncGroup, InitProducerId, AddPartitionsToTxn, AddOffsetsToTxn, EndTxn, TxnOffsetCommit, DescribeAcls, CreateAcls, DeleteAcls}
+use Rattle.msg_admin.specs.declared.request.Request.TheVariants.{Produce, Fetch, ListOffsets, Metadata, OffsetCommit, OffsetFetch, FindCoordinator, JoinGroup, Heartbeat, LeaveGroup, SyncGroup, SaslHandshake, ApiVersions, InitProducerId, AddPartitionsToTxn, AddOffsetsToTxn, EndTxn, TxnOffsetCommit, DescribeAcls, CreateAcls, DeleteAcls, SaslAuthenticate}
 use Rattle.walk.specs.Codes.{refusal_code}
 use Rattle.audit_trail.specs.declared.event.Event.TheVariants.{Ask}
 use Rattle.broker_world.specs.World.{World, rules_of}
@@ -66,6 +66,9 @@ module _ (refused : List ℕ → Option Refusal) where
   kept_again (AddPartitionsToTxn r) = refl
   kept_again (AddOffsetsToTxn r) = refl
   kept_again (EndTxn r) = refl
+  kept_again (SaslHandshake r) = refl
+  kept_again ApiVersions = refl
+  kept_again (SaslAuthenticate r) = refl
   kept_again (DescribeAcls r) = refl
   kept_again (CreateAcls r) = refl
   kept_again (DeleteAcls r) = refl
@@ -102,6 +105,9 @@ module _ (rules : Rules) (caller : Caller) where
   again (InitProducerId r) rest is = again_by (InitProducerId r) rest (refused_itself rules caller (InitProducerId r)) refl is
   again (AddOffsetsToTxn r) rest is = again_by (AddOffsetsToTxn r) rest (refused_itself rules caller (AddOffsetsToTxn r)) refl is
   again (EndTxn r) rest is = again_by (EndTxn r) rest (refused_itself rules caller (EndTxn r)) refl is
+  again (SaslHandshake r) rest is = again_by (SaslHandshake r) rest (refused_itself rules caller (SaslHandshake r)) refl is
+  again ApiVersions rest is = again_by ApiVersions rest (refused_itself rules caller ApiVersions) refl is
+  again (SaslAuthenticate r) rest is = again_by (SaslAuthenticate r) rest (refused_itself rules caller (SaslAuthenticate r)) refl is
   again (DescribeAcls r) rest is = again_by (DescribeAcls r) rest (refused_itself rules caller (DescribeAcls r)) refl is
   again (CreateAcls r) rest is = again_by (CreateAcls r) rest (refused_itself rules caller (CreateAcls r)) refl is
   again (DeleteAcls r) rest is = again_by (DeleteAcls r) rest (refused_itself rules caller (DeleteAcls r)) refl is

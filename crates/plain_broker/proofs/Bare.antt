@@ -14,9 +14,12 @@ use Rattle.msg_data.specs.declared.metadata.TopicInfo.{TopicInfo}
 use Rattle.msg_group.specs.declared.offset_fetch.FetchedOffset.{FetchedOffset}
 use Rattle.msg_txn.specs.declared.add_partitions.AddPartitionsToTxnRequest.{AddPartitionsToTxnRequest}
 use Rattle.msg_admin.specs.declared.request.Request.{Request}
-use Rattle.msg_admin.specs.declared.request.Request.TheVariants.{Produce, Fetch, ListOffsets, Metadata, OffsetCommit, OffsetFetch, FindCoordinator, JoinGroup, Heartbeat, LeaveGroup, SyncGroup, InitProducerId, AddPartitionsToTxn, AddOffsetsToTxn, EndTxn, TxnOffsetCommit, DescribeAcls, CreateAcls, DeleteAcls}
+use Rattle.msg_admin.specs.declared.request.Request.TheVariants.{Produce, Fetch, ListOffsets, Metadata, OffsetCommit, OffsetFetch, FindCoordinator, JoinGroup, Heartbeat, LeaveGroup, SyncGroup, SaslHandshake, ApiVersions, InitProducerId, AddPartitionsToTxn, AddOffsetsToTxn, EndTxn, TxnOffsetCommit, DescribeAcls, CreateAcls, DeleteAcls, SaslAuthenticate}
 use Rattle.msg_admin.specs.declared.reply.Reply.{Reply}
 use Rattle.msg_admin.specs.declared.reply.Reply.TheVariants as replies
+use Rattle.msg_login.specs.SaslHandshake.{handshake_reply}
+use Rattle.msg_login.specs.SaslAuthenticate.{authenticate_reply}
+use Rattle.msg_admin.specs.Versions.{versions_reply}
 use Rattle.group_offsets.specs.declared.event.OffsetEvent.{OffsetEvent}
 use Rattle.txn_coordinator.specs.Coordinator.{turned, turn_code}
 use Rattle.walk.specs.Rule.{PartRule}
@@ -122,6 +125,9 @@ bare w (AddPartitionsToTxn r) = added_bare w r (is_missing w.topics r.topics)
 bare w (AddOffsetsToTxn r) = offsets_added w r
 bare w (EndTxn r) = ended w r
 bare w (TxnOffsetCommit r) = record { world = record w { groups = plain_world (staging_rule w nobody r) w.groups r.topics }; reply = replies.TxnOffsetCommit (record { throttle = pos 0; topics = plain_topics (staging_rule w nobody r) w.groups r.topics }) }
+bare w (SaslHandshake r) = record { world = w; reply = replies.SaslHandshake (handshake_reply codes.IllegalSaslState) }
+bare w ApiVersions = record { world = w; reply = replies.ApiVersions versions_reply }
+bare w (SaslAuthenticate r) = record { world = w; reply = replies.SaslAuthenticate (authenticate_reply codes.IllegalSaslState) }
 bare w (DescribeAcls r) = record { world = w; reply = replies.DescribeAcls (describe_acls_reply w.book (filter_of r.filter)) }
 bare w (CreateAcls r) = record { world = record w { book = book_created w.book r.creations }; reply = replies.CreateAcls (create_acls_reply (map created r.creations)) }
 bare w (DeleteAcls r) = record { world = record w { book = book_deleted w.book r.filters }; reply = replies.DeleteAcls (delete_acls_reply (deleted w.book r.filters)) }
@@ -206,6 +212,9 @@ module _ (w : World) (caller : Caller) where
   plain_is (TxnOffsetCommit r) =
       walk_bare (staging_rule w caller r) (staging_rule w nobody r) (λ v name p. refl) (λ v name p. refl)
       (λ v l rs. record { world = record (unbound w caller) { groups = v }; reply = replies.TxnOffsetCommit (record { throttle = pos 0; topics = l }); refusals = rs }) (rules_of (unbound w caller)) (λ name p. freed w caller (stage_questions caller (staging r) name) (refl, (refl, (refl, tt)))) w.groups r.topics
+  plain_is (SaslHandshake r) = refl
+  plain_is ApiVersions = refl
+  plain_is (SaslAuthenticate r) = refl
   plain_is (DescribeAcls r) = whole_is (describe_acls_questions caller) _ _ (freed w caller (describe_acls_questions caller) (refl, tt))
   plain_is (CreateAcls r) = whole_is (alter_questions caller) _ _ (freed w caller (alter_questions caller) (refl, tt))
   plain_is (DeleteAcls r) = whole_is (alter_questions caller) _ _ (freed w caller (alter_questions caller) (refl, tt))
@@ -241,6 +250,9 @@ module _ (w : World) (a b : Caller) where
   bare_reply (AddOffsetsToTxn r) = refl
   bare_reply (EndTxn r) = refl
   bare_reply (TxnOffsetCommit r) = refl
+  bare_reply (SaslHandshake r) = refl
+  bare_reply ApiVersions = refl
+  bare_reply (SaslAuthenticate r) = refl
   bare_reply (DescribeAcls r) = refl
   bare_reply (CreateAcls r) = refl
   bare_reply (DeleteAcls r) = refl
@@ -262,6 +274,9 @@ module _ (w : World) (a b : Caller) where
   bare_world (AddOffsetsToTxn r) = refl
   bare_world (EndTxn r) = refl
   bare_world (TxnOffsetCommit r) = refl
+  bare_world (SaslHandshake r) = refl
+  bare_world ApiVersions = refl
+  bare_world (SaslAuthenticate r) = refl
   bare_world (DescribeAcls r) = refl
   bare_world (CreateAcls r) = refl
   bare_world (DeleteAcls r) = refl
@@ -300,6 +315,9 @@ module _ (w : World) (book : BookValue) where
   any_reply (AddOffsetsToTxn r) not = refl
   any_reply (EndTxn r) not = refl
   any_reply (TxnOffsetCommit r) not = refl
+  any_reply (SaslHandshake r) not = refl
+  any_reply ApiVersions not = refl
+  any_reply (SaslAuthenticate r) not = refl
   any_reply (DescribeAcls r) not = absurd (let clash : true ≡ false = not in cc)
   any_reply (CreateAcls r) not = absurd (let clash : true ≡ false = not in cc)
   any_reply (DeleteAcls r) not = absurd (let clash : true ≡ false = not in cc)
@@ -321,6 +339,9 @@ module _ (w : World) (book : BookValue) where
   any_world (AddOffsetsToTxn r) not = refl
   any_world (EndTxn r) not = refl
   any_world (TxnOffsetCommit r) not = refl
+  any_world (SaslHandshake r) not = refl
+  any_world ApiVersions not = refl
+  any_world (SaslAuthenticate r) not = refl
   any_world (DescribeAcls r) not = absurd (let clash : true ≡ false = not in cc)
   any_world (CreateAcls r) not = absurd (let clash : true ≡ false = not in cc)
   any_world (DeleteAcls r) not = absurd (let clash : true ≡ false = not in cc)

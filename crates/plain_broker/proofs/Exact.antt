@@ -11,7 +11,7 @@ use Rattle.wire_types.specs.declared.topic.Topic.{Topic}
 use Rattle.msg_group.specs.declared.offset_fetch.OffsetFetchRequest.{OffsetFetchRequest}
 use Rattle.msg_txn.specs.declared.add_partitions.AddPartitionsToTxnRequest.{AddPartitionsToTxnRequest}
 use Rattle.msg_admin.specs.declared.request.Request.{Request}
-use Rattle.msg_admin.specs.declared.request.Request.TheVariants.{Produce, Fetch, ListOffsets, Metadata, OffsetCommit, OffsetFetch, FindCoordinator, JoinGroup, Heartbeat, LeaveGroup, SyncGroup, InitProducerId, AddPartitionsToTxn, AddOffsetsToTxn, EndTxn, TxnOffsetCommit, DescribeAcls, CreateAcls, DeleteAcls}
+use Rattle.msg_admin.specs.declared.request.Request.TheVariants.{Produce, Fetch, ListOffsets, Metadata, OffsetCommit, OffsetFetch, FindCoordinator, JoinGroup, Heartbeat, LeaveGroup, SyncGroup, SaslHandshake, ApiVersions, InitProducerId, AddPartitionsToTxn, AddOffsetsToTxn, EndTxn, TxnOffsetCommit, DescribeAcls, CreateAcls, DeleteAcls, SaslAuthenticate}
 use Rattle.broker_world.specs.Questions.{topic_part}
 use Rattle.data_handlers.specs.Produce.{produce_questions}
 use Rattle.group_handlers.specs.OffsetCommit.{commit_questions}
@@ -114,6 +114,9 @@ module _ (rules : Rules) where
     exact (InitProducerId r) = whole (InitProducerId r) _ refl refl
     exact (AddOffsetsToTxn r) = whole (AddOffsetsToTxn r) _ refl refl
     exact (EndTxn r) = whole (EndTxn r) _ refl refl
+    exact (SaslHandshake r) = whole (SaslHandshake r) _ refl refl
+    exact ApiVersions = whole ApiVersions _ refl refl
+    exact (SaslAuthenticate r) = whole (SaslAuthenticate r) _ refl refl
     exact (DescribeAcls r) = whole (DescribeAcls r) _ refl refl
     exact (CreateAcls r) = whole (CreateAcls r) _ refl refl
     exact (DeleteAcls r) = whole (DeleteAcls r) _ refl refl

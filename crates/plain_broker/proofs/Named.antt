@@ -9,7 +9,7 @@ use Rattle.acl_binding.proofs.Decided.{verdict_right}
 use Rattle.authorizer.specs.declared.answer.Refusal.{Refusal}
 use Rattle.authorizer.specs.Policy.{is_super}
 use Rattle.authorizer.specs.Asking.{Rules, refusal_by, question_refusal, first_of, part_refusal}
-use Rattle.msg_admin.specs.declared.request.Request.TheVariants.{Produce, Fetch, ListOffsets, Metadata, OffsetCommit, OffsetFetch, FindCoordinator, JoinGroup, Heartbeat, LeaveGroup, SyncGroup, InitProducerId, AddPartitionsToTxn, AddOffsetsToTxn, EndTxn, TxnOffsetCommit, DescribeAcls, CreateAcls, DeleteAcls}
+use Rattle.msg_admin.specs.declared.request.Request.TheVariants.{Produce, Fetch, ListOffsets, Metadata, OffsetCommit, OffsetFetch, FindCoordinator, JoinGroup, Heartbeat, LeaveGroup, SyncGroup, SaslHandshake, ApiVersions, InitProducerId, AddPartitionsToTxn, AddOffsetsToTxn, EndTxn, TxnOffsetCommit, DescribeAcls, CreateAcls, DeleteAcls, SaslAuthenticate}
 use Rattle.api_dispatch.specs.Questions.{asks_itself, offset_parts, parts_of}
 use Rattle.api_dispatch.specs.Refusals.{refusals_in, told_alone}
 use Rattle.plain_broker.specs.Named.{IsRightRefusal, RefusalsAreRight}
@@ -66,6 +66,9 @@ refusals_are_right rules caller (AddPartitionsToTxn r) = of_parts rules (parts_o
 refusals_are_right rules caller (AddOffsetsToTxn r) = of_parts rules (parts_of caller (AddOffsetsToTxn r))
 refusals_are_right rules caller (EndTxn r) = of_parts rules (parts_of caller (EndTxn r))
 refusals_are_right rules caller (TxnOffsetCommit r) = of_parts rules (parts_of caller (TxnOffsetCommit r))
+refusals_are_right rules caller (SaslHandshake r) = of_parts rules (parts_of caller (SaslHandshake r))
+refusals_are_right rules caller ApiVersions = of_parts rules (parts_of caller ApiVersions)
+refusals_are_right rules caller (SaslAuthenticate r) = of_parts rules (parts_of caller (SaslAuthenticate r))
 refusals_are_right rules caller (DescribeAcls r) = of_parts rules (parts_of caller (DescribeAcls r))
 refusals_are_right rules caller (CreateAcls r) = of_parts rules (parts_of caller (CreateAcls r))
 refusals_are_right rules caller (DeleteAcls r) = of_parts rules (parts_of caller (DeleteAcls r))

@@ -1,3 +1,4 @@
 pub mod Receipt
 pub mod Core
 pub mod Headline
+pub mod Seats

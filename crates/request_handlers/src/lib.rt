@@ -2,10 +2,12 @@
 //! keeps what it answered and refused in a trail.
 #![tactic(auto)]
 
+mod booked;
 mod machine;
 mod receipt;
 mod stop;
 
+pub use booked::{Booked, MOST_SEATS, Seat};
 pub use machine::Core;
 pub use receipt::Receipt;
 pub use stop::Stop;

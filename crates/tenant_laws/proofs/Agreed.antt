@@ -6,7 +6,7 @@ use Rattle.acl_binding.specs.declared.words.Kind.TheVariants.{Topic, Group, Clus
 use Rattle.acl_binding.specs.Book.{BookValue}
 use Rattle.authorizer.specs.Asking.{Rules}
 use Rattle.msg_admin.specs.declared.request.Request.{Request}
-use Rattle.msg_admin.specs.declared.request.Request.TheVariants.{Produce, Fetch, ListOffsets, Metadata, OffsetCommit, OffsetFetch, FindCoordinator, JoinGroup, Heartbeat, LeaveGroup, SyncGroup, InitProducerId, AddPartitionsToTxn, AddOffsetsToTxn, EndTxn, TxnOffsetCommit, DescribeAcls, CreateAcls, DeleteAcls}
+use Rattle.msg_admin.specs.declared.request.Request.TheVariants.{Produce, Fetch, ListOffsets, Metadata, OffsetCommit, OffsetFetch, FindCoordinator, JoinGroup, Heartbeat, LeaveGroup, SyncGroup, SaslHandshake, ApiVersions, InitProducerId, AddPartitionsToTxn, AddOffsetsToTxn, EndTxn, TxnOffsetCommit, DescribeAcls, CreateAcls, DeleteAcls, SaslAuthenticate}
 use Rattle.audit_trail.specs.declared.event.Event.TheVariants.{Ask}
 use Rattle.broker_world.specs.World.{World}
 use Rattle.data_handlers.specs.Produce.{produce_questions}
@@ -50,6 +50,9 @@ module _ (v w : World) (caller : Caller) where
   agreed (AddOffsetsToTxn r) same = add_group_agrees v w caller same.base r (each v w caller (AddOffsetsToTxn r) same).0
   agreed (EndTxn r) same = end_agrees v w caller same.base r (each v w caller (EndTxn r) same).0
   agreed (TxnOffsetCommit r) same = stage_agrees v w caller same.base r (by_partitions v w caller (stage_questions caller (staging r)) r.topics (each v w caller (TxnOffsetCommit r) same))
+  agreed (SaslHandshake r) same = unchanged v w same.base
+  agreed ApiVersions same = unchanged v w same.base
+  agreed (SaslAuthenticate r) same = unchanged v w same.base
   agreed (DescribeAcls r) same = reads (DescribeAcls r) same.base (describe_keeps v caller r) (describe_keeps w caller r)
   agreed (CreateAcls r) same =
       by_whole v w same.base (alter_questions caller) _ _ _ (λ none. by_book v w same.base (book_created v.book r.creations) (book_created w.book r.creations) (ap (λ (b : BookValue). book_created b r.creations) (same_book same.base)))

@@ -7,7 +7,7 @@ use Rattle.acl_binding.specs.declared.question.Question.{Question}
 use Rattle.wire_types.specs.declared.topic.Topic.{Topic}
 use Rattle.msg_data.specs.declared.metadata.MetadataRequest.{MetadataRequest}
 use Rattle.msg_admin.specs.declared.request.Request.{Request}
-use Rattle.msg_admin.specs.declared.request.Request.TheVariants.{Produce, Fetch, ListOffsets, Metadata, OffsetCommit, OffsetFetch, FindCoordinator, JoinGroup, Heartbeat, LeaveGroup, SyncGroup, InitProducerId, AddPartitionsToTxn, AddOffsetsToTxn, EndTxn, TxnOffsetCommit, DescribeAcls, CreateAcls, DeleteAcls}
+use Rattle.msg_admin.specs.declared.request.Request.TheVariants.{Produce, Fetch, ListOffsets, Metadata, OffsetCommit, OffsetFetch, FindCoordinator, JoinGroup, Heartbeat, LeaveGroup, SyncGroup, SaslHandshake, ApiVersions, InitProducerId, AddPartitionsToTxn, AddOffsetsToTxn, EndTxn, TxnOffsetCommit, DescribeAcls, CreateAcls, DeleteAcls, SaslAuthenticate}
 use Rattle.msg_admin.specs.declared.reply.Reply.TheVariants as replies
 use Rattle.audit_trail.specs.declared.event.Event.TheVariants.{Ask}
 use Rattle.walk.specs.Alike.{AllTopics}
@@ -89,6 +89,9 @@ module _ (v w : World) (caller : Caller) where
   answered (AddOffsetsToTxn r) same = staging_depends.adds v w caller r same.base (each (AddOffsetsToTxn r) same).0
   answered (EndTxn r) same = transactions_depend.ends v w caller r same.base (each (EndTxn r) same).0
   answered (TxnOffsetCommit r) same = staging_depends.stages v w caller r same.base (by_partitions (stage_questions caller (staging r)) r.topics (each (TxnOffsetCommit r) same))
+  answered (SaslHandshake r) same = record { reply = refl; refusals = refl }
+  answered ApiVersions same = record { reply = refl; refusals = refl }
+  answered (SaslAuthenticate r) same = record { reply = refl; refusals = refl }
   answered (DescribeAcls r) same = (acls_depend.describe v w caller r same.base).answer
   answered (CreateAcls r) same = (acls_depend.create v w caller r same.base).answer
   answered (DeleteAcls r) same = (acls_depend.delete v w caller r same.base).answer

@@ -30,7 +30,7 @@ use Rattle.msg_txn.specs.declared.txn_offset_commit.StagedOffset.{StagedOffset}
 use Rattle.msg_txn.specs.declared.add_partitions.AddPartitionsToTxnRequest.{AddPartitionsToTxnRequest}
 use Rattle.msg_txn.specs.declared.add_partitions.AddedPartition.{AddedPartition}
 use Rattle.msg_admin.specs.declared.request.Request.{Request}
-use Rattle.msg_admin.specs.declared.request.Request.TheVariants.{Produce, Fetch, ListOffsets, Metadata, OffsetCommit, OffsetFetch, FindCoordinator, JoinGroup, Heartbeat, LeaveGroup, SyncGroup, InitProducerId, AddPartitionsToTxn, AddOffsetsToTxn, EndTxn, TxnOffsetCommit, DescribeAcls, CreateAcls, DeleteAcls}
+use Rattle.msg_admin.specs.declared.request.Request.TheVariants.{Produce, Fetch, ListOffsets, Metadata, OffsetCommit, OffsetFetch, FindCoordinator, JoinGroup, Heartbeat, LeaveGroup, SyncGroup, SaslHandshake, ApiVersions, InitProducerId, AddPartitionsToTxn, AddOffsetsToTxn, EndTxn, TxnOffsetCommit, DescribeAcls, CreateAcls, DeleteAcls, SaslAuthenticate}
 use Rattle.msg_admin.specs.declared.reply.Reply.{Reply}
 use Rattle.msg_admin.specs.declared.reply.Reply.TheVariants as replies
 use Rattle.audit_trail.specs.declared.event.Event.TheVariants.{Ask}
@@ -326,6 +326,9 @@ module _ (v w : World) (caller : Caller) (client : Option (List ℕ)) where
   replied (AddOffsetsToTxn r) same = whole (AddOffsetsToTxn r) (add_offsets_questions caller r.transactional_id r.group) (λ rules a. refl) refl refl (λ rules. refl) refl same
   replied (EndTxn r) same = whole (EndTxn r) (id_question caller r.transactional_id ∷ []) (λ rules a. refl) refl refl (λ rules. refl) refl same
   replied (TxnOffsetCommit r) same = stages r same
+  replied (SaslHandshake r) same = whole (SaslHandshake r) [] (λ rules a. refl) refl refl (λ rules. refl) refl same
+  replied ApiVersions same = whole ApiVersions [] (λ rules a. refl) refl refl (λ rules. refl) refl same
+  replied (SaslAuthenticate r) same = whole (SaslAuthenticate r) [] (λ rules a. refl) refl refl (λ rules. refl) refl same
   replied (DescribeAcls r) same = whole (DescribeAcls r) (describe_acls_questions caller) (λ rules a. refl) refl refl (λ rules. refl) refl same
   replied (CreateAcls r) same = whole (CreateAcls r) (alter_questions caller) (λ rules a. refl) refl refl (λ rules. refl) refl same
   replied (DeleteAcls r) same = whole (DeleteAcls r) (alter_questions caller) (λ rules a. refl) refl refl (λ rules. refl) refl same
@@ -351,6 +354,9 @@ module _ (v w : World) (caller : Caller) (client : Option (List ℕ)) where
   refused (AddOffsetsToTxn r) all = refusals_same v w (parts_of caller (AddOffsetsToTxn r)) all
   refused (EndTxn r) all = refusals_same v w (parts_of caller (EndTxn r)) all
   refused (TxnOffsetCommit r) all = refusals_same v w (parts_of caller (TxnOffsetCommit r)) all
+  refused (SaslHandshake r) all = refusals_same v w (parts_of caller (SaslHandshake r)) all
+  refused ApiVersions all = refusals_same v w (parts_of caller ApiVersions) all
+  refused (SaslAuthenticate r) all = refusals_same v w (parts_of caller (SaslAuthenticate r)) all
   refused (DescribeAcls r) all = refusals_same v w (parts_of caller (DescribeAcls r)) all
   refused (CreateAcls r) all = refusals_same v w (parts_of caller (CreateAcls r)) all
   refused (DeleteAcls r) all = refusals_same v w (parts_of caller (DeleteAcls r)) all

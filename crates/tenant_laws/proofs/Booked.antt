@@ -17,7 +17,7 @@ use Rattle.msg_group.specs.declared.offset_fetch.OffsetFetchRequest.{OffsetFetch
 use Rattle.msg_txn.specs.declared.add_partitions.AddPartitionsToTxnRequest.{AddPartitionsToTxnRequest}
 use Rattle.msg_txn.specs.declared.txn_offset_commit.OffsetToStage.{OffsetToStage}
 use Rattle.msg_admin.specs.declared.request.Request.{Request}
-use Rattle.msg_admin.specs.declared.request.Request.TheVariants.{Produce, Fetch, ListOffsets, Metadata, OffsetCommit, OffsetFetch, FindCoordinator, JoinGroup, Heartbeat, LeaveGroup, SyncGroup, InitProducerId, AddPartitionsToTxn, AddOffsetsToTxn, EndTxn, TxnOffsetCommit, DescribeAcls, CreateAcls, DeleteAcls}
+use Rattle.msg_admin.specs.declared.request.Request.TheVariants.{Produce, Fetch, ListOffsets, Metadata, OffsetCommit, OffsetFetch, FindCoordinator, JoinGroup, Heartbeat, LeaveGroup, SyncGroup, SaslHandshake, ApiVersions, InitProducerId, AddPartitionsToTxn, AddOffsetsToTxn, EndTxn, TxnOffsetCommit, DescribeAcls, CreateAcls, DeleteAcls, SaslAuthenticate}
 use Rattle.audit_trail.specs.declared.event.Event.TheVariants.{Ask}
 use Rattle.broker_world.specs.World.{World, rules_of}
 use Rattle.broker_world.specs.Questions.{topic_part}
@@ -74,6 +74,9 @@ allowed_not rules caller (AddPartitionsToTxn r) is = cut_not (AddPartitionsToTxn
 allowed_not rules caller (AddOffsetsToTxn r) is = rest_not (AddOffsetsToTxn r) (refused_itself rules caller (AddOffsetsToTxn r)) refl
 allowed_not rules caller (EndTxn r) is = rest_not (EndTxn r) (refused_itself rules caller (EndTxn r)) refl
 allowed_not rules caller (TxnOffsetCommit r) is = refl
+allowed_not rules caller (SaslHandshake r) is = rest_not (SaslHandshake r) (refused_itself rules caller (SaslHandshake r)) refl
+allowed_not rules caller ApiVersions is = rest_not ApiVersions (refused_itself rules caller ApiVersions) refl
+allowed_not rules caller (SaslAuthenticate r) is = rest_not (SaslAuthenticate r) (refused_itself rules caller (SaslAuthenticate r)) refl
 allowed_not rules caller (DescribeAcls r) is = absurd (let clash : true ≡ false = is in cc)
 allowed_not rules caller (CreateAcls r) is = absurd (let clash : true ≡ false = is in cc)
 allowed_not rules caller (DeleteAcls r) is = absurd (let clash : true ≡ false = is in cc)
@@ -129,6 +132,9 @@ module _ (v w : World) (caller : Caller) where
   allowed_same (AddOffsetsToTxn r) refusals codes = ap (rest_or_nothing (AddOffsetsToTxn r)) refusals.0
   allowed_same (EndTxn r) refusals codes = ap (rest_or_nothing (EndTxn r)) refusals.0
   allowed_same (TxnOffsetCommit r) refusals codes = ap (λ (l : List (Topic OffsetToStage)). Rest (TxnOffsetCommit (record r { topics = l }))) (granted_same v near (stage_questions caller (staging r)) r.topics codes)
+  allowed_same (SaslHandshake r) refusals codes = ap (rest_or_nothing (SaslHandshake r)) refusals.0
+  allowed_same ApiVersions refusals codes = ap (rest_or_nothing ApiVersions) refusals.0
+  allowed_same (SaslAuthenticate r) refusals codes = ap (rest_or_nothing (SaslAuthenticate r)) refusals.0
   allowed_same (DescribeAcls r) refusals codes = ap (rest_or_nothing (DescribeAcls r)) refusals.0
   allowed_same (CreateAcls r) refusals codes = ap (rest_or_nothing (CreateAcls r)) refusals.0
   allowed_same (DeleteAcls r) refusals codes = ap (rest_or_nothing (DeleteAcls r)) refusals.0

@@ -7,7 +7,7 @@ use Rattle.acl_binding.specs.declared.words.Kind.TheVariants.{Topic, Group, Clus
 use Rattle.acl_binding.specs.Book.{BookValue}
 use Rattle.authorizer.specs.Asking.{Rules}
 use Rattle.msg_admin.specs.declared.request.Request.{Request}
-use Rattle.msg_admin.specs.declared.request.Request.TheVariants.{Produce, Fetch, ListOffsets, Metadata, OffsetCommit, OffsetFetch, FindCoordinator, JoinGroup, Heartbeat, LeaveGroup, SyncGroup, InitProducerId, AddPartitionsToTxn, AddOffsetsToTxn, EndTxn, TxnOffsetCommit, DescribeAcls, CreateAcls, DeleteAcls}
+use Rattle.msg_admin.specs.declared.request.Request.TheVariants.{Produce, Fetch, ListOffsets, Metadata, OffsetCommit, OffsetFetch, FindCoordinator, JoinGroup, Heartbeat, LeaveGroup, SyncGroup, SaslHandshake, ApiVersions, InitProducerId, AddPartitionsToTxn, AddOffsetsToTxn, EndTxn, TxnOffsetCommit, DescribeAcls, CreateAcls, DeleteAcls, SaslAuthenticate}
 use Rattle.audit_trail.specs.declared.event.Event.{Event}
 use Rattle.audit_trail.specs.declared.event.Event.TheVariants.{Ask}
 use Rattle.broker_world.specs.World.{World, rules_of}
@@ -40,6 +40,9 @@ null_reads w caller (AddPartitionsToTxn r) null = absurd (let clash : false ≡ 
 null_reads w caller (AddOffsetsToTxn r) null = absurd (let clash : false ≡ true = null in cc)
 null_reads w caller (EndTxn r) null = absurd (let clash : false ≡ true = null in cc)
 null_reads w caller (TxnOffsetCommit r) null = absurd (let clash : false ≡ true = null in cc)
+null_reads w caller (SaslHandshake r) null = absurd (let clash : false ≡ true = null in cc)
+null_reads w caller ApiVersions null = absurd (let clash : false ≡ true = null in cc)
+null_reads w caller (SaslAuthenticate r) null = absurd (let clash : false ≡ true = null in cc)
 null_reads w caller (DescribeAcls r) null = absurd (let clash : false ≡ true = null in cc)
 null_reads w caller (CreateAcls r) null = absurd (let clash : false ≡ true = null in cc)
 null_reads w caller (DeleteAcls r) null = absurd (let clash : false ≡ true = null in cc)

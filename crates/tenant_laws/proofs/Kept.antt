@@ -10,7 +10,7 @@ use Rattle.authorizer.specs.declared.answer.Refusal.{Refusal}
 use Rattle.authorizer.specs.Asking.{part_refusal}
 use Rattle.wire_types.specs.declared.error_code.ErrorCode.{ErrorCode}
 use Rattle.msg_admin.specs.declared.request.Request.{Request}
-use Rattle.msg_admin.specs.declared.request.Request.TheVariants.{Produce, Fetch, ListOffsets, Metadata, OffsetCommit, OffsetFetch, FindCoordinator, JoinGroup, Heartbeat, LeaveGroup, SyncGroup, InitProducerId, AddPartitionsToTxn, AddOffsetsToTxn, EndTxn, TxnOffsetCommit, DescribeAcls, CreateAcls, DeleteAcls}
+use Rattle.msg_admin.specs.declared.request.Request.TheVariants.{Produce, Fetch, ListOffsets, Metadata, OffsetCommit, OffsetFetch, FindCoordinator, JoinGroup, Heartbeat, LeaveGroup, SyncGroup, SaslHandshake, ApiVersions, InitProducerId, AddPartitionsToTxn, AddOffsetsToTxn, EndTxn, TxnOffsetCommit, DescribeAcls, CreateAcls, DeleteAcls, SaslAuthenticate}
 use Rattle.msg_admin.specs.declared.reply.Reply.{Reply}
 use Rattle.audit_trail.specs.declared.event.Event.{Event}
 use Rattle.audit_trail.specs.declared.event.Event.TheVariants.{Ask, Mark, Tick}
@@ -66,6 +66,9 @@ module _ (w : World) (caller : Caller) where
   kept (AddOffsetsToTxn r) kind name none = add_group_kept w caller r kind name none
   kept (EndTxn r) kind name none = end_kept w caller r kind name none
   kept (TxnOffsetCommit r) kind name none = stage_kept w caller r kind name none
+  kept (SaslHandshake r) kind name none = same_self w kind name
+  kept ApiVersions kind name none = same_self w kind name
+  kept (SaslAuthenticate r) kind name none = same_self w kind name
   kept (DescribeAcls r) kind name none = same_in w (request_outcome w caller (DescribeAcls r)).world kind name (describe_keeps w caller r)
   kept (CreateAcls r) kind name none = whole_same (part_refusal (rules_of w) (alter_questions caller)) w _ _ kind name (with_book w (book_created w.book r.creations) kind name)
   kept (DeleteAcls r) kind name none = whole_same (part_refusal (rules_of w) (alter_questions caller)) w _ _ kind name (with_book w (book_deleted w.book r.filters) kind name)
@@ -88,6 +91,9 @@ module _ (w : World) (caller : Caller) where
   owed_kept (AddOffsetsToTxn r) id none = add_group_owed w caller id r none
   owed_kept (EndTxn r) id none = end_owed w caller id r none
   owed_kept (TxnOffsetCommit r) id none = refl
+  owed_kept (SaslHandshake r) id none = refl
+  owed_kept ApiVersions id none = refl
+  owed_kept (SaslAuthenticate r) id none = refl
   owed_kept (DescribeAcls r) id none = ap (λ (u : World). owed_by id u.coordinator.warrants) (describe_keeps w caller r)
   owed_kept (CreateAcls r) id none = whole_owed w caller id (alter_questions caller) _ _ refl
   owed_kept (DeleteAcls r) id none = whole_owed w caller id (alter_questions caller) _ _ refl
@@ -116,6 +122,9 @@ module _ (w : World) (caller : Caller) where
   book_kept (AddOffsetsToTxn r) none = asked_whole (add_offsets_questions caller r.transactional_id r.group) _ (offsets_added w r) refl
   book_kept (EndTxn r) none = asked_whole (id_question caller r.transactional_id ∷ []) _ (ended w r) refl
   book_kept (TxnOffsetCommit r) none = refl
+  book_kept (SaslHandshake r) none = refl
+  book_kept ApiVersions none = refl
+  book_kept (SaslAuthenticate r) none = refl
   book_kept (DescribeAcls r) none = ap (λ (u : World). u.book) (describe_keeps w caller r)
   book_kept (CreateAcls r) none = not_altered ((request_outcome w caller (CreateAcls r)).world.book ≡ w.book) (λ refusal is. ap (λ (u : World). u.book) (refused_edit_nothing.create w caller r refusal is).world) none
   book_kept (DeleteAcls r) none = not_altered ((request_outcome w caller (DeleteAcls r)).world.book ≡ w.book) (λ refusal is. ap (λ (u : World). u.book) (refused_edit_nothing.delete w caller r refusal is).world) none

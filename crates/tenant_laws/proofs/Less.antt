@@ -8,7 +8,7 @@ use Rattle.authorizer.specs.declared.answer.Refusal.{Refusal}
 use Rattle.authorizer.specs.Policy.{verdict}
 use Rattle.authorizer.specs.Asking.{part_refusal}
 use Rattle.msg_admin.specs.declared.request.Request.{Request}
-use Rattle.msg_admin.specs.declared.request.Request.TheVariants.{Produce, Fetch, ListOffsets, Metadata, OffsetCommit, OffsetFetch, FindCoordinator, JoinGroup, Heartbeat, LeaveGroup, SyncGroup, InitProducerId, AddPartitionsToTxn, AddOffsetsToTxn, EndTxn, TxnOffsetCommit, DescribeAcls, CreateAcls, DeleteAcls}
+use Rattle.msg_admin.specs.declared.request.Request.TheVariants.{Produce, Fetch, ListOffsets, Metadata, OffsetCommit, OffsetFetch, FindCoordinator, JoinGroup, Heartbeat, LeaveGroup, SyncGroup, SaslHandshake, ApiVersions, InitProducerId, AddPartitionsToTxn, AddOffsetsToTxn, EndTxn, TxnOffsetCommit, DescribeAcls, CreateAcls, DeleteAcls, SaslAuthenticate}
 use Rattle.broker_world.specs.World.{World, rules_of}
 use Rattle.group_handlers.specs.OffsetFetch.{group_question}
 use Rattle.api_laws.specs.Tenants.{SameGranted}
@@ -56,6 +56,9 @@ module _ (v w : World) (caller : Caller) where
   about_parts (AddOffsetsToTxn r) all = all
   about_parts (EndTxn r) all = all
   about_parts (TxnOffsetCommit r) all = all
+  about_parts (SaslHandshake r) all = all
+  about_parts ApiVersions all = all
+  about_parts (SaslAuthenticate r) all = all
   about_parts (DescribeAcls r) all = all
   about_parts (CreateAcls r) all = all
   about_parts (DeleteAcls r) all = all

@@ -19,7 +19,7 @@ use Rattle.msg_group.specs.declared.sync_group.SyncGroupRequest.{SyncGroupReques
 use Rattle.msg_group.specs.declared.offset_fetch.OffsetFetchRequest.{OffsetFetchRequest}
 use Rattle.msg_txn.specs.declared.add_partitions.AddPartitionsToTxnRequest.{AddPartitionsToTxnRequest}
 use Rattle.msg_admin.specs.declared.request.Request.{Request}
-use Rattle.msg_admin.specs.declared.request.Request.TheVariants.{Produce, Fetch, ListOffsets, Metadata, OffsetCommit, OffsetFetch, FindCoordinator, JoinGroup, Heartbeat, LeaveGroup, SyncGroup, InitProducerId, AddPartitionsToTxn, AddOffsetsToTxn, EndTxn, TxnOffsetCommit, DescribeAcls, CreateAcls, DeleteAcls}
+use Rattle.msg_admin.specs.declared.request.Request.TheVariants.{Produce, Fetch, ListOffsets, Metadata, OffsetCommit, OffsetFetch, FindCoordinator, JoinGroup, Heartbeat, LeaveGroup, SyncGroup, SaslHandshake, ApiVersions, InitProducerId, AddPartitionsToTxn, AddOffsetsToTxn, EndTxn, TxnOffsetCommit, DescribeAcls, CreateAcls, DeleteAcls, SaslAuthenticate}
 use Rattle.msg_admin.specs.declared.reply.Reply.{Reply}
 use Rattle.msg_admin.specs.declared.reply.Reply.TheVariants as replies
 use Rattle.walk.specs.Walk.{plain_topics}
@@ -250,6 +250,9 @@ module _ (w : World) (caller : Caller) (moment : ℕ) (given : List (Option (Lis
       whole_same (id_question caller r.transactional_id ∷ []) _ (ended x r) (ended u r)
       (ap (λ (next : ℤ). replies.EndTxn (end_reply (turn_code (cond (is_empty r.transactional_id) (Stays codes.InvalidRequest) (end_found (recorded w.coordinator.transactions r.transactional_id) Plain next (record { producer = r.producer; epoch = r.epoch }) (ending r.committed)))))) (same_fresh w.coordinator given same))
   moved_same (TxnOffsetCommit r) = refl
+  moved_same (SaslHandshake r) = refl
+  moved_same ApiVersions = refl
+  moved_same (SaslAuthenticate r) = refl
   moved_same (DescribeAcls r) = whole_same (describe_acls_questions caller) _ _ _ refl
   moved_same (CreateAcls r) = whole_same (alter_questions caller) _ _ _ refl
   moved_same (DeleteAcls r) = whole_same (alter_questions caller) _ _ _ refl

@@ -11,7 +11,7 @@ use Rattle.wire_types.specs.declared.topic.Topic.{Topic}
 use Rattle.record_batch.specs.Batch.{BatchData}
 use Rattle.msg_data.specs.declared.produce.ProduceRequest.{ProduceRequest}
 use Rattle.msg_admin.specs.declared.request.Request.{Request}
-use Rattle.msg_admin.specs.declared.request.Request.TheVariants.{Produce, Fetch, ListOffsets, Metadata, OffsetCommit, OffsetFetch, FindCoordinator, JoinGroup, Heartbeat, LeaveGroup, SyncGroup, InitProducerId, AddPartitionsToTxn, AddOffsetsToTxn, EndTxn, TxnOffsetCommit, DescribeAcls, CreateAcls, DeleteAcls}
+use Rattle.msg_admin.specs.declared.request.Request.TheVariants.{Produce, Fetch, ListOffsets, Metadata, OffsetCommit, OffsetFetch, FindCoordinator, JoinGroup, Heartbeat, LeaveGroup, SyncGroup, SaslHandshake, ApiVersions, InitProducerId, AddPartitionsToTxn, AddOffsetsToTxn, EndTxn, TxnOffsetCommit, DescribeAcls, CreateAcls, DeleteAcls, SaslAuthenticate}
 use Rattle.msg_admin.specs.declared.reply.Reply.{Reply}
 use Rattle.txn_coordinator.specs.Coordinator.{CoordinatorValue}
 use Rattle.group_offsets.specs.declared.group.Group.{Group}
@@ -64,6 +64,9 @@ module _ (X : Type 0) (of : World → X) (same : (w : World) (book : BookValue) 
   settled produced (AddOffsetsToTxn r) = asked (add_offsets_questions caller r.transactional_id r.group) _ (offsets_added w r) (same w w.book (offsets_added w r).world.coordinator w.groups)
   settled produced (EndTxn r) = asked (id_question caller r.transactional_id ∷ []) _ (ended w r) (same w w.book (ended w r).world.coordinator w.groups)
   settled produced (TxnOffsetCommit r) = same w w.book w.coordinator (txn_offset_commit_outcome w caller r).world.groups
+  settled produced (SaslHandshake r) = refl
+  settled produced ApiVersions = refl
+  settled produced (SaslAuthenticate r) = refl
   settled produced (DescribeAcls r) = ap of (describe_keeps w caller r)
   settled produced (CreateAcls r) = asked (alter_questions caller) _ _ (same w (book_created w.book r.creations) w.coordinator w.groups)
   settled produced (DeleteAcls r) = asked (alter_questions caller) _ _ (same w (book_deleted w.book r.filters) w.coordinator w.groups)

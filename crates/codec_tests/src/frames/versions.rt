@@ -1,7 +1,10 @@
 //! ApiVersions, in the version that is served and in others.
 
 use bytes::Bytes;
-use msg_admin::{unsupported_versions, write_unsupported_versions, write_versions_request};
+use msg_admin::{
+    Api, Header, Reply, Request, read_request, unsupported_versions, versions_reply, write_reply,
+    write_request, write_unsupported_versions,
+};
 use std::test::Fail;
 
 /// A request of ApiVersions 3, without its size field, and its answer.
@@ -19,14 +22,30 @@ fn another_version(rt: HostRuntime) -> Result<(), Fail> {
     Ok(())
 }
 
-/// A request in version 0 is a header alone.
+/// A request in version 0 is a header alone, and nothing may stand behind it.
 #[test]
 fn a_request_without_a_body(rt: HostRuntime) -> Result<(), Fail> {
-    let frame = write_versions_request(rt.alloc(), 7, None)?;
+    let header = Header::new(Api::ApiVersions, 7, None);
+    let frame = write_request(rt.alloc(), &header, &Request::ApiVersions)?;
     assert_eq!(rt;
         frame.as_slice(),
         b"\x00\x00\x00\x0a\x00\x12\x00\x00\x00\x00\x00\x07\xff\xff".as_slice()
     );
+    let more = Bytes::from_static(b"\x00\x12\x00\x00\x00\x00\x00\x07\xff\xff\x00");
+    assert!(rt; read_request(rt.alloc(), &more).is_err());
+    Ok(())
+}
+
+/// Each api by its key, and the one version in which it is served.
+const TABLE: &[u8] =
+    b"\x00\x00\x00\x8e\x00\x00\x00\x07\x00\x00\x00\x00\x00\x16\x00\x00\x00\x03\x00\x03\x00\x01\x00\x04\x00\x04\x00\x02\x00\x02\x00\x02\x00\x03\x00\x01\x00\x01\x00\x08\x00\x02\x00\x02\x00\x09\x00\x07\x00\x07\x00\x0a\x00\x01\x00\x01\x00\x0b\x00\x02\x00\x02\x00\x0c\x00\x01\x00\x01\x00\x0d\x00\x01\x00\x01\x00\x0e\x00\x01\x00\x01\x00\x11\x00\x01\x00\x01\x00\x12\x00\x00\x00\x00\x00\x16\x00\x00\x00\x00\x00\x18\x00\x00\x00\x00\x00\x19\x00\x00\x00\x00\x00\x1a\x00\x00\x00\x00\x00\x1c\x00\x03\x00\x03\x00\x1d\x00\x01\x00\x01\x00\x1e\x00\x01\x00\x01\x00\x1f\x00\x01\x00\x01\x00\x24\x00\x00\x00\x00";
+
+#[test]
+fn the_table(rt: HostRuntime) -> Result<(), Fail> {
+    let reply = Reply::ApiVersions(versions_reply(rt.alloc())?);
+    let answer = write_reply(rt.alloc(), 7, &reply);
+    drop(reply);
+    assert_eq!(rt; answer?.as_slice(), TABLE);
     Ok(())
 }
 

@@ -18,6 +18,8 @@ key_again apis.JoinGroup = refl
 key_again apis.Heartbeat = refl
 key_again apis.LeaveGroup = refl
 key_again apis.SyncGroup = refl
+key_again apis.SaslHandshake = refl
+key_again apis.ApiVersions = refl
 key_again apis.InitProducerId = refl
 key_again apis.AddPartitionsToTxn = refl
 key_again apis.AddOffsetsToTxn = refl
@@ -26,6 +28,7 @@ key_again apis.TxnOffsetCommit = refl
 key_again apis.DescribeAcls = refl
 key_again apis.CreateAcls = refl
 key_again apis.DeleteAcls = refl
+key_again apis.SaslAuthenticate = refl
 
 version_again : (api : Api) → to_z w16 (of_z w16 (version_of api)) ≡ version_of api
 unfolding version_of
@@ -40,6 +43,8 @@ version_again apis.JoinGroup = refl
 version_again apis.Heartbeat = refl
 version_again apis.LeaveGroup = refl
 version_again apis.SyncGroup = refl
+version_again apis.SaslHandshake = refl
+version_again apis.ApiVersions = refl
 version_again apis.InitProducerId = refl
 version_again apis.AddPartitionsToTxn = refl
 version_again apis.AddOffsetsToTxn = refl
@@ -48,6 +53,7 @@ version_again apis.TxnOffsetCommit = refl
 version_again apis.DescribeAcls = refl
 version_again apis.CreateAcls = refl
 version_again apis.DeleteAcls = refl
+version_again apis.SaslAuthenticate = refl
 
 pub returns-clause-served : goal.returns-clause-served
 returns-clause-served c = rw (c.key.ensures, c.version.ensures, key_again, version_again) (api_at-own c.args.api)
