@@ -11,3 +11,4 @@ mod users;
 pub use document::{Document, User, document_of_text};
 pub use fault::SettingsFault;
 pub use sentences::explain;
+pub use users::are_users;

@@ -49,7 +49,7 @@ fn are_distinct(alloc: Global, users: &[User]) -> Result<bool, AllocError>
 }
 
 /// Whether each user is one who may log in, and no name stands twice.
-pub(crate) fn are_users(alloc: Global, users: &[User]) -> Result<bool, AllocError>
+pub fn are_users(alloc: Global, users: &[User]) -> Result<bool, AllocError>
     ensures { IfOk result (λ b. b ≡ are_users users.now) }
 {
     if !are_words(users) {

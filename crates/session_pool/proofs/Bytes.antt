@@ -1,0 +1,95 @@
+-- Known bytes over several reads.
+use Rattle.std.proofs.Common.{◌≡◌, ℕ, ◌+◌, ◌-◌, ◌<◌, ◌≤◌, min, List, [], ◌++◌, refl, Option, Some, None, ap, sym, ◌∙◌, length, take, arith, subst, le_refl, drop_at, slice_range, length-take-le, append_assoc, length-append}
+use Rattle.std.proofs.lemmas.List.{length-take}
+use Rattle.std.proofs.lemmas.Slice.{take-put_mid_below}
+use Rattle.std.specs.Io.KnownBytes.{Consumes, IsAtEnd}
+use Rattle.std.proofs.KnownBytes.{Consumes-trans}
+use Rattle.session_pool.specs.declared.why.Why.{Why}
+use Rattle.session_pool.specs.declared.why.Why.TheVariants as why
+use Rattle.session_pool.specs.Reads.{Took, StopsShort, HeadLacks, BodyLacks}
+use borrow.Rule.Slice.PartMut.{put_mid, post_of}
+use lib.Seq.{take-add, take-append-le}
+
+-- the part that was read lies behind what was there
+slice_range-put_mid : (a k n : ℕ) (xs ys : List ℕ) → a ≤ length xs → n ≤ length ys → slice_range (put_mid a k xs ys) a (a + n) ≡ take n ys
+slice_range-put_mid a k n xs ys within fits =
+    let same : (a + n) - a ≡ n = omega arith in
+    let after = post_of a k xs in
+    ap (take ((a + n) - a)) (drop_at (take a xs) (ys ++ after) a (length-take-le a xs within)) ∙ ap (λ m. take m (ys ++ after)) same ∙ take-append-le n ys after fits
+
+take_split : (a b : ℕ) (old new : List ℕ) → a ≤ b → take a new ≡ take a old → take a old ++ slice_range new a b ≡ take b new
+take_split a b old new h front =
+    let same : a + (b - a) ≡ b = omega arith in
+    ap (λ l. l ++ slice_range new a b) (sym front) ∙ sym (take-add a (b - a) new) ∙ ap (λ n. take n new) same
+
+-- what a buffer was filled with by another read into its rest
+pub consumes_more : (a b c : Option (List ℕ)) (at k n : ℕ) (xs ys : List ℕ)
+    → at ≤ length xs → n ≤ length ys → Consumes a b (take at xs) → Consumes b c (take n ys)
+    → Consumes a c (take (at + n) (put_mid at k xs ys))
+consumes_more a b c at k n xs ys within fits old new =
+    let part = slice_range-put_mid at k n xs ys within fits in
+    let joined = take_split at (at + n) xs (put_mid at k xs ys) (omega arith) (take-put_mid_below _ _ _ _ _ (le_refl _) within) in
+    subst (Consumes _ _) (ap (λ l. take at xs ++ l) (sym part) ∙ joined) (Consumes-trans _ _ _ _ _ old new)
+
+-- a reader at its end gave all that it had
+took_end : (P : List ℕ → List ℕ → Type 0) (a b : Option (List ℕ)) (n : ℕ) (bs : List ℕ) → n ≤ length bs → Consumes a b (take n bs) → IsAtEnd b
+    → ((read : List ℕ) → length read ≡ n → P read []) → Took a b P
+took_end P None b n bs within read end h = tt
+took_end P (Some xs) None n bs within read end h = absurd read
+took_end P (Some xs) (Some ys) n bs within read end h = (take n bs, [], read ∙ ap (λ l. take n bs ++ l) end, ap Some end, h (take n bs) (length-take-le n bs within))
+
+took_short : (P : List ℕ → List ℕ → Type 0) (a b : Option (List ℕ)) (n : ℕ) → StopsShort a b n → ((read rest : List ℕ) → length read < n → P read rest) → Took a b P
+took_short P None b n short h = tt
+took_short P (Some xs) None n short h = absurd short.1
+took_short P (Some xs) (Some ys) n short h = (short.0, ys, short.1, refl, h short.0 ys short.2)
+
+pub head_closed : (a b : Option (List ℕ)) (n : ℕ) (bs : List ℕ) → n ≡ 0 → n ≤ length bs → Consumes a b (take n bs) → IsAtEnd b → Took a b (HeadLacks why.Closed)
+head_closed a b n bs none within read end = took_end (HeadLacks why.Closed) a b n bs within read end (λ p l. (l ∙ none, refl))
+
+pub head_cut : (a b : Option (List ℕ)) (n : ℕ) (bs : List ℕ) → 0 < n → n < 4 → n ≤ length bs → Consumes a b (take n bs) → IsAtEnd b → Took a b (HeadLacks why.Cut)
+head_cut a b n bs some few within read end = took_end (HeadLacks why.Cut) a b n bs within read end (λ p l. (omega arith, omega arith, refl))
+
+pub head_fault : (a b : Option (List ℕ)) (n : ℕ) (w : Why) → n ≡ 4 → w ≡ why.ReadFault → StopsShort a b n → Took a b (HeadLacks w)
+head_fault a b n w four is short = subst (λ x. Took a b (HeadLacks x)) (sym is) (took_short (HeadLacks why.ReadFault) a b n short (λ p rest l. omega arith))
+
+pub body_cut : (a b : Option (List ℕ)) (n size : ℕ) (bs : List ℕ) → n < size → n ≤ length bs → Consumes a b (take n bs) → IsAtEnd b → Took a b (BodyLacks size why.Cut)
+body_cut a b n size bs few within read end = took_end (BodyLacks size why.Cut) a b n bs within read end (λ p l. (omega arith, refl))
+
+pub body_fault : (a b : Option (List ℕ)) (n size : ℕ) (w : Why) → n ≡ size → w ≡ why.ReadFault → StopsShort a b n → Took a b (BodyLacks size w)
+body_fault a b n size w all is short = subst (λ x. Took a b (BodyLacks size x)) (sym is) (took_short (BodyLacks size why.ReadFault) a b n short (λ p rest l. omega arith))
+
+-- ---- a body in pieces
+
+pub piece_unkept : (a b : Option (List ℕ)) (n count size : ℕ) (piece : List ℕ) → Consumes a b (take count piece) → Took a b (BodyLacks size why.NoMemory)
+piece_unkept None b n count size piece h = tt
+piece_unkept (Some xs) None n count size piece h = absurd h
+piece_unkept (Some xs) (Some ys) n count size piece h = (take count piece, ys, h, refl, tt)
+
+lacks_more : (old m size : ℕ) (w : Why) (front read rest : List ℕ) → length front ≡ old → old + m ≤ size → BodyLacks m w read rest → BodyLacks size w (front ++ read) rest
+lacks_more old m size why.Cut front read rest is within h = let l = length-append front read in (omega (arith, l, h.0), h.1)
+lacks_more old m size why.ReadFault front read rest is within h = let l = length-append front read in omega (arith, l, h)
+lacks_more old m size why.NoMemory front read rest is within h = tt
+lacks_more old m size why.Closed front read rest is within h = absurd h
+lacks_more old m size why.WriteFault front read rest is within h = absurd h
+lacks_more old m size why.BadFrame front read rest is within h = absurd h
+lacks_more old m size why.Malformed front read rest is within h = absurd h
+lacks_more old m size why.Login front read rest is within h = absurd h
+lacks_more old m size (why.Stopped s) front read rest is within h = absurd h
+lacks_more old m size why.Limit front read rest is within h = absurd h
+lacks_more old m size why.TooLong front read rest is within h = absurd h
+
+-- the next piece lacks, and so the body does
+pub piece_lacks : (a b c : Option (List ℕ)) (m size : ℕ) (front : List ℕ) (w : Why) → length front + m ≤ size → Consumes a b front → Took b c (BodyLacks m w) → Took a c (BodyLacks size w)
+piece_lacks None b c m size front w within h lacks = tt
+piece_lacks (Some xs) None c m size front w within h lacks = absurd h
+piece_lacks (Some xs) (Some ys) c m size front w within h (read, rest, whole, after, lacks) = (
+  front ++ read,
+  rest,
+  h ∙ ap (λ t. front ++ t) whole ∙ sym (append_assoc front read rest),
+  after,
+  lacks_more (length front) m size w front read rest refl within lacks,
+)
+
+-- a piece is no longer than what lacks
+pub piece_within : (size held read m : ℕ) (piece : List ℕ) → held ≤ size → read ≡ held → m ≡ min 8192 (size - read) → held + length (take m piece) ≤ size
+piece_within size held read m piece within is least = omega (arith, within, is, least, length-take m piece)

@@ -1,0 +1,127 @@
+-- What stands at the front of what a reader has left.
+use Rattle.std.proofs.Common.{◌≡◌, ℕ, ◌+◌, ◌<◌, ◌≤◌, ◌==◌, nat_lt, ◌||◌, true, false, List, [], ◌∷◌, ◌++◌, length, take, drop, Option, Some, None, refl, ap, sym, ◌∙◌, arith, length-append, append_assoc, ◌⊎◌, inl, inr}
+use Rattle.std.proofs.Math.Seq.{take-append_seam, drop-append_seam}
+use Rattle.std.proofs.lemmas.Bool.Decides.{nat_tests}
+use Rattle.std.specs.Int.{from_be_bytes, w32}
+use Rattle.std.specs.Io.KnownBytes.{Consumes}
+use Rattle.session_pool.specs.declared.why.Why.{Why}
+use Rattle.session_pool.specs.declared.why.Why.TheVariants as why
+use Rattle.session_pool.specs.Frames.{Nothing, Part, Bad, Whole, size_of, sized, front_of}
+use Rattle.session_pool.specs.Reads.{HeadLacks, BodyLacks, Took}
+use Rattle.session_pool.specs.Turns.{Lacks, Comes}
+
+take_front : (n : ℕ) (xs front ys : List ℕ) → xs ≡ front ++ ys → length front ≡ n → take n xs ≡ front
+take_front n xs front ys h l = ap (take n) h ∙ ap (λ m. take m (front ++ ys)) (sym l) ∙ take-append_seam front ys
+
+drop_front : (n : ℕ) (xs front ys : List ℕ) → xs ≡ front ++ ys → length front ≡ n → drop n xs ≡ ys
+drop_front n xs front ys h l = ap (drop n) h ∙ ap (λ m. drop m (front ++ ys)) (sym l) ∙ drop-append_seam front ys
+
+-- behind a head
+pub headed : (limit : ℕ) (input head ys : List ℕ) → input ≡ head ++ ys → length head ≡ 4 → front_of limit input ≡ sized limit (from_be_bytes w32 head) ys
+headed limit input head ys h l =
+    let len : length input ≡ 4 + length ys = omega (arith, ap length h, length-append head ys) in
+    let some : (length input == 0) ≡ false = grind (arith, nat_tests) in
+    let four : nat_lt (length input) 4 ≡ false = grind (arith, nat_tests) in
+    let s : size_of input ≡ from_be_bytes w32 head = ap (from_be_bytes w32) (take_front 4 input head ys h l) in
+    let rest : drop 4 input ≡ ys = drop_front 4 input head ys h l in
+    rw (some, four) (ap (λ n. sized limit n (drop 4 input)) s ∙ ap (sized limit (from_be_bytes w32 head)) rest)
+
+whole_front : (limit size : ℕ) (body zs : List ℕ) → 8 ≤ size → size ≤ limit → length body ≡ size → sized limit size (body ++ zs) ≡ Whole body zs
+whole_front limit size body zs least most l =
+    let a : nat_lt size 8 ≡ false = grind (arith, nat_tests) in
+    let b : nat_lt limit size ≡ false = grind (arith, nat_tests) in
+    let len = length-append body zs in
+    let c : nat_lt (length (body ++ zs)) size ≡ false = grind (arith, nat_tests) in
+    rw (a, b, c) (ap (λ x. Whole x (drop size (body ++ zs))) (take_front size (body ++ zs) body zs refl l) ∙ ap (Whole body) (drop_front size (body ++ zs) body zs refl l))
+
+bad_front : (limit size : ℕ) (ys : List ℕ) → (size < 8) ⊎ (limit < size) → sized limit size ys ≡ Bad
+bad_front limit size ys (inl small) = let a : nat_lt size 8 ≡ true = grind (arith, nat_tests) in rw a refl
+bad_front limit size ys (inr large) =
+    let b : nat_lt limit size ≡ true = grind (arith, nat_tests) in
+    let either : (nat_lt size 8 || nat_lt limit size) ≡ true = grind (arith, nat_tests) in
+    rw either refl
+
+part_front : (limit size : ℕ) (ys : List ℕ) → 8 ≤ size → size ≤ limit → length ys < size → sized limit size ys ≡ Part
+part_front limit size ys least most short =
+    let a : nat_lt size 8 ≡ false = grind (arith, nat_tests) in
+    let b : nat_lt limit size ≡ false = grind (arith, nat_tests) in
+    let c : nat_lt (length ys) size ≡ true = grind (arith, nat_tests) in
+    rw (a, b, c) refl
+
+-- a head and a body are the frame that comes next
+pub framed : (a b c : Option (List ℕ)) (head body : List ℕ) (limit size : ℕ)
+    → length head ≡ 4 → size ≡ from_be_bytes w32 head → 8 ≤ size → size ≤ limit → length body ≡ size
+    → Consumes a b head → Consumes b c body → Took a c (Comes limit body)
+framed None b c head body limit size l is least most long h r = tt
+framed (Some xs) None c head body limit size l is least most long h r = absurd h
+framed (Some xs) (Some ys) None head body limit size l is least most long h r = absurd r
+framed (Some xs) (Some ys) (Some zs) head body limit size l is least most long h r = (
+  head ++ body,
+  zs,
+  h ∙ ap (λ t. head ++ t) r ∙ sym (append_assoc head body zs),
+  refl,
+  λ tail. headed limit ((head ++ body) ++ tail) head (body ++ tail) (append_assoc head body tail) l ∙ ap (λ n. sized limit n (body ++ tail)) (sym is) ∙ whole_front limit size body tail least most long,
+)
+
+-- no head comes
+none_front : (limit : ℕ) (p : List ℕ) → length p ≡ 0 → front_of limit p ≡ Nothing
+none_front limit p h = let a : (length p == 0) ≡ true = grind (arith, nat_tests) in rw a refl
+
+few_front : (limit : ℕ) (p : List ℕ) → 0 < length p → length p < 4 → front_of limit p ≡ Part
+few_front limit p some short =
+    let a : (length p == 0) ≡ false = grind (arith, nat_tests) in
+    let b : nat_lt (length p) 4 ≡ true = grind (arith, nat_tests) in
+    rw (a, b) refl
+
+short_front : (limit : ℕ) (p : List ℕ) → length p < 4 → (front_of limit p ≡ Nothing) ⊎ (front_of limit p ≡ Part)
+short_front limit [] short = inl refl
+short_front limit (x ∷ xs) short = inr (few_front limit (x ∷ xs) (omega arith) short)
+
+lacks_head : (limit : ℕ) (w : Why) (p rest : List ℕ) → HeadLacks w p rest → Lacks limit w p rest
+lacks_head limit why.Closed p rest h = (none_front limit p h.0, h.1)
+lacks_head limit why.Cut p rest h = (few_front limit p h.0 h.1, h.2)
+lacks_head limit why.ReadFault p rest h = short_front limit p h
+lacks_head limit why.WriteFault p rest h = absurd h
+lacks_head limit why.BadFrame p rest h = absurd h
+lacks_head limit why.Malformed p rest h = absurd h
+lacks_head limit why.Login p rest h = absurd h
+lacks_head limit (why.Stopped s) p rest h = absurd h
+lacks_head limit why.Limit p rest h = absurd h
+lacks_head limit why.NoMemory p rest h = absurd h
+lacks_head limit why.TooLong p rest h = absurd h
+
+pub no_head : (limit : ℕ) (a b : Option (List ℕ)) (w : Why) → Took a b (HeadLacks w) → Took a b (Lacks limit w)
+no_head limit None b w h = tt
+no_head limit (Some input) b w (p, rest, whole, after, lacks) = (p, rest, whole, after, lacks_head limit w p rest lacks)
+
+-- the head tells a size that no frame has
+pub bad : (a b : Option (List ℕ)) (head : List ℕ) (limit size : ℕ) → length head ≡ 4 → size ≡ from_be_bytes w32 head → (size < 8) ⊎ (limit < size) → Consumes a b head → Took a b (Lacks limit why.BadFrame)
+bad None b head limit size l is out h = tt
+bad (Some xs) None head limit size l is out h = absurd h
+bad (Some xs) (Some ys) head limit size l is out h = (head, ys, h, refl, λ tail. headed limit (head ++ tail) head tail refl l ∙ ap (λ n. sized limit n tail) (sym is) ∙ bad_front limit size tail out)
+
+-- no body comes
+lacks_body : (limit size : ℕ) (w : Why) (head p rest : List ℕ) → front_of limit (head ++ p) ≡ sized limit size p → 8 ≤ size → size ≤ limit → BodyLacks size w p rest → Lacks limit w (head ++ p) rest
+lacks_body limit size why.Cut head p rest e least most h = (e ∙ part_front limit size p least most h.0, h.1)
+lacks_body limit size why.ReadFault head p rest e least most h = inr (e ∙ part_front limit size p least most h)
+lacks_body limit size why.NoMemory head p rest e least most h = tt
+lacks_body limit size why.Closed head p rest e least most h = absurd h
+lacks_body limit size why.WriteFault head p rest e least most h = absurd h
+lacks_body limit size why.BadFrame head p rest e least most h = absurd h
+lacks_body limit size why.Malformed head p rest e least most h = absurd h
+lacks_body limit size why.Login head p rest e least most h = absurd h
+lacks_body limit size (why.Stopped s) head p rest e least most h = absurd h
+lacks_body limit size why.Limit head p rest e least most h = absurd h
+lacks_body limit size why.TooLong head p rest e least most h = absurd h
+
+pub no_body : (a b c : Option (List ℕ)) (head : List ℕ) (limit size : ℕ) (w : Why)
+    → length head ≡ 4 → size ≡ from_be_bytes w32 head → 8 ≤ size → size ≤ limit → Consumes a b head → Took b c (BodyLacks size w) → Took a c (Lacks limit w)
+no_body None b c head limit size w l is least most h lacks = tt
+no_body (Some xs) None c head limit size w l is least most h lacks = absurd h
+no_body (Some xs) (Some ys) c head limit size w l is least most h (p, rest, whole, after, lacks) = (
+  head ++ p,
+  rest,
+  h ∙ ap (λ t. head ++ t) whole ∙ sym (append_assoc head p rest),
+  after,
+  lacks_body limit size w head p rest (headed limit (head ++ p) head p refl l ∙ ap (λ n. sized limit n p) (sym is)) least most lacks,
+)

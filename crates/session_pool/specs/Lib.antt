@@ -1,0 +1,9 @@
+pub mod Asks
+pub mod Compared
+pub mod Frames
+pub mod Login
+pub mod Logins
+pub mod Own
+pub mod Reads
+pub mod Sessions
+pub mod Turns

@@ -1,0 +1,34 @@
+-- Whose asks a session's are.
+use Rattle.std.specs.Prelude.{◌≡◌, ℕ, List, [], ◌∷◌, Option, Some, Ok, ◌⊎◌}
+use Rattle.msg_login.specs.declared.sasl_authenticate.SaslAuthenticateRequest.{SaslAuthenticateRequest}
+use Rattle.msg_admin.specs.declared.header.Header.{Header}
+use Rattle.msg_admin.specs.declared.request.Request.{Request}
+use Rattle.msg_admin.specs.declared.request.Request.TheVariants.{SaslAuthenticate}
+use Rattle.msg_admin.specs.Request.{request_at}
+use Rattle.audit_trail.specs.declared.event.Event.{Event}
+use Rattle.audit_trail.specs.declared.event.Event.TheVariants.{Ask}
+use Rattle.settings_text.specs.declared.document.User.{User}
+use Rattle.session_pool.specs.Asks.{Setting, asks, fresh}
+use Rattle.session_pool.specs.Frames.{cut}
+use Rattle.session_pool.specs.Login.{login_of}
+
+-- the frame tells a user's password, whose principal this is
+abbrev pub TellsPassword : List User → List ℕ → List ℕ → Type 0
+TellsPassword users frame who = (h : Header) × (m : SaslAuthenticateRequest) × (request_at frame ≡ Ok (h, SaslAuthenticate m)) × (login_of users m.auth ≡ Some who)
+
+-- one of the frames does
+abbrev pub SomeTells : List User → List (List ℕ) → List ℕ → Type 0
+SomeTells users [] who = ⊥
+SomeTells users (frame ∷ frames) who = TellsPassword users frame who ⊎ SomeTells users frames who
+
+-- it is asked from the host that calls, by whoever told the password in one of the frames
+abbrev pub IsOwn : Setting → List (List ℕ) → Event → Type 0
+IsOwn g frames e = (who : List ℕ) × (client : Option (List ℕ)) × (r : Request) × (e ≡ Ask (record { who = who; host = g.host }) client r) × SomeTells g.users frames who
+
+abbrev pub AreOwn : Setting → List (List ℕ) → List Event → Type 0
+AreOwn g frames [] = Unit {0}
+AreOwn g frames (e ∷ es) = IsOwn g frames e × AreOwn g frames es
+
+-- only a user who told the right password asks, and as itself
+abbrev pub AsksAreOwn : Setting → ℕ → ℕ → List ℕ → Type 0
+AsksAreOwn g n limit input = AreOwn g (cut n limit input).frames (asks g n limit fresh input)

@@ -1,0 +1,69 @@
+-- What one frame comes to.
+use Rattle.std.specs.Prelude.{◌≡◌, ℕ, ℤ, List, [], ◌∷◌, ◌++◌, Option, Result, Ok, Err, ◌⊎◌}
+use Rattle.std.specs.Io.KnownBytes.{Appends}
+use Rattle.wire_types.specs.declared.fault.WriteFault.{WriteFault}
+use Rattle.wire_types.specs.declared.fault.WriteFault.TheVariants as faults
+use Rattle.msg_admin.specs.Response.{response, IsTooLong}
+use Rattle.audit_trail.specs.declared.event.Event.{Event}
+use Rattle.request_handlers.specs.Receipt.{ReceiptValue}
+use Rattle.session_pool.specs.declared.login.State.{State}
+use Rattle.session_pool.specs.declared.login.State.TheVariants.{Known}
+use Rattle.session_pool.specs.declared.respond.Outcome.{Outcome}
+use Rattle.session_pool.specs.declared.respond.Outcome.TheVariants as outcome
+use Rattle.session_pool.specs.declared.why.Why.{Why}
+use Rattle.session_pool.specs.declared.why.Why.TheVariants as why
+use Rattle.session_pool.specs.Asks.{Step, Tells, Submits, Refuses, Garbles}
+use Rattle.session_pool.specs.Frames.{Nothing, Part, Bad, Whole, front_of}
+
+-- the bytes that were read are a frame, whatever follows
+abbrev pub Comes : ℕ → List ℕ → List ℕ → List ℕ → Type 0
+Comes limit frame read rest = (tail : List ℕ) → front_of limit (read ++ tail) ≡ Whole frame tail
+
+-- where a frame does not come
+abbrev pub Lacks : ℕ → Why → List ℕ → List ℕ → Type 0
+Lacks limit why.Closed read rest = (front_of limit read ≡ Nothing) × (rest ≡ [])
+Lacks limit why.Cut read rest = (front_of limit read ≡ Part) × (rest ≡ [])
+Lacks limit why.BadFrame read rest = (tail : List ℕ) → front_of limit (read ++ tail) ≡ Bad
+Lacks limit why.ReadFault read rest = (front_of limit read ≡ Nothing) ⊎ (front_of limit read ≡ Part)
+Lacks limit why.NoMemory read rest = Unit {0}
+Lacks limit _ read rest = ⊥
+
+-- ---- what comes of a frame
+
+-- an outcome that the session has by itself
+abbrev pub Says : Step → Outcome → Type 0
+Says step (outcome.Tells b t) = step ≡ Tells b t
+Says step (outcome.Refuses b) = step ≡ Refuses b
+Says step outcome.Garbled = step ≡ Garbles
+Says step outcome.Fails = Unit {0}
+Says step _ = ⊥
+
+-- an outcome of a step that leaves these receipts
+abbrev pub Meant : Step → List ReceiptValue → List ReceiptValue → Outcome → Type 0
+Meant step old new (outcome.Tells b t) = (step ≡ Tells b t) × (new ≡ old)
+Meant step old new (outcome.Answers b k) = (c : ℤ) × (r : ReceiptValue) × (step ≡ Submits c r.event (Known k)) × (b ≡ response c r.reply) × (new ≡ old ++ r ∷ [])
+Meant step old new (outcome.Refuses b) = (step ≡ Refuses b) × (new ≡ old)
+Meant step old new outcome.Garbled = (step ≡ Garbles) × (new ≡ old)
+Meant step old new outcome.Fails = new ≡ old
+Meant step old new (outcome.Stopped s) = (c : ℤ) × (e : Event) × (t : State) × (step ≡ Submits c e t) × (new ≡ old)
+Meant step old new (outcome.Unsent f) = (c : ℤ) × (r : ReceiptValue) × (t : State) × (step ≡ Submits c r.event t) × (new ≡ old ++ r ∷ []) × (f ≡ faults.TooLong → IsTooLong c r.reply)
+
+-- ---- what is written of it
+
+abbrev pub why_of : WriteFault → Why
+why_of faults.NoMemory = why.NoMemory
+why_of faults.TooLong = why.TooLong
+
+-- the bytes were written, and this came of it, or they were not all written
+abbrev pub Sends : Option (List ℕ) → Option (List ℕ) → List ℕ → Result State Why → Result State Why → Type 0
+Sends held held' bytes next r = (done left : List ℕ) × (bytes ≡ done ++ left) × Appends held held' done × (((r ≡ next) × (left ≡ [])) ⊎ (r ≡ Err why.WriteFault))
+
+-- what an outcome writes, and what comes of it
+abbrev pub Finishes : Option (List ℕ) → Option (List ℕ) → Outcome → Result State Why → Type 0
+Finishes held held' (outcome.Tells b t) r = Sends held held' b (Ok t) r
+Finishes held held' (outcome.Answers b k) r = Sends held held' b (Ok (Known k)) r
+Finishes held held' (outcome.Refuses b) r = Sends held held' b (Err why.Login) r
+Finishes held held' outcome.Garbled r = (held' ≡ held) × (r ≡ Err why.Malformed)
+Finishes held held' outcome.Fails r = (held' ≡ held) × (r ≡ Err why.NoMemory)
+Finishes held held' (outcome.Stopped s) r = (held' ≡ held) × (r ≡ Err (why.Stopped s))
+Finishes held held' (outcome.Unsent f) r = (held' ≡ held) × (r ≡ Err (why_of f))

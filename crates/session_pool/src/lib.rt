@@ -1,0 +1,27 @@
+//! Sessions: whoever connects logs in and asks, one frame after the other, and a desk of one core answers.
+//!
+//! `serve_session` reads frames, keeps how far the login went in a state that each call uses up, and hands the events of a
+//! user who is known to a `Desk`. `LockedDesk` is the desk that many threads share.
+#![tactic(auto)]
+
+mod answer;
+mod compare;
+mod desk;
+mod frame;
+mod gate;
+mod laws;
+mod locked;
+mod login;
+mod respond;
+mod session;
+mod users;
+mod why;
+
+pub use desk::Desk;
+pub use gate::Gate;
+pub use laws::asks_are_own;
+pub use locked::{LockedDesk, Quiet};
+pub use login::{Closed, Fresh, Known, LoginFault, Offered};
+pub use session::{Limits, SessionEnd, serve_session};
+pub use users::Users;
+pub use why::Why;

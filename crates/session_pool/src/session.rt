@@ -1,0 +1,206 @@
+//! One session: frames in, answers out.
+
+ghost use Rattle.std.specs.Prelude.{◌≡◌, ◌+◌, ◌≤◌, vec_len};
+ghost use Rattle.msg_admin.specs.declared.request.TheConstants.{FRAME_LIMIT as LIMIT};
+ghost use Rattle.session_pool.specs.Reads.{Took, TookLast};
+ghost use Rattle.session_pool.specs.Sessions.{TurnsOn, SessionOf};
+ghost use Rattle.session_pool.specs.Turns.{Sends, Finishes, why_of};
+
+use crate::desk::Desk;
+use crate::frame::read_frame;
+use crate::gate::Gate;
+use crate::login::{Fresh, State};
+use crate::respond::{Outcome, respond};
+use crate::users::Users;
+use crate::why::Why;
+use bytes::Bytes;
+use msg_admin::FRAME_LIMIT;
+use request_handlers::Receipt;
+use std::alloc::Global;
+use std::io::{BufReader, Read, Write};
+use wire_types::{Text, WriteFault, write_whole};
+
+/// What a session leaves: a receipt for each event that was answered, in order, and its seat.
+#[derive(Drop)]
+pub struct SessionEnd<S> {
+    pub receipts: Vec<Receipt>,
+    pub seat: S,
+    pub why: Why,
+}
+
+/// How many bytes a frame may have behind its size field, at most 104,857,600, and how many frames are served.
+#[derive(Clone, Copy, Debug, PartialEq, Eq)]
+pub struct Limits {
+    pub frame: u32,
+    pub frames: u64,
+}
+
+impl Default for Limits {
+    ghost use Rattle.msg_admin.specs.declared.request.TheConstants.{FRAME_LIMIT as LIMIT};
+
+    fn default() -> Limits
+        ensures { result ≡ record { frame = LIMIT; frames = 1000000 } }
+    {
+        Limits {
+            frame: FRAME_LIMIT as u32,
+            frames: 1_000_000,
+        }
+    }
+}
+
+fn why_of(fault: WriteFault) -> Why
+    ensures { result ≡ why_of fault }
+{
+    match fault {
+        WriteFault::NoMemory => Why::NoMemory,
+        WriteFault::TooLong => Why::TooLong,
+    }
+}
+
+/// Writes the bytes, and gives what comes behind them.
+fn send<W: Write>(writer: &mut W, bytes: &Bytes, next: Result<State, Why>) -> Result<State, Why>
+    ensures { Sends (W.contents writer.old) (W.contents writer.new) bytes.now next result }
+{
+    match write_whole(writer, bytes.as_slice()) {
+        Ok(()) => next,
+        Err(_) => Err(Why::WriteFault),
+    }
+}
+
+/// Writes what an outcome has to write.
+fn finish<W: Write>(writer: &mut W, outcome: Outcome) -> Result<State, Why>
+    ensures { Finishes (W.contents writer.old) (W.contents writer.new) outcome result }
+{
+    match outcome {
+        Outcome::Tells(bytes, state) => send(writer, &bytes, Ok(state)),
+        Outcome::Answers(bytes, known) => send(writer, &bytes, Ok(State::Known(known))),
+        Outcome::Refuses(bytes) => send(writer, &bytes, Err(Why::Login)),
+        Outcome::Garbled => Err(Why::Malformed),
+        Outcome::Fails => Err(Why::NoMemory),
+        Outcome::Stopped(stop) => Err(Why::Stopped(stop)),
+        Outcome::Unsent(fault) => Err(why_of(fault)),
+    }
+}
+
+/// Reads and answers one frame.
+#[tactic(auto, using(crate::proofs::Sessions::turned_on, crate::proofs::Sessions::turned_off))]
+fn turn<S, Rd: Read, Wr: Write, D: Desk<S>>(
+    alloc: Global,
+    reader: &mut Rd,
+    writer: &mut Wr,
+    host: &Text,
+    users: &Users,
+    desk: &D,
+    limit: u32,
+    state: State,
+    seat: S,
+    receipts: &mut Vec<Receipt>,
+) -> (S, Result<State, Why>)
+    requires { limit ≤ LIMIT }
+    ensures risen { (D.view result.0).count + vec_len receipts.old ≡ (D.view seat).count + vec_len receipts.new }
+    ensures turns { Took (Rd.remaining reader.old) (Rd.remaining reader.new) (TurnsOn (record { users = users.now; host = host.now }) limit state (Wr.contents writer.old) (Wr.contents writer.new) receipts.old.items receipts.new.items result.1) }
+{
+    let frame = match read_frame(alloc, reader, limit) {
+        Ok(frame) => frame,
+        Err(why) => return (seat, Err(why)),
+    };
+    let (seat, outcome) = respond(alloc, host, users, desk, state, &frame, seat, receipts);
+    let next = finish(writer, outcome);
+    (seat, next)
+}
+
+/// Reads and answers frames until the session ends.
+fn serve<S, Rd: Read, Wr: Write, D: Desk<S>, G: Gate>(
+    alloc: Global,
+    session: u64,
+    reader: &mut Rd,
+    writer: &mut Wr,
+    host: &Text,
+    users: &Users,
+    desk: &D,
+    seat: S,
+    limits: Limits,
+    gate: &G,
+) -> SessionEnd<S>
+    requires { limits.frame ≤ LIMIT }
+    ensures risen { (D.view result.seat).count ≡ (D.view seat).count + vec_len result.receipts }
+    ensures session { Took (Rd.remaining reader.old) (Rd.remaining reader.new) (SessionOf (record { users = users.now; host = host.now }) limits.frames limits.frame (Wr.contents writer.old) (Wr.contents writer.new) result.receipts.items result.why) }
+{
+    let mut seat = seat;
+    let mut receipts = Vec::new(alloc);
+    let mut state = State::Fresh(Fresh::new());
+    for frame in 0..limits.frames {
+        gate.before(session, frame);
+        let (back, outcome) = turn(
+            alloc,
+            reader,
+            writer,
+            host,
+            users,
+            desk,
+            limits.frame,
+            state,
+            seat,
+            &mut receipts,
+        );
+        gate.after(session, frame);
+        seat = back;
+        match outcome {
+            Ok(next) => state = next,
+            Err(why) => {
+                return SessionEnd {
+                    receipts,
+                    seat,
+                    why,
+                };
+            }
+        }
+    }
+    SessionEnd {
+        receipts,
+        seat,
+        why: Why::Limit,
+    }
+}
+
+/// Serves a session until its input ends, it is closed, or so many frames were served. The reader is read through a buffer of
+/// 8,192 bytes and given up with it; each answer is one write, where the writer takes it. The session's number is the gate's.
+#[tactic(auto, using(crate::proofs::Sessions::nothing_done))]
+pub fn serve_session<S, Rd: Read + Drop, Wr: Write, D: Desk<S>, G: Gate>(
+    alloc: Global,
+    session: u64,
+    reader: Rd,
+    writer: &mut Wr,
+    host: &Text,
+    users: &Users,
+    desk: &D,
+    seat: S,
+    limits: Limits,
+    gate: &G,
+) -> SessionEnd<S>
+    requires { limits.frame ≤ LIMIT }
+    ensures risen { (D.view result.seat).count ≡ (D.view seat).count + vec_len result.receipts }
+    ensures session { TookLast (Rd.remaining reader) (SessionOf (record { users = users.now; host = host.now }) limits.frames limits.frame (Wr.contents writer.old) (Wr.contents writer.new) result.receipts.items result.why) }
+{
+    match BufReader::new(alloc, reader) {
+        Ok(mut reader) => {
+            serve(
+                alloc,
+                session,
+                &mut reader,
+                writer,
+                host,
+                users,
+                desk,
+                seat,
+                limits,
+                gate,
+            )
+        }
+        Err(_) => SessionEnd {
+            receipts: Vec::new(alloc),
+            seat,
+            why: Why::NoMemory,
+        },
+    }
+}

@@ -1,0 +1,143 @@
+//! Whoever connects: the frames that are sent, the answers that are due, and one session over any reader and writer.
+
+ghost use Rattle.std.specs.Prelude.{◌≡◌, ◌+◌, ◌≤◌};
+ghost use Rattle.msg_admin.specs.declared.request.TheConstants.{FRAME_LIMIT as LIMIT};
+ghost use Rattle.request_handlers.specs.Seats.{most_seats};
+
+use request_handlers::{Core, MOST_SEATS};
+use session_pool::{Limits, LockedDesk, SessionEnd, Users, Why, serve_session};
+use settings_text::{Document, document_of_text};
+use std::alloc::Global;
+use std::io::{Read, Write};
+use std::marker::Brand;
+use std::sync::Wait;
+use std::sync::ledger::{Blank, Ledger};
+use std::test::Fail;
+use wire_types::Text;
+
+/// The topic `b` is described to ann, who may log in; the trail takes three events.
+const SETTINGS: &str =
+    "node_id = 1\nhost = \"h\"\nport = 9092\nsupers = [\"User:root\"]\ntrail_limit = 3\n\
+    [[user]]\nname = \"ann\"\npassword = \"pw\"\n[[user]]\nname = \"bob\"\npassword = \"other\"\n\
+    [[topic]]\nname = \"a\"\npartitions = 1\n[[topic]]\nname = \"b\"\npartitions = 1\n\
+    [[acl]]\nkind = \"Topic\"\nname = \"b\"\npattern = \"LITERAL\"\nprincipal = \"User:ann\"\nhost = \"*\"\n\
+    operation = \"DESCRIBE\"\npermission = \"ALLOW\"\n";
+
+/// Ann chooses PLAIN.
+pub(crate) const HANDSHAKE: &str = "000000110011000100000001ffff0005504c41494e";
+
+pub(crate) const HANDSHAKE_TOLD: &str = "00000011000000010000000000010005504c41494e";
+
+/// Ann tells her password.
+pub(crate) const LOGIN: &str = "000000150024000000000002ffff0000000700616e6e007077";
+
+pub(crate) const LOGIN_TOLD: &str = "0000000c000000020000ffff00000000";
+
+/// Ann asks for all topics.
+pub(crate) const METADATA: &str = "0000000e0003000100000001ffffffffffff";
+
+pub(crate) const METADATA_TOLD: &str = "00000041000000010000000100000001000168\
+    00002384ffff0000000100000001000000016200000000010000000000000000000100000001000000010000000100000001";
+
+/// What a session came to.
+#[derive(Clone, Copy, Debug, PartialEq, Eq)]
+pub(crate) struct End {
+    pub(crate) why: Why,
+    pub(crate) receipts: usize,
+    /// What its seat counts.
+    pub(crate) count: u64,
+}
+
+/// Serves one session at a desk of its own.
+fn serve_on<L: Ledger, R: Wait + Drop, Rd: Read + Drop, Wr: Write>(
+    rt: R,
+    alloc: Global,
+    blank: Blank,
+    reader: Rd,
+    writer: &mut Wr,
+    limits: Limits,
+) -> Result<End, Fail>
+    requires ledger { (blank.name ≡ L.name) × (blank.parts ≡ L.parts) × (blank.parts ≡ most_seats + 1) }
+    requires within { limits.frame ≤ LIMIT }
+{
+    let Document { users, settings } = document_of_text(alloc, SETTINGS.as_bytes())
+        .ok()
+        .ok_or("settings")?;
+    let users = Users::new(alloc, users).ok().ok_or("users")?;
+    let core = Core::open(alloc, settings).ok().ok_or("core")?;
+    let desk: LockedDesk<L, R> = LockedDesk::new(core, blank, rt);
+    let seat = desk.seat().ok_or("seat")?;
+    let host = Text::of(alloc, "10.0.0.5")?;
+    let SessionEnd {
+        receipts,
+        seat,
+        why,
+    } = serve_session(
+        alloc,
+        1,
+        reader,
+        writer,
+        &host,
+        &users,
+        &desk,
+        seat,
+        limits,
+        &(),
+    );
+    Ok(End {
+        why,
+        receipts: receipts.len(),
+        count: seat.count(),
+    })
+}
+
+/// Serves one session.
+pub(crate) fn serve<R: Wait + Drop, Rd: Read + Drop, Wr: Write>(
+    rt: R,
+    alloc: Global,
+    reader: Rd,
+    writer: &mut Wr,
+    limits: Limits,
+) -> Result<End, Fail>
+    requires { limits.frame ≤ LIMIT }
+{
+    serve_on::<Brand, R, Rd, Wr>(
+        rt,
+        alloc,
+        Blank::new(MOST_SEATS + 1),
+        reader,
+        writer,
+        limits,
+    )
+}
+
+/// The bytes of texts in hexadecimal digits, one behind the other.
+pub(crate) fn bytes_of(alloc: Global, parts: &[&str]) -> Result<Vec<u8>, Fail> {
+    let mut bytes = Vec::new(alloc);
+    for part in parts {
+        let decoded = hex::decode(alloc, *part).ok().ok_or("digits")?;
+        bytes.extend_from_slice(decoded.as_slice())?;
+    }
+    Ok(bytes)
+}
+
+/// Whether a session over these frames ends so and writes these answers, with so many receipts.
+pub(crate) fn comes_to<R: Wait + Drop>(
+    rt: R,
+    alloc: Global,
+    asks: &[&str],
+    why: Why,
+    receipts: usize,
+    answers: &[&str],
+) -> Result<bool, Fail> {
+    let input = bytes_of(alloc, asks)?;
+    let mut written = Vec::new(alloc);
+    let end = serve(rt, alloc, input.as_slice(), &mut written, Limits::default())?;
+    let due = bytes_of(alloc, answers)?;
+    let told = End {
+        why,
+        receipts,
+        count: receipts as u64,
+    };
+    Ok(end == told && written == due)
+}
