@@ -5,7 +5,7 @@ ghost use Rattle.msg_admin.specs.declared.request.TheConstants.{FRAME_LIMIT as L
 ghost use Rattle.request_handlers.specs.Seats.{most_seats};
 
 use request_handlers::{Core, MOST_SEATS};
-use session_pool::{Limits, LockedDesk, SessionEnd, Users, Why, serve_session};
+use session_pool::{Gate, Limits, LockedDesk, SessionEnd, Users, Why, serve_session};
 use settings_text::{Document, document_of_text};
 use std::alloc::Global;
 use std::io::{Read, Write};
@@ -46,16 +46,21 @@ pub(crate) struct End {
     pub(crate) receipts: usize,
     /// What its seat counts.
     pub(crate) count: u64,
+    /// Where the seat's last receipt stands in the trail.
+    pub(crate) last: Option<u64>,
+    /// How many events the trail has.
+    pub(crate) events: usize,
 }
 
-/// Serves one session at a desk of its own.
-fn serve_on<L: Ledger, R: Wait + Drop, Rd: Read + Drop, Wr: Write>(
+/// Serves one session, of the number 7, at a desk of its own.
+fn serve_on<L: Ledger, R: Wait + Drop, Rd: Read + Drop, Wr: Write, G: Gate>(
     rt: R,
     alloc: Global,
     blank: Blank,
     reader: Rd,
     writer: &mut Wr,
     limits: Limits,
+    gate: &G,
 ) -> Result<End, Fail>
     requires ledger { (blank.name ≡ L.name) × (blank.parts ≡ L.parts) × (blank.parts ≡ most_seats + 1) }
     requires within { limits.frame ≤ LIMIT }
@@ -73,22 +78,37 @@ fn serve_on<L: Ledger, R: Wait + Drop, Rd: Read + Drop, Wr: Write>(
         seat,
         why,
     } = serve_session(
-        alloc,
-        1,
-        reader,
-        writer,
-        &host,
-        &users,
-        &desk,
-        seat,
-        limits,
-        &(),
+        alloc, 7, reader, writer, &host, &users, &desk, seat, limits, gate,
     );
     Ok(End {
         why,
         receipts: receipts.len(),
         count: seat.count(),
+        last: seat.last().map(|receipt| receipt.place()),
+        events: desk.close().core().trail().len(),
     })
+}
+
+/// Serves one session, and calls the gate round each of its frames.
+pub(crate) fn serve_gated<R: Wait + Drop, Rd: Read + Drop, Wr: Write, G: Gate>(
+    rt: R,
+    alloc: Global,
+    reader: Rd,
+    writer: &mut Wr,
+    limits: Limits,
+    gate: &G,
+) -> Result<End, Fail>
+    requires { limits.frame ≤ LIMIT }
+{
+    serve_on::<Brand, R, Rd, Wr, G>(
+        rt,
+        alloc,
+        Blank::new(MOST_SEATS + 1),
+        reader,
+        writer,
+        limits,
+        gate,
+    )
 }
 
 /// Serves one session.
@@ -101,14 +121,7 @@ pub(crate) fn serve<R: Wait + Drop, Rd: Read + Drop, Wr: Write>(
 ) -> Result<End, Fail>
     requires { limits.frame ≤ LIMIT }
 {
-    serve_on::<Brand, R, Rd, Wr>(
-        rt,
-        alloc,
-        Blank::new(MOST_SEATS + 1),
-        reader,
-        writer,
-        limits,
-    )
+    serve_gated(rt, alloc, reader, writer, limits, &())
 }
 
 /// The bytes of texts in hexadecimal digits, one behind the other.
@@ -138,6 +151,8 @@ pub(crate) fn comes_to<R: Wait + Drop>(
         why,
         receipts,
         count: receipts as u64,
+        last: (receipts as u64).checked_sub(1),
+        events: receipts,
     };
     Ok(end == told && written == due)
 }

@@ -1,0 +1,100 @@
+//! A desk's seats, and who is called round each frame.
+
+ghost use Rattle.std.specs.Prelude.{◌≡◌, ◌+◌};
+ghost use Rattle.request_handlers.specs.Seats.{most_seats};
+
+use crate::clients::{HANDSHAKE, LOGIN, METADATA, bytes_of, serve_gated};
+use request_handlers::{Core, MOST_SEATS};
+use session_pool::{Gate, Limits, LockedDesk, Why};
+use settings_text::{Document, document_of_text};
+use std::alloc::Global;
+use std::marker::Brand;
+use std::sync::Wait;
+use std::sync::atomic::{AtomicU64, Ordering};
+use std::sync::ledger::{Blank, Ledger};
+use std::test::Fail;
+
+/// Counts its calls, and adds up the frames that it was called with.
+#[derive(Drop)]
+struct Counting {
+    befores: AtomicU64,
+    afters: AtomicU64,
+    frames: AtomicU64,
+    others: AtomicU64,
+}
+
+impl Gate for Counting {
+    fn before(&self, session: u64, frame: u64) {
+        self.befores.fetch_add(1, Ordering::SeqCst);
+        self.frames.fetch_add(frame, Ordering::SeqCst);
+        self.others
+            .fetch_add(u64::from(session != 7), Ordering::SeqCst);
+    }
+
+    fn after(&self, session: u64, frame: u64) {
+        self.afters.fetch_add(1, Ordering::SeqCst);
+        self.frames.fetch_add(frame, Ordering::SeqCst);
+        self.others
+            .fetch_add(u64::from(session != 7), Ordering::SeqCst);
+    }
+}
+
+/// Three frames, and the end of the input where a fourth would be.
+#[test]
+fn round_each_frame(rt: HostRuntime) -> Result<(), Fail> {
+    let alloc = rt.alloc();
+    let input = bytes_of(alloc, &[HANDSHAKE, LOGIN, METADATA])?;
+    let gate = Counting {
+        befores: AtomicU64::new(0),
+        afters: AtomicU64::new(0),
+        frames: AtomicU64::new(0),
+        others: AtomicU64::new(0),
+    };
+    let mut written = Vec::new(alloc);
+    let end = serve_gated(
+        rt,
+        alloc,
+        input.as_slice(),
+        &mut written,
+        Limits::default(),
+        &gate,
+    )?;
+    assert!(rt; end.why == Why::Closed);
+    assert_eq!(rt; gate.befores.load(Ordering::SeqCst), 4);
+    assert_eq!(rt; gate.afters.load(Ordering::SeqCst), 4);
+    assert_eq!(rt; gate.frames.load(Ordering::SeqCst), 2 * (1 + 2 + 3));
+    assert_eq!(rt; gate.others.load(Ordering::SeqCst), 0);
+    Ok(())
+}
+
+/// How many seats a desk gives, asked for so many.
+fn given_on<L: Ledger, R: Wait + Drop>(
+    rt: R,
+    alloc: Global,
+    blank: Blank,
+    asked: u64,
+) -> Result<u64, Fail>
+    requires ledger { (blank.name ≡ L.name) × (blank.parts ≡ L.parts) × (blank.parts ≡ most_seats + 1) }
+{
+    let text = b"node_id = 1\nhost = \"h\"\nport = 1\n".as_slice();
+    let Document { settings, .. } = document_of_text(alloc, text).ok().ok_or("settings")?;
+    let core = Core::open(alloc, settings).ok().ok_or("core")?;
+    let desk: LockedDesk<L, R> = LockedDesk::new(core, blank, rt);
+    let mut given = 0u64;
+    for _ in 0..asked {
+        given = given.wrapping_add(u64::from(desk.seat().is_some()));
+    }
+    Ok(given)
+}
+
+fn given<R: Wait + Drop>(rt: R, alloc: Global, asked: u64) -> Result<u64, Fail> {
+    given_on::<Brand, R>(rt, alloc, Blank::new(MOST_SEATS + 1), asked)
+}
+
+/// A desk gives 1,048,576 seats, and then none.
+#[test]
+fn as_many_seats_as_there_are(rt: HostRuntime) -> Result<(), Fail> {
+    assert_eq!(rt; given(rt, rt.alloc(), 1)?, 1);
+    assert_eq!(rt; given(rt, rt.alloc(), 1_048_579)?, 1_048_576);
+    Ok(())
+}
