@@ -1,10 +1,10 @@
 //! Why sessions end.
 
-use crate::clients::{
+use request_handlers::Stop;
+use session_clients::{
     HANDSHAKE, HANDSHAKE_TOLD, LOGIN, LOGIN_TOLD, METADATA, METADATA_TOLD, bytes_of, comes_to,
     serve,
 };
-use request_handlers::Stop;
 use session_pool::{Limits, Why};
 use std::test::Fail;
 

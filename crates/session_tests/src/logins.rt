@@ -1,10 +1,10 @@
 //! What may be asked before a login and behind it, and which messages log in.
 
-use crate::clients::{
-    HANDSHAKE, HANDSHAKE_TOLD, LOGIN, LOGIN_TOLD, METADATA, METADATA_TOLD, comes_to,
-};
 use audit_trail::Event;
 use msg_admin::{Api, Header, Request};
+use session_clients::{
+    HANDSHAKE, HANDSHAKE_TOLD, LOGIN, LOGIN_TOLD, METADATA, METADATA_TOLD, comes_to,
+};
 use session_pool::{Closed, Fresh, LoginFault, Users, Why};
 use settings_text::{SettingsFault, User};
 use std::alloc::Global;

@@ -2,7 +2,7 @@
 
 ghost use Rattle.std.specs.Prelude.{None};
 
-use crate::clients::{HANDSHAKE, LOGIN, METADATA, bytes_of, serve};
+use session_clients::{HANDSHAKE, LOGIN, METADATA, bytes_of, serve};
 use session_pool::{Limits, Why};
 use std::io;
 use std::io::{ErrorKind, Read, Write};

@@ -24,32 +24,32 @@ const SETTINGS: &str =
     operation = \"DESCRIBE\"\npermission = \"ALLOW\"\n";
 
 /// Ann chooses PLAIN.
-pub(crate) const HANDSHAKE: &str = "000000110011000100000001ffff0005504c41494e";
+pub const HANDSHAKE: &str = "000000110011000100000001ffff0005504c41494e";
 
-pub(crate) const HANDSHAKE_TOLD: &str = "00000011000000010000000000010005504c41494e";
+pub const HANDSHAKE_TOLD: &str = "00000011000000010000000000010005504c41494e";
 
 /// Ann tells her password.
-pub(crate) const LOGIN: &str = "000000150024000000000002ffff0000000700616e6e007077";
+pub const LOGIN: &str = "000000150024000000000002ffff0000000700616e6e007077";
 
-pub(crate) const LOGIN_TOLD: &str = "0000000c000000020000ffff00000000";
+pub const LOGIN_TOLD: &str = "0000000c000000020000ffff00000000";
 
 /// Ann asks for all topics.
-pub(crate) const METADATA: &str = "0000000e0003000100000001ffffffffffff";
+pub const METADATA: &str = "0000000e0003000100000001ffffffffffff";
 
-pub(crate) const METADATA_TOLD: &str = "00000041000000010000000100000001000168\
+pub const METADATA_TOLD: &str = "00000041000000010000000100000001000168\
     00002384ffff0000000100000001000000016200000000010000000000000000000100000001000000010000000100000001";
 
 /// What a session came to.
 #[derive(Clone, Copy, Debug, PartialEq, Eq)]
-pub(crate) struct End {
-    pub(crate) why: Why,
-    pub(crate) receipts: usize,
+pub struct End {
+    pub why: Why,
+    pub receipts: usize,
     /// What its seat counts.
-    pub(crate) count: u64,
+    pub count: u64,
     /// Where the seat's last receipt stands in the trail.
-    pub(crate) last: Option<u64>,
+    pub last: Option<u64>,
     /// How many events the trail has.
-    pub(crate) events: usize,
+    pub events: usize,
 }
 
 /// Serves one session, of the number 7, at a desk of its own.
@@ -90,7 +90,7 @@ fn serve_on<L: Ledger, R: Wait + Drop, Rd: Read + Drop, Wr: Write, G: Gate>(
 }
 
 /// Serves one session, and calls the gate round each of its frames.
-pub(crate) fn serve_gated<R: Wait + Drop, Rd: Read + Drop, Wr: Write, G: Gate>(
+pub fn serve_gated<R: Wait + Drop, Rd: Read + Drop, Wr: Write, G: Gate>(
     rt: R,
     alloc: Global,
     reader: Rd,
@@ -112,7 +112,7 @@ pub(crate) fn serve_gated<R: Wait + Drop, Rd: Read + Drop, Wr: Write, G: Gate>(
 }
 
 /// Serves one session.
-pub(crate) fn serve<R: Wait + Drop, Rd: Read + Drop, Wr: Write>(
+pub fn serve<R: Wait + Drop, Rd: Read + Drop, Wr: Write>(
     rt: R,
     alloc: Global,
     reader: Rd,
@@ -125,7 +125,7 @@ pub(crate) fn serve<R: Wait + Drop, Rd: Read + Drop, Wr: Write>(
 }
 
 /// The bytes of texts in hexadecimal digits, one behind the other.
-pub(crate) fn bytes_of(alloc: Global, parts: &[&str]) -> Result<Vec<u8>, Fail> {
+pub fn bytes_of(alloc: Global, parts: &[&str]) -> Result<Vec<u8>, Fail> {
     let mut bytes = Vec::new(alloc);
     for part in parts {
         let decoded = hex::decode(alloc, *part).ok().ok_or("digits")?;
@@ -135,7 +135,7 @@ pub(crate) fn bytes_of(alloc: Global, parts: &[&str]) -> Result<Vec<u8>, Fail> {
 }
 
 /// Whether a session over these frames ends so and writes these answers, with so many receipts.
-pub(crate) fn comes_to<R: Wait + Drop>(
+pub fn comes_to<R: Wait + Drop>(
     rt: R,
     alloc: Global,
     asks: &[&str],

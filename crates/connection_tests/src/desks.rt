@@ -3,8 +3,8 @@
 ghost use Rattle.std.specs.Prelude.{◌≡◌, ◌+◌};
 ghost use Rattle.request_handlers.specs.Seats.{most_seats};
 
-use crate::clients::{HANDSHAKE, LOGIN, METADATA, bytes_of, serve_gated};
 use request_handlers::{Core, MOST_SEATS};
+use session_clients::{HANDSHAKE, LOGIN, METADATA, bytes_of, serve_gated};
 use session_pool::{Gate, Limits, LockedDesk, Why};
 use settings_text::{Document, document_of_text};
 use std::alloc::Global;
