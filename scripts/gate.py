@@ -20,7 +20,17 @@ from program import PROGRAM, ROOT
 
 LOG = ROOT / "out/gate.log"
 TIMES = ROOT / "out/gate.json"
-SCRIPTS = ("answers.py", "lines.py", "settings.py", "histories.py", "refused_memory.py", "worn_epochs.py", "must_not_compile.py")
+SCRIPTS = (
+    "answers.py",
+    "lines.py",
+    "settings.py",
+    "histories.py",
+    "refused_memory.py",
+    "worn_epochs.py",
+    "served.py",
+    "soak.py",
+    "must_not_compile.py",
+)
 SEEN_EVERY = 2  # seconds
 TICKS = os.sysconf("SC_CLK_TCK")
 PAGE = os.sysconf("SC_PAGE_SIZE")

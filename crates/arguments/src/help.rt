@@ -44,3 +44,33 @@ The exit status is 0 where the settings can be taken, 1 where they are refused o
 pub(crate) const CHECK_EXAMPLE: &str = "Example:
 
     kbroker check < settings.toml";
+
+pub(crate) const SERVE: &str = "Serves clients over TCP";
+
+pub(crate) const SERVE_LONG: &str = "Serves clients over TCP.
+
+Standard input holds the settings, from its first line to its last. Each client logs in by SASL PLAIN
+as one of their users. A connection has a worker of its own from its first byte to its last, so as
+many clients are served at once as there are workers, and the others wait until one of them leaves.
+
+Standard output gets `listening on ADDRESS` as soon as clients can connect, and a last line once so
+many connections were served: `sessions S events E refusals R` where each answer that was given
+stands in the broker's trail, and `settle failed: FAULT` where that can't be shown. Where the address
+can't be listened on, it gets `listen failed`, and where the settings have a fault, `settings refused:
+FAULT`.
+
+The exit status is 0 where all was served and settled, 1 where it wasn't, and 2 for a command line
+that isn't understood.";
+
+pub(crate) const SERVE_EXAMPLE: &str = "Example:
+
+    kbroker serve --listen 127.0.0.1:9092 < settings.toml";
+
+pub(crate) const LISTEN: &str =
+    "The address and the port to listen on; port 0 takes one that is free";
+
+pub(crate) const WORKERS: &str =
+    "How many connections are served at once, 1 to 64; 4 if it isn't given";
+
+pub(crate) const CONNECTIONS: &str =
+    "How many connections are served in all, 1 to 1,000,000; 1,000,000 if it isn't given";

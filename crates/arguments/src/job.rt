@@ -5,19 +5,26 @@ ghost use Rattle.clap.specs.Words.{app_of, kind_of, new_app, subcommand_name_of}
 ghost use Rattle.clap.specs.declared.builder.command.Command.TheViews.{out-Command as fields_of};
 ghost use Rattle.arguments.specs.CommandLine.{command_line, program};
 ghost use Rattle.arguments.specs.Job.{job_named, job_of};
+ghost use Rattle.arguments.specs.Asked.{IsAsked};
 
-use crate::help::{CHECK, CHECK_EXAMPLE, CHECK_LONG, PROGRAM, REPLAY, REPLAY_EXAMPLE, REPLAY_LONG};
+use crate::help::{
+    CHECK, CHECK_EXAMPLE, CHECK_LONG, PROGRAM, REPLAY, REPLAY_EXAMPLE, REPLAY_LONG, SERVE,
+    SERVE_EXAMPLE, SERVE_LONG,
+};
+use crate::serving::{Serving, serving_by, with_options};
 use clap::error::ErrorKind;
 use clap::{ArgMatches, Command, Error};
 use std::alloc::{AllocError, Global};
 
 /// What the program is asked to do.
 #[derive(Clone, Copy, Debug, PartialEq, Eq)]
-pub enum Job {
+pub enum Job<'a> {
     /// Answers a script that is read from standard input.
     Replay,
     /// Tells what is wrong with settings that are read from standard input.
     Check,
+    /// Serves the connections of a listener.
+    Serve(Serving<'a>),
 }
 
 /// A subcommand of this name, with what `--help` says of it.
@@ -53,11 +60,16 @@ fn command<'a>(alloc: Global) -> Result<Command<'a>, AllocError>
 {
     let replay = described(alloc, "replay", REPLAY, REPLAY_LONG, REPLAY_EXAMPLE);
     let check = described(alloc, "check", CHECK, CHECK_LONG, CHECK_EXAMPLE);
-    bare_program(alloc).subcommand(replay)?.subcommand(check)
+    let serve = described(alloc, "serve", SERVE, SERVE_LONG, SERVE_EXAMPLE);
+    let serve = with_options(alloc, serve)?;
+    bare_program(alloc)
+        .subcommand(replay)?
+        .subcommand(check)?
+        .subcommand(serve)
 }
 
 /// The job of the subcommand that was found in the words.
-fn named_job(matches: &ArgMatches<'_>) -> Option<Job>
+fn named_job<'a>(matches: &ArgMatches<'_>) -> Option<Job<'a>>
     ensures { result ≡ option_and_then job_named (subcommand_name_of matches.now) }
 {
     if matches.subcommand_matches("replay").is_some() {
@@ -69,17 +81,24 @@ fn named_job(matches: &ArgMatches<'_>) -> Option<Job>
     None
 }
 
-/// What the words ask for, of which the first is the program's own name: the job that the next one names, where
-/// nothing but `--` follows. A refusal holds the text to print on standard error; help is one.
-pub fn arguments<'a>(alloc: Global, words: &'a [&'a str]) -> Result<Job, Error>
-    ensures job { IfOk result (λ job. job_of (map (λ word. word.now) words.entry.now) ≡ Some job) }
+/// What the words ask for, of which the first is the program's own name: the job that the next one names. Behind `replay` and
+/// `check` nothing but `--` follows, behind `serve` its options. A refusal holds the text to print on standard error; help is
+/// one.
+pub fn arguments<'a>(alloc: Global, words: &'a [&'a str]) -> Result<Job<'a>, Error>
+    ensures job { IfOk result (λ job. IsAsked (map (λ word. word.now) words.entry.now) job) }
     ensures refusal { IfErr result (λ error. (job_of (map (λ word. word.now) words.entry.now) ≡ None)
         ⊎ (kind_of error ≡ ErrorKind.OutOfMemory)) }
 {
     let mut command = command(alloc)?;
     let matches = command.try_get_matches_from_mut(words)?;
-    match named_job(&matches) {
-        Some(job) => Ok(job),
-        None => Err(command.error(ErrorKind::InvalidSubcommand, "no such command")?),
+    if let Some(job) = named_job(&matches) {
+        return Ok(job);
+    }
+    let Some(options) = matches.subcommand_matches("serve") else {
+        return Err(command.error(ErrorKind::InvalidSubcommand, "no such command")?);
+    };
+    match serving_by(options) {
+        Ok(serving) => Ok(Job::Serve(serving)),
+        Err(misused) => Err(command.error(ErrorKind::ValueValidation, misused.sentence())?),
     }
 }

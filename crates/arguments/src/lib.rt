@@ -3,5 +3,7 @@
 
 mod help;
 mod job;
+mod serving;
 
 pub use job::{Job, arguments};
+pub use serving::Serving;

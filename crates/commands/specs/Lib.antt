@@ -1,5 +1,6 @@
-pub mod Lines
-pub mod Order
-pub mod Replay
-pub mod Printed
 pub mod Check
+pub mod Lines
+pub mod Opened
+pub mod Order
+pub mod Printed
+pub mod Replay

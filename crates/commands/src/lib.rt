@@ -4,9 +4,11 @@
 mod cause;
 mod command;
 mod lines;
+mod open;
 mod order;
 mod run;
 mod text;
 mod turn;
 
+pub use open::{Opened, open_and_explain};
 pub use run::{check, check_and_explain, replay, replay_and_explain};

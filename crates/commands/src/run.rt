@@ -34,7 +34,7 @@ fn write_text<W: Write>(writer: &mut W, text: &str) -> Result<(), Early>
 }
 
 /// What a sentence speaks of.
-enum Place {
+pub(crate) enum Place {
     Settings,
     /// The line of this number behind the settings.
     Line(u64),
@@ -42,7 +42,12 @@ enum Place {
 }
 
 /// Says what went wrong, and where. If that fails, nothing else does.
-fn explain<E: Write, D: Display + Drop>(alloc: Global, errors: &mut E, place: Place, sentence: D) {
+pub(crate) fn explain<E: Write, D: Display + Drop>(
+    alloc: Global,
+    errors: &mut E,
+    place: Place,
+    sentence: D,
+) {
     let text = match place {
         Place::Settings => format!(in alloc; "kbroker: settings: {sentence}\n"),
         Place::Line(number) => format!(in alloc; "kbroker: line {number}: {sentence}\n"),
@@ -90,7 +95,7 @@ fn run_script<W: Write, E: Write>(
 }
 
 /// Prints that the settings are refused, and says why.
-fn refuse<W: Write, E: Write>(
+pub(crate) fn refuse<W: Write, E: Write>(
     alloc: Global,
     text: &[u8],
     fault: SettingsFault,
@@ -196,7 +201,7 @@ fn last_words(early: Early) -> &'static str
 }
 
 /// Prints the last words of a run that ends early.
-fn end_early<W: Write>(writer: &mut W, early: Early)
+pub(crate) fn end_early<W: Write>(writer: &mut W, early: Early)
     ensures { EndsEarly (W.contents writer.old) (W.contents writer.new) early }
 {
     let _ = write_text(writer, last_words(early));

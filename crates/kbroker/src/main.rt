@@ -1,18 +1,82 @@
 //! The broker's program.
 #![tactic(auto)]
 
-use arguments::{Job, arguments};
-use commands::{check_and_explain, replay_and_explain};
+use arguments::{Job, Serving, arguments};
+use broker_server::{Capacity, serve};
+use commands::{Opened, check_and_explain, open_and_explain, replay_and_explain};
+use session_pool::Users;
 use std::alloc::{AllocError, Global};
-use std::io;
+use std::io::{Read, Write};
+use std::net::{Net, TcpListener, TcpStream};
 use std::process::ExitCode;
+use std::sync::Wait;
+use std::thread::Threads;
+use std::{io, time};
 
 /// The exit status of a command line that isn't understood.
 const MISUSED: u8 = 2;
 
+/// The exit status of a server that was never started.
+const FAILED: u8 = 1;
+
 /// The words of the command line as texts.
 fn texts<'a>(alloc: Global, words: &'a [String]) -> Result<Vec<&'a str>, AllocError> {
     words.iter().map(|word| word.as_str()).collect(alloc)
+}
+
+/// Says what went wrong. If that fails, nothing else does.
+fn explain<E: Write>(alloc: Global, errors: &mut E, what: &str, why: &str) {
+    if let Ok(text) = format!(in alloc; "kbroker: {what}: {why}\n") {
+        let _ = errors.write_all(text.as_bytes());
+    }
+}
+
+/// Serves the connections of a listener by the settings that are read.
+fn serve_connections<
+    T: Net<Listener = TcpListener, Stream = TcpStream> + Threads + Wait + time::Clock + Sync,
+    R: Read,
+    W: Write,
+    E: Write + Drop + Send,
+>(
+    rt: &T,
+    alloc: Global,
+    serving: Serving<'_>,
+    reader: &mut R,
+    writer: &mut W,
+    mut errors: E,
+) -> u8 {
+    let Opened { core, users } = match open_and_explain(alloc, reader, writer, &mut errors) {
+        Ok(opened) => opened,
+        Err(status) => return status,
+    };
+    // The settings have no fault, so only memory can be refused.
+    let Ok(users) = Users::new(alloc, users) else {
+        explain(
+            alloc,
+            &mut errors,
+            "settings",
+            "there is not enough memory for the users",
+        );
+        return FAILED;
+    };
+    let listener = match TcpListener::bind(rt, serving.listen) {
+        Ok(listener) => listener,
+        Err(_) => {
+            let _ = writer.write_all(b"listen failed\n".as_slice());
+            explain(
+                alloc,
+                &mut errors,
+                serving.listen,
+                "the address can't be listened on",
+            );
+            return FAILED;
+        }
+    };
+    let capacity = Capacity {
+        workers: serving.workers as usize,
+        connections: serving.connections,
+    };
+    serve(rt, alloc, core, users, &listener, capacity, writer, errors)
 }
 
 fn main(rt: HostRuntime) -> io::Result<ExitCode> {
@@ -32,6 +96,9 @@ fn main(rt: HostRuntime) -> io::Result<ExitCode> {
     let status = match job {
         Job::Replay => replay_and_explain(alloc, &mut reader, &mut writer, &mut errors),
         Job::Check => check_and_explain(alloc, &mut reader, &mut writer, &mut errors),
+        Job::Serve(serving) => {
+            serve_connections(&rt, alloc, serving, &mut reader, &mut writer, errors)
+        }
     };
     Ok(ExitCode::from(status))
 }

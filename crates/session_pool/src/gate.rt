@@ -1,4 +1,7 @@
-//! Who is called round each frame.
+//! Who is called round each frame, and behind the last.
+
+use crate::why::Why;
+use wire_types::Text;
 
 /// Is called round the reading and answering of each frame, while no core is locked. Frames are counted from 0.
 pub trait Gate {
@@ -7,6 +10,10 @@ pub trait Gate {
 
     /// Comes once it was answered or the session was ended on it.
     fn after(&self, session: u64, frame: u64);
+
+    /// Comes once the session has ended, from whoever serves it: with the host that it came from, the principal that asked,
+    /// if one did, and why it ended.
+    fn ended(&self, _session: u64, _host: &Text, _who: Option<&Text>, _why: Why) {}
 }
 
 /// Nobody.

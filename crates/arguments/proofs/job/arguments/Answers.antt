@@ -1,7 +1,12 @@
-use Rattle.std.proofs.Common.{◌∙◌, inl, map, sym}
+use Rattle.std.proofs.Common.{◌≡◌, ◌∙◌, ℕ, List, Option, Some, codes, inl, map, refl, subst, sym}
 use Rattle.std.proofs.lemmas.Result.{err_from_is_err_and}
 use Rattle.clap.specs.Simple.{app_of}
-use Rattle.arguments.proofs.Asked.{job_found, job_refused}
+use Rattle.clap.specs.Matches.{found_of, subcommand_name_of}
+use Rattle.clap.specs.Walk.{rows_of}
+use Rattle.clap.specs.declared.parser.matches.Found.{Found}
+use Rattle.clap.proofs.WalkLemmas.{first_value-rows}
+use Rattle.arguments.specs.Serving.{IsServedBy}
+use Rattle.arguments.proofs.Asked.{job_found, job_is_asked, job_refused, serve_found, serve_read}
 use Rattle.arguments.proofs.job.arguments.Goals as goal
 
 pub returns-in_err-matches-clause-refusal : goal.returns-in_err-matches-clause-refusal
@@ -11,10 +16,29 @@ returns-in_err-matches-clause-refusal c =
 
 pub returns-in-Some-clause-job : goal.returns-in-Some-clause-job
 returns-in-Some-clause-job c =
-    sym (job_found (app_of c.in_ok-command.command) (map (λ w. w.now) c.args.words.now) c.in_ok-matches.matches c.in_ok-command.ensures c.in_ok-matches.ensures.ok.2 c.in_ok-matches.ensures.kinds)
-    ∙ (sym c.named_job.ensures ∙ c.in-Some.is)
+    job_is_asked (map (λ w. w.now) c.args.words.now) c.in-Some.job
+    (sym (job_found (app_of c.in_ok-command.command) (map (λ w. w.now) c.args.words.now) c.in_ok-matches.matches c.in_ok-command.ensures c.in_ok-matches.ensures.ok.2 c.in_ok-matches.ensures.kinds)
+    ∙ (sym c.named_job.ensures ∙ c.in-Some.is))
+
+pub returns-in_default-subcommand_matches-clause-refusal : goal.returns-in_default-subcommand_matches-clause-refusal
+returns-in_default-subcommand_matches-clause-refusal c =
+    inl (sym (job_found (app_of c.in_ok-command.command) (map (λ w. w.now) c.args.words.now) c.in_ok-matches.matches c.in_ok-command.ensures c.in_ok-matches.ensures.ok.2 c.in_ok-matches.ensures.kinds)
+    ∙ (sym c.named_job.ensures ∙ c.in_default.is))
 
 pub returns-clause-refusal : goal.returns-clause-refusal
 returns-clause-refusal c =
     inl (sym (job_found (app_of c.in_ok-command.command) (map (λ w. w.now) c.args.words.now) c.in_ok-matches.matches c.in_ok-command.ensures c.in_ok-matches.ensures.ok.2 c.in_ok-matches.ensures.kinds)
-    ∙ (sym c.named_job.ensures ∙ c.in-None.is))
+    ∙ (sym c.named_job.ensures ∙ c.in_default.is))
+
+pub returns-in-Ok-clause-job : goal.returns-in-Ok-clause-job
+returns-in-Ok-clause-job c =
+    let words : List (List ℕ) = map (λ w. w.now) c.args.words.now in
+    let found : Found = found_of c.in-Some-subcommand_matches.options.now in
+    let named : subcommand_name_of c.in_ok-matches.matches ≡ Some (codes "serve") = c.in-Some-subcommand_matches.ensures.found.0 refl in
+    record {
+      begins = serve_found (app_of c.in_ok-command.command) words c.in_ok-matches.matches c.in_ok-command.ensures c.in_ok-matches.ensures.ok.2 c.in_ok-matches.ensures.kinds named;
+      options = rows_of found;
+      read = serve_read (app_of c.in_ok-command.command) words c.in_ok-matches.matches (rows_of found) c.in_ok-command.ensures c.in_ok-matches.ensures.ok.2 named c.in-Some-subcommand_matches.ensures.rows;
+      served = subst (λ (f : List ℕ → Option (List ℕ)). IsServedBy f c.in-Ok.serving) (λ i id. first_value-rows found id i) c.in-Ok.ensures.served;
+      within = c.in-Ok.ensures.within;
+    }

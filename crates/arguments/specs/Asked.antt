@@ -1,0 +1,30 @@
+-- What a command line asks for.
+use Rattle.std.specs.Prelude.{◌≡◌, ℕ, Bool, false, true, List, [], ◌∷◌, drop, codes, Some}
+use Rattle.std.specs.Str.{bytes_eq}
+use Rattle.clap.specs.Walk.{Row, first_of}
+use Rattle.clap.specs.Simple.{subcommand_of}
+use Rattle.arguments.specs.declared.job.Job.{Job}
+use Rattle.arguments.specs.declared.job.Job.TheVariants.{Replay, Check, Serve}
+use Rattle.arguments.specs.declared.serving.Serving.{Serving}
+use Rattle.arguments.specs.CommandLine.{command_line}
+use Rattle.arguments.specs.Job.{job_of}
+use Rattle.arguments.specs.Serving.{IsServedBy, IsWithin}
+
+-- whether these words begin with this one
+abbrev pub begin_with : List ℕ → List (List ℕ) → Bool
+begin_with name [] = false
+begin_with name (word ∷ rest) = bytes_eq word name
+
+-- the words begin with `serve`; its options are those that clap reads, with their numbers in their limits
+pub record AsksToServe (words : List (List ℕ)) (serving : Serving) : Type 0 where
+  pub begins : begin_with (codes "serve") (drop 1 words) ≡ true
+  pub options : List Row
+  pub read : subcommand_of command_line words ≡ Some (codes "serve", options)
+  pub served : IsServedBy (λ id. first_of id options) serving
+  pub within : IsWithin serving
+
+-- the job that the words ask for
+abbrev pub IsAsked : List (List ℕ) → Job → Type 0
+IsAsked words Replay = job_of words ≡ Some Replay
+IsAsked words Check = job_of words ≡ Some Check
+IsAsked words (Serve serving) = AsksToServe words serving

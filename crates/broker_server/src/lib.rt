@@ -1,0 +1,10 @@
+//! The broker on a TCP listener: each connection is a session, which one of so many workers serves.
+#![tactic(auto)]
+
+mod accept;
+mod lines;
+mod sentences;
+mod server;
+mod ticks;
+
+pub use server::{Capacity, serve};

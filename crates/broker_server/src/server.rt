@@ -1,0 +1,166 @@
+//! Serves the connections of a listener, and settles the books.
+
+ghost use Rattle.std.specs.Prelude.{◌≡◌, ℕ, ◌+◌, List, [], IfSome, string_bytes};
+ghost use Rattle.broker_server.specs.Lines.{listening_line};
+ghost use Rattle.broker_server.specs.Serves.{IsLast, Serves};
+ghost use Rattle.request_handlers.specs.Seats.{most_seats};
+
+use crate::accept::accept_all;
+use crate::lines::{Failure, failure_line, listening_line, settled_line};
+use crate::sentences::Sentences;
+use crate::ticks::Ticks;
+use request_handlers::{Core, MOST_SEATS, Receipt, Seat};
+use session_pool::{Gate, LockedDesk, SessionEnd, Users};
+use session_workers::{PoolFault, serve_all};
+use settlement::{SettleFault, Settled, settle};
+use std::alloc::{AllocError, Global};
+use std::io::Write;
+use std::marker::Brand;
+use std::net::{Net, TcpListener, TcpStream};
+use std::sync::Wait;
+use std::sync::ledger::{Blank, Ledger};
+use std::thread::{Threads, join};
+use std::time;
+use wire_types::{Shared, write_whole};
+
+/// The exit status where all is served and settled.
+const SETTLED: u8 = 0;
+
+/// The exit status where it isn't.
+const FAILED: u8 = 1;
+
+/// How many connections are served, and by how many workers: so many are open at once, and one more waits.
+#[derive(Clone, Copy, Debug, PartialEq, Eq)]
+pub struct Capacity {
+    pub workers: usize,
+    pub connections: u64,
+}
+
+/// The receipts of each end.
+fn receipts_of<L: Ledger>(
+    alloc: Global,
+    ends: Vec<SessionEnd<Seat<L>>>,
+) -> Result<Vec<Vec<Receipt>>, AllocError> {
+    let mut receipts = Vec::new(alloc);
+    for end in ends {
+        receipts.push(end.receipts)?;
+    }
+    Ok(receipts)
+}
+
+/// Serves so many connections at a desk, and gives how many sessions there were and what the settled core did.
+fn serve_at<
+    L: Ledger + Send + Sync,
+    R: Net<Listener = TcpListener, Stream = TcpStream> + Threads + Wait + time::Clock + Sync,
+    G: Gate + Sync,
+>(
+    rt: &R,
+    alloc: Global,
+    blank: Blank,
+    core: Core,
+    users: &Shared<Users>,
+    listener: &TcpListener,
+    capacity: Capacity,
+    gate: &G,
+) -> Result<(usize, Settled), Failure>
+    requires empty { core.trail ≡ [] }
+    requires ledger { (blank.name ≡ L.name) × (blank.parts ≡ L.parts) × (blank.parts ≡ most_seats + 1) }
+{
+    let desk: LockedDesk<L, &R> = LockedDesk::new(core, blank, rt);
+    let (to, from) = crossbeam_channel::unbounded(alloc).map_err(|_| PoolFault::NoMemory)?;
+    let clock = Ticks::new(rt);
+    let ((), ends) = join(
+        rt,
+        || accept_all(rt, alloc, listener, users, capacity.connections, to),
+        || serve_all(rt, alloc, &desk, from, capacity.workers, clock, gate),
+    );
+    let ends = ends?;
+    let sessions = ends.len().saturating_sub(1);
+    let receipts = receipts_of(alloc, ends).map_err(|_| SettleFault::NoMemory)?;
+    let settled = settle(alloc, &desk.close(), receipts.as_slice())?;
+    Ok((sessions, settled))
+}
+
+/// Serves so many connections, with a ledger of its own.
+fn serve_booked<
+    R: Net<Listener = TcpListener, Stream = TcpStream> + Threads + Wait + time::Clock + Sync,
+    G: Gate + Sync,
+>(
+    rt: &R,
+    alloc: Global,
+    core: Core,
+    users: Users,
+    listener: &TcpListener,
+    capacity: Capacity,
+    gate: &G,
+) -> Result<(usize, Settled), Failure>
+    requires { core.trail ≡ [] }
+{
+    let users = Shared::new(alloc, users).map_err(|_| PoolFault::NoMemory)?;
+    serve_at::<Brand, R, G>(
+        rt,
+        alloc,
+        Blank::new(MOST_SEATS + 1),
+        core,
+        &users,
+        listener,
+        capacity,
+        gate,
+    )
+}
+
+/// The first line, of where a listener listens.
+fn first_line(alloc: Global, listener: &TcpListener) -> Option<String>
+    ensures { IfSome result (λ text. (address : List ℕ) × (string_bytes text ≡ listening_line address)) }
+{
+    let address = listener.local_addr().ok()?;
+    let address = format!(in alloc; "{address}").ok()?;
+    listening_line(alloc, address.as_str()).ok()
+}
+
+/// The last line, and the exit status.
+fn last_line(alloc: Global, outcome: Result<(usize, Settled), Failure>) -> Option<(String, u8)>
+    ensures { IfSome result (λ told. IsLast told.1 (string_bytes told.0)) }
+{
+    match outcome {
+        Ok((sessions, settled)) => Some((settled_line(alloc, sessions, settled).ok()?, SETTLED)),
+        Err(failure) => Some((failure_line(alloc, failure).ok()?, FAILED)),
+    }
+}
+
+/// Prints where it listens, serves so many connections, settles the books and prints how that went. Gives the exit status, and
+/// says in a sentence to `errors` why a session ended, where it didn't end between two requests.
+pub fn serve<
+    R: Net<Listener = TcpListener, Stream = TcpStream> + Threads + Wait + time::Clock + Sync,
+    W: Write,
+    E: Write + Drop + Send,
+>(
+    rt: &R,
+    alloc: Global,
+    core: Core,
+    users: Users,
+    listener: &TcpListener,
+    capacity: Capacity,
+    writer: &mut W,
+    errors: E,
+) -> u8
+    requires { core.trail ≡ [] }
+    ensures { Serves (W.contents writer.old) (W.contents writer.new) result }
+{
+    let Some(first) = first_line(alloc, listener) else {
+        return FAILED;
+    };
+    match write_whole(writer, first.as_bytes()) {
+        Ok(()) => {}
+        Err(_) => return FAILED,
+    }
+    let gate = Sentences::new(rt, alloc, errors);
+    let outcome = serve_booked(rt, alloc, core, users, listener, capacity, &gate);
+    let Some((last, status)) = last_line(alloc, outcome) else {
+        return FAILED;
+    };
+    match write_whole(writer, last.as_bytes()) {
+        Ok(()) => status,
+        Err(_) => FAILED,
+    }
+}

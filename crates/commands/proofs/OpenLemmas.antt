@@ -1,0 +1,22 @@
+-- Settings that were read whole are those of the input.
+use Rattle.std.proofs.Common.{◌≡◌, ◌≤◌, ℕ, Bool, false, List, [], length, Option, Some, None, Result, IfSome, ap, arith, subst, sym, if◌then◌else◌, nat_lt}
+use Rattle.std.proofs.lemmas.Bool.Decides.{nat_tests}
+use Rattle.wire_types.specs.declared.device.TheConstants.{INPUT_LIMIT}
+use Rattle.commands.specs.declared.open.Opened.{Opened}
+use Rattle.commands.specs.declared.open.Unopened.{Unopened}
+use Rattle.commands.specs.Replay.{Answer, within_limit}
+use Rattle.commands.specs.Check.{settings_answer, check_answer}
+use Rattle.commands.specs.Opened.{Opens}
+
+within_is : (input : List ℕ) (answer : Answer) → length input ≤ INPUT_LIMIT → within_limit input answer ≡ answer
+within_is input answer small =
+    let no : nat_lt INPUT_LIMIT (length input) ≡ false = grind (arith, nat_tests) in
+    ap (λ (b : Bool). if b then record { text = []; status = 1 } else answer) no
+
+pub opens_whole : (o u v : Option (List ℕ)) (slice bytes : List ℕ) (r : Result Opened Unopened) → slice ≡ bytes → IfSome o (λ input. input ≡ bytes) → length bytes ≤ INPUT_LIMIT
+    → Opens u v slice (settings_answer slice) r → IfSome o (λ input. Opens u v input (check_answer input) r)
+opens_whole None u v slice bytes r same is small opens = tt
+opens_whole (Some input) u v slice bytes r same is small opens =
+    let here : Opens u v bytes (settings_answer bytes) r = subst (λ (t : List ℕ). Opens u v t (settings_answer t) r) same opens in
+    let limited : Opens u v bytes (check_answer bytes) r = subst (λ (a : Answer). Opens u v bytes a r) (sym (within_is bytes (settings_answer bytes) small)) here in
+    subst (λ (t : List ℕ). Opens u v t (check_answer t) r) (sym is) limited

@@ -1,0 +1,106 @@
+//! Settings in, a core out: what a server is started with.
+
+ghost use Rattle.std.specs.Prelude.{◌≡◌, IfOk, IfSome};
+ghost use Rattle.request_handlers.specs.Core.{opened};
+ghost use Rattle.commands.specs.Check.{settings_answer, check_answer};
+ghost use Rattle.commands.specs.Opened.{Opens, OpensOr};
+
+use crate::cause::Early;
+use crate::run::{Place, end_early, explain, refuse};
+use request_handlers::Core;
+use settings_text::{Document, SettingsFault, User, document_of_text};
+use std::alloc::Global;
+use std::io::{Read, Write};
+use wire_types::{InputFault, Items, read_input};
+
+/// What a server is started with: a core that has answered nothing, and who may log in.
+#[derive(Drop)]
+pub struct Opened {
+    pub core: Core,
+    pub users: Items<User>,
+}
+
+/// Why there is no core.
+#[derive(Clone, Copy, Debug, PartialEq, Eq)]
+pub(crate) enum Unopened {
+    /// The settings are refused, which is printed; and the exit status.
+    Refused(u8),
+    /// Something failed before that was printed.
+    Early(Early),
+}
+
+impl From<Early> for Unopened {
+    ghost use Rattle.std.specs.Prelude.{◌≡◌};
+    ghost use Rattle.commands.specs.declared.open.Unopened.TheVariants.{Early as EarlyOne};
+
+    ghost from_gives = { λ early unopened. unopened ≡ EarlyOne early };
+
+    fn from(early: Early) -> Unopened {
+        Unopened::Early(early)
+    }
+}
+
+/// Opens a core with settings, or prints that they are refused.
+fn open_settings<W: Write, E: Write>(
+    alloc: Global,
+    input: &[u8],
+    writer: &mut W,
+    errors: &mut E,
+) -> Result<Opened, Unopened>
+    ensures core { IfOk result (λ o. o.core ≡ opened o.core.settings) }
+    ensures opens { Opens (W.contents writer.old) (W.contents writer.new) input.now (settings_answer input.now) result }
+{
+    let Document { users, settings } = match document_of_text(alloc, input) {
+        Ok(document) => document,
+        Err(SettingsFault::NoMemory) => return Err(Unopened::Early(Early::Settings)),
+        Err(fault) => {
+            let status = refuse(alloc, input, fault, writer, errors)?;
+            return Err(Unopened::Refused(status));
+        }
+    };
+    // The settings have no fault, so only memory can be refused.
+    match Core::open(alloc, settings) {
+        Ok(core) => Ok(Opened { core, users }),
+        Err(_) => Err(Unopened::Early(Early::Settings)),
+    }
+}
+
+/// Reads settings and opens a core with them.
+fn open_whole<R: Read, W: Write, E: Write>(
+    alloc: Global,
+    reader: &mut R,
+    writer: &mut W,
+    errors: &mut E,
+) -> Result<Opened, Unopened>
+    ensures core { IfOk result (λ o. o.core ≡ opened o.core.settings) }
+    ensures opens { IfSome (R.remaining reader.old) (λ input. Opens (W.contents writer.old) (W.contents writer.new) input (check_answer input) result) }
+{
+    match read_input(alloc, reader) {
+        Ok(input) => open_settings(alloc, input.as_slice(), writer, errors),
+        Err(InputFault::NoMemory) => Err(Unopened::Early(Early::Settings)),
+        Err(InputFault::Read) => Err(Unopened::Early(Early::Read)),
+        Err(InputFault::TooLong) => Err(Unopened::Early(Early::TooLong)),
+    }
+}
+
+/// Reads settings up to the end of the input and opens a core with them. Where there is none, it prints what `check` prints of
+/// the settings, says in sentences to `errors` what went wrong, and gives the exit status.
+pub fn open_and_explain<R: Read, W: Write, E: Write>(
+    alloc: Global,
+    reader: &mut R,
+    writer: &mut W,
+    errors: &mut E,
+) -> Result<Opened, u8>
+    ensures core { IfOk result (λ o. o.core ≡ opened o.core.settings) }
+    ensures opens { IfSome (R.remaining reader.old) (λ input. OpensOr (W.contents writer.old) (W.contents writer.new) input (check_answer input) result) }
+{
+    match open_whole(alloc, reader, writer, errors) {
+        Ok(opened) => Ok(opened),
+        Err(Unopened::Refused(status)) => Err(status),
+        Err(Unopened::Early(early)) => {
+            end_early(writer, early);
+            explain(alloc, errors, Place::Run, early);
+            Err(1)
+        }
+    }
+}

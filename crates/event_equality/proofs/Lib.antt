@@ -1,0 +1,6 @@
+pub mod Acl
+pub mod Data
+pub mod Equality
+pub mod Group
+pub mod Login
+pub mod Txn

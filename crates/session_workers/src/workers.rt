@@ -1,0 +1,188 @@
+//! Worker threads, which take jobs from a channel.
+
+ghost use Rattle.std.specs.Prelude.{◌≡◌, ◌∷◌, ◌++◌, [], All, IfOk, OnOk};
+ghost use Rattle.session_workers.specs.Ends.{HasRisen, IsKept, AreEnds};
+ghost use Rattle.session_workers.specs.Faults.{fault_name};
+
+use crate::job::{Done, Job, serve_job};
+use crate::keeper::{Clock, keep};
+use crossbeam_channel::Receiver;
+use request_handlers::Seat;
+use session_pool::{Gate, LockedDesk, SessionEnd};
+use std::alloc::{AllocError, Global};
+use std::io::{Read, Write};
+use std::sync::Wait;
+use std::sync::atomic::{AtomicU64, Ordering};
+use std::sync::ledger::Ledger;
+use std::thread;
+use std::thread::{JoinHandle, Threads};
+use thiserror::Error;
+
+/// Why the ends of all sessions are given up.
+#[derive(Clone, Copy, Debug, PartialEq, Eq, Error)]
+pub enum PoolFault {
+    /// Memory was refused for a worker's handle or an end.
+    #[error("there is not enough memory for the ends of the sessions")]
+    NoMemory,
+    /// No worker could be started.
+    #[error("no worker thread could be started")]
+    NoThread,
+    /// No seat was left for the keeper.
+    #[error("no seat is left for the keeper")]
+    NoSeat,
+}
+
+impl PoolFault {
+    /// The fault's name, as it is printed.
+    pub fn name(self) -> &'static str
+        ensures { result.now ≡ fault_name self }
+    {
+        match self {
+            PoolFault::NoMemory => "NoMemory",
+            PoolFault::NoThread => "NoThread",
+            PoolFault::NoSeat => "NoSeat",
+        }
+    }
+}
+
+/// What serves jobs, and hands back the ends of its sessions.
+type Worker<L> = JoinHandle<Result<Vec<Done<L>>, AllocError>>;
+
+/// Serves jobs until the channel is closed.
+fn work<L: Ledger, R: Wait, Rd: Read + Drop, Wr: Write + Drop, G: Gate, T: Wait>(
+    rt: &T,
+    alloc: Global,
+    desk: &LockedDesk<L, R>,
+    jobs: &Receiver<Job<Rd, Wr>>,
+    gate: &G,
+) -> Result<Vec<Done<L>>, AllocError> {
+    let mut ends = Vec::new(alloc);
+    for _ in rt.forever() {
+        let Ok(job) = jobs.recv(rt) else {
+            break;
+        };
+        if let Some(done) = serve_job(alloc, desk, job, gate) {
+            ends.push(done)?;
+        }
+    }
+    Ok(ends)
+}
+
+/// Takes the ends out of what a worker hands back, behind those that are there.
+fn collect<L: Ledger>(
+    ends: &mut Vec<SessionEnd<Seat<L>>>,
+    done: Vec<Done<L>>,
+) -> Result<(), AllocError>
+    requires { All HasRisen ends.old.items }
+    ensures { OnOk result (All HasRisen ends.new.items) }
+{
+    for Done { end } in done {
+        ends.push(end)?;
+    }
+    Ok(())
+}
+
+/// Joins all workers, and puts the keeper's end behind theirs.
+fn join_all<L: Ledger, T: Threads>(
+    rt: &T,
+    alloc: Global,
+    workers: Vec<Worker<L>>,
+    kept: SessionEnd<Seat<L>>,
+) -> Result<Vec<SessionEnd<Seat<L>>>, PoolFault>
+    requires { IsKept kept }
+    ensures { IfOk result (λ ends. AreEnds ends.items) }
+{
+    let mut ends = Vec::new(alloc);
+    for worker in workers {
+        let done = worker.join(rt).map_err(|_| PoolFault::NoMemory)?;
+        collect(&mut ends, done).map_err(|_| PoolFault::NoMemory)?;
+    }
+    match ends.push(kept) {
+        Ok(()) => Ok(ends),
+        Err(_) => Err(PoolFault::NoMemory),
+    }
+}
+
+/// As `serve_all`, with what the threads share lent at one lifetime.
+fn serve_lent<
+    'x,
+    L: Ledger + Send + Sync,
+    R: Wait + Sync,
+    Rd: Read + Drop + Send,
+    Wr: Write + Drop + Send,
+    C: Clock + Drop,
+    G: Gate + Sync,
+    T: Threads + Wait + Sync,
+>(
+    rt: &'x T,
+    alloc: Global,
+    desk: &'x LockedDesk<L, R>,
+    jobs: &'x Receiver<Job<Rd, Wr>>,
+    running: &'x AtomicU64,
+    workers: usize,
+    clock: C,
+    gate: &'x G,
+) -> Result<Vec<SessionEnd<Seat<L>>>, PoolFault>
+    ensures { IfOk result (λ ends. AreEnds ends.items) }
+{
+    thread::scope(
+        thread::scope_env(),
+        rt,
+        move |scope| -> Result<Vec<SessionEnd<Seat<L>>>, PoolFault>
+            ensures { IfOk result (λ ends. AreEnds ends.items) }
+        {
+            let mut clock = clock;
+            let Some(seat) = desk.seat() else {
+                return Err(PoolFault::NoSeat);
+            };
+            let mut handles: Vec<Worker<L>> = Vec::with_capacity(alloc, workers).map_err(
+                |_| PoolFault::NoMemory,
+            )?;
+            for _ in 0..workers {
+                running.fetch_add(1, Ordering::SeqCst);
+                let worker = scope.spawn(move || {
+                    let ends = work(rt, alloc, desk, jobs, gate);
+                    running.fetch_sub(1, Ordering::SeqCst);
+                    ends
+                });
+                match worker {
+                    Ok(handle) => handles.push(handle).map_err(|_| PoolFault::NoMemory)?,
+                    Err(_) => {
+                        running.fetch_sub(1, Ordering::SeqCst);
+                        break;
+                    }
+                }
+            }
+            if handles.is_empty() {
+                return Err(PoolFault::NoThread);
+            }
+            let kept = keep(rt, alloc, desk, seat, &mut clock, running);
+            join_all(rt, alloc, handles, kept)
+        },
+    )
+}
+
+/// Serves the jobs of the channel by so many worker threads, until the channel is closed and all of them are served, while the
+/// keeper runs on the calling thread. The keeper's end is the last. After a fault the ends are given up.
+pub fn serve_all<
+    L: Ledger + Send + Sync,
+    R: Wait + Sync,
+    Rd: Read + Drop + Send,
+    Wr: Write + Drop + Send,
+    C: Clock + Drop,
+    G: Gate + Sync,
+    T: Threads + Wait + Sync,
+>(
+    rt: &T,
+    alloc: Global,
+    desk: &LockedDesk<L, R>,
+    jobs: Receiver<Job<Rd, Wr>>,
+    workers: usize,
+    clock: C,
+    gate: &G,
+) -> Result<Vec<SessionEnd<Seat<L>>>, PoolFault>
+    ensures { IfOk result (λ ends. AreEnds ends.items) }
+{
+    let running = AtomicU64::new(0);
+    serve_lent(rt, alloc, desk, &jobs, &running, workers, clock, gate)
+}

@@ -1,0 +1,108 @@
+//! A session that is held until another one was served.
+
+use session_pool::Gate;
+use std::io::{Cursor, Read};
+use std::sync::atomic::{AtomicU64, Ordering};
+use std::time::Duration;
+use std::{io, thread, time};
+use wire_types::Shared;
+
+/// How far the two sessions have come.
+#[derive(Drop)]
+pub(crate) struct Flags {
+    /// Session 1 is held.
+    pub(crate) held: AtomicU64,
+    /// Session 2 was served.
+    pub(crate) served: AtomicU64,
+    /// A wait ran out.
+    pub(crate) late: AtomicU64,
+}
+
+impl Flags {
+    pub(crate) fn new() -> Flags {
+        Flags {
+            held: AtomicU64::new(0),
+            served: AtomicU64::new(0),
+            late: AtomicU64::new(0),
+        }
+    }
+
+    /// Waits for at most 10,000 turns of a millisecond.
+    fn wait<R: time::Clock>(&self, rt: &R, flag: &AtomicU64) {
+        for _ in 0..10_000 {
+            if flag.load(Ordering::SeqCst) != 0 {
+                return;
+            }
+            thread::sleep(rt, Duration::from_millis(1));
+        }
+        self.late.store(1, Ordering::SeqCst);
+    }
+
+    /// Holds session 1 until session 2 was served.
+    fn hold<R: time::Clock>(&self, rt: &R) {
+        self.held.store(1, Ordering::SeqCst);
+        self.wait(rt, &self.served);
+    }
+}
+
+/// Where session 1 is held.
+#[derive(Clone, Copy, Debug, PartialEq, Eq)]
+pub(crate) enum Place {
+    /// Before its first frame.
+    Frame,
+    /// Inside its reader's first read.
+    Read,
+}
+
+/// Holds session 1 before its first frame, if it is held there, and lets session 2 begin once session 1 is held.
+#[derive(Drop)]
+pub(crate) struct Hold<R: time::Clock + Drop> {
+    pub(crate) rt: R,
+    pub(crate) flags: Shared<Flags>,
+    pub(crate) place: Place,
+    /// The last frame of session 2.
+    pub(crate) last: u64,
+}
+
+impl<R: time::Clock + Drop> Gate for Hold<R> {
+    fn before(&self, session: u64, frame: u64) {
+        let flags = self.flags.value();
+        if frame != 0 {
+            return;
+        }
+        if session == 2 {
+            flags.wait(&self.rt, &flags.held);
+        } else if self.place == Place::Frame {
+            flags.hold(&self.rt);
+        }
+    }
+
+    fn after(&self, session: u64, frame: u64) {
+        if session == 2 && frame == self.last {
+            self.flags.value().served.store(1, Ordering::SeqCst);
+        }
+    }
+}
+
+/// A session's input, whose first read is held where it says so.
+#[derive(Drop)]
+pub(crate) struct Talk<R: time::Clock + Drop> {
+    pub(crate) rt: R,
+    pub(crate) flags: Shared<Flags>,
+    pub(crate) holds: bool,
+    pub(crate) bytes: Cursor<Vec<u8>>,
+}
+
+impl<R: time::Clock + Drop> Read for Talk<R> {
+    ghost use Rattle.std.specs.Prelude.{None};
+
+    ghost remaining = { λ _. None };
+
+    fn read(&mut self, piece: &mut [u8]) -> io::Result<usize> {
+        if self.holds {
+            self.holds = false;
+            self.flags.value().hold(&self.rt);
+        }
+        self.bytes.read(piece)
+    }
+}

@@ -1,0 +1,127 @@
+//! What is settled, and what isn't.
+
+ghost use Rattle.std.specs.Prelude.{◌≡◌, ◌+◌, []};
+ghost use Rattle.request_handlers.specs.Seats.{most_seats};
+
+use crate::talk::{METADATA, core, event_of, other_core};
+use audit_trail::Event;
+use request_handlers::{Core, MOST_SEATS, Receipt};
+use session_pool::{Desk, LockedDesk, Quiet};
+use settlement::{SettleFault, Settled, settle};
+use std::alloc::Global;
+use std::marker::Brand;
+use std::sync::Wait;
+use std::sync::ledger::{Blank, Ledger};
+use std::test::Fail;
+
+/// The receipts of two ends, and the core that gave them.
+#[derive(Drop)]
+struct Books<L: Ledger> {
+    quiet: Quiet<L>,
+    one: Vec<Receipt>,
+    two: Vec<Receipt>,
+}
+
+/// Two seats take turns: ann asks for all topics, two ticks are told, and a marker is to be written.
+fn keep_books<L: Ledger, R: Wait + Drop>(
+    rt: R,
+    alloc: Global,
+    core: Core,
+    blank: Blank,
+) -> Result<Books<L>, Fail>
+    requires empty { core.trail ≡ [] }
+    requires ledger { (blank.name ≡ L.name) × (blank.parts ≡ L.parts) × (blank.parts ≡ most_seats + 1) }
+{
+    let desk: LockedDesk<L, R> = LockedDesk::new(core, blank, rt);
+    let one = desk.seat().ok_or("seat")?;
+    let two = desk.seat().ok_or("seat")?;
+    let asked = event_of(alloc, METADATA).ok_or("event")?;
+    let (one, first) = desk.submit(one, asked);
+    let (two, second) = desk.submit(two, Event::Tick(5));
+    let (_, third) = desk.submit(one, Event::Mark);
+    let (_, fourth) = desk.submit(two, Event::Tick(6));
+    Ok(Books {
+        quiet: desk.close(),
+        one: vec![in alloc; first.ok().ok_or("first")?, third.ok().ok_or("third")?]?,
+        two: vec![in alloc; second.ok().ok_or("second")?, fourth.ok().ok_or("fourth")?]?,
+    })
+}
+
+/// What settling says of the receipts of one or of both ends, and of those of another desk behind them.
+#[derive(Clone, Copy, Debug, PartialEq, Eq)]
+struct Settling {
+    of_both: Result<Settled, SettleFault>,
+    of_one: Result<Settled, SettleFault>,
+    with_an_equal_desk: Result<Settled, SettleFault>,
+    with_another_desk: Result<Settled, SettleFault>,
+}
+
+/// The receipts of the first end.
+fn first_receipts_at<L: Ledger, R: Wait + Drop>(
+    rt: R,
+    alloc: Global,
+    core: Core,
+    blank: Blank,
+) -> Result<Vec<Receipt>, Fail>
+    requires empty { core.trail ≡ [] }
+    requires ledger { (blank.name ≡ L.name) × (blank.parts ≡ L.parts) × (blank.parts ≡ most_seats + 1) }
+{
+    let Books { one, .. } = keep_books::<L, R>(rt, alloc, core, blank)?;
+    Ok(one)
+}
+
+/// The receipts of the first end at a desk of its own.
+fn first_receipts<R: Wait + Drop>(rt: R, alloc: Global, core: Core) -> Result<Vec<Receipt>, Fail>
+    requires { core.trail ≡ [] }
+{
+    first_receipts_at::<Brand, R>(rt, alloc, core, Blank::new(MOST_SEATS + 1))
+}
+
+fn settle_each_at<L: Ledger, R: Wait + Drop + Copy>(
+    rt: R,
+    alloc: Global,
+    blank: Blank,
+) -> Result<Settling, Fail>
+    requires ledger { (blank.name ≡ L.name) × (blank.parts ≡ L.parts) × (blank.parts ≡ most_seats + 1) }
+{
+    let Books { quiet, one, two } = keep_books::<L, R>(
+        rt,
+        alloc,
+        core(alloc).ok_or("core")?,
+        blank,
+    )?;
+    let mut ends = vec![in alloc; one]?;
+    let of_one = settle(alloc, &quiet, ends.as_slice());
+    ends.push(two)?;
+    let of_both = settle(alloc, &quiet, ends.as_slice());
+    ends.push(first_receipts(rt, alloc, core(alloc).ok_or("core")?)?)?;
+    let with_an_equal_desk = settle(alloc, &quiet, ends.as_slice());
+    ends.push(first_receipts(rt, alloc, other_core(alloc).ok_or("core")?)?)?;
+    let with_another_desk = settle(alloc, &quiet, ends.as_slice());
+    Ok(Settling {
+        of_both,
+        of_one,
+        with_an_equal_desk,
+        with_another_desk,
+    })
+}
+
+fn settle_each<R: Wait + Drop + Copy>(rt: R, alloc: Global) -> Result<Settling, Fail> {
+    settle_each_at::<Brand, R>(rt, alloc, Blank::new(MOST_SEATS + 1))
+}
+
+#[test]
+fn receipts_of_two_ends(rt: HostRuntime) -> Result<(), Fail> {
+    let told = settle_each(rt, rt.alloc())?;
+    assert!(rt;
+        told.of_both
+            == Ok(Settled {
+                events: 4,
+                refusals: 0,
+            })
+    );
+    assert!(rt; told.of_one == Err(SettleFault::Missing));
+    assert!(rt; told.with_an_equal_desk == Err(SettleFault::Twice));
+    assert!(rt; told.with_another_desk == Err(SettleFault::Stray));
+    Ok(())
+}

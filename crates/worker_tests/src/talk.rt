@@ -1,0 +1,99 @@
+//! What is said in a session: the frames that are sent, and the events that they are.
+
+ghost use Rattle.std.specs.Prelude.{◌≡◌, [], IfSome};
+ghost use Rattle.api_dispatch.specs.Bounds.{EventFits};
+
+use acl_binding::Caller;
+use audit_trail::Event;
+use bytes::Bytes;
+use msg_admin::{FRAME_LIMIT, read_request};
+use request_handlers::Core;
+use session_pool::Users;
+use settings_text::{Document, document_of_text};
+use std::alloc::Global;
+use std::test::Fail;
+use wire_types::Text;
+
+/// Ann may log in, and do all with the topic `b`.
+const SETTINGS: &str =
+    "node_id = 1\nhost = \"h\"\nport = 9092\n[[user]]\nname = \"ann\"\npassword = \"pw\"\n\
+    [[topic]]\nname = \"b\"\npartitions = 1\n\
+    [[acl]]\nkind = \"Topic\"\nname = \"b\"\npattern = \"LITERAL\"\nprincipal = \"User:ann\"\nhost = \"*\"\n\
+    operation = \"ALL\"\npermission = \"ALLOW\"\n";
+
+/// The same of another node.
+const OTHER_SETTINGS: &str =
+    "node_id = 2\nhost = \"h\"\nport = 9092\n[[topic]]\nname = \"b\"\npartitions = 1\n";
+
+pub(crate) const HANDSHAKE: &str = "000000110011000100000001ffff0005504c41494e";
+
+pub(crate) const LOGIN: &str = "000000150024000000000002ffff0000000700616e6e007077";
+
+/// All topics are asked for.
+pub(crate) const METADATA: &str = "0000000e0003000100000003ffffffffffff";
+
+/// One record is produced to `b`, and fetched.
+pub(crate) const PRODUCE: &str =
+    "0000006a0000000300000004ffffffff0001000000000000000100016200000001000000000000004500000000000000\
+    00000000390000000002dbe9c87600000000000000000000000000000000000000000000ffffffffffffffffffffffff\
+    ffff000000010e00000001026100";
+
+pub(crate) const FETCH: &str =
+    "000000360001000400000005ffffffffffff0000000000000001000003e8000000000100016200000001000000000000\
+    0000000000000000008a";
+
+/// What is answered to a fetch of the record, behind the size field and the correlation id.
+pub(crate) const FETCHED: &str =
+    "000000760000000500000000000000010001620000000100000000000000000000000000010000000000000001ffffff\
+    ff000000450000000000000000000000390000000002dbe9c87600000000000000000000000000000000000000000000\
+    ffffffffffffffffffffffffffff000000010e00000001026100";
+
+/// A core of these settings.
+fn core_of(alloc: Global, settings: &str) -> Option<Core>
+    ensures { IfSome result (λ core. core.trail ≡ []) }
+{
+    let Document { settings, .. } = document_of_text(alloc, settings.as_bytes()).ok()?;
+    Core::open(alloc, settings).ok()
+}
+
+pub(crate) fn core(alloc: Global) -> Option<Core>
+    ensures { IfSome result (λ core. core.trail ≡ []) }
+{
+    core_of(alloc, SETTINGS)
+}
+
+pub(crate) fn other_core(alloc: Global) -> Option<Core>
+    ensures { IfSome result (λ core. core.trail ≡ []) }
+{
+    core_of(alloc, OTHER_SETTINGS)
+}
+
+pub(crate) fn users(alloc: Global) -> Result<Users, Fail> {
+    let Document { users, .. } = document_of_text(alloc, SETTINGS.as_bytes())
+        .ok()
+        .ok_or("settings")?;
+    Ok(Users::new(alloc, users).ok().ok_or("users")?)
+}
+
+/// The event that ann's frame is, which is given with its size field in hexadecimal digits.
+pub(crate) fn event_of(alloc: Global, digits: &str) -> Option<Event>
+    ensures { IfSome result EventFits }
+{
+    let frame = Bytes::from_vec(hex::decode(alloc, digits).ok()?).ok()?;
+    if frame.len() < 4 {
+        return None;
+    }
+    let frame = frame.slice(4..).ok()?;
+    if frame.len() > FRAME_LIMIT {
+        return None;
+    }
+    let (header, request) = read_request(alloc, &frame).ok()?;
+    Some(Event::Ask {
+        caller: Caller {
+            who: Text::of(alloc, "User:ann").ok()?,
+            host: Text::of(alloc, "10.0.0.5").ok()?,
+        },
+        client: header.client,
+        request,
+    })
+}

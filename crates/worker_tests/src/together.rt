@@ -1,0 +1,200 @@
+//! That sessions run at once: session 1 is held until session 2 has logged in, produced a record and fetched it back.
+
+ghost use Rattle.std.specs.Prelude.{◌≡◌, ◌+◌};
+ghost use Rattle.request_handlers.specs.Seats.{most_seats};
+
+use crate::hold::{Flags, Hold, Place, Talk};
+use crate::talk::{FETCH, HANDSHAKE, LOGIN, METADATA, PRODUCE, core, event_of, users};
+use audit_trail::{Event, Trail};
+use crossbeam_channel::Sender;
+use request_handlers::{MOST_SEATS, Receipt};
+use session_clients::bytes_of;
+use session_pool::{Limits, LockedDesk, Users, Why};
+use session_workers::{Clock, Job, serve_all};
+use settlement::settle;
+use std::alloc::Global;
+use std::io::Cursor;
+use std::marker::Brand;
+use std::sync::Wait;
+use std::sync::atomic::Ordering;
+use std::sync::ledger::{Blank, Ledger};
+use std::test::Fail;
+use std::thread::Threads;
+use std::time::Duration;
+use std::{thread, time};
+use wire_types::{Shared, Text};
+
+/// Counts milliseconds until all workers have ended.
+#[derive(Drop)]
+struct Ticks<R: time::Clock + Drop> {
+    rt: R,
+    moment: u64,
+}
+
+impl<R: time::Clock + Drop> Clock for Ticks<R> {
+    fn next(&mut self, done: bool) -> Option<u64> {
+        if done {
+            return None;
+        }
+        thread::sleep(&self.rt, Duration::from_millis(1));
+        self.moment = self.moment.wrapping_add(1);
+        Some(self.moment)
+    }
+}
+
+/// What came of two sessions.
+#[derive(Clone, Copy, Debug, PartialEq, Eq)]
+struct Came {
+    ends: usize,
+    /// How many of them ended Closed.
+    closed: usize,
+    receipts: usize,
+    entries: usize,
+    /// How many events a settled core tells of.
+    settled: Option<u64>,
+    /// A wait ran out.
+    late: bool,
+    /// The trail's requests are those that session 2 sent, and then that of session 1.
+    told: bool,
+}
+
+/// Hands over a job that says these frames.
+fn send<R: Wait + time::Clock + Copy>(
+    rt: R,
+    alloc: Global,
+    to: &Sender<Job<Talk<R>, Vec<u8>>>,
+    session: u64,
+    frames: &[&str],
+    users: &Shared<Users>,
+    flags: &Shared<Flags>,
+    holds: bool,
+) -> Result<(), Fail> {
+    let job = Job {
+        session,
+        reader: Talk {
+            rt,
+            flags: flags.share()?,
+            holds,
+            bytes: Cursor::new(bytes_of(alloc, frames)?),
+        },
+        writer: Vec::new(alloc),
+        host: Text::of(alloc, "10.0.0.5")?,
+        users: users.share()?,
+        limits: Limits::default(),
+    };
+    to.send(&rt, job).ok().ok_or("send")?;
+    Ok(())
+}
+
+/// Whether the requests of a trail are these frames', by ann, in this order.
+fn are_told(alloc: Global, trail: &Trail, frames: &[&str]) -> Result<bool, Fail> {
+    let mut found = 0usize;
+    for place in 0..trail.len() {
+        let Some(entry) = trail.entry(place) else {
+            return Ok(false);
+        };
+        if let Event::Ask {
+            caller,
+            request,
+            ..
+        } = entry.event.value()
+        {
+            let Some(frame) = frames.get(found) else {
+                return Ok(false);
+            };
+            match event_of(alloc, *frame) {
+                Some(Event::Ask { request: sent, .. }) => {
+                    if caller.who.as_str() != "User:ann" || *request != sent {
+                        return Ok(false);
+                    }
+                }
+                _ => return Ok(false),
+            }
+            found = found.wrapping_add(1);
+        }
+    }
+    Ok(found == frames.len())
+}
+
+/// Serves two sessions by so many workers.
+fn run_at<L: Ledger + Send + Sync, R: Threads + Wait + time::Clock + Copy + Send + Sync>(
+    rt: R,
+    alloc: Global,
+    blank: Blank,
+    place: Place,
+    workers: usize,
+) -> Result<Came, Fail>
+    requires ledger { (blank.name ≡ L.name) × (blank.parts ≡ L.parts) × (blank.parts ≡ most_seats + 1) }
+{
+    let desk: LockedDesk<L, R> = LockedDesk::new(core(alloc).ok_or("core")?, blank, rt);
+    let flags = Shared::new(alloc, Flags::new()).ok().ok_or("flags")?;
+    let users = Shared::new(alloc, users(alloc)?).ok().ok_or("users")?;
+    let gate = Hold {
+        rt,
+        flags: flags.share()?,
+        place,
+        last: 3,
+    };
+    let (to, from) = crossbeam_channel::unbounded(alloc)?;
+    let one = [HANDSHAKE, LOGIN, METADATA];
+    let two = [HANDSHAKE, LOGIN, PRODUCE, FETCH];
+    send(
+        rt,
+        alloc,
+        &to,
+        1,
+        &one,
+        &users,
+        &flags,
+        place == Place::Read,
+    )?;
+    send(rt, alloc, &to, 2, &two, &users, &flags, false)?;
+    drop(to);
+    let clock = Ticks { rt, moment: 0 };
+    let ends = serve_all(&rt, alloc, &desk, from, workers, clock, &gate)
+        .ok()
+        .ok_or("served")?;
+    let mut receipts: Vec<Vec<Receipt>> = Vec::new(alloc);
+    let mut closed = 0usize;
+    let mut count = 0usize;
+    for end in ends {
+        closed = closed.wrapping_add(usize::from(end.why == Why::Closed));
+        count = count.wrapping_add(end.receipts.len());
+        receipts.push(end.receipts)?;
+    }
+    let quiet = desk.close();
+    Ok(Came {
+        ends: receipts.len(),
+        closed,
+        receipts: count,
+        entries: quiet.core().trail().len(),
+        settled: settle(alloc, &quiet, receipts.as_slice())
+            .ok()
+            .map(|settled| settled.events),
+        late: flags.value().late.load(Ordering::SeqCst) != 0,
+        told: are_told(alloc, quiet.core().trail(), &[PRODUCE, FETCH, METADATA])?,
+    })
+}
+
+fn run<R: Threads + Wait + time::Clock + Copy + Send + Sync>(
+    rt: R,
+    alloc: Global,
+    place: Place,
+    workers: usize,
+) -> Result<Came, Fail> {
+    run_at::<Brand, R>(rt, alloc, Blank::new(MOST_SEATS + 1), place, workers)
+}
+
+#[test]
+fn a_session_goes_on_while_another_is_held(rt: HostRuntime) -> Result<(), Fail> {
+    for place in [Place::Frame, Place::Read] {
+        let came = run(rt, rt.alloc(), place, 2)?;
+        assert!(rt; !came.late);
+        assert_eq!(rt; came.ends, 3);
+        assert_eq!(rt; came.closed, 3);
+        assert_eq!(rt; came.receipts, came.entries);
+        assert_eq!(rt; came.settled, Some(came.entries as u64));
+        assert!(rt; came.told);
+    }
+    Ok(())
+}

@@ -1,0 +1,201 @@
+#!/usr/bin/env python3
+"""`kbroker serve` over TCP: what it prints and how it ends, each api asked over a connection, and peers that vanish."""
+
+import socket
+import struct
+import subprocess
+import sys
+
+import wire
+from program import PROGRAM
+from serving import Broker
+
+TOP = 'node_id = 1\nhost = "h"\nport = 9092\nsupers = ["User:root"]\n'
+USERS = '[[user]]\nname = "root"\npassword = "toor"\n[[user]]\nname = "ann"\npassword = "pw"\n'
+TOPIC = '[[topic]]\nname = "b"\npartitions = 2\n'
+READS = (
+    '[[acl]]\nkind = "Topic"\nname = "b"\npattern = "LITERAL"\nprincipal = "User:ann"\nhost = "127.0.0.1"\n'
+    'operation = "READ"\npermission = "ALLOW"\n'
+)
+SETTINGS = TOP + USERS + TOPIC + READS
+LISTEN = ("--listen", "127.0.0.1:0")
+
+# What is told of a session in which nobody asked.
+TOLD = "kbroker: session {} of nobody from 127.0.0.1: {}"
+
+# The words behind `serve` that are not understood.
+MISUSED = (
+    (),
+    LISTEN + ("--workers", "0"),
+    LISTEN + ("--workers", "65"),
+    LISTEN + ("--workers", "many"),
+    LISTEN + ("--connections", "0"),
+    LISTEN + ("--connections", "1000001"),
+    LISTEN + ("more",),
+    LISTEN + ("--replay",),
+)
+
+
+def run(words, settings=SETTINGS):
+    """The status of a run that serves nobody, and what it printed on standard output and on standard error."""
+    ran = subprocess.run([PROGRAM, "serve", *words], input=settings.encode(), capture_output=True, timeout=30)
+    return ran.returncode, ran.stdout.decode(), ran.stderr.decode()
+
+
+def misuses():
+    """Each misuse is status 2, a sentence on standard error, and nothing else."""
+    for words in MISUSED:
+        status, said, why = run(words)
+        assert (status, said) == (2, "") and why, (words, status, said, why)
+
+
+def no_broker():
+    """An address that is in use, and settings with a fault."""
+    with socket.create_server(("127.0.0.1", 0)) as taken:
+        address = f"127.0.0.1:{taken.getsockname()[1]}"
+        status, said, why = run(("--listen", address))
+    assert (status, said) == (1, "listen failed\n") and address in why, (status, said, why)
+    status, said, why = run(LISTEN, "node_id = ")
+    assert (status, said) == (1, "settings refused: Toml\n") and why, (status, said, why)
+    status, said, why = run(LISTEN, TOP + USERS + USERS)
+    assert (status, said) == (1, "settings refused: User\n") and why, (status, said, why)
+
+
+def records_of(answer):
+    """The one partition of an answer to a fetch."""
+    return answer["topics"][0]["partitions"][0]
+
+
+def of_b(**fields):
+    """The first partition of `b`, with these fields."""
+    return [{"topic": "b", "partitions": [{"index": 0, **fields}]}]
+
+
+def data(broker):
+    """Topics and records, as a super user."""
+    assert [it["key"] for it in broker.ask("ApiVersions")["apis"]] == sorted(key for key, *_ in wire.APIS.values())
+    assert [it["topic"] for it in broker.ask("Metadata", topics=None)["topics"]] == ["b"]
+    produced = records_of(broker.ask("Produce", topics=of_b(records=wire.batch([b"one", b"two"]))))
+    assert (produced["error"], produced["base_offset"]) == (0, 0), produced
+    fetched = records_of(broker.ask("Fetch", isolation=1, topics=of_b(offset=1, max_bytes=1000)))
+    assert wire.committed(fetched, 1) == [(1, b"two")], fetched
+    told = records_of(broker.ask("ListOffsets", topics=of_b(timestamp=-1)))
+    assert (told["error"], told["offset"]) == (0, 2), told
+
+
+def transaction(broker, values, committed):
+    """A transaction of one batch and an offset of a group, which is ended so."""
+    given = broker.ask("InitProducerId", transactional_id="t", timeout=60_000)
+    pair = {"producer": given["producer"], "epoch": given["epoch"]}
+    who = {"transactional_id": "t", **pair}
+    added = broker.ask("AddPartitionsToTxn", **who, topics=[{"topic": "b", "partitions": [0]}])
+    assert records_of(added)["error"] == 0, added
+    assert broker.ask("AddOffsetsToTxn", **who, group="g")["error"] == 0
+    batch = wire.batch(values, **pair, sequence=0, transactional=True)
+    assert records_of(broker.ask("Produce", transactional_id="t", topics=of_b(records=batch)))["error"] == 0
+    staged = broker.ask("TxnOffsetCommit", **who, group="g", topics=of_b(offset=len(values)))
+    assert records_of(staged)["error"] == 0, staged
+    assert broker.ask("EndTxn", **who, committed=committed)["error"] == 0
+
+
+def wait_for_markers(broker):
+    """Waits until no transaction of `b` is open. The keeper writes a marker ten times a second at least."""
+    for _ in range(10_000):
+        last = records_of(broker.ask("ListOffsets", isolation=1, topics=of_b(timestamp=-1)))["offset"]
+        if last == records_of(broker.ask("ListOffsets", topics=of_b(timestamp=-1)))["offset"]:
+            return
+    raise AssertionError("the markers are not written")
+
+
+def transactions(broker):
+    """One that commits, and one that aborts."""
+    assert broker.ask("FindCoordinator", key="t", key_type=1)["error"] == 0
+    transaction(broker, [b"kept"], True)
+    wait_for_markers(broker)
+    transaction(broker, [b"lost"], False)
+    wait_for_markers(broker)
+    fetched = records_of(broker.ask("Fetch", isolation=1, topics=of_b(offset=0, max_bytes=10_000)))
+    assert [value for _, value in wire.committed(fetched)] == [b"one", b"two", b"kept"], fetched
+    kept = broker.ask("OffsetFetch", group="g", topics=[{"topic": "b", "partitions": [0]}], require_stable=True)
+    assert records_of(kept)["offset"] == 1, kept
+
+
+def groups(broker):
+    """A member of a group, from its join to its leave."""
+    protocols = [{"name": "range", "metadata": b"m"}]
+    joined = broker.ask("JoinGroup", group="g", protocols=protocols)
+    member = {"group": "g", "generation": joined["generation"], "member": joined["member"]}
+    assert joined["error"] == 0 and joined["leader"] == joined["member"], joined
+    assignments = [{"member": joined["member"], "assignment": b"all"}]
+    assert broker.ask("SyncGroup", **member, assignments=assignments)["assignment"] == b"all"
+    assert broker.ask("Heartbeat", **member)["error"] == 0
+    committed = broker.ask("OffsetCommit", **member, topics=of_b(offset=2, metadata="here"))
+    assert records_of(committed)["error"] == 0, committed
+    assert broker.ask("LeaveGroup", group="g", member=joined["member"])["error"] == 0
+    assert broker.ask("Heartbeat", **member)["error"] == 25
+
+
+def bindings(broker):
+    """A binding that is made, told and taken out."""
+    binding = {"kind": 2, "name": "b", "pattern": 3, "principal": "User:ann", "host": "*", "operation": 4, "permission": 3}
+    anything = {"kind": 1, "name": None, "pattern": 1, "principal": None, "host": None, "operation": 4, "permission": 1}
+    assert broker.ask("CreateAcls", creations=[binding])["results"][0]["error"] == 0
+    assert len(broker.ask("DescribeAcls", **anything)["resources"][0]["acls"]) == 1
+    taken = broker.ask("DeleteAcls", filters=[anything])["results"][0]["matches"]
+    assert [it["principal"] for it in taken] == ["User:ann"], taken
+    assert broker.ask("DescribeAcls", **anything)["resources"] == []
+
+
+def each_api():
+    """Each api is asked over one connection; another user is refused what it has no binding for; a wrong password."""
+    with Broker(SETTINGS, workers=2, connections=3) as server:
+        with wire.Connection(server.address) as broker:
+            assert broker.login("root", "toor") == 0
+            for part in (data, transactions, groups, bindings):
+                part(broker)
+        with wire.Connection(server.address) as broker:
+            assert broker.login("ann", "pw") == 0
+            assert records_of(broker.ask("Fetch", topics=of_b(offset=0, max_bytes=1000)))["error"] == 0
+            assert records_of(broker.ask("Produce", topics=of_b(records=wire.batch([b"x"]))))["error"] == 29
+        with wire.Connection(server.address) as broker:
+            assert broker.login("ann", "toor") == 58
+            assert broker.input.read(1) == b"", "the connection is still open"
+        (sessions, events, refusals), told = server.settled()
+    assert (sessions, refusals) == (3, 1) and events > 40, (sessions, events, refusals)
+    assert told == [TOLD.format(2, "the login failed, or something was asked before it")], told
+
+
+def peers_that_vanish():
+    """A peer that says nothing, one that ends inside a frame, and one that resets the connection cost nobody else anything."""
+    with Broker(SETTINGS, workers=4, connections=4) as server:
+        host, _, port = server.address.rpartition(":")
+        silent = socket.create_connection((host, int(port)))
+        cut = socket.create_connection((host, int(port)))
+        cut.sendall(wire.request_frame("Metadata", 1, {"topics": None})[:9])
+        cut.close()
+        reset = socket.create_connection((host, int(port)))
+        reset.sendall(wire.request_frame("SaslHandshake", 1, {"mechanism": "PLAIN"}))
+        reset.setsockopt(socket.SOL_SOCKET, socket.SO_LINGER, struct.pack("ii", 1, 0))
+        reset.close()
+        with wire.Connection(server.address) as broker:
+            assert broker.login("root", "toor") == 0
+            assert broker.ask("Metadata", topics=None)["topics"]
+        silent.close()
+        (sessions, _, refusals), told = server.settled()
+    assert (sessions, refusals) == (4, 0), (sessions, refusals)
+    # (what a peer that resets the connection comes to is for the operating system to say)
+    assert TOLD.format(1, "the connection was closed inside a request") in told and len(told) <= 2, told
+
+
+def main():
+    tests = (misuses, no_broker, each_api, peers_that_vanish)
+    for test in tests:
+        test()
+    print(f"served: {len(tests)} passed")
+
+
+if __name__ == "__main__":
+    try:
+        main()
+    except (AssertionError, OSError, RuntimeError, ValueError, subprocess.TimeoutExpired) as fault:
+        sys.exit(f"served: FAILED: {fault!r}")

@@ -1,0 +1,58 @@
+"""A broker that listens, for the scripts that talk to one."""
+
+import re
+import signal
+import subprocess
+import tempfile
+
+from program import PROGRAM
+
+LISTENING = re.compile(rb"listening on (\S+)\n")
+LAST = re.compile(r"sessions (\d+) events (\d+) refusals (\d+)\n")
+
+
+class Broker:
+    """`kbroker serve` on a port of its own, until it has served so many connections."""
+
+    def __init__(self, settings, workers=4, connections=1):
+        words = ["serve", "--listen", "127.0.0.1:0", "--workers", str(workers), "--connections", str(connections)]
+        self.errors = tempfile.TemporaryFile()
+        with tempfile.TemporaryFile() as given:
+            given.write(settings.encode())
+            given.seek(0)
+            pipes = {"stdin": given, "stdout": subprocess.PIPE, "stderr": self.errors}
+            self.process = subprocess.Popen([PROGRAM, *words], **pipes)
+        first = self.process.stdout.readline()
+        found = LISTENING.fullmatch(first)
+        if not found:
+            self.kill()
+            raise RuntimeError(f"the broker says {first!r}")
+        self.address = found[1].decode()
+
+    def __enter__(self):
+        return self
+
+    def __exit__(self, *_):
+        self.kill()
+
+    def kill(self):
+        """Ends it where it still runs."""
+        if self.process.poll() is None:
+            self.process.send_signal(signal.SIGKILL)
+        self.process.wait()
+        self.process.stdout.close()
+        self.errors.close()
+
+    def end(self, timeout=30):
+        """Waits for its end, and gives its status, what it said last, and what it said on standard error."""
+        said, _ = self.process.communicate(timeout=timeout)
+        self.errors.seek(0)
+        return self.process.returncode, said.decode(), self.errors.read().decode()
+
+    def settled(self, timeout=30):
+        """Waits for its end, and gives the numbers of its last line, and the lines on standard error."""
+        status, said, errors = self.end(timeout)
+        found = LAST.fullmatch(said)
+        if status or not found:
+            raise RuntimeError(f"the broker ends with status {status} and says {said!r}")
+        return tuple(map(int, found.groups())), errors.splitlines()

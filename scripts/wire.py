@@ -1,0 +1,417 @@
+#!/usr/bin/env python3
+"""A client of the broker in the protocol of Kafka, as its guide has it: every api that is served, in its one version.
+
+As a program it asks one thing and prints the answer as JSON:
+
+    scripts/wire.py 127.0.0.1:9092 ann secret Metadata '{"topics": ["orders"]}'
+
+As a module it has `Connection`, which logs in and asks, `batch` and `batches_of` for records, and `committed`, which
+filters what a read_committed fetch answers as consumers do.
+"""
+
+import json
+import re
+import socket
+import struct
+import sys
+
+FILTER = "kind i8, name s?, pattern i8, principal s?, host s?, operation i8, permission i8"
+BINDING = "kind i8, name s, pattern i8, principal s, host s, operation i8, permission i8"
+OF_PARTITIONS = "topics [topic s, partitions [index i32, error i16]]"
+OF_PRODUCER = "transactional_id s, producer i64, epoch i16"
+
+# Each api: its key and version, whether it is flexible, and what is asked and answered. `s` is a text, `b` bytes, `i8`
+# to `i64` numbers, `bool` a truth, `[..]` a list; with `?` it may be null. https://kafka.apache.org/protocol.html
+APIS = {
+    "Produce": (
+        0, 3, False,
+        "transactional_id s?, acks i16, timeout i32, topics [topic s, partitions [index i32, records b?]]",
+        "topics [topic s, partitions [index i32, error i16, base_offset i64, log_append_time i64]], throttle i32",
+    ),
+    "Fetch": (
+        1, 4, False,
+        "replica i32, max_wait i32, min_bytes i32, max_bytes i32, isolation i8,"
+        " topics [topic s, partitions [index i32, offset i64, max_bytes i32]]",
+        "throttle i32, topics [topic s, partitions [index i32, error i16, high_watermark i64, last_stable_offset i64,"
+        " aborted [producer i64, first_offset i64]?, records b]]",
+    ),
+    "ListOffsets": (
+        2, 2, False,
+        "replica i32, isolation i8, topics [topic s, partitions [index i32, timestamp i64]]",
+        "throttle i32, topics [topic s, partitions [index i32, error i16, timestamp i64, offset i64]]",
+    ),
+    "Metadata": (
+        3, 1, False,
+        "topics [s]?",
+        "brokers [node i32, host s, port i32, rack s?], controller i32, topics [error i16, topic s, internal bool,"
+        " partitions [error i16, index i32, leader i32, replicas [i32], in_sync [i32]]]",
+    ),
+    "OffsetCommit": (
+        8, 2, False,
+        "group s, generation i32, member s, retention i64,"
+        " topics [topic s, partitions [index i32, offset i64, metadata s?]]",
+        OF_PARTITIONS,
+    ),
+    "OffsetFetch": (
+        9, 7, True,
+        "group s, topics [topic s, partitions [i32]]?, require_stable bool",
+        "throttle i32, topics [topic s, partitions [index i32, offset i64, leader_epoch i32, metadata s?, error i16]],"
+        " error i16",
+    ),
+    "FindCoordinator": (
+        10, 1, False,
+        "key s, key_type i8",
+        "throttle i32, error i16, message s?, node i32, host s, port i32",
+    ),
+    "JoinGroup": (
+        11, 2, False,
+        "group s, session_timeout i32, rebalance_timeout i32, member s, protocol_type s,"
+        " protocols [name s, metadata b]",
+        "throttle i32, error i16, generation i32, protocol s, leader s, member s, members [member s, metadata b]",
+    ),
+    "Heartbeat": (12, 1, False, "group s, generation i32, member s", "throttle i32, error i16"),
+    "LeaveGroup": (13, 1, False, "group s, member s", "throttle i32, error i16"),
+    "SyncGroup": (
+        14, 1, False,
+        "group s, generation i32, member s, assignments [member s, assignment b]",
+        "throttle i32, error i16, assignment b",
+    ),
+    "SaslHandshake": (17, 1, False, "mechanism s", "error i16, mechanisms [s]"),
+    "ApiVersions": (18, 0, False, "", "error i16, apis [key i16, min i16, max i16]"),
+    "InitProducerId": (
+        22, 0, False, "transactional_id s?, timeout i32", "throttle i32, error i16, producer i64, epoch i16",
+    ),
+    "AddPartitionsToTxn": (
+        24, 0, False, OF_PRODUCER + ", topics [topic s, partitions [i32]]", "throttle i32, " + OF_PARTITIONS,
+    ),
+    "AddOffsetsToTxn": (25, 0, False, OF_PRODUCER + ", group s", "throttle i32, error i16"),
+    "EndTxn": (26, 0, False, OF_PRODUCER + ", committed bool", "throttle i32, error i16"),
+    "TxnOffsetCommit": (
+        28, 3, True,
+        "transactional_id s, group s, producer i64, epoch i16, generation i32, member s, instance s?,"
+        " topics [topic s, partitions [index i32, offset i64, leader_epoch i32, metadata s?]]",
+        "throttle i32, " + OF_PARTITIONS,
+    ),
+    "DescribeAcls": (
+        29, 1, False,
+        FILTER,
+        "throttle i32, error i16, message s?, resources [kind i8, name s, pattern i8,"
+        " acls [principal s, host s, operation i8, permission i8]]",
+    ),
+    "CreateAcls": (
+        30, 1, False, f"creations [{BINDING}]", "throttle i32, results [error i16, message s?]",
+    ),
+    "DeleteAcls": (
+        31, 1, False,
+        f"filters [{FILTER}]",
+        f"throttle i32, results [error i16, message s?, matches [error i16, message s?, {BINDING}]]",
+    ),
+    "SaslAuthenticate": (36, 0, False, "auth b", "error i16, message s?, auth b"),
+}
+
+# What a request says where nothing is given.
+DEFAULTS = {
+    "replica": -1, "max_wait": 0, "min_bytes": 1, "timeout": 30_000, "acks": -1, "retention": -1, "generation": -1,
+    "leader_epoch": -1, "session_timeout": 30_000, "rebalance_timeout": 30_000, "isolation": 0, "key_type": 0,
+    "max_bytes": 1 << 20, "protocol_type": "consumer", "member": "", "require_stable": False,
+}
+
+NUMBERS = {"i8": ">b", "i16": ">h", "i32": ">i", "i64": ">q"}
+TOKEN = re.compile(r"\s*([\[\],?]|[a-z_0-9]+)")
+
+
+class Schema:
+    """A list of fields, each with its name and its kind: a word, or the schema of a list's items."""
+
+    def __init__(self, text):
+        self.words, self.at = TOKEN.findall(text), 0
+        self.fields = self.read_fields(None)
+
+    def read_fields(self, end):
+        """The fields up to a word. A list of one kind without a name has that kind alone."""
+        fields = []
+        while self.at < len(self.words) and self.words[self.at] != end:
+            name = self.words[self.at]
+            self.at += 1
+            if end and self.words[self.at] == end:
+                return name
+            fields.append((name, *self.read_kind()))
+            if self.at < len(self.words) and self.words[self.at] == ",":
+                self.at += 1
+        return fields
+
+    def read_kind(self):
+        """A kind, and whether a value of it may be null."""
+        kind = self.words[self.at]
+        self.at += 1
+        if kind == "[":
+            kind = ("list", self.read_fields("]"))
+            self.at += 1
+        may_be_null = self.at < len(self.words) and self.words[self.at] == "?"
+        self.at += may_be_null
+        return kind, may_be_null
+
+
+SCHEMAS = {name: (Schema(api[3]).fields, Schema(api[4]).fields) for name, api in APIS.items()}
+
+
+def uvarint(number):
+    """An unsigned number, seven bits a byte."""
+    out = bytearray()
+    while number > 127:
+        out.append(number & 127 | 128)
+        number >>= 7
+    return bytes(out) + bytes([number])
+
+
+def zigzag(number):
+    """A signed number, seven bits a byte."""
+    return uvarint(number << 1 if number >= 0 else (-number << 1) - 1)
+
+
+def write_length(length, kind, compact):
+    """The length before a text, bytes or a list; None for null."""
+    if compact:
+        return uvarint(0 if length is None else length + 1)
+    return struct.pack(">h" if kind == "s" else ">i", -1 if length is None else length)
+
+
+def write(kind, value, compact):
+    """The bytes of a value."""
+    if isinstance(kind, list):
+        parts = [write(of, value.get(name, DEFAULTS.get(name)), compact) for name, of, _ in kind]
+        return b"".join(parts) + b"\0" * compact
+    if isinstance(kind, tuple):
+        items = b"".join(write(kind[1], item, compact) for item in value or ())
+        return write_length(None if value is None else len(value), "list", compact) + items
+    if kind in NUMBERS:
+        return struct.pack(NUMBERS[kind], value)
+    if kind == "bool":
+        return bytes([bool(value)])
+    if value is None:
+        return write_length(None, kind, compact)
+    value = value.encode() if isinstance(value, str) else value
+    return write_length(len(value), kind, compact) + value
+
+
+class Reader:
+    """Takes values off bytes, from the front."""
+
+    def __init__(self, data):
+        self.data, self.at = data, 0
+
+    def take(self, count):
+        if count < 0 or self.at + count > len(self.data):
+            raise ValueError("the bytes end inside a value")
+        self.at += count
+        return self.data[self.at - count : self.at]
+
+    def number(self, form):
+        return struct.unpack(form, self.take(struct.calcsize(form)))[0]
+
+    def uvarint(self):
+        number = shift = 0
+        while True:
+            byte = self.take(1)[0]
+            number |= (byte & 127) << shift
+            shift += 7
+            if byte < 128:
+                return number
+
+    def zigzag(self):
+        number = self.uvarint()
+        return number >> 1 ^ -(number & 1)
+
+    def part(self):
+        """A part of a record, or None where it is null."""
+        length = self.zigzag()
+        return None if length < 0 else self.take(length)
+
+    def length(self, kind, compact):
+        return self.uvarint() - 1 if compact else self.number(">h" if kind == "s" else ">i")
+
+    def read(self, kind, compact):
+        if isinstance(kind, list):
+            value = {name: self.read(of, compact) for name, of, _ in kind}
+            if compact:
+                self.skip_tags()
+            return value
+        if isinstance(kind, tuple):
+            count = self.length("list", compact)
+            return None if count < 0 else [self.read(kind[1], compact) for _ in range(count)]
+        if kind in NUMBERS:
+            return self.number(NUMBERS[kind])
+        if kind == "bool":
+            return self.take(1) != b"\0"
+        length = self.length(kind, compact)
+        if length < 0:
+            return None
+        return self.take(length).decode() if kind == "s" else self.take(length)
+
+    def skip_tags(self):
+        for _ in range(self.uvarint()):
+            self.uvarint()
+            self.take(self.uvarint())
+
+
+def request_frame(api, correlation, fields, client="wire.py"):
+    """The frame of a request, with its size field."""
+    key, version, flexible, *_ = APIS[api]
+    unknown = set(fields) - {name for name, *_ in SCHEMAS[api][0]}
+    if unknown:
+        raise ValueError(f"{api} asks nothing of the name {min(unknown)}")
+    body = struct.pack(">hhi", key, version, correlation) + write("s", client, False) + b"\0" * flexible
+    body += write(SCHEMAS[api][0], fields, flexible)
+    return struct.pack(">i", len(body)) + body
+
+
+def response_of(api, frame):
+    """The correlation id and the fields of a response without its size field."""
+    reader, flexible = Reader(frame), APIS[api][2]
+    correlation = reader.number(">i")
+    if flexible:
+        reader.skip_tags()
+    fields = reader.read(SCHEMAS[api][1], flexible)
+    if reader.at != len(frame):
+        raise ValueError("bytes follow the response")
+    return correlation, fields
+
+
+class Connection:
+    """A connection to the broker: requests out, responses in."""
+
+    def __init__(self, address, timeout=30):
+        host, _, port = address.rpartition(":")
+        self.socket = socket.create_connection((host.strip("[]"), int(port)), timeout)
+        self.socket.setsockopt(socket.IPPROTO_TCP, socket.TCP_NODELAY, 1)
+        self.input, self.correlation = self.socket.makefile("rb"), 0
+
+    def __enter__(self):
+        return self
+
+    def __exit__(self, *_):
+        self.close()
+
+    def close(self):
+        self.input.close()
+        self.socket.close()
+
+    def send(self, api, **fields):
+        """Sends a request, and gives its correlation id."""
+        self.correlation += 1
+        self.socket.sendall(request_frame(api, self.correlation, fields))
+        return self.correlation
+
+    def receive(self, api):
+        """Waits for a response, and gives its correlation id and fields."""
+        size = self.input.read(4)
+        if len(size) < 4:
+            raise EOFError("the broker has closed the connection")
+        return response_of(api, self.input.read(struct.unpack(">i", size)[0]))
+
+    def ask(self, api, **fields):
+        """Sends a request and waits for its answer."""
+        sent = self.send(api, **fields)
+        correlation, answer = self.receive(api)
+        if correlation != sent:
+            raise ValueError(f"request {sent} is answered under the id {correlation}")
+        return answer
+
+    def login(self, user, password):
+        """Logs in by SASL PLAIN, and gives the error code."""
+        code = self.ask("SaslHandshake", mechanism="PLAIN")["error"]
+        return code or self.ask("SaslAuthenticate", auth=f"\0{user}\0{password}".encode())["error"]
+
+
+def crc_table():
+    table = []
+    for byte in range(256):
+        for _ in range(8):
+            byte = byte >> 1 ^ 0x82F63B78 * (byte & 1)
+        table.append(byte)
+    return table
+
+
+CRC_TABLE = crc_table()
+
+
+def crc32c(data):
+    """CRC-32C, by the reflected polynomial 82f63b78."""
+    crc = 0xFFFFFFFF
+    for byte in data:
+        crc = crc >> 8 ^ CRC_TABLE[(crc ^ byte) & 255]
+    return crc ^ 0xFFFFFFFF
+
+
+def record(delta, value, key=None):
+    """A record without headers."""
+    parts = b"\0\0" + zigzag(delta)
+    for part in (key, value):
+        parts += zigzag(-1) if part is None else zigzag(len(part)) + part
+    parts += b"\0"
+    return zigzag(len(parts)) + parts
+
+
+def batch(values, producer=-1, epoch=-1, sequence=-1, transactional=False):
+    """A record batch of these values, in magic 2."""
+    records = b"".join(record(delta, value) for delta, value in enumerate(values))
+    last = len(values) - 1
+    summed = struct.pack(">hiqqqhii", 16 * transactional, last, 0, 0, producer, epoch, sequence, last + 1) + records
+    return struct.pack(">qiibI", 0, len(summed) + 9, 0, 2, crc32c(summed)) + summed
+
+
+def batches_of(data):
+    """What the bytes of a fetch hold: each batch's base offset, attributes, producer, and values by their offsets."""
+    reader, batches = Reader(data), []
+    while reader.at < len(data):
+        base, length = reader.number(">q"), reader.number(">i")
+        inner = Reader(reader.take(length))
+        inner.take(5)
+        crc = inner.number(">I")
+        if crc != crc32c(inner.data[inner.at :]):
+            raise ValueError(f"the batch at {base} has another sum")
+        attributes, _, _, _, producer, _, _, count = struct.unpack(">hiqqqhii", inner.take(40))
+        values = []
+        for _ in range(count):
+            inner.uvarint()
+            inner.take(1)
+            inner.uvarint()
+            offset = base + inner.zigzag()
+            key, value = inner.part(), inner.part()
+            for _ in range(inner.zigzag()):
+                inner.part(), inner.part()
+            values.append((offset, key, value))
+        batches.append((base, attributes, producer, values))
+    return batches
+
+
+def committed(partition, offset=0):
+    """The records, by their offsets, that a read_committed consumer sees of a partition's answer, from an offset on."""
+    aborted = sorted(((it["first_offset"], it["producer"]) for it in partition["aborted"] or ()), reverse=True)
+    dropped, seen = set(), []
+    for base, attributes, producer, values in batches_of(partition["records"]):
+        while aborted and aborted[-1][0] <= base:
+            dropped.add(aborted.pop()[1])
+        if attributes & 32:
+            if values[0][1][2:4] == b"\0\0":
+                dropped.discard(producer)
+        elif not (attributes & 16 and producer in dropped):
+            seen += [(at, value) for at, _, value in values if at >= offset]
+    return seen
+
+
+def main():
+    if len(sys.argv) not in (5, 6) or sys.argv[4] not in APIS:
+        sys.exit(f"usage: wire.py HOST:PORT USER PASSWORD API ['JSON']\nThe apis are {', '.join(APIS)}.")
+    address, user, password, api = sys.argv[1:5]
+    fields = json.loads(sys.argv[5]) if len(sys.argv) == 6 else {}
+    with Connection(address) as broker:
+        code = broker.login(user, password)
+        if code:
+            sys.exit(f"the login is answered {code}")
+        answer = broker.ask(api, **fields)
+    print(json.dumps(answer, indent=1, default=lambda data: data.hex()))
+
+
+if __name__ == "__main__":
+    main()
