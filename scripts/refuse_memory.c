@@ -3,6 +3,8 @@
 #include <errno.h>
 #include <stdio.h>
 #include <stdlib.h>
+#include <sys/syscall.h>
+#include <unistd.h>
 
 extern void *__libc_malloc(size_t);
 extern void *__libc_calloc(size_t, size_t);
@@ -27,6 +29,12 @@ __attribute__((constructor)) static void start(void) {
 
 __attribute__((destructor)) static void tell(void) {
     if (refused_at == 0) fprintf(stderr, "allocations: %lu\n", seen);
+}
+
+/* A program that may start threads ends by this, without its destructors. */
+void _exit(int status) {
+    tell();
+    for (;;) syscall(SYS_exit_group, status);
 }
 
 void *malloc(size_t size) { return refuses() ? 0 : __libc_malloc(size); }
