@@ -1,10 +1,12 @@
 #!/usr/bin/env python3
 """`kbroker serve` over TCP: what it prints and how it ends, each api asked over a connection, and peers that vanish."""
 
+import re
 import socket
 import struct
 import subprocess
 import sys
+import time
 
 import wire
 from program import PROGRAM
@@ -32,6 +34,12 @@ MISUSED = (
     LISTEN + ("--connections", "0"),
     LISTEN + ("--connections", "1000001"),
     LISTEN + ("more",),
+    LISTEN + ("--for", "0"),
+    LISTEN + ("--for", "1000001"),
+    LISTEN + ("--idle", "0"),
+    LISTEN + ("--idle", "a while"),
+    LISTEN + ("--audit", "refusals.txt"),
+    LISTEN + ("--audit",),
     LISTEN + ("--replay",),
 )
 
@@ -98,6 +106,15 @@ def transaction(broker, values, committed):
     assert broker.ask("EndTxn", **who, committed=committed)["error"] == 0
 
 
+def wait_until(holds, otherwise):
+    """Waits for at most ten seconds until something holds."""
+    end = time.monotonic() + 10
+    while not holds():
+        if time.monotonic() > end:
+            raise AssertionError(otherwise)
+        time.sleep(0.01)
+
+
 def wait_for_markers(broker):
     """Waits until no transaction of `b` is open. The keeper writes a marker ten times a second at least."""
     for _ in range(10_000):
@@ -146,6 +163,21 @@ def bindings(broker):
     assert broker.ask("DescribeAcls", **anything)["resources"] == []
 
 
+def two_connections():
+    """What one connection produces the next one fetches, and the last line tells of both."""
+    with Broker(SETTINGS, workers=2, connections=2) as server:
+        with wire.Connection(server.address) as broker:
+            assert broker.login("root", "toor") == 0
+            produced = records_of(broker.ask("Produce", topics=of_b(records=wire.batch([b"said"]))))
+            assert (produced["error"], produced["base_offset"]) == (0, 0), produced
+        with wire.Connection(server.address) as broker:
+            assert broker.login("root", "toor") == 0
+            fetched = records_of(broker.ask("Fetch", isolation=1, topics=of_b(offset=0, max_bytes=1000)))
+            assert wire.committed(fetched) == [(0, b"said")], fetched
+        status, said, told = server.end()
+    assert status == 0 and re.fullmatch(r"sessions 2 events \d+ refusals 0\n", said) and not told, (status, said, told)
+
+
 def each_api():
     """Each api is asked over one connection; another user is refused what it has no binding for; a wrong password."""
     with Broker(SETTINGS, workers=2, connections=3) as server:
@@ -187,8 +219,70 @@ def peers_that_vanish():
     assert TOLD.format(1, "the connection was closed inside a request") in told and len(told) <= 2, told
 
 
+def refusals_are_told():
+    """Each refusal is a line on standard error, in the order in which they came, and told while the broker runs."""
+    with Broker(SETTINGS, connections=2, more=("--audit", "-")) as server:
+        with wire.Connection(server.address) as broker:
+            assert broker.login("ann", "pw") == 0
+            assert records_of(broker.ask("Produce", topics=of_b(records=wire.batch([b"x"]))))["error"] == 29
+            assert broker.ask("FindCoordinator", key="g", key_type=0)["error"] == 30
+            refused = [
+                "unmatched WRITE Topic b User:ann 127.0.0.1",
+                "unmatched DESCRIBE Group g User:ann 127.0.0.1",
+            ]
+            wait_until(lambda: server.told() == refused, "the refusals are not told")
+        with wire.Connection(server.address) as broker:
+            assert broker.login("root", "toor") == 0
+        (sessions, _, refusals), told = server.settled()
+    assert (sessions, refusals, told) == (2, 2, refused), (sessions, refusals, told)
+
+
+def time_is_over():
+    """After its time no connection is taken any more, and the one that is open is served to its end."""
+    with Broker(SETTINGS, connections=1000, more=("--for", "1")) as server:
+        host, _, port = server.address.rpartition(":")
+        with wire.Connection(server.address) as broker:
+            assert broker.login("root", "toor") == 0
+            time.sleep(1.5)
+            with socket.create_connection((host, int(port))) as late:
+                assert broker.ask("Metadata", topics=None)["topics"]
+                late.settimeout(0.2)
+                late.sendall(wire.request_frame("SaslHandshake", 1, {"mechanism": "PLAIN"}))
+                try:
+                    assert not late.recv(1), "a connection was taken late"
+                except TimeoutError:
+                    pass
+        (sessions, _, refusals), told = server.settled()
+    assert (sessions, refusals, told) == (1, 0, []), (sessions, refusals, told)
+
+
+def idle_peers_are_closed():
+    """A peer that says nothing for a second is closed, and one that says something in time isn't."""
+    with Broker(SETTINGS, workers=2, connections=2, more=("--idle", "1")) as server:
+        host, _, port = server.address.rpartition(":")
+        with socket.create_connection((host, int(port))) as silent:
+            with wire.Connection(server.address) as broker:
+                assert broker.login("root", "toor") == 0
+                for _ in range(3):
+                    time.sleep(0.5)
+                    assert broker.ask("Metadata", topics=None)["topics"]
+                silent.settimeout(10)
+                assert silent.recv(1) == b"", "the connection is still open"
+        (sessions, _, _), told = server.settled()
+    assert sessions == 2 and told == [TOLD.format(0, "a read failed")], (sessions, told)
+
+
 def main():
-    tests = (misuses, no_broker, each_api, peers_that_vanish)
+    tests = (
+        misuses,
+        no_broker,
+        two_connections,
+        each_api,
+        peers_that_vanish,
+        refusals_are_told,
+        time_is_over,
+        idle_peers_are_closed,
+    )
     for test in tests:
         test()
     print(f"served: {len(tests)} passed")

@@ -1,5 +1,6 @@
 """A broker that listens, for the scripts that talk to one."""
 
+import os
 import re
 import signal
 import subprocess
@@ -12,10 +13,10 @@ LAST = re.compile(r"sessions (\d+) events (\d+) refusals (\d+)\n")
 
 
 class Broker:
-    """`kbroker serve` on a port of its own, until it has served so many connections."""
+    """`kbroker serve` on a port of its own, until it has served so many connections or more words end it."""
 
-    def __init__(self, settings, workers=4, connections=1):
-        words = ["serve", "--listen", "127.0.0.1:0", "--workers", str(workers), "--connections", str(connections)]
+    def __init__(self, settings, workers=4, connections=1, more=()):
+        words = ["serve", "--listen", "127.0.0.1:0", "--workers", str(workers), "--connections", str(connections), *more]
         self.errors = tempfile.TemporaryFile()
         with tempfile.TemporaryFile() as given:
             given.write(settings.encode())
@@ -42,6 +43,10 @@ class Broker:
         self.process.wait()
         self.process.stdout.close()
         self.errors.close()
+
+    def told(self):
+        """The lines on standard error so far."""
+        return os.pread(self.errors.fileno(), 1 << 20, 0).decode().splitlines()
 
     def end(self, timeout=30):
         """Waits for its end, and gives its status, what it said last, and what it said on standard error."""

@@ -14,6 +14,7 @@ import re
 import socket
 import struct
 import sys
+from typing import NamedTuple
 
 FILTER = "kind i8, name s?, pattern i8, principal s?, host s?, operation i8, permission i8"
 BINDING = "kind i8, name s, pattern i8, principal s, host s, operation i8, permission i8"
@@ -360,44 +361,90 @@ def batch(values, producer=-1, epoch=-1, sequence=-1, transactional=False):
     return struct.pack(">qiibI", 0, len(summed) + 9, 0, 2, crc32c(summed)) + summed
 
 
+class Record(NamedTuple):
+    """A record at an offset. Its key and its value may be null."""
+
+    offset: int
+    key: bytes | None
+    value: bytes | None
+
+
+class Batch(NamedTuple):
+    """A record batch as it was fetched, with its size in bytes."""
+
+    base: int
+    size: int
+    attributes: int
+    producer: int
+    records: tuple
+
+    @property
+    def end(self):
+        """The offset behind its last record's."""
+        return self.base + len(self.records)
+
+    @property
+    def is_transactional(self):
+        return bool(self.attributes & 16)
+
+    @property
+    def is_control(self):
+        return bool(self.attributes & 32)
+
+    @property
+    def commits(self):
+        """Whether it is a marker that commits: the second number of a control record's key is its kind."""
+        return self.is_control and struct.unpack_from(">h", self.records[0].key, 2)[0] == 1
+
+
+def read_batch(reader):
+    """A record batch in magic 2, whose sum has to be right."""
+    base, length = reader.number(">q"), reader.number(">i")
+    inner = Reader(reader.take(length))
+    inner.take(5)
+    crc = inner.number(">I")
+    if crc != crc32c(inner.data[inner.at :]):
+        raise ValueError(f"the batch at {base} has another sum")
+    attributes, _, _, _, producer, _, _, count = struct.unpack(">hiqqqhii", inner.take(40))
+    records = []
+    for _ in range(count):
+        inner.uvarint()
+        inner.take(1)
+        inner.uvarint()
+        offset = base + inner.zigzag()
+        records.append(Record(offset, inner.part(), inner.part()))
+        for _ in range(inner.zigzag()):
+            inner.part(), inner.part()
+    return Batch(base, length + 12, attributes, producer, tuple(records))
+
+
 def batches_of(data):
-    """What the bytes of a fetch hold: each batch's base offset, attributes, producer, and values by their offsets."""
+    """The record batches that a fetch answers."""
     reader, batches = Reader(data), []
     while reader.at < len(data):
-        base, length = reader.number(">q"), reader.number(">i")
-        inner = Reader(reader.take(length))
-        inner.take(5)
-        crc = inner.number(">I")
-        if crc != crc32c(inner.data[inner.at :]):
-            raise ValueError(f"the batch at {base} has another sum")
-        attributes, _, _, _, producer, _, _, count = struct.unpack(">hiqqqhii", inner.take(40))
-        values = []
-        for _ in range(count):
-            inner.uvarint()
-            inner.take(1)
-            inner.uvarint()
-            offset = base + inner.zigzag()
-            key, value = inner.part(), inner.part()
-            for _ in range(inner.zigzag()):
-                inner.part(), inner.part()
-            values.append((offset, key, value))
-        batches.append((base, attributes, producer, values))
+        batches.append(read_batch(reader))
     return batches
+
+
+def without_aborted(batches, aborted):
+    """The records of batches that are left where a consumer drops what the list of aborted transactions tells (KIP-98):
+    a producer's transactional batches, from the one on in which an entry begins, up to the producer's abort marker."""
+    listed = sorted(aborted or (), key=lambda it: it["first_offset"], reverse=True)
+    dropped, left = set(), []
+    for batch in batches:
+        while listed and listed[-1]["first_offset"] < batch.end:
+            dropped.add(listed.pop()["producer"])
+        if batch.is_control:
+            dropped -= set() if batch.commits else {batch.producer}
+        elif not (batch.is_transactional and batch.producer in dropped):
+            left += batch.records
+    return left
 
 
 def committed(partition, offset=0):
     """The records, by their offsets, that a read_committed consumer sees of a partition's answer, from an offset on."""
-    aborted = sorted(((it["first_offset"], it["producer"]) for it in partition["aborted"] or ()), reverse=True)
-    dropped, seen = set(), []
-    for base, attributes, producer, values in batches_of(partition["records"]):
-        while aborted and aborted[-1][0] <= base:
-            dropped.add(aborted.pop()[1])
-        if attributes & 32:
-            if values[0][1][2:4] == b"\0\0":
-                dropped.discard(producer)
-        elif not (attributes & 16 and producer in dropped):
-            seen += [(at, value) for at, _, value in values if at >= offset]
-    return seen
+    left = without_aborted(batches_of(partition["records"]), partition["aborted"])
+    return [(it.offset, it.value) for it in left if it.offset >= offset]
 
 
 def main():

@@ -7,13 +7,14 @@ use Rattle.std.specs.Str.{bytes_eq}
 use Rattle.std.proofs.lemmas.Bool.{cases_Bool}
 use Rattle.std.proofs.lemmas.Option.{none-some}
 use Rattle.std.proofs.lemmas.Slice.Eq.{bytes_eq-Decides}
-use Rattle.clap.specs.Walk.{Names, Row, Rule, Text, Walk, answers_to, finished, nothing_held, settled, stop_after, walk, walked}
+use Rattle.clap.specs.Walk.{Names, Row, Rule, Text, Walk, answers_to, finished, first_of, nothing_held, settled, stop_after, walk, walked}
 use Rattle.clap.specs.Matches.{subcommand_name_of}
 use Rattle.clap.specs.Values.{kind_of}
 use Rattle.clap.specs.declared.error.Error.{Error}
 use Rattle.clap.specs.Simple.{App, HasMatchesOf, Shape, built, built_leaf, entered, is_simple, names_of, new_shape, subcommand_of, subcommand_rows, subcommand_rows_of}
 use Rattle.clap.specs.Kinds.{HasKind, Kinds, or_else}
 use Rattle.clap.specs.Faults.{built_fault, check_fault, defaults_fault, entered_fault, fault_of, is_simple_and_free, level_fault, settle_fault, turn_fault, walk_fault}
+use Rattle.clap.specs.declared.error.kind.ErrorKind.{ErrorKind}
 use Rattle.clap.specs.declared.error.kind.ErrorKind.TheVariants as kind
 use Rattle.clap.specs.declared.parser.matches.ArgMatches.{ArgMatches}
 use Rattle.clap.specs.declared.parser.matches.ArgMatches.TheViews.{out-ArgMatches, out-SubCommand}
@@ -21,7 +22,8 @@ use Rattle.clap.specs.declared.parser.matches.SubCommand.{SubCommand}
 use Rattle.std.specs.Box.{box_value}
 use Rattle.clap.proofs.OnLiterals.{clap_on_literals}
 use Rattle.arguments.specs.CommandLine.{command_line}
-use Rattle.arguments.specs.Asked.{IsAsked, begin_with}
+use Rattle.arguments.specs.Asked.{AsksNothing, AsksToServe, IsAsked, begin_with}
+use Rattle.arguments.specs.Serving.{IsServedBy, NoneServes}
 use Rattle.arguments.specs.Job.{job_asked, job_named, job_of}
 use Rattle.arguments.specs.declared.job.Job.{Job}
 use Rattle.arguments.specs.declared.job.Job.TheVariants.{Replay, Check, Serve}
@@ -317,20 +319,46 @@ job_found a words m is has passed =
     let none : fault_of command_line words ≡ [] = sym (ap (λ (b : App). fault_of b words) is) ∙ passed (ap is_simple_and_free is ∙ line_is_free) in
     ap (option_and_then job_named) (sym (entered_name (out-ArgMatches m).subcommand) ∙ found) ∙ job_entered words none
 
--- words that ask for a job are refused only for want of memory
+-- words that some step of a parse refuses ask for no job by its name
+no_job : (words : List Text) (first : ErrorKind) (rest : Kinds) → fault_of command_line words ≡ first ∷ rest → job_of words ≡ None
+no_job words first rest e = go (job_of words) refl
+  where
+    go : (asked : Option Job) → job_of words ≡ asked → job_of words ≡ None
+    go None is = is
+    go (Some job) is = absurd (not_empty first rest (sym e ∙ job_passes words job is))
+
+-- words that ask for something are refused only for want of memory
 pub job_refused : (a : App) (words : List Text) (error : Error) → a ≡ command_line → (is_simple_and_free a ≡ true → HasKind (fault_of a words) error)
-    → (job_of words ≡ None) ⊎ (kind_of error ≡ kind.OutOfMemory)
-job_refused a words error is fails = go (job_of words) refl
+    → AsksNothing words ⊎ (kind_of error ≡ kind.OutOfMemory)
+job_refused a words error is fails = go (fault_of command_line words) refl
   where
     only_memory : HasKind [] error → kind_of error ≡ kind.OutOfMemory
     only_memory (inl memory) = memory
     only_memory (inr none) = absurd none
 
-    go : (asked : Option Job) → job_of words ≡ asked → (job_of words ≡ None) ⊎ (kind_of error ≡ kind.OutOfMemory)
-    go None e = inl e
-    go (Some job) e =
-        let none : fault_of a words ≡ [] = ap (λ (b : App). fault_of b words) is ∙ job_passes words job e in
-        inr (only_memory (subst (λ (kinds : Kinds). HasKind kinds error) none (fails (ap is_simple_and_free is ∙ line_is_free))))
+    has : HasKind (fault_of command_line words) error
+    has = subst (λ (b : App). HasKind (fault_of b words) error) is (fails (ap is_simple_and_free is ∙ line_is_free))
+
+    go : (kinds : Kinds) → fault_of command_line words ≡ kinds → AsksNothing words ⊎ (kind_of error ≡ kind.OutOfMemory)
+    go [] e = inr (only_memory (subst (λ (kinds : Kinds). HasKind kinds error) e has))
+    go (first ∷ rest) e = inl (record { job = no_job words first rest e; serving = λ none s asked. absurd (not_empty first rest (sym e ∙ none)) })
+
+-- words in whose parse no `serve` was found don't ask to serve
+pub no_serve : (a : App) (words : List Text) (m : ArgMatches) → a ≡ command_line → HasMatchesOf a words m → (subcommand_name_of m ≡ Some serve → ⊥) → (s : Serving) → AsksToServe words s → ⊥
+no_serve a words m is has none s asked =
+    let name_of : Option (Text × List Row) → Option Text = option_map (λ p. p.0) in
+    let found : name_of (subcommand_rows_of m) ≡ name_of (subcommand_of command_line words) =
+    ap name_of ((has (ap is_simple is ∙ line_is_simple)).1 ∙ ap (λ (b : App). subcommand_of b words) is) in
+    none (sym (entered_name (out-ArgMatches m).subcommand) ∙ (found ∙ ap name_of asked.read))
+
+-- nor do those whose options serve in no way
+pub no_serving : (a : App) (words : List Text) (m : ArgMatches) (options : List Row) → a ≡ command_line → HasMatchesOf a words m
+    → subcommand_name_of m ≡ Some serve → option_map (λ p. p.1) (subcommand_rows (out-ArgMatches m).subcommand) ≡ Some options
+    → NoneServes (λ id. first_of id options) → (s : Serving) → AsksToServe words s → ⊥
+no_serving a words m options is has named told none s asked =
+    let read : Some (serve, asked.options) ≡ Some (serve, options) = sym asked.read ∙ serve_read a words m options is has named told in
+    let same : asked.options ≡ options = ap (λ (o : Option (Text × List Row)). option_map_or (λ p. p.1) o []) read in
+    none s (subst (λ (rows : List Row). IsServedBy (λ id. first_of id rows) s) same asked.served) asked.within
 
 -- ---- what is asked
 

@@ -1,8 +1,9 @@
 -- What a command line asks for.
-use Rattle.std.specs.Prelude.{◌≡◌, ℕ, Bool, false, true, List, [], ◌∷◌, drop, codes, Some}
+use Rattle.std.specs.Prelude.{◌≡◌, ℕ, Bool, false, true, List, [], ◌∷◌, drop, codes, Some, None}
 use Rattle.std.specs.Str.{bytes_eq}
 use Rattle.clap.specs.Walk.{Row, first_of}
 use Rattle.clap.specs.Simple.{subcommand_of}
+use Rattle.clap.specs.Faults.{fault_of}
 use Rattle.arguments.specs.declared.job.Job.{Job}
 use Rattle.arguments.specs.declared.job.Job.TheVariants.{Replay, Check, Serve}
 use Rattle.arguments.specs.declared.serving.Serving.{Serving}
@@ -22,6 +23,11 @@ pub record AsksToServe (words : List (List ℕ)) (serving : Serving) : Type 0 wh
   pub read : subcommand_of command_line words ≡ Some (codes "serve", options)
   pub served : IsServedBy (λ id. first_of id options) serving
   pub within : IsWithin serving
+
+-- the words ask for no job: for none by its name alone, and where no step of their parse fails, not to serve within the limits
+pub record AsksNothing (words : List (List ℕ)) : Type 0 where
+  pub job : job_of words ≡ None
+  pub serving : fault_of command_line words ≡ [] → (s : Serving) → AsksToServe words s → ⊥
 
 -- the job that the words ask for
 abbrev pub IsAsked : List (List ℕ) → Job → Type 0

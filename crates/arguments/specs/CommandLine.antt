@@ -14,9 +14,21 @@ program = on_top wanting_a_job (new_app (codes "kbroker"))
 abbrev pub option_rule : List ℕ → Bool → Rule
 option_rule name must = record (new_rule name) { long = Some name; value_names = 1; required = must }
 
+-- three options more
+abbrev pub with_rules : App → Rule → Rule → Rule → App
+with_rules a first second third = with_rule (with_rule (with_rule a first) second) third
+
+-- the options of `serve` that say where, and how many are served
+abbrev pub with_serve_numbers : App → App
+with_serve_numbers a = with_rules a (option_rule (codes "listen") true) (option_rule (codes "workers") false) (option_rule (codes "connections") false)
+
+-- those that change nothing where they aren't given
+abbrev pub with_serve_switches : App → App
+with_serve_switches a = with_rules a (option_rule (codes "for") false) (option_rule (codes "idle") false) (option_rule (codes "audit") false)
+
 -- the options of `serve`
 abbrev pub with_serve_options : App → App
-with_serve_options a = with_rule (with_rule (with_rule a (option_rule (codes "listen") true)) (option_rule (codes "workers") false)) (option_rule (codes "connections") false)
+with_serve_options a = with_serve_switches (with_serve_numbers a)
 
 abbrev pub serve_shape : Shape
 serve_shape = (with_serve_options (new_app (codes "serve"))).top

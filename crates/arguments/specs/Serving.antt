@@ -1,17 +1,46 @@
 -- How connections are served.
-use Rattle.std.specs.Prelude.{◌≡◌, ◌≤◌, ℕ, List, Option, Some, None, codes}
-use Rattle.std.specs.Str.Parse.{digits_value, without_leading_plus}
+use Rattle.std.specs.Prelude.{◌≡◌, ◌≤◌, ℕ, Bool, false, true, List, Option, Some, None, IfSome, codes}
+use Rattle.std.specs.Str.Parse.{IsNumeral, digits_value, without_leading_plus}
 use Rattle.arguments.specs.declared.serving.Serving.{Serving}
 
--- at most 64 connections at once, and 1,000,000 in all
-abbrev pub IsWithin : Serving → Type 0
-IsWithin s = (1 ≤ s.workers) × (s.workers ≤ 64) × (1 ≤ s.connections) × (s.connections ≤ 1000000)
+abbrev pub IsIn : ℕ → ℕ → Type 0
+IsIn most number = (1 ≤ number) × (number ≤ most)
 
--- the number of an option is the one that its value writes in decimal digits, or the usual one where it isn't given
+-- at most 64 connections at once, 1,000,000 in all, and times of at most 1,000,000 seconds
+pub record IsWithin (s : Serving) : Type 0 where
+  pub workers : IsIn 64 s.workers
+  pub connections : IsIn 1000000 s.connections
+  pub open_seconds : IfSome s.open_seconds (IsIn 1000000)
+  pub idle_seconds : IfSome s.idle_seconds (IsIn 1000000)
+
+-- a text writes a number in decimal digits, a plus before them or not
+abbrev pub Writes : List ℕ → ℕ → Type 0
+Writes text number = IsNumeral 10 (without_leading_plus text) × (number ≡ digits_value 10 (without_leading_plus text))
+
+-- the number of an option is the one that its value writes, or the usual one where it isn't given
 abbrev pub Tells : Option (List ℕ) → ℕ → ℕ → Type 0
 Tells None usual number = number ≡ usual
-Tells (Some value) usual number = number ≡ digits_value 10 (without_leading_plus value)
+Tells (Some value) usual number = Writes value number
+
+-- the seconds of an option, if it is given
+abbrev pub TellsSeconds : Option (List ℕ) → Option ℕ → Type 0
+TellsSeconds None told = told ≡ None
+TellsSeconds (Some value) told = (number : ℕ) × (told ≡ Some number) × Writes value number
+
+-- refusals are told where the option is given, whose value is `-`
+abbrev pub TellsAudit : Option (List ℕ) → Bool → Type 0
+TellsAudit None told = told ≡ false
+TellsAudit (Some value) told = (value ≡ codes "-") × (told ≡ true)
 
 -- how the values of the options have it
-abbrev pub IsServedBy : (List ℕ → Option (List ℕ)) → Serving → Type 0
-IsServedBy value_of s = (value_of (codes "listen") ≡ Some s.listen.now) × Tells (value_of (codes "workers")) 4 s.workers × Tells (value_of (codes "connections")) 1000000 s.connections
+pub record IsServedBy (value_of : List ℕ → Option (List ℕ)) (s : Serving) : Type 0 where
+  pub listen : value_of (codes "listen") ≡ Some s.listen.now
+  pub workers : Tells (value_of (codes "workers")) 4 s.workers
+  pub connections : Tells (value_of (codes "connections")) 1000000 s.connections
+  pub open_seconds : TellsSeconds (value_of (codes "for")) s.open_seconds
+  pub idle_seconds : TellsSeconds (value_of (codes "idle")) s.idle_seconds
+  pub audit : TellsAudit (value_of (codes "audit")) s.audit
+
+-- these values say of no way within the limits how connections are served
+abbrev pub NoneServes : (List ℕ → Option (List ℕ)) → Type 0
+NoneServes value_of = (s : Serving) → IsServedBy value_of s → IsWithin s → ⊥

@@ -59,6 +59,9 @@ stands in the broker's trail, and `settle failed: FAULT` where that can't be sho
 can't be listened on, it gets `listen failed`, and where the settings have a fault, `settings refused:
 FAULT`.
 
+Standard error gets a line that begins with `kbroker: ` for each connection that ended otherwise than
+between two requests, and with `--audit -` the line of each refusal, as `replay` prints it.
+
 The exit status is 0 where all was served and settled, 1 where it wasn't, and 2 for a command line
 that isn't understood.";
 
@@ -74,3 +77,12 @@ pub(crate) const WORKERS: &str =
 
 pub(crate) const CONNECTIONS: &str =
     "How many connections are served in all, 1 to 1,000,000; 1,000,000 if it isn't given";
+
+pub(crate) const FOR: &str =
+    "For how many seconds connections are taken, 1 to 1,000,000; those that are open then are served to their end";
+
+pub(crate) const IDLE: &str =
+    "After how many seconds of waiting for its peer a connection is closed, 1 to 1,000,000; never if it isn't given";
+
+pub(crate) const AUDIT: &str =
+    "Where each refusal is told as it happens: -, which is standard error";

@@ -4,8 +4,8 @@ ghost use Rattle.std.specs.Prelude.{◌≡◌, ◌⊎◌, IfErr, IfOk, None, Som
 ghost use Rattle.clap.specs.Words.{app_of, kind_of, new_app, subcommand_name_of};
 ghost use Rattle.clap.specs.declared.builder.command.Command.TheViews.{out-Command as fields_of};
 ghost use Rattle.arguments.specs.CommandLine.{command_line, program};
-ghost use Rattle.arguments.specs.Job.{job_named, job_of};
-ghost use Rattle.arguments.specs.Asked.{IsAsked};
+ghost use Rattle.arguments.specs.Job.{job_named};
+ghost use Rattle.arguments.specs.Asked.{AsksNothing, IsAsked};
 
 use crate::help::{
     CHECK, CHECK_EXAMPLE, CHECK_LONG, PROGRAM, REPLAY, REPLAY_EXAMPLE, REPLAY_LONG, SERVE,
@@ -86,7 +86,7 @@ fn named_job<'a>(matches: &ArgMatches<'_>) -> Option<Job<'a>>
 /// one.
 pub fn arguments<'a>(alloc: Global, words: &'a [&'a str]) -> Result<Job<'a>, Error>
     ensures job { IfOk result (λ job. IsAsked (map (λ word. word.now) words.entry.now) job) }
-    ensures refusal { IfErr result (λ error. (job_of (map (λ word. word.now) words.entry.now) ≡ None)
+    ensures refusal { IfErr result (λ error. AsksNothing (map (λ word. word.now) words.entry.now)
         ⊎ (kind_of error ≡ ErrorKind.OutOfMemory)) }
 {
     let mut command = command(alloc)?;

@@ -1,14 +1,14 @@
 //! The options of `serve`.
 
-ghost use Rattle.std.specs.Prelude.{◌≡◌, ◌≤◌, IfOk, IfSome, None, Some, false, option_map};
+ghost use Rattle.std.specs.Prelude.{◌≡◌, ◌≤◌, IfErr, IfOk, IfSome, IfNone, None, Some, false, option_map};
 ghost use Rattle.clap.specs.Simple.{app_of};
 ghost use Rattle.clap.specs.Matches.{first_value, found_of};
 ghost use Rattle.clap.specs.Walk.{rule_of};
 ghost use Rattle.clap.specs.declared.builder.command.Command.TheViews.{out-Command as fields_of};
-ghost use Rattle.arguments.specs.CommandLine.{option_rule, with_serve_options};
-ghost use Rattle.arguments.specs.Serving.{IsServedBy, IsWithin, Tells};
+ghost use Rattle.arguments.specs.CommandLine.{option_rule, with_rules, with_serve_numbers, with_serve_options, with_serve_switches};
+ghost use Rattle.arguments.specs.Serving.{IsIn, IsServedBy, IsWithin, NoneServes, Tells, TellsAudit, TellsSeconds, Writes};
 
-use crate::help::{CONNECTIONS, LISTEN, WORKERS};
+use crate::help::{AUDIT, CONNECTIONS, FOR, IDLE, LISTEN, WORKERS};
 use clap::{Arg, ArgMatches, Command};
 use std::alloc::{AllocError, Global};
 
@@ -21,11 +21,19 @@ pub struct Serving<'a> {
     pub workers: u64,
     /// How many are served in all, 1 to 1,000,000.
     pub connections: u64,
+    /// For how many seconds connections are taken, 1 to 1,000,000, if they aren't always.
+    pub open_seconds: Option<u64>,
+    /// After how many seconds of waiting for its peer a session ends, 1 to 1,000,000, if it ever does.
+    pub idle_seconds: Option<u64>,
+    /// Whether each refusal is told on standard error.
+    pub audit: bool,
 }
 
 const MOST_WORKERS: u64 = 64;
 
 const MOST_CONNECTIONS: u64 = 1_000_000;
+
+const MOST_SECONDS: u64 = 1_000_000;
 
 const USUAL_WORKERS: u64 = 4;
 
@@ -35,6 +43,9 @@ pub(crate) enum Misused {
     Listen,
     Workers,
     Connections,
+    For,
+    Idle,
+    Audit,
 }
 
 impl Misused {
@@ -44,6 +55,9 @@ impl Misused {
             Misused::Listen => "--listen takes an address and a port, as in 127.0.0.1:9092",
             Misused::Workers => "--workers takes a number from 1 to 64",
             Misused::Connections => "--connections takes a number from 1 to 1000000",
+            Misused::For => "--for takes a number of seconds from 1 to 1000000",
+            Misused::Idle => "--idle takes a number of seconds from 1 to 1000000",
+            Misused::Audit => "--audit takes - alone, which is standard error",
         }
     }
 }
@@ -60,6 +74,44 @@ fn option<'a>(alloc: Global, name: &'a str, value: &'a str, help: &'a str, must:
         .required(must)
 }
 
+/// The command with three options more, none of them global.
+fn with_three<'a>(
+    command: Command<'a>,
+    first: Arg<'a>,
+    second: Arg<'a>,
+    third: Arg<'a>,
+) -> Result<Command<'a>, AllocError>
+    requires first { first.global ≡ false }
+    requires second { second.global ≡ false }
+    requires third { third.global ≡ false }
+    ensures app { IfOk result (λ made. app_of made ≡ with_rules (app_of command.entry) (rule_of first.entry) (rule_of second.entry) (rule_of third.entry)) }
+    ensures local { IfOk result (λ made. (fields_of made).has_globals ≡ (fields_of command.entry).has_globals) }
+{
+    command.arg(first)?.arg(second)?.arg(third)
+}
+
+/// The command with the options that say where, and how many are served.
+fn with_numbers<'a>(alloc: Global, command: Command<'a>) -> Result<Command<'a>, AllocError>
+    ensures app { IfOk result (λ made. app_of made ≡ with_serve_numbers (app_of command.entry)) }
+    ensures local { IfOk result (λ made. (fields_of made).has_globals ≡ (fields_of command.entry).has_globals) }
+{
+    let listen = option(alloc, "listen", "ADDR", LISTEN, true);
+    let workers = option(alloc, "workers", "N", WORKERS, false);
+    let connections = option(alloc, "connections", "N", CONNECTIONS, false);
+    with_three(command, listen, workers, connections)
+}
+
+/// The command with the options that change nothing where they aren't given.
+fn with_switches<'a>(alloc: Global, command: Command<'a>) -> Result<Command<'a>, AllocError>
+    ensures app { IfOk result (λ made. app_of made ≡ with_serve_switches (app_of command.entry)) }
+    ensures local { IfOk result (λ made. (fields_of made).has_globals ≡ (fields_of command.entry).has_globals) }
+{
+    let open = option(alloc, "for", "SECONDS", FOR, false);
+    let idle = option(alloc, "idle", "SECONDS", IDLE, false);
+    let audit = option(alloc, "audit", "FILE", AUDIT, false);
+    with_three(command, open, idle, audit)
+}
+
 /// The command with the options of `serve`.
 pub(crate) fn with_options<'a>(
     alloc: Global,
@@ -68,25 +120,58 @@ pub(crate) fn with_options<'a>(
     ensures app { IfOk result (λ made. app_of made ≡ with_serve_options (app_of command.entry)) }
     ensures local { IfOk result (λ made. (fields_of made).has_globals ≡ (fields_of command.entry).has_globals) }
 {
-    let listen = option(alloc, "listen", "ADDR", LISTEN, true);
-    let workers = option(alloc, "workers", "N", WORKERS, false);
-    let connections = option(alloc, "connections", "N", CONNECTIONS, false);
-    command.arg(listen)?.arg(workers)?.arg(connections)
+    let command = with_numbers(alloc, command)?;
+    with_switches(alloc, command)
 }
 
-/// The number of a text, if it lies from 1 to a most; or another one where there is no text.
-fn number_in(text: Option<&str>, most: u64, usual: u64) -> Option<u64>
-    requires { (1 ≤ usual) × (usual ≤ most) }
-    ensures within { IfSome result (λ number. (1 ≤ number) × (number ≤ most)) }
-    ensures told { IfSome result (Tells (option_map (λ t. t.now) text.entry) usual) }
-    ensures usual { (text.entry ≡ None) → (result ≡ Some usual) }
+/// The number that a text writes, if it lies from 1 to a most.
+fn number_of(text: &str, most: u64) -> Option<u64>
+    ensures some { IfSome result (λ number. IsIn most number × Writes text.now number) }
+    ensures none { IfNone result ((number : _) → IsIn most number → Writes text.now number → ⊥) }
 {
-    let Some(text) = text else {
-        return Some(usual);
-    };
     match text.parse::<u64>() {
         Ok(number) if 1 <= number && number <= most => Some(number),
         _ => None,
+    }
+}
+
+/// The number of an option, or the usual one where it isn't given.
+fn number_or(text: Option<&str>, most: u64, usual: u64, misused: Misused) -> Result<u64, Misused>
+    requires { IsIn most usual }
+    ensures within { IfOk result (IsIn most) }
+    ensures told { IfOk result (Tells (option_map (λ t. t.now) text.entry) usual) }
+    ensures none { IfErr result (λ _. (number : _) → IsIn most number → Tells (option_map (λ t. t.now) text.entry) usual number → ⊥) }
+{
+    match text {
+        Some(text) => number_of(text, most).ok_or(misused),
+        None => Ok(usual),
+    }
+}
+
+/// The seconds of an option, if it is given.
+fn seconds_of(text: Option<&str>, misused: Misused) -> Result<Option<u64>, Misused>
+    ensures within { IfOk result (λ told. IfSome told (IsIn 1000000)) }
+    ensures told { IfOk result (TellsSeconds (option_map (λ t. t.now) text.entry)) }
+    ensures none { IfErr result (λ _. (told : _) → IfSome told (IsIn 1000000) → TellsSeconds (option_map (λ t. t.now) text.entry) told → ⊥) }
+{
+    let Some(text) = text else {
+        return Ok(None);
+    };
+    match number_of(text, MOST_SECONDS) {
+        Some(seconds) => Ok(Some(seconds)),
+        None => Err(misused),
+    }
+}
+
+/// Whether refusals are told. The one place for them is standard error, which goes by the name `-`.
+fn audit_of(text: Option<&str>) -> Result<bool, Misused>
+    ensures told { IfOk result (TellsAudit (option_map (λ t. t.now) text.entry)) }
+    ensures none { IfErr result (λ _. (told : _) → TellsAudit (option_map (λ t. t.now) text.entry) told → ⊥) }
+{
+    match text {
+        None => Ok(false),
+        Some("-") => Ok(true),
+        Some(_) => Err(Misused::Audit),
     }
 }
 
@@ -94,20 +179,30 @@ fn number_in(text: Option<&str>, most: u64, usual: u64) -> Option<u64>
 pub(crate) fn serving_by<'a>(options: &ArgMatches<'a>) -> Result<Serving<'a>, Misused>
     ensures within { IfOk result IsWithin }
     ensures served { IfOk result (IsServedBy (first_value (found_of options.now))) }
+    ensures none { IfErr result (λ _. NoneServes (first_value (found_of options.now))) }
 {
     let listen = options.get_str("listen").ok_or(Misused::Listen)?;
-    let workers = number_in(options.get_str("workers"), MOST_WORKERS, USUAL_WORKERS).ok_or(
+    let workers = number_or(
+        options.get_str("workers"),
+        MOST_WORKERS,
+        USUAL_WORKERS,
         Misused::Workers,
     )?;
-    let connections = number_in(
+    let connections = number_or(
         options.get_str("connections"),
         MOST_CONNECTIONS,
         MOST_CONNECTIONS,
-    )
-    .ok_or(Misused::Connections)?;
+        Misused::Connections,
+    )?;
+    let open_seconds = seconds_of(options.get_str("for"), Misused::For)?;
+    let idle_seconds = seconds_of(options.get_str("idle"), Misused::Idle)?;
+    let audit = audit_of(options.get_str("audit"))?;
     Ok(Serving {
         listen,
         workers,
         connections,
+        open_seconds,
+        idle_seconds,
+        audit,
     })
 }

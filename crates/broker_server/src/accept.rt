@@ -1,26 +1,88 @@
 //! Connections become jobs.
 
+use crate::server::ServeOptions;
 use crossbeam_channel::Sender;
 use session_pool::{Limits, Users};
 use session_workers::Job;
 use std::alloc::Global;
-use std::io;
-use std::net::{TcpListener, TcpStream};
+use std::io::ErrorKind;
+use std::net::{SocketAddr, TcpListener, TcpStream};
 use std::sync::Wait;
+use std::time::{Duration, Instant};
+use std::{io, thread, time};
 use wire_types::{Shared, Text};
 
 /// A session over a connection.
 pub(crate) type Connection = Job<TcpStream, TcpStream>;
 
-/// Waits for a connection. Its host is the peer's address without the port.
-fn accept(
-    alloc: Global,
+/// How long it takes until a listener is asked again that had no connection to give, or couldn't give it, in milliseconds.
+const TURN: u64 = 10;
+
+/// Connections are taken for so long, from a moment on.
+#[derive(Clone, Copy, Debug, PartialEq, Eq)]
+struct Opening {
+    since: Instant,
+    time: Duration,
+}
+
+impl Opening {
+    /// Begins now. From here on the listener doesn't wait for a connection.
+    fn begin<R: time::Clock>(
+        rt: &R,
+        listener: &TcpListener,
+        time: Duration,
+    ) -> io::Result<Opening> {
+        listener.set_nonblocking(true)?;
+        let since = Instant::now(rt)?;
+        Ok(Opening { since, time })
+    }
+
+    /// Whether its time has passed. That of a clock which can't be read has.
+    fn is_over<R: time::Clock>(&self, rt: &R) -> bool {
+        match self.since.elapsed(rt) {
+            Ok(passed) => self.time <= passed,
+            Err(_) => true,
+        }
+    }
+}
+
+fn rest<R: time::Clock>(rt: &R) {
+    thread::sleep(rt, Duration::from_millis(TURN));
+}
+
+/// Waits for a connection. None once no more are taken.
+fn next_connection<R: Wait + time::Clock>(
+    rt: &R,
     listener: &TcpListener,
+    opening: Option<Opening>,
+) -> Option<io::Result<(TcpStream, SocketAddr)>> {
+    let Some(opening) = opening else {
+        return Some(listener.accept());
+    };
+    for _ in rt.forever() {
+        if opening.is_over(rt) {
+            break;
+        }
+        match listener.accept() {
+            Err(error) if error.kind() == ErrorKind::WouldBlock => rest(rt),
+            taken => return Some(taken),
+        }
+    }
+    None
+}
+
+/// The session over a connection. Its host is the peer's address without the port.
+fn job_of(
+    alloc: Global,
+    taken: io::Result<(TcpStream, SocketAddr)>,
     users: &Shared<Users>,
+    idle: Option<Duration>,
     session: u64,
 ) -> io::Result<Connection> {
-    let (reader, peer) = listener.accept()?;
+    let (reader, peer) = taken?;
     reader.set_nodelay(true)?;
+    reader.set_read_timeout(idle)?;
+    reader.set_write_timeout(idle)?;
     let writer = reader.try_clone()?;
     let ip = peer.ip();
     let host = Text::from(format!(in alloc; "{ip}")?);
@@ -34,18 +96,46 @@ fn accept(
     })
 }
 
-/// Makes a job of each of so many connections. One that can't be accepted uses one up.
-pub(crate) fn accept_all<R: Wait>(
+/// Makes a job of each connection that is taken, as long as there are workers. One that can't be accepted uses one up.
+fn accept_until<R: Wait + time::Clock>(
+    rt: &R,
+    alloc: Global,
+    listener: &TcpListener,
+    opening: Option<Opening>,
+    users: &Shared<Users>,
+    options: ServeOptions,
+    jobs: Sender<Connection>,
+) {
+    for session in 0..options.connections {
+        let Some(taken) = next_connection(rt, listener, opening) else {
+            break;
+        };
+        match job_of(alloc, taken, users, options.idle, session) {
+            Ok(job) => {
+                if jobs.send(rt, job).is_err() {
+                    break;
+                }
+            }
+            Err(_) => rest(rt),
+        }
+    }
+}
+
+/// Makes jobs of a listener's connections, until so many were made or the time has passed for which they are taken.
+pub(crate) fn accept_all<R: Wait + time::Clock>(
     rt: &R,
     alloc: Global,
     listener: &TcpListener,
     users: &Shared<Users>,
-    connections: u64,
+    options: ServeOptions,
     jobs: Sender<Connection>,
 ) {
-    for session in 0..connections {
-        if let Ok(job) = accept(alloc, listener, users, session) {
-            let _ = jobs.send(rt, job);
-        }
-    }
+    let opening = match options.open {
+        None => None,
+        Some(time) => match Opening::begin(rt, listener, time) {
+            Ok(opening) => Some(opening),
+            Err(_) => return,
+        },
+    };
+    accept_until(rt, alloc, listener, opening, users, options, jobs);
 }

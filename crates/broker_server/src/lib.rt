@@ -6,5 +6,6 @@ mod lines;
 mod sentences;
 mod server;
 mod ticks;
+mod watch;
 
-pub use server::{Capacity, serve};
+pub use server::{ServeOptions, serve};

@@ -1,4 +1,4 @@
-//! What is told of sessions that end by a fault.
+//! What is said to an operator.
 
 use session_pool::{Gate, Why};
 use std::alloc::Global;
@@ -6,7 +6,8 @@ use std::io::Write;
 use std::sync::{Mutex, Wait};
 use wire_types::{Text, write_whole};
 
-/// Tells of each session that ends by other than Closed, in a line of its own. If that fails, nothing else does.
+/// Says what an operator is told. Of each session that ends by other than Closed that is a line of its own. If it can't be said,
+/// nothing else fails.
 #[derive(Drop)]
 pub(crate) struct Sentences<'r, R: Wait, E: Write> {
     rt: &'r R,
@@ -21,6 +22,12 @@ impl<'r, R: Wait, E: Write> Sentences<'r, R, E> {
             alloc,
             errors: Mutex::new(errors),
         }
+    }
+
+    /// Writes whole lines.
+    pub(crate) fn say(&self, lines: &str) {
+        let mut errors = self.errors.lock(self.rt);
+        let _ = write_whole(&mut *errors, lines.as_bytes());
     }
 }
 
@@ -39,8 +46,7 @@ impl<'r, R: Wait, E: Write> Gate for Sentences<'r, R, E> {
             "kbroker: session {session} of {who} from {host}: {why}\n"
         );
         if let Ok(line) = line {
-            let mut errors = self.errors.lock(self.rt);
-            let _ = write_whole(&mut *errors, line.as_bytes());
+            self.say(line.as_str());
         }
     }
 }

@@ -9,8 +9,9 @@ use crate::accept::accept_all;
 use crate::lines::{Failure, failure_line, listening_line, settled_line};
 use crate::sentences::Sentences;
 use crate::ticks::Ticks;
+use crate::watch::Watch;
 use request_handlers::{Core, MOST_SEATS, Receipt, Seat};
-use session_pool::{Gate, LockedDesk, SessionEnd, Users};
+use session_pool::{LockedDesk, SessionEnd, Users};
 use session_workers::{PoolFault, serve_all};
 use settlement::{SettleFault, Settled, settle};
 use std::alloc::{AllocError, Global};
@@ -21,6 +22,7 @@ use std::sync::Wait;
 use std::sync::ledger::{Blank, Ledger};
 use std::thread::{Threads, join};
 use std::time;
+use std::time::Duration;
 use wire_types::{Shared, write_whole};
 
 /// The exit status where all is served and settled.
@@ -29,12 +31,23 @@ const SETTLED: u8 = 0;
 /// The exit status where it isn't.
 const FAILED: u8 = 1;
 
-/// How many connections are served, and by how many workers: so many are open at once, and one more waits.
+/// How a listener's connections are served.
 #[derive(Clone, Copy, Debug, PartialEq, Eq)]
-pub struct Capacity {
+pub struct ServeOptions {
+    /// So many connections are served at once. Two more wait for a worker, and the others in the listener's queue.
     pub workers: usize,
+    /// So many are served in all.
     pub connections: u64,
+    /// For so long connections are taken, if there is an end to it.
+    pub open: Option<Duration>,
+    /// After so long a wait for its peer a session ends, if it ever does. It is above zero.
+    pub idle: Option<Duration>,
+    /// Whether each refusal is told.
+    pub audit: bool,
 }
+
+/// How many connections wait for a worker in the channel, where one more waits for its turn.
+const WAITING: usize = 1;
 
 /// The receipts of each end.
 fn receipts_of<L: Ledger>(
@@ -48,31 +61,33 @@ fn receipts_of<L: Ledger>(
     Ok(receipts)
 }
 
-/// Serves so many connections at a desk, and gives how many sessions there were and what the settled core did.
+/// Serves connections at a desk, and gives how many sessions there were and what the settled core did.
 fn serve_at<
+    'r,
     L: Ledger + Send + Sync,
     R: Net<Listener = TcpListener, Stream = TcpStream> + Threads + Wait + time::Clock + Sync,
-    G: Gate + Sync,
+    E: Write + Drop + Send,
 >(
-    rt: &R,
+    rt: &'r R,
     alloc: Global,
     blank: Blank,
     core: Core,
     users: &Shared<Users>,
     listener: &TcpListener,
-    capacity: Capacity,
-    gate: &G,
+    options: ServeOptions,
+    sentences: &Sentences<'r, R, E>,
 ) -> Result<(usize, Settled), Failure>
     requires empty { core.trail ≡ [] }
     requires ledger { (blank.name ≡ L.name) × (blank.parts ≡ L.parts) × (blank.parts ≡ most_seats + 1) }
 {
-    let desk: LockedDesk<L, &R> = LockedDesk::new(core, blank, rt);
-    let (to, from) = crossbeam_channel::unbounded(alloc).map_err(|_| PoolFault::NoMemory)?;
-    let clock = Ticks::new(rt);
+    let desk: LockedDesk<L, &'r R> = LockedDesk::new(core, blank, rt);
+    let (to, from) = crossbeam_channel::bounded(alloc, WAITING).map_err(|_| PoolFault::NoMemory)?;
+    let watch = Watch::new(alloc, &desk, sentences, options.audit);
+    let clock = Ticks::new(rt, watch);
     let ((), ends) = join(
         rt,
-        || accept_all(rt, alloc, listener, users, capacity.connections, to),
-        || serve_all(rt, alloc, &desk, from, capacity.workers, clock, gate),
+        || accept_all(rt, alloc, listener, users, options, to),
+        || serve_all(rt, alloc, &desk, from, options.workers, clock, sentences),
     );
     let ends = ends?;
     let sessions = ends.len().saturating_sub(1);
@@ -81,31 +96,32 @@ fn serve_at<
     Ok((sessions, settled))
 }
 
-/// Serves so many connections, with a ledger of its own.
+/// Serves connections with a ledger of its own.
 fn serve_booked<
+    'r,
     R: Net<Listener = TcpListener, Stream = TcpStream> + Threads + Wait + time::Clock + Sync,
-    G: Gate + Sync,
+    E: Write + Drop + Send,
 >(
-    rt: &R,
+    rt: &'r R,
     alloc: Global,
     core: Core,
     users: Users,
     listener: &TcpListener,
-    capacity: Capacity,
-    gate: &G,
+    options: ServeOptions,
+    sentences: &Sentences<'r, R, E>,
 ) -> Result<(usize, Settled), Failure>
     requires { core.trail ≡ [] }
 {
     let users = Shared::new(alloc, users).map_err(|_| PoolFault::NoMemory)?;
-    serve_at::<Brand, R, G>(
+    serve_at::<Brand, R, E>(
         rt,
         alloc,
         Blank::new(MOST_SEATS + 1),
         core,
         &users,
         listener,
-        capacity,
-        gate,
+        options,
+        sentences,
     )
 }
 
@@ -128,8 +144,9 @@ fn last_line(alloc: Global, outcome: Result<(usize, Settled), Failure>) -> Optio
     }
 }
 
-/// Prints where it listens, serves so many connections, settles the books and prints how that went. Gives the exit status, and
-/// says in a sentence to `errors` why a session ended, where it didn't end between two requests.
+/// Prints where it listens, serves connections until so many were served or no more are taken, settles the books and prints
+/// how that went. Gives the exit status. To `errors` it says in a sentence why a session ended, where it didn't end between two
+/// requests, and the line of each refusal, where that is asked for.
 pub fn serve<
     R: Net<Listener = TcpListener, Stream = TcpStream> + Threads + Wait + time::Clock + Sync,
     W: Write,
@@ -140,7 +157,7 @@ pub fn serve<
     core: Core,
     users: Users,
     listener: &TcpListener,
-    capacity: Capacity,
+    options: ServeOptions,
     writer: &mut W,
     errors: E,
 ) -> u8
@@ -154,8 +171,8 @@ pub fn serve<
         Ok(()) => {}
         Err(_) => return FAILED,
     }
-    let gate = Sentences::new(rt, alloc, errors);
-    let outcome = serve_booked(rt, alloc, core, users, listener, capacity, &gate);
+    let sentences = Sentences::new(rt, alloc, errors);
+    let outcome = serve_booked(rt, alloc, core, users, listener, options, &sentences);
     let Some((last, status)) = last_line(alloc, outcome) else {
         return FAILED;
     };

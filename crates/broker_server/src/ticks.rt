@@ -1,34 +1,55 @@
 //! The keeper's clock.
 
+use crate::watch::Watch;
 use session_workers::Clock;
+use std::io::Write;
+use std::sync::Wait;
+use std::sync::ledger::Ledger;
 use std::time::{Duration, Instant};
 use std::{thread, time};
 
-/// How long the keeper rests between two ticks, in milliseconds.
-const REST: u64 = 100;
+/// How often the keeper looks at what is new between two ticks.
+const LOOKS: u64 = 20;
 
-/// Gives the milliseconds since its start about ten times a second, until all workers have ended.
+/// How long it rests before each look, in milliseconds: in all a tenth of a second.
+const REST: u64 = 5;
+
+/// Gives the milliseconds since its start about ten times a second, until all workers have ended. Where a transaction may have
+/// ended, it gives them at once, since the keeper writes the markers that are owed behind a tick.
 #[derive(Drop)]
-pub(crate) struct Ticks<'r, R: time::Clock> {
+pub(crate) struct Ticks<'d, 'r, L: Ledger, R: Wait + time::Clock, E: Write> {
     rt: &'r R,
+    watch: Watch<'d, 'r, L, R, E>,
     start: Option<Instant>,
 }
 
-impl<'r, R: time::Clock> Ticks<'r, R> {
-    pub(crate) fn new(rt: &'r R) -> Ticks<'r, R> {
+impl<'d, 'r, L: Ledger, R: Wait + time::Clock, E: Write> Ticks<'d, 'r, L, R, E> {
+    pub(crate) fn new(rt: &'r R, watch: Watch<'d, 'r, L, R, E>) -> Ticks<'d, 'r, L, R, E> {
         Ticks {
             rt,
+            watch,
             start: Instant::now(rt).ok(),
+        }
+    }
+
+    /// Rests until a tick is due.
+    fn rest(&mut self) {
+        for _ in 0..LOOKS {
+            thread::sleep(self.rt, Duration::from_millis(REST));
+            if self.watch.look() {
+                return;
+            }
         }
     }
 }
 
-impl<'r, R: time::Clock> Clock for Ticks<'r, R> {
+impl<'d, 'r, L: Ledger, R: Wait + time::Clock, E: Write> Clock for Ticks<'d, 'r, L, R, E> {
     fn next(&mut self, done: bool) -> Option<u64> {
         if done {
+            self.watch.look();
             return None;
         }
-        thread::sleep(self.rt, Duration::from_millis(REST));
+        self.rest();
         let passed = self.start.and_then(|start| start.elapsed(self.rt).ok());
         // A clock that can't be read shows no time, and the core's never goes back.
         let passed = passed.unwrap_or(Duration::ZERO);

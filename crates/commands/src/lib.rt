@@ -12,3 +12,4 @@ mod turn;
 
 pub use open::{Opened, open_and_explain};
 pub use run::{check, check_and_explain, replay, replay_and_explain};
+pub use text::push_audit_lines;

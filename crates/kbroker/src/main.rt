@@ -2,7 +2,7 @@
 #![tactic(auto)]
 
 use arguments::{Job, Serving, arguments};
-use broker_server::{Capacity, serve};
+use broker_server::{ServeOptions, serve};
 use commands::{Opened, check_and_explain, open_and_explain, replay_and_explain};
 use session_pool::Users;
 use std::alloc::{AllocError, Global};
@@ -11,6 +11,7 @@ use std::net::{Net, TcpListener, TcpStream};
 use std::process::ExitCode;
 use std::sync::Wait;
 use std::thread::Threads;
+use std::time::Duration;
 use std::{io, time};
 
 /// The exit status of a command line that isn't understood.
@@ -28,6 +29,17 @@ fn texts<'a>(alloc: Global, words: &'a [String]) -> Result<Vec<&'a str>, AllocEr
 fn explain<E: Write>(alloc: Global, errors: &mut E, what: &str, why: &str) {
     if let Ok(text) = format!(in alloc; "kbroker: {what}: {why}\n") {
         let _ = errors.write_all(text.as_bytes());
+    }
+}
+
+/// How connections are served, with times in place of numbers.
+fn options_of(serving: Serving<'_>) -> ServeOptions {
+    ServeOptions {
+        workers: serving.workers as usize,
+        connections: serving.connections,
+        open: serving.open_seconds.map(Duration::from_secs),
+        idle: serving.idle_seconds.map(Duration::from_secs),
+        audit: serving.audit,
     }
 }
 
@@ -72,11 +84,8 @@ fn serve_connections<
             return FAILED;
         }
     };
-    let capacity = Capacity {
-        workers: serving.workers as usize,
-        connections: serving.connections,
-    };
-    serve(rt, alloc, core, users, &listener, capacity, writer, errors)
+    let options = options_of(serving);
+    serve(rt, alloc, core, users, &listener, options, writer, errors)
 }
 
 fn main(rt: HostRuntime) -> io::Result<ExitCode> {

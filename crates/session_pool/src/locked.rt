@@ -1,6 +1,7 @@
 //! A core under a lock.
 
 ghost use Rattle.std.specs.Prelude.{◌≡◌, ◌+◌, ◌≤◌, [], Some, IfOk, IfSome, OnOk, OnErr};
+ghost use Rattle.std.specs.Fn.{FnOnceReturnsAt};
 ghost use Rattle.api_dispatch.specs.Bounds.{EventFits};
 ghost use Rattle.request_handlers.specs.Core.{CoreValue};
 ghost use Rattle.request_handlers.specs.Seats.{fresh_seat, most_seats};
@@ -36,6 +37,15 @@ impl<L: Ledger, R: Wait> LockedDesk<L, R> {
         ensures { IfSome result (λ seat. seat ≡ fresh_seat) }
     {
         self.booked.lock(&self.rt).seat()
+    }
+
+    /// Looks at the core while it is locked.
+    pub fn look<T, F: FnOnce(&Core) -> T>(&self, look: F) -> T
+        requires { F.IsAlwaysCallable look }
+        ensures { (core : CoreValue) × FnOnceReturnsAt F.FnOnce look core result }
+    {
+        let booked = self.booked.lock(&self.rt);
+        look(booked.core())
     }
 }
 

@@ -1,11 +1,8 @@
-//! Tests of workers, of settlement and of the server: that sessions run at once, what is settled and what isn't, and what
-//! two connections on loopback are answered.
+//! Tests of workers and of settlement: that sessions run at once, what is settled and what isn't.
 #![tactic(auto)]
 
 #[cfg(test)]
 mod hold;
-#[cfg(test)]
-mod loopback;
 #[cfg(test)]
 mod settled;
 #[cfg(test)]

@@ -42,12 +42,6 @@ pub(crate) const FETCH: &str =
     "000000360001000400000005ffffffffffff0000000000000001000003e8000000000100016200000001000000000000\
     0000000000000000008a";
 
-/// What is answered to a fetch of the record, behind the size field and the correlation id.
-pub(crate) const FETCHED: &str =
-    "000000760000000500000000000000010001620000000100000000000000000000000000010000000000000001ffffff\
-    ff000000450000000000000000000000390000000002dbe9c87600000000000000000000000000000000000000000000\
-    ffffffffffffffffffffffffffff000000010e00000001026100";
-
 /// A core of these settings.
 fn core_of(alloc: Global, settings: &str) -> Option<Core>
     ensures { IfSome result (λ core. core.trail ≡ []) }

@@ -5,8 +5,8 @@ use Rattle.clap.specs.Matches.{found_of, subcommand_name_of}
 use Rattle.clap.specs.Walk.{rows_of}
 use Rattle.clap.specs.declared.parser.matches.Found.{Found}
 use Rattle.clap.proofs.WalkLemmas.{first_value-rows}
-use Rattle.arguments.specs.Serving.{IsServedBy}
-use Rattle.arguments.proofs.Asked.{job_found, job_is_asked, job_refused, serve_found, serve_read}
+use Rattle.arguments.specs.Serving.{IsServedBy, NoneServes}
+use Rattle.arguments.proofs.Asked.{job_found, job_is_asked, job_refused, no_serve, no_serving, serve_found, serve_read}
 use Rattle.arguments.proofs.job.arguments.Goals as goal
 
 pub returns-in_err-matches-clause-refusal : goal.returns-in_err-matches-clause-refusal
@@ -22,13 +22,23 @@ returns-in-Some-clause-job c =
 
 pub returns-in_default-subcommand_matches-clause-refusal : goal.returns-in_default-subcommand_matches-clause-refusal
 returns-in_default-subcommand_matches-clause-refusal c =
-    inl (sym (job_found (app_of c.in_ok-command.command) (map (λ w. w.now) c.args.words.now) c.in_ok-matches.matches c.in_ok-command.ensures c.in_ok-matches.ensures.ok.2 c.in_ok-matches.ensures.kinds)
-    ∙ (sym c.named_job.ensures ∙ c.in_default.is))
+    inl (record {
+      job = sym (job_found (app_of c.in_ok-command.command) (map (λ w. w.now) c.args.words.now) c.in_ok-matches.matches c.in_ok-command.ensures c.in_ok-matches.ensures.ok.2 c.in_ok-matches.ensures.kinds)
+          ∙ (sym c.named_job.ensures ∙ c.in_default.is);
+      serving = λ none. no_serve (app_of c.in_ok-command.command) (map (λ w. w.now) c.args.words.now) c.in_ok-matches.matches c.in_ok-command.ensures c.in_ok-matches.ensures.ok.2
+          (λ named. let found = c.subcommand_matches.ensures.found.1 named in cc);
+    })
 
 pub returns-clause-refusal : goal.returns-clause-refusal
 returns-clause-refusal c =
-    inl (sym (job_found (app_of c.in_ok-command.command) (map (λ w. w.now) c.args.words.now) c.in_ok-matches.matches c.in_ok-command.ensures c.in_ok-matches.ensures.ok.2 c.in_ok-matches.ensures.kinds)
-    ∙ (sym c.named_job.ensures ∙ c.in_default.is))
+    let found : Found = found_of c.in-Some-subcommand_matches.options.now in
+    let named : subcommand_name_of c.in_ok-matches.matches ≡ Some (codes "serve") = c.in-Some-subcommand_matches.ensures.found.0 refl in
+    inl (record {
+      job = sym (job_found (app_of c.in_ok-command.command) (map (λ w. w.now) c.args.words.now) c.in_ok-matches.matches c.in_ok-command.ensures c.in_ok-matches.ensures.ok.2 c.in_ok-matches.ensures.kinds)
+          ∙ (sym c.named_job.ensures ∙ c.in_default.is);
+      serving = λ none. no_serving (app_of c.in_ok-command.command) (map (λ w. w.now) c.args.words.now) c.in_ok-matches.matches (rows_of found) c.in_ok-command.ensures c.in_ok-matches.ensures.ok.2
+          named c.in-Some-subcommand_matches.ensures.rows (subst NoneServes (λ i id. first_value-rows found id i) c.in-Err.ensures.none);
+    })
 
 pub returns-in-Ok-clause-job : goal.returns-in-Ok-clause-job
 returns-in-Ok-clause-job c =
