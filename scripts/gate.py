@@ -26,20 +26,19 @@ SCRIPTS = (
     "settings.py",
     "histories.py",
     "refused_memory.py",
+    "refused_sessions.py",
+    "spoilt.py",
     "worn_epochs.py",
     "served.py",
     "soak.py",
     "must_not_compile.py",
 )
-# rt gives a proof only the processors that no other one waits for, also where all the others could wait. So what most of
-# the rest waits for comes by itself: the crate below all others, and behind what these stand on, these, a row at a time.
-# Tests that nothing stands on are left for the end, where they fill what the last proofs leave free.
-CHAIN = (
-    ("request_handlers",),
-    ("session_pool", "commands"),
-    ("session_workers", "settlement"),
-    ("broker_server",),
-)
+# rt gives a proof only the processors that no other one waits for, also where all the others could wait. So what all the
+# rest waits for comes by itself: the crate below all others, and behind what it stands on the core. Tests that nothing
+# stands on are left for the end, where they fill what the last proofs, which wait for each other, leave free.
+CORE = "request_handlers"
+# What is proved before the core though it doesn't stand on it.
+BESIDE = ("settings_text", "event_equality")
 SEEN_EVERY = 2  # seconds
 TICKS = os.sysconf("SC_CLK_TCK")
 PAGE = os.sysconf("SC_PAGE_SIZE")
@@ -125,9 +124,8 @@ def copy_lines(source, shown, kept):
 
 def stages():
     """The crates over which `rt ci` is called, in turn; at last over all."""
-    chain = [it for names in CHAIN for it in names]
-    below = [it for it in crates_of(chain) if it not in chain]
-    return [below[:1], below, *CHAIN, ()]
+    below = [it for it in crates_of([CORE, *BESIDE]) if it != CORE]
+    return [below[:1], below, [CORE], []]
 
 
 def run_rt(words, log, sampler):

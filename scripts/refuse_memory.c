@@ -15,8 +15,7 @@ static unsigned long seen;
 static unsigned long refused_at;
 
 static int refuses(void) {
-    seen += 1;
-    if (seen != refused_at) return 0;
+    if (__atomic_add_fetch(&seen, 1, __ATOMIC_SEQ_CST) != refused_at) return 0;
     errno = ENOMEM;
     return 1;
 }

@@ -115,7 +115,7 @@ def seen(broker, topic):
             time.sleep(0.05)  # a transaction is open, or its marker is owed
             continue
         values += [value for _, value in wire.committed(answer, offset)]
-        offset = batches[-1][3][-1][0] + 1
+        offset = batches[-1].end
 
 
 def check(broker, client):

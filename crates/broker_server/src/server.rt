@@ -20,9 +20,9 @@ use std::marker::Brand;
 use std::net::{Net, TcpListener, TcpStream};
 use std::sync::Wait;
 use std::sync::ledger::{Blank, Ledger};
-use std::thread::{Threads, join};
-use std::time;
+use std::thread::Threads;
 use std::time::Duration;
+use std::{thread, time};
 use wire_types::{Shared, write_whole};
 
 /// The exit status where all is served and settled.
@@ -61,6 +61,39 @@ fn receipts_of<L: Ledger>(
     Ok(receipts)
 }
 
+/// Accepts connections in a thread of their own, and serves them. Where no thread can be made for it, none is accepted.
+fn serve_accepted<
+    'x,
+    'r,
+    L: Ledger + Send + Sync,
+    R: Net<Listener = TcpListener, Stream = TcpStream> + Threads + Wait + time::Clock + Sync,
+    E: Write + Drop + Send,
+>(
+    rt: &'x R,
+    alloc: Global,
+    desk: &'x LockedDesk<L, &'r R>,
+    users: &'x Shared<Users>,
+    listener: &'x TcpListener,
+    options: ServeOptions,
+    clock: Ticks<'x, 'r, L, R, E>,
+    sentences: &'x Sentences<'r, R, E>,
+) -> Result<Vec<SessionEnd<Seat<L>>>, PoolFault> {
+    let (to, from) = crossbeam_channel::bounded(alloc, WAITING).map_err(|_| PoolFault::NoMemory)?;
+    thread::scope(
+        thread::scope_env(),
+        rt,
+        move |scope| -> Result<Vec<SessionEnd<Seat<L>>>, PoolFault> {
+            let accepting = scope.spawn(move || accept_all(
+                rt, alloc, listener, users, options, to,
+            ));
+            if accepting.is_err() {
+                return Err(PoolFault::NoThread);
+            }
+            serve_all(rt, alloc, desk, from, options.workers, clock, sentences)
+        },
+    )
+}
+
 /// Serves connections at a desk, and gives how many sessions there were and what the settled core did.
 fn serve_at<
     'r,
@@ -81,15 +114,9 @@ fn serve_at<
     requires ledger { (blank.name ≡ L.name) × (blank.parts ≡ L.parts) × (blank.parts ≡ most_seats + 1) }
 {
     let desk: LockedDesk<L, &'r R> = LockedDesk::new(core, blank, rt);
-    let (to, from) = crossbeam_channel::bounded(alloc, WAITING).map_err(|_| PoolFault::NoMemory)?;
     let watch = Watch::new(alloc, &desk, sentences, options.audit);
     let clock = Ticks::new(rt, watch);
-    let ((), ends) = join(
-        rt,
-        || accept_all(rt, alloc, listener, users, options, to),
-        || serve_all(rt, alloc, &desk, from, options.workers, clock, sentences),
-    );
-    let ends = ends?;
+    let ends = serve_accepted(rt, alloc, &desk, users, listener, options, clock, sentences)?;
     let sessions = ends.len().saturating_sub(1);
     let receipts = receipts_of(alloc, ends).map_err(|_| SettleFault::NoMemory)?;
     let settled = settle(alloc, &desk.close(), receipts.as_slice())?;

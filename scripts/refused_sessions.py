@@ -1,0 +1,134 @@
+#!/usr/bin/env python3
+"""Refuses each allocation of `kbroker serve` in turn, while a client logs in, produces, fetches and ends a transaction.
+
+Whatever is refused, the program ends by itself, with status 0 and the line of settled books or with status 1; what it
+prints is a front of a line that says where it listens and of a last line that is told; and what the client is answered
+before its connection ends is what it is answered where nothing is refused. Sessions that end for want of memory have to
+be seen.
+"""
+
+import os
+import re
+import subprocess
+import sys
+import tempfile
+from concurrent.futures import ThreadPoolExecutor
+from pathlib import Path
+
+import wire
+from program import PROGRAM, ROOT
+
+SETTINGS = """node_id = 1
+host = "h"
+port = 9092
+supers = ["User:root"]
+[[user]]
+name = "root"
+password = "toor"
+[[topic]]
+name = "b"
+partitions = 1
+"""
+
+WORDS = ("serve", "--listen", "127.0.0.1:0", "--workers", "1", "--connections", "1")
+FIRST = re.compile(rb"listening on (\S+)\n")
+LAST = re.compile(rb"sessions \d+ events \d+ refusals 0\n")
+ENDS_EARLY = (
+    b"",
+    b"listen failed\n",
+    b"settings refused: NoMemory\n",
+    b"settle failed: NoMemory\n",
+    b"settle failed: NoThread\n",
+)
+LIBRARY, GIVEN = "refuse_memory.so", "settings"
+WANT_OF_MEMORY = "there is not enough memory"
+FEWEST = 100
+
+
+class Run:
+    """The program with a client, in which this allocation is refused, or none for 0."""
+
+    def __init__(self, folder, refused_at):
+        self.answers = []
+        environment = {"LD_PRELOAD": str(folder / LIBRARY), "REFUSE_AT": str(refused_at)}
+        with open(folder / GIVEN, "rb") as given:
+            pipes = {"stdin": given, "stdout": subprocess.PIPE, "stderr": subprocess.PIPE}
+            process = subprocess.Popen([PROGRAM, *WORDS], env=environment, **pipes)
+        try:
+            self.said = process.stdout.readline()
+            found = FIRST.fullmatch(self.said)
+            if found:
+                self.talk(found[1].decode())
+            rest, told = process.communicate(timeout=60)
+        finally:
+            process.kill()
+        self.first, self.last = (self.said, rest) if found else (b"", self.said + rest)
+        self.told, self.status = told.decode(), process.returncode
+
+    def talk(self, address):
+        """Asks one thing after the other as long as the connection is there."""
+        try:
+            with wire.Connection(address) as broker:
+                for api, fields in self.asked():
+                    self.answers.append(broker.ask(api, **fields))
+        except (EOFError, OSError):
+            pass
+
+    def asked(self):
+        """What the client asks, by what it was answered."""
+        topics = [{"topic": "b", "partitions": [{"index": 0}]}]
+        yield "SaslHandshake", {"mechanism": "PLAIN"}
+        yield "SaslAuthenticate", {"auth": b"\0root\0toor"}
+        yield "Metadata", {"topics": None}
+        yield "Produce", {"topics": self.part(records=wire.batch([b"one"]))}
+        yield "InitProducerId", {"transactional_id": "t", "timeout": 60_000}
+        pair = {"producer": self.answers[-1]["producer"], "epoch": self.answers[-1]["epoch"]}
+        who = {"transactional_id": "t", **pair}
+        yield "AddPartitionsToTxn", {**who, "topics": [{"topic": "b", "partitions": [0]}]}
+        records = wire.batch([b"two"], **pair, sequence=0, transactional=True)
+        yield "Produce", {"transactional_id": "t", "topics": self.part(records=records)}
+        yield "Fetch", {"topics": self.part(offset=0, max_bytes=1000)}
+        yield "EndTxn", {**who, "committed": True}
+
+    def part(self, **fields):
+        return [{"topic": "b", "partitions": [{"index": 0, **fields}]}]
+
+
+def fault_of(run, whole):
+    """What is wrong with a run, or None."""
+    if run.answers != whole.answers[: len(run.answers)]:
+        return "is answered something else"
+    if run.status == 0 and (not run.first or not LAST.fullmatch(run.last)):
+        return "says another last line"
+    if run.status and (run.status not in (1, 2) or run.last not in ENDS_EARLY):
+        return "doesn't end as it should"
+    return None
+
+
+def main():
+    with tempfile.TemporaryDirectory() as made:
+        folder = Path(made)
+        (folder / GIVEN).write_text(SETTINGS)
+        compiler = os.environ.get("CC", "cc")
+        library, source = folder / LIBRARY, ROOT / "scripts/refuse_memory.c"
+        subprocess.run([compiler, "-O2", "-shared", "-fPIC", "-o", library, source], check=True)
+        whole = Run(folder, 0)
+        if fault_of(whole, whole) or len(whole.answers) != 9 or "allocations: " not in whole.told:
+            sys.exit(f"refused sessions: the whole run failed: {vars(whole)}")
+        count = int(whole.told.split("allocations: ")[1])
+        if count < FEWEST:
+            sys.exit(f"refused sessions: only {count} allocations were seen")
+        told = set()
+        with ThreadPoolExecutor(os.cpu_count()) as workers:
+            for at, run in enumerate(workers.map(lambda it: Run(folder, it), range(1, count + 1)), 1):
+                fault = fault_of(run, whole)
+                if fault:
+                    sys.exit(f"refused sessions: where allocation {at} of {count} is refused, a run {fault}: {vars(run)}")
+                told |= {line.rpartition(": ")[2] for line in run.told.splitlines()}
+    if WANT_OF_MEMORY not in told:
+        sys.exit(f"refused sessions: what is told is only {told}")
+    print(f"refused sessions: each of {count} allocations of a server was refused in turn")
+
+
+if __name__ == "__main__":
+    main()
