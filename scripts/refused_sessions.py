@@ -17,18 +17,9 @@ from pathlib import Path
 
 import wire
 from program import PROGRAM, ROOT
+from serving import OF_ROOT, topic
 
-SETTINGS = """node_id = 1
-host = "h"
-port = 9092
-supers = ["User:root"]
-[[user]]
-name = "root"
-password = "toor"
-[[topic]]
-name = "b"
-partitions = 1
-"""
+SETTINGS = OF_ROOT + topic("b")
 
 WORDS = ("serve", "--listen", "127.0.0.1:0", "--workers", "1", "--connections", "1")
 FIRST = re.compile(rb"listening on (\S+)\n")

@@ -11,6 +11,14 @@ from program import PROGRAM
 LISTENING = re.compile(rb"listening on (\S+)\n")
 LAST = re.compile(r"sessions (\d+) events (\d+) refusals (\d+)\n")
 
+# The settings of a broker whose one user may do everything.
+OF_ROOT = 'node_id = 1\nhost = "h"\nport = 9092\nsupers = ["User:root"]\n[[user]]\nname = "root"\npassword = "toor"\n'
+
+
+def topic(name, partitions=1):
+    """The settings of a topic."""
+    return f'[[topic]]\nname = "{name}"\npartitions = {partitions}\n'
+
 
 class Broker:
     """`kbroker serve` on a port of its own, until it has served so many connections or more words end it."""

@@ -11,7 +11,7 @@ import threading
 import time
 
 import wire
-from serving import Broker
+from serving import OF_ROOT, Broker, topic
 
 CLIENTS = 64  # connections at once
 PRODUCES = 500  # of each, and as many fetches
@@ -19,12 +19,10 @@ TRANSACTIONS = 20  # of each
 RECORDS = 3  # of each transaction
 TIMEOUT = 1_000  # milliseconds until an open transaction is aborted
 
-SETTINGS = 'node_id = 1\nhost = "h"\nport = 9092\nsupers = ["User:root"]\n[[user]]\nname = "root"\npassword = "toor"\n'
-
 
 def settings(topics):
     """Settings with so many topics."""
-    return SETTINGS + "".join(f'[[topic]]\nname = "t{it}"\npartitions = 1\n' for it in range(topics))
+    return OF_ROOT + "".join(topic(f"t{it}") for it in range(topics))
 
 
 class Cut(Exception):

@@ -17,7 +17,7 @@ import sys
 
 import wire
 from program import PROGRAM
-from serving import Broker
+from serving import OF_ROOT, Broker, topic
 
 FRAMES, SEED = 20_000, 1
 AT_ONCE = 10_000  # frames of a replay
@@ -26,17 +26,7 @@ IN_A_SESSION = 12  # frames at most
 MOST_MEMORY = 500 << 10  # kilobytes, of a replay
 UNSUPPORTED_VERSION = 35
 
-SETTINGS = """node_id = 1
-host = "h"
-port = 9092
-supers = ["User:root"]
-[[user]]
-name = "root"
-password = "toor"
-[[topic]]
-name = "a"
-partitions = 2
-"""
+SETTINGS = OF_ROOT + topic("a", 2)
 
 SERVED = {(key, version): name for name, (key, version, *_) in wire.APIS.items()}
 NUMBERS = {"i8": (1, ">b"), "i16": (2, ">h"), "i32": (4, ">i"), "i64": (8, ">q")}
