@@ -190,7 +190,7 @@ def main():
     if status and not failed:
         failed = 1
     crates = len(re.findall(r"^rt: \w+ proved$", text, re.M))
-    edits = len(re.findall(r"^rt: must-fail \S+: refused", text, re.M))
+    edits = len({*re.findall(r"^rt: must-fail (\S+): refused", text, re.M)})
     tests = sum(map(int, re.findall(r"^test result: ok\. (\d+) passed", text, re.M)))
     minutes = (time.monotonic() - started) / 60
     print(
