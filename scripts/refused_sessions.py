@@ -3,10 +3,12 @@
 
 Whatever is refused, the program ends by itself, with status 0 and the line of settled books or with status 1; what it
 prints is a front of a line that says where it listens and of a last line that is told; and what the client is answered
-before its connection ends is what it is answered where nothing is refused. Sessions that end for want of memory have to
-be seen.
+before its connection ends is what it is answered where nothing is refused. Over another connection it then asks once more
+what got no answer: what only reads is answered as if nothing had been refused, and anything else may have put the broker
+down. Both have to be seen.
 """
 
+import contextlib
 import os
 import re
 import subprocess
@@ -21,7 +23,7 @@ from serving import OF_ROOT, topic
 
 SETTINGS = OF_ROOT + topic("b")
 
-WORDS = ("serve", "--listen", "127.0.0.1:0", "--workers", "1", "--connections", "1")
+WORDS = ("serve", "--listen", "127.0.0.1:0", "--workers", "1", "--connections", "2")
 FIRST = re.compile(rb"listening on (\S+)\n")
 LAST = re.compile(rb"sessions \d+ events \d+ refusals 0\n")
 ENDS_EARLY = (
@@ -33,6 +35,9 @@ ENDS_EARLY = (
 )
 LIBRARY, GIVEN = "refuse_memory.so", "settings"
 WANT_OF_MEMORY = "there is not enough memory"
+DOWN = "an earlier event put the broker down"
+READING = ("Metadata", "Fetch")
+CLOSED = contextlib.suppress(EOFError, OSError)
 FEWEST = 100
 
 
@@ -40,7 +45,7 @@ class Run:
     """The program with a client, in which this allocation is refused, or none for 0."""
 
     def __init__(self, folder, refused_at):
-        self.answers = []
+        self.answers, self.left, self.again = [], None, None
         environment = {"LD_PRELOAD": str(folder / LIBRARY), "REFUSE_AT": str(refused_at)}
         with open(folder / GIVEN, "rb") as given:
             pipes = {"stdin": given, "stdout": subprocess.PIPE, "stderr": subprocess.PIPE}
@@ -57,13 +62,17 @@ class Run:
         self.told, self.status = told.decode(), process.returncode
 
     def talk(self, address):
-        """Asks one thing after the other as long as the connection is there."""
-        try:
-            with wire.Connection(address) as broker:
-                for api, fields in self.asked():
-                    self.answers.append(broker.ask(api, **fields))
-        except (EOFError, OSError):
-            pass
+        """Asks one thing after the other as long as the connection is there, and over another one what is left."""
+        with CLOSED, wire.Connection(address) as broker:
+            for self.left in self.asked():
+                api, fields = self.left
+                self.answers.append(broker.ask(api, **fields))
+            self.left = None
+        with CLOSED, wire.Connection(address) as broker:
+            if self.left:
+                api, fields = self.left
+                broker.login("root", "toor")
+                self.again = broker.ask(api, **fields)
 
     def asked(self):
         """What the client asks, by what it was answered."""
@@ -84,11 +93,23 @@ class Run:
     def part(self, **fields):
         return [{"topic": "b", "partitions": [{"index": 0, **fields}]}]
 
+    def why(self, session):
+        """Why a session ended, as an operator is told it, or None."""
+        found = re.search(rf"^kbroker: session {session} of .*: (.*)$", self.told, re.M)
+        return found and found[1]
+
+    def is_asked_again(self):
+        """Whether what only reads was left unanswered for want of memory, and the program served another session."""
+        reads = self.left is not None and self.left[0] in READING
+        return reads and self.status == 0 and self.why(0) == WANT_OF_MEMORY
+
 
 def fault_of(run, whole):
     """What is wrong with a run, or None."""
     if run.answers != whole.answers[: len(run.answers)]:
         return "is answered something else"
+    if run.is_asked_again() and run.again != whole.answers[len(run.answers)]:
+        return "is not answered what only reads when it is asked again"
     if run.status == 0 and (not run.first or not LAST.fullmatch(run.last)):
         return "says another last line"
     if run.status and (run.status not in (1, 2) or run.last not in ENDS_EARLY):
@@ -109,16 +130,20 @@ def main():
         count = int(whole.told.split("allocations: ")[1])
         if count < FEWEST:
             sys.exit(f"refused sessions: only {count} allocations were seen")
-        told = set()
+        of_reading, of_others = 0, 0
         with ThreadPoolExecutor(os.cpu_count()) as workers:
             for at, run in enumerate(workers.map(lambda it: Run(folder, it), range(1, count + 1)), 1):
                 fault = fault_of(run, whole)
                 if fault:
                     sys.exit(f"refused sessions: where allocation {at} of {count} is refused, a run {fault}: {vars(run)}")
-                told |= {line.rpartition(": ")[2] for line in run.told.splitlines()}
-    if WANT_OF_MEMORY not in told:
-        sys.exit(f"refused sessions: what is told is only {told}")
-    print(f"refused sessions: each of {count} allocations of a server was refused in turn")
+                of_reading += run.is_asked_again()
+                of_others += run.why(0) == WANT_OF_MEMORY and run.why(1) == DOWN
+    if not of_reading or not of_others:
+        sys.exit(f"refused sessions: {of_reading} were asked again, and {of_others} put the broker down")
+    print(
+        f"refused sessions: each of {count} allocations of a server was refused in turn; {of_reading} times what only"
+        f" reads was asked again, and {of_others} times the broker was down"
+    )
 
 
 if __name__ == "__main__":

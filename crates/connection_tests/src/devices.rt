@@ -2,7 +2,9 @@
 
 ghost use Rattle.std.specs.Prelude.{None};
 
-use session_clients::{HANDSHAKE, LOGIN, METADATA, bytes_of, serve};
+use session_clients::{
+    HANDSHAKE, HANDSHAKE_TOLD, LOGIN, LOGIN_TOLD, METADATA, METADATA_TOLD, bytes_of, serve,
+};
 use session_pool::{Limits, Why};
 use std::io;
 use std::io::{ErrorKind, Read, Write};
@@ -181,6 +183,47 @@ fn failing_writes(rt: HostRuntime) -> Result<(), Fail> {
         assert_eq!(rt; end.receipts, usize::from(writes >= 37));
         assert!(rt; narrow.held.as_slice() == &whole[..writes]);
     }
+    Ok(())
+}
+
+/// Each front of an input ends between frames or inside one, and the whole frames before are answered.
+#[test]
+fn each_front_of_an_input(rt: HostRuntime) -> Result<(), Fail> {
+    let alloc = rt.alloc();
+    let input = bytes_of(alloc, &[HANDSHAKE, LOGIN, METADATA])?;
+    let whole = bytes_of(alloc, &[HANDSHAKE_TOLD, LOGIN_TOLD, METADATA_TOLD])?;
+    for len in 0..input.len() {
+        let mut written = Vec::new(alloc);
+        let end = serve(rt, alloc, &input[..len], &mut written, Limits::default())?;
+        let (why, answered) = match len {
+            0 => (Why::Closed, 0),
+            1..=20 => (Why::Cut, 0),
+            21 => (Why::Closed, 21),
+            22..=45 => (Why::Cut, 21),
+            46 => (Why::Closed, 37),
+            _ => (Why::Cut, 37),
+        };
+        assert!(rt; end.why == why, "{len}");
+        assert!(rt; written.as_slice() == &whole[..answered], "{len}");
+    }
+    Ok(())
+}
+
+/// Room is made for as much as has come, so a long frame comes in few reads.
+#[test]
+fn a_long_frame_in_few_reads(rt: HostRuntime) -> Result<(), Fail> {
+    let alloc = rt.alloc();
+    let mut input = bytes_of(alloc, &["000f4240"])?;
+    input.resize(4 + 1_000_000, 0)?;
+    let reads = AtomicU64::new(0);
+    let counted = Counted {
+        bytes: input.as_slice(),
+        reads: &reads,
+    };
+    let mut written = Vec::new(alloc);
+    let end = serve(rt, alloc, counted, &mut written, Limits::default())?;
+    assert!(rt; end.why == Why::Malformed);
+    assert!(rt; reads.load(Ordering::SeqCst) < 12);
     Ok(())
 }
 

@@ -178,15 +178,35 @@ fn list_told(
     }
 }
 
-/// The batches, one behind the other.
+/// The batches, one behind the other. One alone shares its bytes with the log.
+#[tactic(auto, using(crate::proofs::Alone::alone))]
 fn joined(alloc: Global, batches: &[Batch]) -> Result<Bytes, AllocError>
     ensures { IfOk result (λ bytes. bytes ≡ batch_bytes batches.now) }
 {
-    let mut out = Vec::new(alloc);
+    match batches {
+        [batch] => batch.bytes().clone(),
+        _ => copied(alloc, batches),
+    }
+}
+
+/// Copies of the batches, one behind the other.
+fn copied(alloc: Global, batches: &[Batch]) -> Result<Bytes, AllocError>
+    ensures { IfOk result (λ bytes. bytes ≡ batch_bytes batches.now) }
+{
+    let mut out = Vec::with_capacity(alloc, room_for_all(batches))?;
     for batch in batches {
         out.extend_from_slice(batch.bytes().as_slice())?;
     }
     Ok(Bytes::from_vec(out)?)
+}
+
+/// How many bytes they have.
+fn room_for_all(batches: &[Batch]) -> usize {
+    let mut room = 0usize;
+    for batch in batches {
+        room = room.saturating_add(batch.bytes().len());
+    }
+    room
 }
 
 /// What a Fetch is answered.

@@ -16,6 +16,10 @@ TookLast old P = IfSome old (λ input. (read rest : List ℕ) × (input ≡ read
 abbrev pub StopsShort : Option (List ℕ) → Option (List ℕ) → ℕ → Type 0
 StopsShort old new n = (read : List ℕ) × Consumes old new read × (length read < n)
 
+-- what was read stands behind what was held
+abbrev pub ReadsOn : Option (List ℕ) → Option (List ℕ) → List ℕ → List ℕ → Type 0
+ReadsOn old new held more = (read : List ℕ) × (more ≡ held ++ read) × Consumes old new read
+
 abbrev pub HeadLacks : Why → List ℕ → List ℕ → Type 0
 HeadLacks why.Closed read rest = (length read ≡ 0) × (rest ≡ [])
 HeadLacks why.Cut read rest = (0 < length read) × (length read < 4) × (rest ≡ [])

@@ -87,6 +87,7 @@ fn finish<W: Write>(writer: &mut W, outcome: Outcome) -> Result<State, Why>
 fn turn<S, Rd: Read, Wr: Write, D: Desk<S>>(
     alloc: Global,
     reader: &mut Rd,
+    room: &mut Vec<u8>,
     writer: &mut Wr,
     host: &Text,
     users: &Users,
@@ -100,7 +101,7 @@ fn turn<S, Rd: Read, Wr: Write, D: Desk<S>>(
     ensures risen { (D.view result.0).count + vec_len receipts.old ≡ (D.view seat).count + vec_len receipts.new }
     ensures turns { Took (Rd.remaining reader.old) (Rd.remaining reader.new) (TurnsOn (record { users = users.now; host = host.now }) limit state (Wr.contents writer.old) (Wr.contents writer.new) receipts.old.items receipts.new.items result.1) }
 {
-    let frame = match read_frame(alloc, reader, limit) {
+    let frame = match read_frame(alloc, reader, room, limit) {
         Ok(frame) => frame,
         Err(why) => return (seat, Err(why)),
     };
@@ -127,6 +128,7 @@ fn serve<S, Rd: Read, Wr: Write, D: Desk<S>, G: Gate>(
     ensures session { Took (Rd.remaining reader.old) (Rd.remaining reader.new) (SessionOf (record { users = users.now; host = host.now }) limits.frames limits.frame (Wr.contents writer.old) (Wr.contents writer.new) result.receipts.items result.why) }
 {
     let mut seat = seat;
+    let mut room = Vec::new(alloc);
     let mut receipts = Vec::new(alloc);
     let mut state = State::Fresh(Fresh::new());
     for frame in 0..limits.frames {
@@ -134,6 +136,7 @@ fn serve<S, Rd: Read, Wr: Write, D: Desk<S>, G: Gate>(
         let (back, outcome) = turn(
             alloc,
             reader,
+            &mut room,
             writer,
             host,
             users,

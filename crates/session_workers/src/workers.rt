@@ -1,6 +1,6 @@
 //! Worker threads, which take jobs from a channel.
 
-ghost use Rattle.std.specs.Prelude.{◌≡◌, ◌∷◌, ◌++◌, [], All, IfOk, OnOk};
+ghost use Rattle.std.specs.Prelude.{◌≡◌, ◌+◌, ◌∷◌, ◌++◌, [], vec_len, All, IfOk, OnOk};
 ghost use Rattle.session_workers.specs.Ends.{HasRisen, IsKept, AreEnds};
 ghost use Rattle.session_workers.specs.Faults.{fault_name};
 
@@ -74,7 +74,8 @@ fn collect<L: Ledger>(
     done: Vec<Done<L>>,
 ) -> Result<(), AllocError>
     requires { All HasRisen ends.old.items }
-    ensures { OnOk result (All HasRisen ends.new.items) }
+    ensures risen { OnOk result (All HasRisen ends.new.items) }
+    ensures all { OnOk result (vec_len ends.new ≡ vec_len ends.old + vec_len done) }
 {
     for Done { end } in done {
         ends.push(end)?;

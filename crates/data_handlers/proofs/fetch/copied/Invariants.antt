@@ -1,6 +1,6 @@
 use Rattle.std.proofs.Common.{◌≡◌, ◌++◌, drop}
 use Rattle.data_handlers.specs.Fetch.{batch_bytes}
-use Rattle.data_handlers.proofs.fetch.joined.Given as goal
+use Rattle.data_handlers.proofs.fetch.copied.Given as goal
 
 -- what is joined so far, and then what is left
 abbrev pub invariant-loop-batch : goal.invariant-loop-batch
