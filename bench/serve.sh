@@ -1,7 +1,7 @@
 #!/usr/bin/env bash
 # Measures `kbroker serve` beside the mock broker of librdkafka, in one run, as a table for bench/README.md: records of 100
-# bytes produced and fetched in a second, five requests in flight, and round trips of a small request. It needs the proved
-# program (`make prove`), a Rust and a C compiler, and librdkafka (Debian's librdkafka-dev).
+# bytes produced and fetched in a second, five requests in flight, and round trips of a small request; each the best of three
+# runs. It needs the proved program (`make prove`), a Rust and a C compiler, and librdkafka (Debian's librdkafka-dev).
 set -euo pipefail
 cd "$(dirname "$0")/.."
 
@@ -48,13 +48,18 @@ stop() {
     rm -f "$made/input" "$made/said"
 }
 
-# Measures one thing at a broker of its own: the broker, and the client's words.
-measure() {
+# Measures one thing at a broker of its own, once: the broker, and the client's words.
+once() {
     start "$1"
     if [ "$1" = mock ]; then who=(- -); else who=(root toor); fi
     shift
     "$made/client" "$address" "${who[@]}" "$@"
     stop
+}
+
+# The best of three.
+measure() {
+    for _ in 1 2 3; do once "$@"; done | sort -n | tail -1
 }
 
 row() {

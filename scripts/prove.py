@@ -25,7 +25,7 @@ UNUSABLE = re.compile(r"^rattle: error\[unusable-built-library\]: the rlib of `(
 RUNS_PROGRAM = re.compile(r"^rt: running ", re.M)
 SHARE_OF_MEMORY = 0.85
 MOST_JOBS = 4
-LEAST_OF_FIRST = 2  # for which the longest chain of crates waits
+WORK_OF_TWO = 2  # of two jobs in a crate, as against one: so they pay only where few crates are ready
 NEED_OF_JOB = 0.6  # of another job in the same crate
 TOLD_EVERY = 10  # seconds
 
@@ -175,17 +175,17 @@ def lines_behind(crates):
     return behind
 
 
-def start_next(rt, left, running, memory, needs):
+def start_next(rt, left, running, memory, needs, below):
     """Starts what is ready and has a processor and memory, in the order of what is left."""
     unmade = {*left, *(it.crate for it in running)}
-    ready = [it for it in left if not unmade & {*it.below()}]
-    for at, crate in enumerate(ready):
+    ready = [it for it in left if not unmade & below[it]]
+    share = processors(rt) // (WORK_OF_TWO * max(1, len(ready) + len(running)))
+    for crate in ready:
         idle = processors(rt) - sum(it.jobs for it in running)
         room, need = memory - sum(it.need for it in running), needs[crate]
         if idle < 1 or running and need > room:
             continue
-        share = max(idle - len(ready) + 1, LEAST_OF_FIRST) if at == 0 else idle // (len(ready) - at)
-        spare = min(MOST_JOBS, share, 1 + int((room / need - 1) / NEED_OF_JOB))
+        spare = min(MOST_JOBS, share, idle, 1 + int((room / need - 1) / NEED_OF_JOB))
         lock = lock_of(crate)
         if lock is not None:
             left.remove(crate)
@@ -202,10 +202,11 @@ def prove_side_by_side(rt, left, progress):
     """Proves these crates, each when those below it are, and those with the longest chain above them first."""
     memory, running = SHARE_OF_MEMORY * rt.free(), []
     behind, needs = lines_behind(left), {it: rt.need(it) for it in left}
+    below = {it: {*it.below()} for it in left}  # which takes a while to find
     left = sorted(left, key=lambda it: -behind[it])
     try:
         while left or running:
-            start_next(rt, left, running, memory, needs)
+            start_next(rt, left, running, memory, needs, below)
             progress.tell([it.crate.name for it in running] or ["waiting for another rt to end"])
             time.sleep(0.5)
             for step in [it for it in running if it.process.poll() is not None]:

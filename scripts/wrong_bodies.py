@@ -2,11 +2,14 @@
 """Tries the second shelf of wrong bodies, crates/NAME/wrong-bodies/*.edit: `make wrong-bodies`.
 
 `rt ci` tries those of must-fail/ at each gate. These are more of the same kind, for whoever changes a crate:
-`scripts/wrong_bodies.py --both walk` tries both shelves of the crate walk, and with no name all crates are tried. Each
-crate has a `rt must-fail` of its own, over a copy of the repository, where its shelf stands in the place of must-fail/.
-What is printed is each edit that the prover didn't refuse, or refused for no more than a name in a proof file.
+`scripts/wrong_bodies.py --both walk` tries both shelves of the crate walk, and with no name all crates are tried. They
+are tried as `rt must-fail` tries them, over a copy of the repository, where a crate's shelf stands in the place of
+must-fail/; but those of different functions in one check, where that shows each of them refused (scripts/turned.py), and
+with `--alone` each in a check of its own. What is printed is each edit that the prover didn't refuse, or refused for no
+more than a name in a proof file.
 """
 
+import json
 import os
 import shutil
 import subprocess
@@ -21,6 +24,7 @@ from program import PARTS, ROOT, crates_list, crates_of
 
 WITHOUT_NAME = "only because a proof file names what the edit took away"
 SHELVES = ("wrong-bodies", "must-fail")
+TURNED = ROOT / "scripts/turned.py"
 
 
 def shelved(name, shelves):
@@ -66,14 +70,13 @@ def copy_repository(room, edits):
 class Trial:
     """A crate whose edits are being tried."""
 
-    def __init__(self, rt, crate, room, edits):
+    def __init__(self, crate, room, edits, options):
         self.crate, self.name, self.edits = crate, crate.name, edits
         self.log = room / f"{crate.name}.log"
         with self.log.open("w") as log:
-            # what rt leaves in its temporary folders when it is ended goes with the room
+            # what a check leaves in its temporary folders when it is ended goes with the room
             self.process = subprocess.Popen(
-                [*rt.rtlib.guarded(), sys.executable, rt.__file__, "must-fail", crate.name],
-                cwd=room / "copy",
+                [sys.executable, TURNED, room / "copy", crate.name, *options],
                 env={**os.environ, "TMPDIR": str(room / "tmp")},
                 stdin=subprocess.DEVNULL,
                 stdout=log,
@@ -86,22 +89,15 @@ class Trial:
         self.process.wait()
 
     def told(self):
-        """What was said of each edit, by its name."""
-        found, name = {}, None
-        for line in self.log.read_text(errors="replace").splitlines():
-            head = f"rt: must-fail {self.name}/"
-            if line.startswith(head):
-                name, _, line = line[len(head) :].partition(": ")
-            if name:
-                found[name] = [*found.get(name, []), line]
-        return {it: "\n".join(lines) for it, lines in found.items()}
+        """What was said of each edit, by its name: whether it was refused, and how."""
+        lines = self.log.read_text(errors="replace").splitlines()
+        return dict(json.loads(it) for it in lines if it.startswith("["))
 
     def judge(self):
         """Prints what is no plain refusal, and returns how many edits were not refused."""
         told, failed = self.told(), 0
         for name, edit in self.edits.items():
-            text = told.get(name, "NOT TRIED")
-            is_refused = text.startswith("refused, as it must be")
+            is_refused, text = told.get(name, (False, "NOT TRIED"))
             failed += not is_refused
             if not is_refused or WITHOUT_NAME in text:
                 print(f"{edit.parent.name} {self.name}/{name}: {text}", flush=True)
@@ -110,7 +106,7 @@ class Trial:
         return failed
 
 
-def try_side_by_side(rt, crates, edits, room):
+def try_side_by_side(rt, crates, edits, room, options):
     """Tries each crate's edits, as many crates at a time as processors and memory allow, and returns what failed."""
     work = {it: it.count(rb"\n") * (10 + len(edits[it.name])) for it in crates}
     left, running, failed = sorted(crates, key=lambda it: -work[it]), [], 0
@@ -123,7 +119,7 @@ def try_side_by_side(rt, crates, edits, room):
                 free = memory - sum(needs[it.crate] for it in running)
                 if not running or len(running) < lanes and needs[crate] <= free:
                     left.remove(crate)
-                    running.append(Trial(rt, crate, room, edits[crate.name]))
+                    running.append(Trial(crate, room, edits[crate.name], options))
             progress.tell([it.name for it in running])
             time.sleep(0.5)
             for trial in [it for it in running if it.process.poll() is not None]:
@@ -144,7 +140,8 @@ def try_side_by_side(rt, crates, edits, room):
 def main():
     words = sys.argv[1:]
     shelves = SHELVES if "--both" in words else SHELVES[:1]
-    names = [it for it in words if it != "--both"] or [*crates_list()]
+    options = [it for it in words if it == "--alone"]
+    names = [it for it in words if not it.startswith("--")] or [*crates_list()]
     edits = {it: shelved(it, shelves) for it in crates_of(names) if it in names}
     edits = {name: found for name, found in edits.items() if found}
     if not edits:
@@ -161,7 +158,7 @@ def main():
         copy_repository(room / "copy", edits)
         (room / "tmp").mkdir()
         os.close(held)
-        sys.exit(1 if try_side_by_side(rt, crates, edits, room) else 0)
+        sys.exit(1 if try_side_by_side(rt, crates, edits, room, options) else 0)
 
 
 if __name__ == "__main__":

@@ -204,7 +204,8 @@ fn each_front_of_an_input(rt: HostRuntime) -> Result<(), Fail> {
             _ => (Why::Cut, 37),
         };
         assert!(rt; end.why == why, "{len}");
-        assert!(rt; written.as_slice() == &whole[..answered], "{len}");
+        assert!(rt; written.len() == answered, "{len}");
+        assert!(rt; whole.as_slice().starts_with(written.as_slice()), "{len}");
     }
     Ok(())
 }
