@@ -26,6 +26,7 @@ SCRIPTS = (
     "settings.py",
     "histories.py",
     "refused_memory.py",
+    "refused_runs.py",
     "refused_sessions.py",
     "spoilt.py",
     "worn_epochs.py",

@@ -16,18 +16,17 @@ import tempfile
 from concurrent.futures import ThreadPoolExecutor
 from pathlib import Path
 
-ROOT = Path(__file__).resolve().parent.parent
-PROGRAM = ROOT / "crates/kbroker/out/kbroker"
+import refusing
+from program import PROGRAM, ROOT
+
 STOP, SETTINGS = b"stop 1\n", b"settings refused: NoMemory\n"
 FEWEST = 10
 
 
 def run(library, command, text, refused_at):
     """The program's run, in which this allocation is refused, or none for 0."""
-    environment = {"LD_PRELOAD": str(library), "REFUSE_AT": str(refused_at)}
-    return subprocess.run(
-        [PROGRAM, command], input=text, capture_output=True, env=environment, timeout=60
-    )
+    where = refusing.environment(library, refused_at)
+    return subprocess.run([PROGRAM, command], input=text, capture_output=True, env=where, timeout=60)
 
 
 def last_line(output, whole):
@@ -56,9 +55,9 @@ def last_words(name, ran, whole):
 def refuse_each(library, name, command, text):
     """Refuses each allocation of a command in turn, and returns how many there are."""
     whole = run(library, command, text, 0)
-    if whole.returncode != 0 or b"allocations: " not in whole.stderr:
+    count = refusing.counted(whole.stderr.decode())
+    if whole.returncode != 0 or count is None:
         sys.exit(f"refused memory: {name}: the whole run failed")
-    count = int(whole.stderr.split(b"allocations: ")[1])
     if count < FEWEST:
         sys.exit(f"refused memory: {name}: only {count} allocations were seen")
     with ThreadPoolExecutor(os.cpu_count()) as workers:
@@ -76,11 +75,7 @@ def main():
     scripts = {"the stored run": ROOT / "crates/kbroker/stdin"}
     scripts |= {it.stem: it for it in sorted((ROOT / "examples").glob("*.txt"))}
     with tempfile.TemporaryDirectory() as folder:
-        library = Path(folder) / "refuse_memory.so"
-        source = ROOT / "scripts/refuse_memory.c"
-        compiler = os.environ.get("CC", "cc")
-        subprocess.run([compiler, "-O2", "-shared", "-fPIC", "-o", library, source], check=True)
-        count = 0
+        library, count = refusing.library(Path(folder)), 0
         for name, file in scripts.items():
             text = file.read_bytes()
             settings = text.partition(b"---\n")[0]

@@ -17,8 +17,9 @@ import tempfile
 from concurrent.futures import ThreadPoolExecutor
 from pathlib import Path
 
+import refusing
 import wire
-from program import PROGRAM, ROOT
+from program import PROGRAM
 from serving import OF_ROOT, topic
 
 SETTINGS = OF_ROOT + topic("b")
@@ -33,7 +34,7 @@ ENDS_EARLY = (
     b"settle failed: NoMemory\n",
     b"settle failed: NoThread\n",
 )
-LIBRARY, GIVEN = "refuse_memory.so", "settings"
+GIVEN = "settings"
 WANT_OF_MEMORY = "there is not enough memory"
 DOWN = "an earlier event put the broker down"
 READING = ("Metadata", "Fetch")
@@ -46,7 +47,7 @@ class Run:
 
     def __init__(self, folder, refused_at):
         self.answers, self.left, self.again = [], None, None
-        environment = {"LD_PRELOAD": str(folder / LIBRARY), "REFUSE_AT": str(refused_at)}
+        environment = refusing.environment(folder / refusing.LIBRARY, refused_at)
         with open(folder / GIVEN, "rb") as given:
             pipes = {"stdin": given, "stdout": subprocess.PIPE, "stderr": subprocess.PIPE}
             process = subprocess.Popen([PROGRAM, *WORDS], env=environment, **pipes)
@@ -121,13 +122,11 @@ def main():
     with tempfile.TemporaryDirectory() as made:
         folder = Path(made)
         (folder / GIVEN).write_text(SETTINGS)
-        compiler = os.environ.get("CC", "cc")
-        library, source = folder / LIBRARY, ROOT / "scripts/refuse_memory.c"
-        subprocess.run([compiler, "-O2", "-shared", "-fPIC", "-o", library, source], check=True)
+        refusing.library(folder)
         whole = Run(folder, 0)
-        if fault_of(whole, whole) or len(whole.answers) != 9 or "allocations: " not in whole.told:
+        count = refusing.counted(whole.told)
+        if fault_of(whole, whole) or len(whole.answers) != 9 or count is None:
             sys.exit(f"refused sessions: the whole run failed: {vars(whole)}")
-        count = int(whole.told.split("allocations: ")[1])
         if count < FEWEST:
             sys.exit(f"refused sessions: only {count} allocations were seen")
         of_reading, of_others = 0, 0

@@ -1,0 +1,193 @@
+//! Hands the events of a script to a core, and asks once more for the one that was stopped. It is for
+//! `scripts/refused_runs.py`, which refuses each of its allocations in turn.
+//!
+//! Standard input is settings, a line `---`, and a line for each event: `mark`, `tick N`, or `USER HOST FRAME`, the frame in
+//! hexadecimal digits and without its size field. The argument says whether the core is handed them as a list (`run`) or
+//! one by one (`step`).
+#![tactic(auto)]
+
+ghost use Rattle.std.specs.Prelude.{IfSome};
+ghost use Rattle.std.specs.List.{AllByRecursion};
+ghost use Rattle.api_dispatch.specs.Bounds.{EventFits};
+
+use acl_binding::Caller;
+use audit_trail::Event;
+use bytes::Bytes;
+use msg_admin::{FRAME_LIMIT, read_request, write_reply};
+use request_handlers::{Core, Receipt, Stop};
+use settings_text::document_of_text;
+use std::alloc::{AllocError, Global};
+use std::io;
+use std::io::Write;
+use std::process::ExitCode;
+use wire_types::{Text, read_input};
+
+/// The exit status where the core was never opened, or the script can't be read.
+const NOT_BEGUN: u8 = 3;
+
+/// The request of a frame, and who asks it.
+fn asked(alloc: Global, user: &str, host: &str, digits: &str) -> Option<Event>
+    ensures { IfSome result EventFits }
+{
+    let frame = Bytes::from_vec(hex::decode(alloc, digits).ok()?).ok()?;
+    if frame.len() > FRAME_LIMIT {
+        return None;
+    }
+    let (header, request) = read_request(alloc, &frame).ok()?;
+    Some(Event::Ask {
+        caller: Caller {
+            who: Text::from(format!(in alloc; "User:{user}").ok()?),
+            host: Text::of(alloc, host).ok()?,
+        },
+        client: header.client,
+        request,
+    })
+}
+
+/// The event of a line.
+fn event_of(alloc: Global, line: &str) -> Option<Event>
+    ensures { IfSome result EventFits }
+{
+    if line == "mark" {
+        return Some(Event::Mark);
+    }
+    let (first, rest) = line.split_once(' ')?;
+    if first == "tick" {
+        return Some(Event::Tick(rest.parse::<u64>().ok()?));
+    }
+    let (host, digits) = rest.split_once(' ')?;
+    asked(alloc, first, host, digits)
+}
+
+/// The events of a script.
+#[tactic(auto, using(crate::proofs::Fits::fits_more))]
+fn events_of(alloc: Global, script: &str) -> Option<Vec<Event>>
+    ensures { IfSome result (λ events. AllByRecursion EventFits events.items) }
+{
+    let mut events = Vec::new(alloc);
+    let mut rest = script;
+    for _ in 0..script.len() {
+        let Some((line, more)) = rest.split_once('\n') else {
+            break;
+        };
+        let event = event_of(alloc, line)?;
+        events.push(event).ok()?;
+        rest = more;
+    }
+    Some(events)
+}
+
+/// The event at a place of a script.
+fn event_at(alloc: Global, script: &str, place: usize) -> Option<Event>
+    ensures { IfSome result EventFits }
+{
+    let mut rest = script;
+    for _ in 0..place {
+        let (_line, more) = rest.split_once('\n')?;
+        rest = more;
+    }
+    let (line, _more) = rest.split_once('\n')?;
+    event_of(alloc, line)
+}
+
+/// Takes so many events of a script one by one, up to the first stop.
+fn step_each(
+    alloc: Global,
+    core: &mut Core,
+    script: &str,
+    count: usize,
+) -> Result<(Vec<Receipt>, Option<Stop>), AllocError> {
+    let mut receipts = Vec::new(alloc);
+    for place in 0..count {
+        let Some(event) = event_at(alloc, script, place) else {
+            return Err(AllocError);
+        };
+        match core.step(event) {
+            Ok(receipt) => receipts.push(receipt)?,
+            Err(stop) => return Ok((receipts, Some(stop))),
+        }
+    }
+    Ok((receipts, None))
+}
+
+/// The line for an event that was taken or stopped.
+fn told(alloc: Global, outcome: &Result<Receipt, Stop>) -> Result<String, AllocError> {
+    match outcome {
+        Ok(receipt) => match write_reply(alloc, 0, receipt.reply()) {
+            Ok(frame) => format!(in alloc;
+                "{} {}\n",
+                receipt.place(),
+                hex::encode(alloc, frame.as_slice())?
+            ),
+            Err(_) => Err(AllocError),
+        },
+        Err(Stop::NoMemory) => String::from_str(alloc, "stop 1\n"),
+        Err(Stop::TrailFull) => String::from_str(alloc, "stop 2\n"),
+        Err(Stop::Down) => String::from_str(alloc, "stop 3\n"),
+    }
+}
+
+/// Prints what came of the events, how many the trail has, and what the one that was stopped comes to now.
+fn tell<W: Write>(
+    alloc: Global,
+    core: &mut Core,
+    script: &str,
+    receipts: Vec<Receipt>,
+    stop: Option<Stop>,
+    writer: &mut W,
+) -> io::Result<()> {
+    let count = receipts.len();
+    for receipt in receipts {
+        writer.write_all(told(alloc, &Ok(receipt))?.as_bytes())?;
+    }
+    if let Some(stop) = stop {
+        writer.write_all(told(alloc, &Err(stop))?.as_bytes())?;
+    }
+    writer.write_all(format!(in alloc; "trail {}\n", core.trail().len())?.as_bytes())?;
+    if stop.is_some() {
+        let Some(event) = event_at(alloc, script, count) else {
+            return Ok(());
+        };
+        let outcome = core.step(event);
+        writer.write_all(told(alloc, &outcome)?.as_bytes())?;
+    }
+    Ok(())
+}
+
+/// A core of the settings.
+fn open(alloc: Global, settings: &str) -> Option<Core> {
+    let document = document_of_text(alloc, settings.as_bytes()).ok()?;
+    Core::open(alloc, document.settings).ok()
+}
+
+fn main(rt: HostRuntime) -> io::Result<ExitCode> {
+    let alloc = rt.alloc();
+    let words: Vec<String> = std::env::args(&rt)?.collect(alloc)?;
+    let at_once = words.iter().any(|word| word.as_str() == "run");
+    let Ok(input) = read_input(alloc, &mut rt.reader()) else {
+        return Ok(ExitCode::from(NOT_BEGUN));
+    };
+    let Ok(text) = std::str::from_utf8(input.as_slice()) else {
+        return Ok(ExitCode::from(NOT_BEGUN));
+    };
+    let Some((settings, script)) = text.split_once("---\n") else {
+        return Ok(ExitCode::from(NOT_BEGUN));
+    };
+    let (Some(mut core), Some(events)) = (open(alloc, settings), events_of(alloc, script)) else {
+        return Ok(ExitCode::from(NOT_BEGUN));
+    };
+    let (receipts, stop) = if at_once {
+        core.run(events)
+    } else {
+        step_each(alloc, &mut core, script, events.len())?
+    };
+    tell(
+        alloc,
+        &mut core,
+        script,
+        receipts,
+        stop,
+        &mut io::writer(&rt),
+    )?;
+    Ok(ExitCode::SUCCESS)
+}
