@@ -4,12 +4,13 @@ mod versions;
 
 use bytes::Bytes;
 use msg_admin::{
-    Api, Header, Reply, one_reply, one_request, read_fits, read_request, write_reply,
-    write_request, written_is_read,
+    Api, Header, Reply, fits_is_writable, found_is_request, one_reply, one_request, one_response,
+    read_fits, read_request, sendable_is_short, write_reply, write_request, written_is_read,
+    written_reply_is_read,
 };
 use msg_data::ProduceReply;
 use std::alloc::Global;
-use wire_types::Items;
+use wire_types::{Items, Malformed, ReadFault};
 
 /// Asks for all topics.
 const ALL_TOPICS: &[u8] =
@@ -69,6 +70,39 @@ fn requests_come_back(rt: HostRuntime) {
     }
 }
 
+/// Why a frame is no request.
+fn fault_of(alloc: Global, frame: &'static [u8]) -> Option<Malformed> {
+    match read_request(alloc, &Bytes::from_static(frame)) {
+        Err(ReadFault::Malformed(fault)) => Some(fault),
+        _ => None,
+    }
+}
+
+#[test]
+fn malformed_frames(rt: HostRuntime) {
+    for (frame, fault) in [
+        // Metadata of more topics than there are bytes
+        (
+            b"\x00\x03\x00\x01\x00\x00\x00\x01\xff\xff\x7f\xff\xff\xff\x00\x00".as_slice(),
+            Malformed::Short,
+        ),
+        // a byte behind a Metadata of all topics
+        (
+            b"\x00\x03\x00\x01\x00\x00\x00\x01\xff\xff\xff\xff\xff\xff\x00".as_slice(),
+            Malformed::Rest,
+        ),
+        // a header that ends before the client
+        (
+            b"\x00\x03\x00\x01\x00\x00\x00\x01".as_slice(),
+            Malformed::Short,
+        ),
+        // a key that no api has, told before anything behind the version
+        (b"\x00\x63\x00\x01".as_slice(), Malformed::Unknown),
+    ] {
+        assert!(rt; fault_of(rt.alloc(), frame) == Some(fault));
+    }
+}
+
 #[test]
 fn a_header(rt: HostRuntime) {
     let header = Header::new(Api::Metadata, 1, None);
@@ -122,7 +156,12 @@ fn apis(rt: HostRuntime) {
 #[test]
 fn laws(_rt: HostRuntime) {
     one_request();
-    one_reply();
+    found_is_request();
     written_is_read();
     read_fits(ALL_TOPICS);
+    fits_is_writable();
+    one_reply();
+    one_response();
+    written_reply_is_read();
+    sendable_is_short();
 }

@@ -1,6 +1,7 @@
 //! Settings in, a core out: what a server is started with.
 
 ghost use Rattle.std.specs.Prelude.{◌≡◌, IfOk, IfSome};
+ghost use Rattle.wire_types.specs.Device.{TakesWithin};
 ghost use Rattle.request_handlers.specs.Core.{opened};
 ghost use Rattle.commands.specs.Check.{settings_answer, check_answer};
 ghost use Rattle.commands.specs.Opened.{Opens, OpensOr};
@@ -74,6 +75,7 @@ fn open_whole<R: Read, W: Write, E: Write>(
 ) -> Result<Opened, Unopened>
     ensures core { IfOk result (λ o. o.core ≡ opened o.core.settings) }
     ensures opens { IfSome (R.remaining reader.old) (λ input. Opens (W.contents writer.old) (W.contents writer.new) input (check_answer input) result) }
+    ensures bounded { TakesWithin (R.remaining reader.old) (R.remaining reader.new) }
 {
     match read_input(alloc, reader) {
         Ok(input) => open_settings(alloc, input.as_slice(), writer, errors),
@@ -93,6 +95,7 @@ pub fn open_and_explain<R: Read, W: Write, E: Write>(
 ) -> Result<Opened, u8>
     ensures core { IfOk result (λ o. o.core ≡ opened o.core.settings) }
     ensures opens { IfSome (R.remaining reader.old) (λ input. OpensOr (W.contents writer.old) (W.contents writer.new) input (check_answer input) result) }
+    ensures bounded { TakesWithin (R.remaining reader.old) (R.remaining reader.new) }
 {
     match open_whole(alloc, reader, writer, errors) {
         Ok(opened) => Ok(opened),

@@ -2,7 +2,7 @@
 //! wrong with them out.
 
 ghost use Rattle.std.specs.Prelude.{◌≡◌, [], IfSome, IfErr};
-ghost use Rattle.wire_types.specs.Device.{Wrote};
+ghost use Rattle.wire_types.specs.Device.{TakesWithin, Wrote};
 ghost use Rattle.request_handlers.specs.Core.{opened};
 ghost use Rattle.commands.specs.Lines.{lines_of};
 ghost use Rattle.commands.specs.Replay.{script_answer, refused_answer, input_answer, replay_answer};
@@ -179,7 +179,8 @@ fn run_whole<R: Read, W: Write, E: Write>(
     writer: &mut W,
     errors: &mut E,
 ) -> Result<u8, Early>
-    ensures { IfSome (R.remaining reader.old) (λ input. Printed (W.contents writer.old) (W.contents writer.new) (command_answer command input) result) }
+    ensures prints { IfSome (R.remaining reader.old) (λ input. Printed (W.contents writer.old) (W.contents writer.new) (command_answer command input) result) }
+    ensures bounded { TakesWithin (R.remaining reader.old) (R.remaining reader.new) }
 {
     match read_input(alloc, reader) {
         Ok(input) => answer_to(alloc, command, input.as_slice(), writer, errors),
@@ -215,7 +216,8 @@ fn run_and_explain<R: Read, W: Write, E: Write>(
     writer: &mut W,
     errors: &mut E,
 ) -> u8
-    ensures { IfSome (R.remaining reader.old) (λ input. Replayed (W.contents writer.old) (W.contents writer.new) (command_answer command input) result) }
+    ensures prints { IfSome (R.remaining reader.old) (λ input. Replayed (W.contents writer.old) (W.contents writer.new) (command_answer command input) result) }
+    ensures bounded { TakesWithin (R.remaining reader.old) (R.remaining reader.new) }
 {
     match run_whole(alloc, command, reader, writer, errors) {
         Ok(status) => status,
@@ -234,7 +236,8 @@ pub fn replay_and_explain<R: Read, W: Write, E: Write>(
     writer: &mut W,
     errors: &mut E,
 ) -> u8
-    ensures { IfSome (R.remaining reader.old) (λ input. Replayed (W.contents writer.old) (W.contents writer.new) (replay_answer input) result) }
+    ensures prints { IfSome (R.remaining reader.old) (λ input. Replayed (W.contents writer.old) (W.contents writer.new) (replay_answer input) result) }
+    ensures bounded { TakesWithin (R.remaining reader.old) (R.remaining reader.new) }
 {
     run_and_explain(alloc, Command::Replay, reader, writer, errors)
 }
@@ -242,7 +245,8 @@ pub fn replay_and_explain<R: Read, W: Write, E: Write>(
 /// The command `replay`: reads settings up to a line `---` or the end of the input, then a script; answers each of
 /// its lines, and gives the exit status.
 pub fn replay<R: Read, W: Write>(alloc: Global, reader: &mut R, writer: &mut W) -> u8
-    ensures { IfSome (R.remaining reader.old) (λ input. Replayed (W.contents writer.old) (W.contents writer.new) (replay_answer input) result) }
+    ensures prints { IfSome (R.remaining reader.old) (λ input. Replayed (W.contents writer.old) (W.contents writer.new) (replay_answer input) result) }
+    ensures bounded { TakesWithin (R.remaining reader.old) (R.remaining reader.new) }
 {
     replay_and_explain(alloc, reader, writer, &mut sink())
 }
@@ -254,7 +258,8 @@ pub fn check_and_explain<R: Read, W: Write, E: Write>(
     writer: &mut W,
     errors: &mut E,
 ) -> u8
-    ensures { IfSome (R.remaining reader.old) (λ input. Replayed (W.contents writer.old) (W.contents writer.new) (check_answer input) result) }
+    ensures prints { IfSome (R.remaining reader.old) (λ input. Replayed (W.contents writer.old) (W.contents writer.new) (check_answer input) result) }
+    ensures bounded { TakesWithin (R.remaining reader.old) (R.remaining reader.new) }
 {
     run_and_explain(alloc, Command::Check, reader, writer, errors)
 }
@@ -262,7 +267,8 @@ pub fn check_and_explain<R: Read, W: Write, E: Write>(
 /// The command `check`: reads settings up to the end of the input, prints `settings ok` or what is wrong with them
 /// first, and gives the exit status.
 pub fn check<R: Read, W: Write>(alloc: Global, reader: &mut R, writer: &mut W) -> u8
-    ensures { IfSome (R.remaining reader.old) (λ input. Replayed (W.contents writer.old) (W.contents writer.new) (check_answer input) result) }
+    ensures prints { IfSome (R.remaining reader.old) (λ input. Replayed (W.contents writer.old) (W.contents writer.new) (check_answer input) result) }
+    ensures bounded { TakesWithin (R.remaining reader.old) (R.remaining reader.new) }
 {
     check_and_explain(alloc, reader, writer, &mut sink())
 }

@@ -1,7 +1,7 @@
 -- Headers in both forms.
 use Rattle.std.proofs.Common.{◌≡◌, ℕ, ℤ, ◌+◌, ◌≤◌, Bool, true, false, ◌&&◌, List, ◌++◌, length, Option, Some, None, refl, sym, ap, ◌∙◌, append_assoc, arith}
 use Rattle.std.proofs.lemmas.List.{length-append}
-use Rattle.wire_types.specs.Spelling.{int_written, null_behind_written}
+use Rattle.wire_types.specs.Spelling.{int_written, null_behind_written, null_behind_fits, null_count_fits}
 use Rattle.wire_types.specs.Grammar.{Grammar, AreBoth}
 use Rattle.wire_types.specs.Schema.{int16, int32, nullable_string, tags, no_fields}
 use Rattle.msg_admin.specs.declared.api.Api.{Api}
@@ -52,6 +52,19 @@ plain_len h = omega (arith, client_len h.client, length-append (int16.written h.
 pub header_len : (flexible : Bool) (h : Header) → least_header flexible ≤ length ((headed flexible header).written h)
 header_len false h = plain_len h
 header_len true h = omega (arith, plain_len h, no_fields.sized, length-append (header.written h) (tags.written tt))
+
+-- without a client a header is as short as one can be
+plain_least : (h : Header) → h.client ≡ None → length (header.written h) ≡ 10
+unfolding null_behind_written int_written
+plain_least h none = ap (λ (o : Option (List ℕ)). length (names.written (h.key, h.version) ++ sender.written (h.correlation, o))) none
+
+pub least_len : (flexible : Bool) (h : Header) → h.client ≡ None → length ((headed flexible header).written h) ≡ least_header flexible
+least_len false h none = plain_least h none
+least_len true h none = omega (arith, plain_least h none, no_fields.sized, length-append (header.written h) (tags.written tt))
+
+pub least_fits : (h : Header) → h.client ≡ None → header.fits h ≡ true
+unfolding null_behind_fits null_count_fits
+least_fits h none = ap (λ (o : Option (List ℕ)). names.fits (h.key, h.version) && sender.fits (h.correlation, o)) none
 
 pub least_small : (flexible : Bool) → least_header flexible ≤ 11
 least_small false = omega arith

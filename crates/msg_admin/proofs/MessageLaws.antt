@@ -1,7 +1,8 @@
 -- The laws between bytes, requests and replies.
-use Rattle.std.proofs.Common.{◌≡◌, ℕ, ℤ, pos, ◌+◌, ◌≤◌, true, ◌&&◌, List, [], ◌++◌, length, drop, Option, Some, None, Result, Ok, Err, refl, sym, ap, subst, ◌∙◌, arith}
+use Rattle.std.proofs.Common.{◌≡◌, ℕ, ℤ, pos, ◌+◌, ◌≤◌, ◌^◌, true, ◌&&◌, ltb, List, [], ◌++◌, length, drop, Option, Some, None, Result, Ok, Err, refl, sym, ap, subst, ◌∙◌, arith}
 use Rattle.std.specs.Prelude.{IfOk}
 use Rattle.std.specs.Option.{IsSomeAnd}
+use Rattle.std.proofs.lemmas.Bool.{lt-ltb}
 use Rattle.std.proofs.lemmas.List.{length-append, drop_at}
 use Rattle.wire_types.specs.declared.fault.ReadFault.{ReadFault}
 use Rattle.wire_types.specs.Grammar.{Grammar, IsBytes}
@@ -40,17 +41,20 @@ use Rattle.msg_admin.specs.Api.{api_at, is_flexible}
 use Rattle.msg_admin.specs.Header.{header, request_header, response_header, least_header}
 use Rattle.msg_admin.specs.Bodies.{api_of, sent_as, request_body, reply_body, asked_produce, produce-asked, asked_fetch, fetch-asked, asked_list_offsets, list_offsets-asked, asked_metadata, metadata-asked, asked_offset_commit, offset_commit-asked, asked_offset_fetch, offset_fetch-asked, asked_find_coordinator, find_coordinator-asked, asked_join_group, join_group-asked, asked_heartbeat, heartbeat-asked, asked_leave_group, leave_group-asked, asked_sync_group, sync_group-asked, asked_init_producer_id, init_producer_id-asked, asked_add_partitions_to_txn, add_partitions_to_txn-asked, asked_add_offsets_to_txn, add_offsets_to_txn-asked, asked_end_txn, end_txn-asked, asked_txn_offset_commit, txn_offset_commit-asked, asked_describe_acls, describe_acls-asked, asked_create_acls, create_acls-asked, asked_delete_acls, delete_acls-asked, asked_sasl_handshake, sasl_handshake-asked, asked_sasl_authenticate, sasl_authenticate-asked}
 use Rattle.msg_admin.specs.Frame.{framed}
-use Rattle.msg_admin.specs.Request.{IsRequest, Fits, is_writable}
-use Rattle.msg_admin.specs.Response.{response_as, response_text, sendable_as}
-use Rattle.msg_admin.specs.Laws.{OneRequest, WrittenIsRead, SpellsFitting, OneReply}
-use Rattle.msg_admin.proofs.Headers.{headed-in_type, header_len}
-use Rattle.msg_admin.proofs.Readings.{request-again}
+use Rattle.msg_admin.specs.Request.{IsRequest, Fits, request_text, is_writable}
+use Rattle.msg_admin.specs.Response.{response_as, response_text, IsResponse, sendable_as}
+use Rattle.msg_admin.specs.Laws.{OneRequest, FoundIsRequest, WrittenIsRead, SpellsFitting, FitsIsWritable, OneReply, OneResponse, WrittenReplyIsRead}
+use Rattle.msg_admin.proofs.Headers.{headed-in_type, headed-fits, header_len, least_len, least_fits}
+use Rattle.msg_admin.proofs.Readings.{request-found, request-again}
 use Rattle.msg_admin.proofs.Replies.{sendable, int32_len}
 
 pub one_request : OneRequest
 one_request bytes g h q r i j =
     let same : (g, q) ≡ (h, r) = ok_is (g, q) (h, r) (sym (request-again bytes g q i) ∙ request-again bytes h r j) in
     (ap (λ (x : Header × Request). x.0) same, ap (λ (x : Header × Request). x.1) same)
+
+pub found_is_request : FoundIsRequest
+found_is_request bytes h r = (request-found bytes (h, r), request-again bytes h r)
 
 pub written_is_read : WrittenIsRead
 unfolding is_writable
@@ -100,6 +104,18 @@ read_fits bytes are within h r i =
     let short : least_header (is_flexible i.2) + length ((request_body i.2).written r) ≤ 104857600 = omega (arith, head.2, body.2, header_len (is_flexible i.2) h, lens) in
     subst (λ (api : Api). ((request_body api).fits r ≡ true) × (least_header (is_flexible api) + length ((request_body api).written r) ≤ 104857600)) (sym (spelled_api i.2 i.1 r i.6)) (body.1, short)
 
+-- ---- what fits can be written
+
+pub fits_is_writable : FitsIsWritable
+unfolding is_writable
+fits_is_writable h r none fits =
+    let head = request_header (api_of r) in
+    let body = request_body (api_of r) in
+    let fits_head : head.fits h ≡ true = headed-fits header (is_flexible (api_of r)) h (least_fits h none) in
+    let len : length (request_text h r) ≡ length (head.written h) + length (body.written r) = length-append (head.written h) (body.written r) in
+    let short : ltb (length (request_text h r)) (2 ^ 31) ≡ true = lt-ltb _ _ (omega (arith, len, least_len (is_flexible (api_of r)) h none, fits.1)) in
+    rw (fits_head, fits.0, short) refl
+
 -- ---- what was written fixes the reply
 
 -- two values with one spelling are one
@@ -138,3 +154,21 @@ found_fits bytes (Err e) fitting is = tt
 pub named : (bytes : List ℕ) (result : Result (Header × Request) ReadFault) → IfOk result (λ x. IsRequest bytes x.0 x.1) → IfOk result (λ x. api_at x.0.key x.0.version ≡ Some (api_of x.1))
 named bytes (Ok x) i = i.5 ∙ ap Some (sym (spelled_api i.2 i.1 x.1 i.6))
 named bytes (Err e) i = tt
+
+-- ---- what was written of a reply is read back
+
+pub one_response : OneResponse
+one_response api bytes c d q r i j =
+    let both : Grammar (ℤ × Reply) = response_header api ⨟ reply_body api in
+    let a : both.reading (bytes ++ []) ≡ Ok ((c, q), []) = both.complete bytes [] (c, q) i in
+    let b : both.reading (bytes ++ []) ≡ Ok ((d, r), []) = both.complete bytes [] (d, r) j in
+    let same : (c, q) ≡ (d, r) = ap (λ (z : (ℤ × Reply) × List ℕ). z.0) (ok_is ((c, q), []) ((d, r), []) (sym a ∙ b)) in
+    (ap (λ (x : ℤ × Reply). x.0) same, ap (λ (x : ℤ × Reply). x.1) same)
+
+pub written_reply_is_read : WrittenReplyIsRead
+written_reply_is_read api c r sent types short =
+    let head = response_header api in
+    let body = reply_body api in
+    let fits = and_parts (head.fits c) (body.fits r) (fits_as (sent_as r) api c r sent (sendable c r short)) in
+    let is : IsResponse api (response_text c api r) c r = (head.written c, body.written r, refl, head.canonical c (headed-in_type int32 (is_flexible api) c types.0) fits.0, body.canonical r types.1 fits.1) in
+    (response_text c api r, as_api (sent_as r) api c r sent, is)

@@ -22,6 +22,7 @@ use Rattle.msg_admin.specs.declared.reply.Reply.TheVariants as replies
 use Rattle.msg_admin.specs.Header.{response_header}
 use Rattle.msg_admin.specs.Bodies.{sent_as, strings_of, reply_body}
 use Rattle.msg_admin.specs.Response.{response_text, IsTooLongAs, IsTooLong, sendable_as, is_sendable, GivesReply}
+use Rattle.msg_admin.specs.Laws.{SendableIsShort}
 use Rattle.msg_admin.proofs.Headers.{correlation_fits}
 
 differ : (b : Bool) → b ≡ true → b ≡ false → ⊥
@@ -134,3 +135,7 @@ sendable c r short =
       | inl so ↦ so
       | inr not_so ↦ absurd (short (too_long (sent_as r) c r (decided r) not_so))
     ]
+
+pub sendable_is_short : SendableIsShort
+unfolding is_sendable
+sendable_is_short c r = (λ e. not_long (sent_as r) c r (decided r) e, sendable c r)

@@ -1,5 +1,5 @@
 -- Responses: a header that has the correlation id, and the answer behind it (Kafka protocol guide, "Common Request and Response Structure").
-use Rattle.std.specs.Prelude.{◌<◌, ◌^◌, ◌⊎◌, ℕ, ℤ, List, [], ◌++◌, length, Bool, true, ◌&&◌, nat_lt, Option, Some, None, Result}
+use Rattle.std.specs.Prelude.{◌≡◌, ◌<◌, ◌^◌, ◌⊎◌, ℕ, ℤ, List, [], ◌++◌, length, Bool, true, ◌&&◌, nat_lt, Option, Some, None, Result}
 use Rattle.std.specs.List.{Any}
 use Rattle.wire_types.specs.declared.fault.WriteFault.{WriteFault}
 use Rattle.msg_admin.specs.declared.api.Api.{Api}
@@ -19,6 +19,10 @@ response_as (Some api) correlation r = framed (response_text correlation api r)
 -- the whole response, and no bytes for a reply that is not sent
 abbrev pub response : ℤ → Reply → List ℕ
 response correlation r = response_as (sent_as r) correlation r
+
+-- The bytes behind the size field are the correlation id, in a header of the form of the api, and the answer of that api.
+abbrev pub IsResponse : Api → List ℕ → ℤ → Reply → Type 0
+IsResponse api bytes correlation r = (front text : List ℕ) × (bytes ≡ front ++ text) × (response_header api).Spells front correlation × (reply_body api).Spells text r
 
 -- some text is longer than a length of two bytes can tell
 abbrev pub HasLongString : Reply → Type 0

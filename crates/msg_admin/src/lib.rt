@@ -16,7 +16,10 @@ mod versions;
 
 pub use api::Api;
 pub use header::Header;
-pub use laws::{one_reply, one_request, read_fits, written_is_read};
+pub use laws::{
+    fits_is_writable, found_is_request, one_reply, one_request, one_response, read_fits,
+    sendable_is_short, written_is_read, written_reply_is_read,
+};
 pub use reply::{Reply, write_reply};
 pub use request::{FRAME_LIMIT, Request, read_request, write_request};
 pub use versions::{unsupported_versions, versions_reply, write_unsupported_versions};

@@ -11,3 +11,4 @@ pub mod Kept
 pub mod Moved
 pub mod Marked
 pub mod Lawful
+pub mod Sized

@@ -44,8 +44,12 @@ IsSized P Q text x = (a b : List ℕ) × (text ≡ a ++ b) × P a (length b) × 
 unfoldable pub whole : {A : Type 0} → Found A → Result A Malformed
 whole found = found >>= λ x. cond (eqb (length x.1) 0) (Ok x.0) (Err Rest)
 
+-- so many bytes, and what is found in them
+abbrev pub filled_at : {A : Type 0} → (List ℕ → Found A) → ℕ → List ℕ → Found A
+filled_at content n bytes = front_at n bytes >>= λ t. whole (content t.0) >>= λ x. Ok (x, t.1)
+
 unfoldable pub sized_at : {A : Type 0} → (List ℕ → Found ℕ) → (List ℕ → Found A) → List ℕ → Found A
-sized_at count content bytes = count bytes >>= λ n. front_at n.0 n.1 >>= λ t. whole (content t.0) >>= λ x. Ok (x, t.1)
+sized_at count content bytes = count bytes >>= λ n. filled_at content n.0 n.1
 
 no_bytes : (xs : List ℕ) → length xs ≡ 0 → xs ≡ []
 no_bytes [] e = refl

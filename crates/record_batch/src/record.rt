@@ -4,6 +4,7 @@ ghost use Rattle.std.specs.Prelude.{◌≡◌, ◌+ℤ◌, pos, FitsSigned};
 ghost use Rattle.std.specs.Int.{w64};
 ghost use Rattle.std.specs.Ordering.{int_eq};
 ghost use Rattle.wire_types.specs.Reading.{Reads, Takes};
+ghost use Rattle.record_batch.specs.CombinatorLaws.{filled_at};
 ghost use Rattle.record_batch.specs.Record.{record_head, record_parts, record_at, records_at};
 ghost use Rattle.record_batch.specs.Batch.{placing, record_at_place};
 
@@ -98,12 +99,16 @@ fn read_parts(alloc: Global, cursor: &mut Cursor<'_>, place: u32) -> Result<Rec,
     })
 }
 
-/// A record behind its length.
-#[tactic(auto, unfolding(crate::specs::CombinatorLaws::sized_at, crate::specs::CombinatorLaws::whole))]
-fn read_record(alloc: Global, cursor: &mut Cursor<'_>, place: u32) -> Result<Rec, ReadFault>
-    ensures { Reads (record_at place cursor.old) result cursor.new }
+/// What follows a record's length, which is so many bytes.
+#[tactic(auto, unfolding(crate::specs::CombinatorLaws::whole))]
+fn read_filled(
+    alloc: Global,
+    cursor: &mut Cursor<'_>,
+    place: u32,
+    len: u32,
+) -> Result<Rec, ReadFault>
+    ensures { Reads (filled_at (record_parts place).reading len cursor.old) result cursor.new }
 {
-    let len = cursor.read_varint_count()?;
     let text = cursor.read_shared(alloc, len as usize)?;
     let mut part = Cursor::over(&text);
     let rec = read_parts(alloc, &mut part, place)?;
@@ -111,6 +116,15 @@ fn read_record(alloc: Global, cursor: &mut Cursor<'_>, place: u32) -> Result<Rec
         return Err(ReadFault::Malformed(Malformed::Rest));
     }
     Ok(rec)
+}
+
+/// A record behind its length.
+#[tactic(auto, using(crate::proofs::Sized::sized_behind, crate::proofs::Sized::sized_refused))]
+fn read_record(alloc: Global, cursor: &mut Cursor<'_>, place: u32) -> Result<Rec, ReadFault>
+    ensures { Reads (record_at place cursor.old) result cursor.new }
+{
+    let len = cursor.read_varint_count()?;
+    read_filled(alloc, cursor, place, len)
 }
 
 impl Rec {

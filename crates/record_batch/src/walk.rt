@@ -4,13 +4,14 @@ ghost use Rattle.std.specs.Prelude.{◌≡◌, MatchResult, Ok, Err, is_ok};
 ghost use Rattle.std.specs.Option.{option_copied};
 ghost use Rattle.wire_types.specs.Reading.{Takes, skipping, many_at};
 ghost use Rattle.wire_types.specs.Schema.{varint_bytes, varint_nullable_bytes, varint_array};
+ghost use Rattle.record_batch.specs.CombinatorLaws.{filled_at};
 ghost use Rattle.record_batch.specs.Record.{header, record_parts, record_at, records_at, all_records};
 
 use crate::record::read_head;
 use wire_types::{Cursor, Malformed};
 
 /// Bytes behind their number.
-#[tactic(auto, unfolding(wire_types::specs::Reading::behind_at))]
+#[tactic(auto, using(wire_types::proofs::Announced::content_behind, wire_types::proofs::Announced::front_refused))]
 fn read_bytes<'a>(cursor: &mut Cursor<'a>) -> Result<&'a [u8], Malformed>
     ensures { MatchResult result (λ x. varint_bytes.reading cursor.old ≡ Ok (x.now, cursor.new))
         (λ e. varint_bytes.reading cursor.old ≡ Err e) }
@@ -50,14 +51,11 @@ fn skip_some_headers(cursor: &mut Cursor<'_>, count: u32) -> Result<(), Malforme
     Ok(())
 }
 
-#[tactic(auto, unfolding(wire_types::specs::Reading::behind_at, wire_types::specs::Reading::items_at))]
+#[tactic(auto, using(wire_types::proofs::Announced::many_behind, wire_types::proofs::Announced::many_refused))]
 fn skip_headers(cursor: &mut Cursor<'_>) -> Result<(), Malformed>
     ensures { Takes (skipping ((varint_array header).reading cursor.old)) result cursor.new }
 {
     let count = cursor.read_varint_count()?;
-    if cursor.len() < count as usize {
-        return Err(Malformed::Short);
-    }
     skip_some_headers(cursor, count)
 }
 
@@ -71,18 +69,26 @@ fn skip_parts(cursor: &mut Cursor<'_>, place: u32) -> Result<(), Malformed>
     skip_headers(cursor)
 }
 
-/// A record behind its length.
-#[tactic(auto, unfolding(crate::specs::CombinatorLaws::sized_at, crate::specs::CombinatorLaws::whole))]
-fn skip_record(cursor: &mut Cursor<'_>, place: u32) -> Result<(), Malformed>
-    ensures { Takes (skipping (record_at place cursor.old)) result cursor.new }
+/// What follows a record's length, which is so many bytes.
+#[tactic(auto, unfolding(crate::specs::CombinatorLaws::whole))]
+fn skip_filled(cursor: &mut Cursor<'_>, place: u32, len: u32) -> Result<(), Malformed>
+    ensures { Takes (skipping (filled_at (record_parts place).reading len cursor.old)) result cursor.new }
 {
-    let len = cursor.read_varint_count()?;
     let mut part = Cursor::new(cursor.read_front(len as usize)?);
     skip_parts(&mut part, place)?;
     if part.len() != 0 {
         return Err(Malformed::Rest);
     }
     Ok(())
+}
+
+/// A record behind its length.
+#[tactic(auto, using(crate::proofs::Sized::sized_behind, crate::proofs::Sized::sized_refused))]
+fn skip_record(cursor: &mut Cursor<'_>, place: u32) -> Result<(), Malformed>
+    ensures { Takes (skipping (record_at place cursor.old)) result cursor.new }
+{
+    let len = cursor.read_varint_count()?;
+    skip_filled(cursor, place, len)
 }
 
 fn skip_records(cursor: &mut Cursor<'_>, count: u32) -> Result<(), Malformed>

@@ -5,3 +5,5 @@ pub mod Rooms
 pub mod Sizes
 pub mod OneValue
 pub mod StringLaws
+pub mod Announced
+pub mod Taken

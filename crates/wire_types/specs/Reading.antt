@@ -122,6 +122,10 @@ not_null (Some n) bytes = Ok (n, bytes)
 unfoldable pub required_at : (List ℕ → Found (Option ℕ)) → List ℕ → Found ℕ
 required_at count bytes = count bytes >>= λ n. not_null n.0 n.1
 
+-- a count of no more than there are bytes left behind it
+unfoldable pub counted_at : (List ℕ → Found ℕ) → List ℕ → Found ℕ
+counted_at count bytes = count bytes >>= λ n. if nat_lt (length n.1) n.0 then Err Short else Ok n
+
 -- so many values and no more bytes
 unfoldable pub all_at : {A : Type 0} → (List ℕ → Found A) → ℕ → List ℕ → Found (List A)
 all_at one n bytes = many_at one n bytes >>= λ xs. if length xs.1 == 0 then Ok xs else Err Rest

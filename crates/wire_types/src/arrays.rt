@@ -87,12 +87,12 @@ fn many_room<T: Wire>(items: &[T], room: usize) -> Option<usize>
 }
 
 /// A count in four bytes, and that many values.
-#[tactic(auto, unfolding(crate::specs::Reading::behind_at))]
+#[tactic(auto, using(crate::proofs::Announced::many_behind, crate::proofs::Announced::many_refused))]
 pub fn read_array<T: Wire>(alloc: Global, cursor: &mut Cursor<'_>) -> Result<Items<T>, ReadFault>
     ensures { Reads ((array T.grammar).reading cursor.old) result cursor.new }
 {
     let count = cursor.read_count()?;
-    read_items(alloc, cursor, count)
+    read_many(alloc, cursor, count)
 }
 
 #[tactic(auto, unfolding(crate::specs::Spelling::behind_fits))]
@@ -150,7 +150,7 @@ pub fn nullable_array_room<T: Wire>(items: &Option<Items<T>>, room: usize) -> Op
 }
 
 /// A count and one in a number of variable length, and that many values.
-#[tactic(auto, unfolding(crate::specs::Reading::behind_at))]
+#[tactic(auto, using(crate::proofs::Announced::many_behind, crate::proofs::Announced::many_refused))]
 pub fn read_compact_array<T: Wire>(
     alloc: Global,
     cursor: &mut Cursor<'_>,
@@ -158,7 +158,7 @@ pub fn read_compact_array<T: Wire>(
     ensures { Reads ((compact_array T.grammar).reading cursor.old) result cursor.new }
 {
     let count = cursor.read_compact_count()?;
-    read_items(alloc, cursor, count)
+    read_many(alloc, cursor, count)
 }
 
 #[tactic(auto, unfolding(crate::specs::Spelling::behind_fits))]
@@ -216,7 +216,7 @@ pub fn compact_nullable_array_room<T: Wire>(items: &Option<Items<T>>, room: usiz
 }
 
 /// A count in a signed number of variable length, and that many values.
-#[tactic(auto, unfolding(crate::specs::Reading::behind_at))]
+#[tactic(auto, using(crate::proofs::Announced::many_behind, crate::proofs::Announced::many_refused))]
 pub fn read_varint_array<T: Wire>(
     alloc: Global,
     cursor: &mut Cursor<'_>,
@@ -224,7 +224,7 @@ pub fn read_varint_array<T: Wire>(
     ensures { Reads ((varint_array T.grammar).reading cursor.old) result cursor.new }
 {
     let count = cursor.read_varint_count()?;
-    read_items(alloc, cursor, count)
+    read_many(alloc, cursor, count)
 }
 
 #[tactic(auto, unfolding(crate::specs::Spelling::behind_fits))]

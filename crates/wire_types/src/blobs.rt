@@ -19,7 +19,7 @@ use std::alloc::Global;
 
 impl<'a> Cursor<'a> {
     /// Bytes behind their number in four bytes.
-    #[tactic(auto, unfolding(crate::specs::Reading::behind_at))]
+    #[tactic(auto, using(crate::proofs::Announced::content_behind, crate::proofs::Announced::front_refused))]
     pub fn read_bytes(&mut self, alloc: Global) -> Result<Bytes, ReadFault>
         ensures { Reads (bytes.reading self.old) result self.new }
     {
@@ -39,7 +39,7 @@ impl<'a> Cursor<'a> {
     }
 
     /// Bytes behind their number and one in a number of variable length.
-    #[tactic(auto, unfolding(crate::specs::Reading::behind_at))]
+    #[tactic(auto, using(crate::proofs::Announced::content_behind, crate::proofs::Announced::front_refused))]
     pub fn read_compact_bytes(&mut self, alloc: Global) -> Result<Bytes, ReadFault>
         ensures { Reads (compact_bytes.reading self.old) result self.new }
     {
@@ -59,7 +59,7 @@ impl<'a> Cursor<'a> {
     }
 
     /// Bytes behind their number in a signed number of variable length.
-    #[tactic(auto, unfolding(crate::specs::Reading::behind_at))]
+    #[tactic(auto, using(crate::proofs::Announced::content_behind, crate::proofs::Announced::front_refused))]
     pub fn read_varint_bytes(&mut self, alloc: Global) -> Result<Bytes, ReadFault>
         ensures { Reads (varint_bytes.reading self.old) result self.new }
     {

@@ -1,7 +1,8 @@
 //! Lengths and counts, in each form that stands before a text, bytes or an array.
 
-ghost use Rattle.std.specs.Prelude.{◌≡◌, ◌+◌, ◌<◌, ◌≤◌, ◌++◌, ◌^◌, length, true, None, Some, OnOk, IfOk, IfSome, MatchResult, Ok, Err};
-ghost use Rattle.wire_types.specs.Reading.{Takes, Reads, skipping, nat_at, int_at, bool_at, front_at, utf8_at, varint_at, varint_limit, many_at, all_at};
+ghost use Rattle.std.specs.Prelude.{◌≡◌, ◌+◌, ◌<◌, ◌≤◌, ◌++◌, ◌^◌, length, true, None, Some, OnOk, IfOk, IfSome, MatchResult, Ok, Err, nat_lt, if◌then◌else◌};
+ghost use Rattle.wire_types.specs.Reading.{Takes, Reads, skipping, nat_at, int_at, bool_at, front_at, utf8_at, varint_at, varint_limit, many_at, all_at, counted_at};
+ghost use Rattle.wire_types.specs.declared.fault.Malformed.TheVariants.{Short};
 ghost use Rattle.wire_types.specs.Writing.{Writes, Puts};
 ghost use Rattle.wire_types.specs.Spelling.{room_left, varint_written, many_fit, many_written, many_left};
 ghost use Rattle.wire_types.specs.Schema.{null_count16, null_count32, compact_null_count, varint_null_count, varint_count, count16, count32, compact_count};
@@ -57,14 +58,24 @@ impl<'a> Cursor<'a> {
         })
     }
 
-    /// A count in four bytes.
-    #[tactic(auto, unfolding(crate::specs::Reading::required_at, crate::specs::Reading::not_null))]
+    /// Refuses a count above the number of bytes left.
+    fn within(&self, count: u32) -> Result<u32, Malformed>
+        ensures { result ≡ (if nat_lt (length self.now) count then Err Short else Ok count) }
+    {
+        if self.len() < count as usize {
+            return Err(Malformed::Short);
+        }
+        Ok(count)
+    }
+
+    /// A count in four bytes, of no more than there are bytes left.
+    #[tactic(auto, unfolding(crate::specs::Reading::counted_at, crate::specs::Reading::required_at, crate::specs::Reading::not_null))]
     pub fn read_count(&mut self) -> Result<u32, Malformed>
-        ensures { Takes (count32.reading self.old) result self.new }
+        ensures { Takes (counted_at count32.reading self.old) result self.new }
     {
         match self.read_null_count()? {
             None => Err(Malformed::Range),
-            Some(count) => Ok(count),
+            Some(count) => self.within(count),
         }
     }
 
@@ -77,14 +88,14 @@ impl<'a> Cursor<'a> {
         Ok(if count == 0 { None } else { Some(count - 1) })
     }
 
-    /// A count and one in a number of variable length.
-    #[tactic(auto, unfolding(crate::specs::Reading::required_at, crate::specs::Reading::not_null))]
+    /// A count and one in a number of variable length, of no more than there are bytes left.
+    #[tactic(auto, unfolding(crate::specs::Reading::counted_at, crate::specs::Reading::required_at, crate::specs::Reading::not_null))]
     pub fn read_compact_count(&mut self) -> Result<u32, Malformed>
-        ensures { Takes (compact_count.reading self.old) result self.new }
+        ensures { Takes (counted_at compact_count.reading self.old) result self.new }
     {
         match self.read_compact_null_count()? {
             None => Err(Malformed::Range),
-            Some(count) => Ok(count),
+            Some(count) => self.within(count),
         }
     }
 
@@ -104,14 +115,14 @@ impl<'a> Cursor<'a> {
         })
     }
 
-    /// A count in a signed number of variable length.
-    #[tactic(auto, unfolding(crate::specs::Reading::required_at, crate::specs::Reading::not_null))]
+    /// A count in a signed number of variable length, of no more than there are bytes left.
+    #[tactic(auto, unfolding(crate::specs::Reading::counted_at, crate::specs::Reading::required_at, crate::specs::Reading::not_null))]
     pub fn read_varint_count(&mut self) -> Result<u32, Malformed>
-        ensures { Takes (varint_count.reading self.old) result self.new }
+        ensures { Takes (counted_at varint_count.reading self.old) result self.new }
     {
         match self.read_varint_null_count()? {
             None => Err(Malformed::Range),
-            Some(count) => Ok(count),
+            Some(count) => self.within(count),
         }
     }
 }
@@ -137,7 +148,7 @@ pub(crate) fn write_null16(out: &mut Vec<u8>) -> Result<(), AllocError>
 
 /// A count in four bytes.
 #[tactic(auto, unfolding(crate::specs::Spelling::null_count_fits, crate::specs::Spelling::int_written))]
-pub(crate) fn write_count(out: &mut Vec<u8>, count: usize) -> Result<(), WriteFault>
+pub fn write_count(out: &mut Vec<u8>, count: usize) -> Result<(), WriteFault>
     ensures { Puts count32 count out.old.items result out.new.items }
 {
     if count >= 2_147_483_648 {
@@ -156,7 +167,7 @@ pub(crate) fn write_null(out: &mut Vec<u8>) -> Result<(), AllocError>
 
 /// A count and one in a number of variable length.
 #[tactic(auto, unfolding(crate::specs::Spelling::compact_null_count_written, crate::specs::Spelling::compact_null_count_fits))]
-pub(crate) fn write_compact_count(out: &mut Vec<u8>, count: usize) -> Result<(), WriteFault>
+pub fn write_compact_count(out: &mut Vec<u8>, count: usize) -> Result<(), WriteFault>
     ensures { Puts compact_count count out.old.items result out.new.items }
 {
     if count >= 4_294_967_295 {
@@ -176,7 +187,7 @@ pub(crate) fn write_compact_null(out: &mut Vec<u8>) -> Result<(), AllocError>
 
 /// A count in a signed number of variable length.
 #[tactic(auto, unfolding(crate::specs::Spelling::null_count_fits))]
-pub(crate) fn write_varint_count(out: &mut Vec<u8>, count: usize) -> Result<(), WriteFault>
+pub fn write_varint_count(out: &mut Vec<u8>, count: usize) -> Result<(), WriteFault>
     ensures { Puts varint_count count out.old.items result out.new.items }
 {
     if count >= 2_147_483_648 {

@@ -3,7 +3,7 @@
 ghost use Rattle.std.specs.Prelude.{◌≡◌, ℕ, ◌+◌, ◌-◌, ◌<◌, ◌≤◌, length, take, vec_len, IfOk, IfSome, OnOk};
 ghost use Rattle.std.specs.Io.{ReadsAtMost, WritesAtMost};
 ghost use Rattle.std.specs.Io.KnownBytes.{ReadConsumes, WriteAppends};
-ghost use Rattle.wire_types.specs.Device.{Wrote};
+ghost use Rattle.wire_types.specs.Device.{TakesWithin, Wrote};
 
 use std::alloc::{AllocError, Global};
 use std::io;
@@ -70,11 +70,13 @@ fn read_some<R: Read>(reader: &mut R, piece: &mut [u8]) -> io::Result<usize>
     reader.read(piece)
 }
 
-/// Reads to the end of the input.
+/// Reads to the end of the input, or until it is longer than the limit.
+#[tactic(auto, using(crate::proofs::Taken::taken_more, crate::proofs::Taken::taken_kept))]
 pub fn read_input<R: Read>(alloc: Global, reader: &mut R) -> Result<Vec<u8>, InputFault>
     ensures whole { IfOk result (λ bytes. IfSome (R.remaining reader.old) (λ input. input ≡ bytes.items)) }
     ensures within { IfOk result (λ bytes. vec_len bytes ≤ INPUT_LIMIT) }
     ensures too_long { result ≡ Err InputFault.TooLong → IfSome (R.remaining reader.old) (λ input. INPUT_LIMIT < length input) }
+    ensures bounded { TakesWithin (R.remaining reader.old) (R.remaining reader.new) }
 {
     let mut input = Vec::new(alloc);
     let mut piece = [0u8; PIECE];

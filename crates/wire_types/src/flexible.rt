@@ -102,7 +102,7 @@ fn topics_room<P: Wire>(topics: &[Topic<P>], room: usize) -> Option<usize>
 }
 
 /// A count and one in a number of variable length, and that many topics.
-#[tactic(auto, unfolding(crate::specs::Reading::behind_at))]
+#[tactic(auto, using(crate::proofs::Announced::many_behind, crate::proofs::Announced::many_refused))]
 pub fn read_flexible_topics<P: Wire>(
     alloc: Global,
     cursor: &mut Cursor<'_>,
@@ -110,7 +110,7 @@ pub fn read_flexible_topics<P: Wire>(
     ensures { Reads ((compact_array (flexible_topic_of P.grammar)).reading cursor.old) result cursor.new }
 {
     let count = cursor.read_compact_count()?;
-    read_counted(alloc, cursor, count)
+    read_topics(alloc, cursor, count)
 }
 
 #[tactic(auto, unfolding(crate::specs::Spelling::behind_fits))]

@@ -37,6 +37,7 @@ pub use blobs::{
     write_compact_nullable_bytes, write_nullable_bytes, write_varint_bytes,
     write_varint_nullable_bytes,
 };
+pub use counts::{write_compact_count, write_count, write_varint_count};
 pub use cursor::Cursor;
 pub use device::{INPUT_LIMIT, InputFault, read_input, write_whole};
 pub use error_code::ErrorCode;

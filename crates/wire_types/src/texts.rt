@@ -52,7 +52,7 @@ impl<'a> Cursor<'a> {
     }
 
     /// A text behind its length and one in a number of variable length.
-    #[tactic(auto, unfolding(crate::specs::Reading::behind_at))]
+    #[tactic(auto, using(crate::proofs::Announced::content_behind, crate::proofs::Announced::utf8_refused))]
     pub fn read_compact_string(&mut self, alloc: Global) -> Result<Text, ReadFault>
         ensures { Reads (compact_string.reading self.old) result self.new }
     {

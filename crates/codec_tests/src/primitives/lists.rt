@@ -5,8 +5,9 @@ use wire_types::{
     Cursor, Items, Malformed, ReadFault, Text, Topic, Wire, flexible_topics_room,
     nullable_flexible_topics_room, read_array, read_compact_array, read_compact_nullable_array,
     read_flexible_topics, read_nullable_array, read_nullable_flexible_topics, read_varint_array,
-    size, write_array, write_compact_array, write_compact_nullable_array, write_flexible_topics,
-    write_no_tags, write_nullable_array, write_nullable_flexible_topics, write_varint_array,
+    size, write_array, write_compact_array, write_compact_count, write_compact_nullable_array,
+    write_count, write_flexible_topics, write_no_tags, write_nullable_array,
+    write_nullable_flexible_topics, write_varint_array, write_varint_count,
 };
 
 #[test]
@@ -53,6 +54,35 @@ fn a_count_above_the_bytes_left(rt: HostRuntime) {
     let mut cursor = Cursor::new(b"\x7f\xff\xff\xff\x00\x00\x00\x00");
     let items: Result<Items<i32>, ReadFault> = read_array(rt.alloc(), &mut cursor);
     assert!(rt; matches!(&items, Err(ReadFault::Malformed(Malformed::Short))));
+}
+
+/// A count in each form, of as many bytes as are left, and of one more.
+#[test]
+fn counts(rt: HostRuntime) {
+    let mut out = Vec::new(rt.alloc());
+    assert!(rt; write_count(&mut out, 4).is_ok());
+    assert!(rt; write_compact_count(&mut out, 3).is_ok());
+    assert!(rt; write_varint_count(&mut out, 2).is_ok());
+    assert_eq!(rt; out.as_slice(), b"\x00\x00\x00\x04\x04\x04".as_slice());
+    assert_eq!(rt; Cursor::new(b"\x00\x00\x00\x04abcd").read_count(), Ok(4));
+    assert_eq!(rt;
+        Cursor::new(b"\x00\x00\x00\x04abc").read_count(),
+        Err(Malformed::Short)
+    );
+    assert_eq!(rt; Cursor::new(b"\x04abc").read_compact_count(), Ok(3));
+    assert_eq!(rt;
+        Cursor::new(b"\x04ab").read_compact_count(),
+        Err(Malformed::Short)
+    );
+    assert_eq!(rt; Cursor::new(b"\x04ab").read_varint_count(), Ok(2));
+    assert_eq!(rt;
+        Cursor::new(b"\x04a").read_varint_count(),
+        Err(Malformed::Short)
+    );
+    assert_eq!(rt;
+        Cursor::new(b"\x00a").read_compact_count(),
+        Err(Malformed::Range)
+    );
 }
 
 #[test]
