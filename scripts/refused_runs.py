@@ -90,9 +90,13 @@ class Run:
 
     def __init__(self, library, script, way, refused_at):
         where = refusing.environment(library, refused_at)
-        ran = subprocess.run(
-            [PROGRAM, way], input=script.text.encode(), capture_output=True, env=where, timeout=60
-        )
+        # a file, since a pipe takes more reads or fewer by chance, and each of them allocates
+        with tempfile.TemporaryFile() as given:
+            given.write(script.text.encode())
+            given.seek(0)
+            ran = subprocess.run(
+                [PROGRAM, way], stdin=given, capture_output=True, env=where, timeout=60
+            )
         self.status, self.text, self.told = ran.returncode, ran.stdout.decode(), ran.stderr.decode()
         lines = self.text.splitlines()
         count = next((at for at, it in enumerate(lines) if not RECEIPT.fullmatch(it)), len(lines))
