@@ -25,7 +25,6 @@ UNUSABLE = re.compile(r"^rattle: error\[unusable-built-library\]: the rlib of `(
 RUNS_PROGRAM = re.compile(r"^rt: running ", re.M)
 SHARE_OF_MEMORY = 0.85
 MOST_JOBS = 4
-WORK_OF_TWO = 2  # of two jobs in a crate, as against one: so they pay only where few crates are ready
 NEED_OF_JOB = 0.6  # of another job in the same crate
 TOLD_EVERY = 10  # seconds
 
@@ -175,17 +174,23 @@ def lines_behind(crates):
     return behind
 
 
+def kept_busy(jobs):
+    """The processors that so many jobs in one crate keep busy. Two do half as much again as one and keep three
+    busy, so they pay only where a processor would have nothing else to do."""
+    return 2 * jobs - 1
+
+
 def start_next(rt, left, running, memory, needs, below):
     """Starts what is ready and has a processor and memory, in the order of what is left."""
     unmade = {*left, *(it.crate for it in running)}
     ready = [it for it in left if not unmade & below[it]]
-    share = processors(rt) // (WORK_OF_TWO * max(1, len(ready) + len(running)))
+    most = processors(rt) - (len(ready) + len(running) - 1)  # one for each of the others
     for crate in ready:
-        idle = processors(rt) - sum(it.jobs for it in running)
+        idle = processors(rt) - sum(kept_busy(it.jobs) for it in running)
         room, need = memory - sum(it.need for it in running), needs[crate]
         if idle < 1 or running and need > room:
             continue
-        spare = min(MOST_JOBS, share, idle, 1 + int((room / need - 1) / NEED_OF_JOB))
+        spare = min(MOST_JOBS, (min(idle, most) + 1) // 2, 1 + int((room / need - 1) / NEED_OF_JOB))
         lock = lock_of(crate)
         if lock is not None:
             left.remove(crate)
