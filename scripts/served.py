@@ -81,7 +81,9 @@ def of_b(**fields):
 
 def data(broker):
     """Topics and records, as a super user."""
-    assert [it["key"] for it in broker.ask("ApiVersions")["apis"]] == sorted(key for key, *_ in wire.APIS.values())
+    told = broker.ask("ApiVersions")["apis"]
+    served = [(it["key"], version) for it in told for version in range(it["min"], it["max"] + 1)]
+    assert served == sorted((key, version) for key, version, *_ in wire.APIS.values()), told
     assert [it["topic"] for it in broker.ask("Metadata", topics=None)["topics"]] == ["b"]
     produced = records_of(broker.ask("Produce", topics=of_b(records=wire.batch([b"one", b"two"]))))
     assert (produced["error"], produced["base_offset"]) == (0, 0), produced

@@ -20,9 +20,12 @@ FILTER = "kind i8, name s?, pattern i8, principal s?, host s?, operation i8, per
 BINDING = "kind i8, name s, pattern i8, principal s, host s, operation i8, permission i8"
 OF_PARTITIONS = "topics [topic s, partitions [index i32, error i16]]"
 OF_PRODUCER = "transactional_id s, producer i64, epoch i16"
+ENDING = OF_PRODUCER + ", committed bool"
+ENDED = "throttle i32, error i16"
 
-# Each api: its key and version, whether it is flexible, and what is asked and answered. `s` is a text, `b` bytes, `i8`
-# to `i64` numbers, `bool` a truth, `[..]` a list; with `?` it may be null. https://kafka.apache.org/protocol.html
+# Each api, EndTxn in each of its versions (with its number behind the name from 1 on): key and version, whether it is
+# flexible, and what is asked and answered. `s` is a text, `b` bytes, `i8` to `i64` numbers, `bool` a truth, `[..]` a list;
+# with `?` it may be null. https://kafka.apache.org/protocol.html
 APIS = {
     "Produce": (
         0, 3, False,
@@ -86,7 +89,12 @@ APIS = {
         24, 0, False, OF_PRODUCER + ", topics [topic s, partitions [i32]]", "throttle i32, " + OF_PARTITIONS,
     ),
     "AddOffsetsToTxn": (25, 0, False, OF_PRODUCER + ", group s", "throttle i32, error i16"),
-    "EndTxn": (26, 0, False, OF_PRODUCER + ", committed bool", "throttle i32, error i16"),
+    "EndTxn": (26, 0, False, ENDING, ENDED),
+    "EndTxn1": (26, 1, False, ENDING, ENDED),
+    "EndTxn2": (26, 2, False, ENDING, ENDED),
+    "EndTxn3": (26, 3, True, ENDING, ENDED),
+    "EndTxn4": (26, 4, True, ENDING, ENDED),
+    "EndTxn5": (26, 5, True, ENDING, ENDED + ", producer i64, epoch i16"),
     "TxnOffsetCommit": (
         28, 3, True,
         "transactional_id s, group s, producer i64, epoch i16, generation i32, member s, instance s?,"

@@ -3,13 +3,17 @@
 
 Each InitProducerId gives the next epoch, 0 to 32,766, and the one behind them epoch 0 of the next producer id. Where the
 time of a transaction of epoch 32,766 is over, the marker that aborts it carries 32,767, which no producer has: who adds a
-group or stages an offset with it is told so, and the next InitProducerId gives a new producer id too.
+group or stages an offset with it is told so, and the next InitProducerId gives a new producer id too. An EndTxn of version
+5 that ends a transaction of epoch 32,766 is told the new producer id at once; its marker carries 32,767 of the old one,
+which then belongs to nobody.
 """
 
 import struct
 import subprocess
 import sys
 from pathlib import Path
+
+from wire import batch
 
 ROOT = Path(__file__).resolve().parent.parent
 PROGRAM = ROOT / "crates/kbroker/out/kbroker"
@@ -56,7 +60,20 @@ STAGE = request(
     + b"\0\0\0\0",
     tags=b"\0",
 )
+# EndTxn 5, a commit by the last epoch; Produce 3 of a batch of it, with acks -1
+END = request(26, 5, b"\2t" + struct.pack(">qhb", 0, EPOCHS - 1, 1) + b"\0", tags=b"\0")
+LATE = batch([b"late"], producer=0, epoch=EPOCHS - 1, sequence=0, transactional=True)
+PRODUCE = request(
+    0,
+    3,
+    b"\0\1t"
+    + struct.pack(">hii", -1, 1000, 1)
+    + b"\0\1b"
+    + struct.pack(">iii", 1, 0, len(LATE))
+    + LATE,
+)
 INVALID_PRODUCER_EPOCH = 47
+INVALID_PRODUCER_ID_MAPPING = 49
 
 
 def response(body, tags=b""):
@@ -89,6 +106,13 @@ def wear_out():
         sys.exit("worn epochs: a producer has not got the next epoch")
 
 
+def look_at_marker(fetched):
+    """A control batch of 78 bytes stands at the end: its attributes, and its producer's id and epoch."""
+    marker = bytes.fromhex(fetched)[-78:]
+    if struct.unpack(">h20xqh", marker[21:53]) != (48, 0, EPOCHS):
+        sys.exit(f"worn epochs: the marker is {marker.hex()}")
+
+
 def expire_last():
     """A transaction of the last epoch that is given is aborted when its time is over."""
     behind = f"tick {TIMEOUT + 1}\n" + ADD_GROUP + STAGE + "mark\n" + FETCH + INIT
@@ -103,17 +127,32 @@ def expire_last():
     refused = b"\2\2b\2" + struct.pack(">ih", 0, INVALID_PRODUCER_EPOCH) + b"\0\0\0"
     if staged != response(refused, tags=b"\0"):
         sys.exit("worn epochs: an offset was staged by an epoch that no producer has")
-    # a control batch of 78 bytes stands at the end: its attributes, and its producer's id and epoch
-    batch = bytes.fromhex(fetched)[-78:]
-    if struct.unpack(">h20xqh", batch[21:53]) != (48, 0, EPOCHS):
-        sys.exit(f"worn epochs: the marker is {batch.hex()}")
+    look_at_marker(fetched)
     if again != given(1, 0):
         sys.exit("worn epochs: the next producer is not a new one")
+
+
+def raise_last():
+    """A transaction of the last epoch that is given is ended by an EndTxn of version 5."""
+    script = INIT * EPOCHS + ADD + END + "mark\n" + FETCH + PRODUCE + INIT
+    _, ended, marked, fetched, produced, again = replay(script)[EPOCHS:]
+    if ended != response(struct.pack(">hqhb", 0, 1, 0, 0), tags=b"\0"):
+        sys.exit("worn epochs: the next producer is not told at once")
+    if marked != "-":
+        sys.exit("worn epochs: a line that sends nothing has sent something")
+    look_at_marker(fetched)
+    refused = struct.pack(">ihqqi", 0, INVALID_PRODUCER_ID_MAPPING, -1, -1, 0)
+    frame = struct.pack(">ii", 1, 1) + b"\0\1b" + struct.pack(">i", 1) + refused
+    if produced != struct.pack(">i", len(frame)).hex() + frame.hex():
+        sys.exit("worn epochs: a batch of the old producer is not refused")
+    if again != given(1, 1):
+        sys.exit("worn epochs: the next producer has not got the next epoch")
 
 
 def main():
     wear_out()
     expire_last()
+    raise_last()
     print(f"worn epochs: producer 0 had each of {EPOCHS} epochs, and producer 1 came next")
 
 

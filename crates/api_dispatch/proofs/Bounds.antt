@@ -43,14 +43,14 @@ use Rattle.data_handlers.specs.ListOffsets.{list_rule}
 use Rattle.acl_handlers.specs.DescribeAcls.{describe_acls_questions}
 use Rattle.acl_handlers.specs.CreateAcls.{alter_questions, book_created}
 use Rattle.acl_handlers.specs.DeleteAcls.{book_deleted}
-use Rattle.txn_handlers.specs.InitProducerId.{init_question}
+use Rattle.txn_handlers.specs.EndTxn.{end_questions}
+use Rattle.txn_handlers.specs.InitProducerId.{init_questions}
 use Rattle.msg_txn.specs.declared.add_partitions.AddPartitionsToTxnRequest.{AddPartitionsToTxnRequest}
 use Rattle.msg_txn.specs.AddPartitions.{add_partitions_to_txn_request}
 use Rattle.txn_coordinator.specs.declared.marker.OwedMarker.{OwedMarker}
 use Rattle.txn_coordinator.specs.declared.target.Target.{Target}
 use Rattle.txn_coordinator.specs.declared.target.Target.TheVariants.{Partition, Group}
 use Rattle.txn_coordinator.specs.Warrants.{next_warrant}
-use Rattle.broker_world.specs.Questions.{id_question}
 use Rattle.txn_handlers.specs.AddOffsets.{add_offsets_questions}
 use Rattle.txn_handlers.specs.AddPartitions.{cut_rule, is_cut, cut_outcome, added_outcome}
 use Rattle.broker_world.specs.Markers.{marker_batch}
@@ -302,7 +302,7 @@ few_refusals w (Ask caller client (FindCoordinator r)) fits =
     let few : length (refusals_of w (Ask caller client (FindCoordinator r))) ≤ 1 = whole_refusals (part_refusal (rules_of w) (find_questions caller (kind_of r.key_type) r.key)) w _ _ in
     omega (arith, few)
 few_refusals w (Ask caller client (InitProducerId r)) fits =
-    let few : length (refusals_of w (Ask caller client (InitProducerId r))) ≤ 1 = whole_refusals (part_refusal (rules_of w) (init_question caller r.transactional_id ∷ [])) w _ _ in
+    let few : length (refusals_of w (Ask caller client (InitProducerId r))) ≤ 1 = whole_refusals (part_refusal (rules_of w) (init_questions (rules_of w) caller r.transactional_id)) w _ _ in
     omega (arith, few)
 few_refusals w (Ask caller client (AddPartitionsToTxn r)) fits = by_cut (is_cut caller r.transactional_id w.topics (rules_of w) r.topics) where
   few : length (refusals (cut_rule caller r.transactional_id w.topics) (rules_of w) r.topics) ≤ most_parts
@@ -315,7 +315,7 @@ few_refusals w (Ask caller client (AddOffsetsToTxn r)) fits =
     let few : length (refusals_of w (Ask caller client (AddOffsetsToTxn r))) ≤ 1 = whole_refusals (part_refusal (rules_of w) (add_offsets_questions caller r.transactional_id r.group)) w _ _ in
     omega (arith, few)
 few_refusals w (Ask caller client (EndTxn r)) fits =
-    let few : length (refusals_of w (Ask caller client (EndTxn r))) ≤ 1 = whole_refusals (part_refusal (rules_of w) (id_question caller r.transactional_id ∷ [])) w _ _ in
+    let few : length (refusals_of w (Ask caller client (EndTxn r))) ≤ 1 = whole_refusals (part_refusal (rules_of w) (end_questions caller r)) w _ _ in
     omega (arith, few)
 few_refusals w (Ask caller client (TxnOffsetCommit r)) fits =
     omega (arith, fits.1, few_walked (staging_rule w caller r) (rules_of w) r.topics, within_flexible offset_to_stage (λ p. 1) stage_some r.topics, stage_topics r)
@@ -366,10 +366,10 @@ ends_outcome w (Ask caller client (Heartbeat r)) fits room = same_ends (whole_to
 ends_outcome w (Ask caller client (LeaveGroup r)) fits room = same_ends (whole_topics (part_refusal (rules_of w) (read_question caller r.group ∷ [])) w _ _ refl)
 ends_outcome w (Ask caller client (SyncGroup r)) fits room = same_ends (whole_topics (part_refusal (rules_of w) (read_question caller r.group ∷ [])) w _ _ refl)
 ends_outcome w (Ask caller client (FindCoordinator r)) fits room = same_ends (whole_topics (part_refusal (rules_of w) (find_questions caller (kind_of r.key_type) r.key)) w _ _ refl)
-ends_outcome w (Ask caller client (InitProducerId r)) fits room = same_ends (whole_topics (part_refusal (rules_of w) (init_question caller r.transactional_id ∷ [])) w _ _ refl)
+ends_outcome w (Ask caller client (InitProducerId r)) fits room = same_ends (whole_topics (part_refusal (rules_of w) (init_questions (rules_of w) caller r.transactional_id)) w _ _ refl)
 ends_outcome w (Ask caller client (AddPartitionsToTxn r)) fits room = same_ends (add_keeps (λ v. v.topics) (λ v c. refl) w caller r)
 ends_outcome w (Ask caller client (AddOffsetsToTxn r)) fits room = same_ends (whole_topics (part_refusal (rules_of w) (add_offsets_questions caller r.transactional_id r.group)) w _ _ refl)
-ends_outcome w (Ask caller client (EndTxn r)) fits room = same_ends (whole_topics (part_refusal (rules_of w) (id_question caller r.transactional_id ∷ [])) w _ _ refl)
+ends_outcome w (Ask caller client (EndTxn r)) fits room = same_ends (whole_topics (part_refusal (rules_of w) (end_questions caller r)) w _ _ refl)
 ends_outcome w (Ask caller client (TxnOffsetCommit r)) fits room = omega arith
 ends_outcome w (Ask caller client (SaslHandshake r)) fits room = omega arith
 ends_outcome w (Ask caller client ApiVersions) fits room = omega arith
@@ -409,10 +409,10 @@ numbers_outcome w (Ask caller client (Heartbeat r)) fits = whole_next (part_refu
 numbers_outcome w (Ask caller client (LeaveGroup r)) fits = whole_next (part_refusal (rules_of w) (read_question caller r.group ∷ [])) w _ _ most_parts (omega arith)
 numbers_outcome w (Ask caller client (SyncGroup r)) fits = whole_next (part_refusal (rules_of w) (read_question caller r.group ∷ [])) w _ _ most_parts (omega arith)
 numbers_outcome w (Ask caller client (FindCoordinator r)) fits = whole_next (part_refusal (rules_of w) (find_questions caller (kind_of r.key_type) r.key)) w _ _ most_parts (omega arith)
-numbers_outcome w (Ask caller client (InitProducerId r)) fits = whole_next (part_refusal (rules_of w) (init_question caller r.transactional_id ∷ [])) w _ _ most_parts (omega arith)
+numbers_outcome w (Ask caller client (InitProducerId r)) fits = whole_next (part_refusal (rules_of w) (init_questions (rules_of w) caller r.transactional_id)) w _ _ most_parts (omega arith)
 numbers_outcome w (Ask caller client (AddPartitionsToTxn r)) fits = omega (arith, add_keeps (λ v. v.book.next) (λ v c. refl) w caller r)
 numbers_outcome w (Ask caller client (AddOffsetsToTxn r)) fits = whole_next (part_refusal (rules_of w) (add_offsets_questions caller r.transactional_id r.group)) w _ _ most_parts (omega arith)
-numbers_outcome w (Ask caller client (EndTxn r)) fits = whole_next (part_refusal (rules_of w) (id_question caller r.transactional_id ∷ [])) w _ _ most_parts (omega arith)
+numbers_outcome w (Ask caller client (EndTxn r)) fits = whole_next (part_refusal (rules_of w) (end_questions caller r)) w _ _ most_parts (omega arith)
 numbers_outcome w (Ask caller client (TxnOffsetCommit r)) fits = omega arith
 numbers_outcome w (Ask caller client (SaslHandshake r)) fits = omega arith
 numbers_outcome w (Ask caller client ApiVersions) fits = omega arith

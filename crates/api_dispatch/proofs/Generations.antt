@@ -40,8 +40,8 @@ use Rattle.broker_world.specs.Logs.{log_at}
 use Rattle.broker_world.specs.Whole.{Served, whole_by}
 use Rattle.acl_handlers.specs.DescribeAcls.{describe_acls_questions}
 use Rattle.acl_handlers.specs.CreateAcls.{alter_questions}
-use Rattle.txn_handlers.specs.InitProducerId.{init_question}
-use Rattle.broker_world.specs.Questions.{id_question}
+use Rattle.txn_handlers.specs.EndTxn.{end_questions}
+use Rattle.txn_handlers.specs.InitProducerId.{init_questions}
 use Rattle.txn_handlers.specs.AddOffsets.{add_offsets_questions}
 use Rattle.broker_world.specs.Questions.{read_question}
 use Rattle.group_handlers.specs.FindCoordinator.{kind_of, find_questions}
@@ -250,10 +250,10 @@ generations_outcome w e n all = by_event e (generations_weaker n (n + 1) w.group
   by_event (Ask caller client (SyncGroup r)) more =
       whole_within (part_refusal (rules_of w) (read_question caller r.group ∷ [])) w _ _ (n + 1)
       (turned_within (n + 1) w.groups (sync w.groups r w.moment) more (sync_turn (n + 1) (group_of w.groups r.group) r w.moment (found_within (n + 1) w.groups r.group more))) more
-  by_event (Ask caller client (InitProducerId r)) more = whole_within (part_refusal (rules_of w) (init_question caller r.transactional_id ∷ [])) w _ _ (n + 1) more more
+  by_event (Ask caller client (InitProducerId r)) more = whole_within (part_refusal (rules_of w) (init_questions (rules_of w) caller r.transactional_id)) w _ _ (n + 1) more more
   by_event (Ask caller client (AddPartitionsToTxn r)) more = kept_within (outcome w (Ask caller client (AddPartitionsToTxn r))).world w (n + 1) (add_keeps (λ v. v.groups) (λ v c. refl) w caller r) more
   by_event (Ask caller client (AddOffsetsToTxn r)) more = whole_within (part_refusal (rules_of w) (add_offsets_questions caller r.transactional_id r.group)) w _ _ (n + 1) more more
-  by_event (Ask caller client (EndTxn r)) more = whole_within (part_refusal (rules_of w) (id_question caller r.transactional_id ∷ [])) w _ _ (n + 1) more more
+  by_event (Ask caller client (EndTxn r)) more = whole_within (part_refusal (rules_of w) (end_questions caller r)) w _ _ (n + 1) more more
   by_event (Ask caller client (TxnOffsetCommit r)) more =
       subst (GenerationsWithin (n + 1)) (woven (staging_rule w caller r) (rules_of w) w.groups r.topics).world (staged_topics_within (rules_of w) caller (staging r) (staging_refusal w.coordinator (staging r)) w.topics (n + 1) w.groups r.topics more)
   by_event (Ask caller client (SaslHandshake r)) more = more

@@ -29,10 +29,9 @@ use Rattle.group_handlers.specs.OffsetFetch.{group_question, offset_rule, offset
 use Rattle.group_handlers.specs.FindCoordinator.{kind_of, find_questions}
 use Rattle.broker_world.specs.Questions.{read_question}
 use Rattle.group_handlers.specs.Members.{joined, synced, heard, left}
-use Rattle.txn_handlers.specs.InitProducerId.{init_question, initialized}
+use Rattle.txn_handlers.specs.InitProducerId.{init_questions, initialized}
 use Rattle.txn_handlers.specs.AddOffsets.{add_offsets_questions, offsets_added}
-use Rattle.broker_world.specs.Questions.{id_question}
-use Rattle.txn_handlers.specs.EndTxn.{ended}
+use Rattle.txn_handlers.specs.EndTxn.{ended, end_questions}
 use Rattle.txn_handlers.specs.TxnOffsetCommit.{staging, stage_questions, staging_rule}
 use Rattle.txn_handlers.specs.AddPartitions.{add_questions, cut_rule, is_missing, is_cut, cut_outcome, added_outcome, add_partitions_outcome}
 use Rattle.acl_handlers.specs.DescribeAcls.{describe_acls_questions}
@@ -114,11 +113,11 @@ module _ (w : World) (caller : Caller) where
   told (Heartbeat r) = asked_told (read_question caller r.group ∷ []) _ (heard w r)
   told (LeaveGroup r) = asked_told (read_question caller r.group ∷ []) _ (left w r)
   told (SyncGroup r) = asked_told (read_question caller r.group ∷ []) _ (synced w r)
-  told (InitProducerId r) = asked_told (init_question caller r.transactional_id ∷ []) _ (initialized w r)
+  told (InitProducerId r) = asked_told (init_questions (rules_of w) caller r.transactional_id) _ (initialized w r)
   told (AddPartitionsToTxn r) =
       add_told w caller r ∙ walk_told (rules_of w) (add_questions caller r.transactional_id) (cut_rule caller r.transactional_id w.topics) (λ name index. refl) r.topics
   told (AddOffsetsToTxn r) = asked_told (add_offsets_questions caller r.transactional_id r.group) _ (offsets_added w r)
-  told (EndTxn r) = asked_told (id_question caller r.transactional_id ∷ []) _ (ended w r)
+  told (EndTxn r) = asked_told (end_questions caller r) _ (ended w r)
   told (TxnOffsetCommit r) = walk_told (rules_of w) (stage_questions caller (staging r)) (staging_rule w caller r) (λ name p. refl) r.topics
   told (SaslHandshake r) = refl
   told ApiVersions = refl

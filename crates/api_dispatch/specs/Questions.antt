@@ -11,7 +11,8 @@
 --   FindCoordinator       the request: to describe the group or the transactional id; nothing for another type of key
 --   JoinGroup, SyncGroup, Heartbeat, LeaveGroup
 --                         the request: to read the group
---   InitProducerId        the request: to write with the transactional id, or without one to write idempotently to the cluster
+--   InitProducerId        the request: to write with the transactional id, or without one to write idempotently to the cluster;
+--                         without one nothing, where that isn't granted but bindings let the caller write to some topic
 --   AddPartitionsToTxn    each partition: to write with the transactional id; to write the topic
 --   AddOffsetsToTxn       the request: to write with the transactional id; to read the group
 --   EndTxn                the request: to write with the transactional id
@@ -28,6 +29,7 @@ use Rattle.acl_binding.specs.declared.question.Question.{Question}
 use Rattle.acl_binding.specs.declared.words.Kind.TheVariants as kinds
 use Rattle.acl_binding.specs.declared.words.Operation.TheVariants as operations
 use Rattle.acl_binding.specs.Verdict.{asked}
+use Rattle.authorizer.specs.Asking.{Rules}
 use Rattle.wire_types.specs.declared.topic.Topic.{Topic}
 use Rattle.msg_admin.specs.declared.request.Request.{Request}
 use Rattle.msg_admin.specs.declared.request.Request.TheVariants as requests
@@ -41,8 +43,8 @@ use Rattle.broker_world.specs.Questions.{read_question}
 use Rattle.group_handlers.specs.OffsetCommit.{commit_questions}
 use Rattle.group_handlers.specs.OffsetFetch.{group_question, fetch_parts}
 use Rattle.group_handlers.specs.FindCoordinator.{kind_of, find_questions}
-use Rattle.txn_handlers.specs.InitProducerId.{init_question}
-use Rattle.broker_world.specs.Questions.{id_question}
+use Rattle.txn_handlers.specs.EndTxn.{end_questions}
+use Rattle.txn_handlers.specs.InitProducerId.{init_questions}
 use Rattle.txn_handlers.specs.AddPartitions.{add_questions, is_cut}
 use Rattle.txn_handlers.specs.AddOffsets.{add_offsets_questions}
 use Rattle.txn_handlers.specs.TxnOffsetCommit.{staging, stage_questions}
@@ -54,26 +56,26 @@ abbrev pub fetch_questions : Caller → List ℕ → List Question
 fetch_questions caller name = asked caller operations.Read kinds.Topic name ∷ []
 
 -- what the request itself asks; nothing, where its parts are asked for alone
-abbrev pub asks_itself : Caller → Request → List Question
-asks_itself caller (requests.OffsetFetch r) = group_question caller r.group ∷ []
-asks_itself caller (requests.FindCoordinator r) = find_questions caller (kind_of r.key_type) r.key
-asks_itself caller (requests.JoinGroup r) = read_question caller r.group ∷ []
-asks_itself caller (requests.Heartbeat r) = read_question caller r.group ∷ []
-asks_itself caller (requests.LeaveGroup r) = read_question caller r.group ∷ []
-asks_itself caller (requests.SyncGroup r) = read_question caller r.group ∷ []
-asks_itself caller (requests.InitProducerId r) = init_question caller r.transactional_id ∷ []
-asks_itself caller (requests.AddOffsetsToTxn r) = add_offsets_questions caller r.transactional_id r.group
-asks_itself caller (requests.EndTxn r) = id_question caller r.transactional_id ∷ []
-asks_itself caller (requests.DescribeAcls r) = describe_acls_questions caller
-asks_itself caller (requests.CreateAcls r) = alter_questions caller
-asks_itself caller (requests.DeleteAcls r) = alter_questions caller
-asks_itself caller request = []
+abbrev pub asks_itself : Rules → Caller → Request → List Question
+asks_itself rules caller (requests.OffsetFetch r) = group_question caller r.group ∷ []
+asks_itself rules caller (requests.FindCoordinator r) = find_questions caller (kind_of r.key_type) r.key
+asks_itself rules caller (requests.JoinGroup r) = read_question caller r.group ∷ []
+asks_itself rules caller (requests.Heartbeat r) = read_question caller r.group ∷ []
+asks_itself rules caller (requests.LeaveGroup r) = read_question caller r.group ∷ []
+asks_itself rules caller (requests.SyncGroup r) = read_question caller r.group ∷ []
+asks_itself rules caller (requests.InitProducerId r) = init_questions rules caller r.transactional_id
+asks_itself rules caller (requests.AddOffsetsToTxn r) = add_offsets_questions caller r.transactional_id r.group
+asks_itself rules caller (requests.EndTxn r) = end_questions caller r
+asks_itself rules caller (requests.DescribeAcls r) = describe_acls_questions caller
+asks_itself rules caller (requests.CreateAcls r) = alter_questions caller
+asks_itself rules caller (requests.DeleteAcls r) = alter_questions caller
+asks_itself rules caller request = []
 
 -- what an event asks for itself: a marker step and a tick of the clock ask nothing
-abbrev pub event_asks : Event → List Question
-event_asks (Ask caller client request) = asks_itself caller request
-event_asks Mark = []
-event_asks (Tick told) = []
+abbrev pub event_asks : Rules → Event → List Question
+event_asks rules (Ask caller client request) = asks_itself rules caller request
+event_asks rules Mark = []
+event_asks rules (Tick told) = []
 
 -- what each of its parts asks that is of the topic of this name: a partition, or in Metadata the topic
 abbrev pub asks_at : Caller → Request → List ℕ → List Question
@@ -101,16 +103,16 @@ offset_parts caller None = []
 offset_parts caller (Some ts) = partition_parts (topic_part caller) ts
 
 -- what each part of the request asks, in order
-abbrev pub parts_of : Caller → Request → List (List Question)
-parts_of caller (requests.Produce r) = partition_parts (asks_at caller (requests.Produce r)) r.topics
-parts_of caller (requests.Fetch r) = partition_parts (asks_at caller (requests.Fetch r)) r.topics
-parts_of caller (requests.ListOffsets r) = partition_parts (asks_at caller (requests.ListOffsets r)) r.topics
-parts_of caller (requests.Metadata r) = topic_parts caller r.topics
-parts_of caller (requests.OffsetCommit r) = partition_parts (asks_at caller (requests.OffsetCommit r)) r.topics
-parts_of caller (requests.OffsetFetch r) = asks_itself caller (requests.OffsetFetch r) ∷ offset_parts caller r.topics
-parts_of caller (requests.AddPartitionsToTxn r) = partition_parts (asks_at caller (requests.AddPartitionsToTxn r)) r.topics
-parts_of caller (requests.TxnOffsetCommit r) = partition_parts (asks_at caller (requests.TxnOffsetCommit r)) r.topics
-parts_of caller request = asks_itself caller request ∷ []
+abbrev pub parts_of : Rules → Caller → Request → List (List Question)
+parts_of rules caller (requests.Produce r) = partition_parts (asks_at caller (requests.Produce r)) r.topics
+parts_of rules caller (requests.Fetch r) = partition_parts (asks_at caller (requests.Fetch r)) r.topics
+parts_of rules caller (requests.ListOffsets r) = partition_parts (asks_at caller (requests.ListOffsets r)) r.topics
+parts_of rules caller (requests.Metadata r) = topic_parts caller r.topics
+parts_of rules caller (requests.OffsetCommit r) = partition_parts (asks_at caller (requests.OffsetCommit r)) r.topics
+parts_of rules caller (requests.OffsetFetch r) = asks_itself rules caller (requests.OffsetFetch r) ∷ offset_parts caller r.topics
+parts_of rules caller (requests.AddPartitionsToTxn r) = partition_parts (asks_at caller (requests.AddPartitionsToTxn r)) r.topics
+parts_of rules caller (requests.TxnOffsetCommit r) = partition_parts (asks_at caller (requests.TxnOffsetCommit r)) r.topics
+parts_of rules caller request = asks_itself rules caller request ∷ []
 
 -- The parts that are walked, one after the other, where permits are spent for them: all but the part that stands for the
 -- request. Of an AddPartitionsToTxn that is cut none, behind a group that may not be described none; and under a null list
@@ -132,8 +134,8 @@ event_parts w Mark = []
 event_parts w (Tick told) = []
 
 -- all questions of all parts
-abbrev pub questions_of : Caller → Request → List Question
-questions_of caller request = flat_map (λ part. part) (parts_of caller request)
+abbrev pub questions_of : Rules → Caller → Request → List Question
+questions_of rules caller request = flat_map (λ part. part) (parts_of rules caller request)
 
 -- its list of topics is null: it wants all that may be described
 abbrev pub wants_all : Request → Bool

@@ -26,9 +26,9 @@ told_alone None rest = rest
 -- the refusals of a request: those of its parts
 abbrev pub request_refusals : Rules → Caller → Request → List Refusal
 request_refusals rules caller (OffsetFetch r) = told_alone (part_refusal rules (group_question caller r.group ∷ [])) (refusals_in rules (offset_parts caller r.topics))
-request_refusals rules caller request = refusals_in rules (parts_of caller request)
+request_refusals rules caller request = refusals_in rules (parts_of rules caller request)
 
--- so the parts and their questions are those that are asked, whatever the book is
+-- so the parts and their questions are those that are asked
 abbrev pub RefusalsAreOfParts : Type 0
 RefusalsAreOfParts = (w : World) (caller : Caller) (client : Option (List ℕ)) (request : Request)
     → refusals_of w (Ask caller client request) ≡ request_refusals (rules_of w) caller request

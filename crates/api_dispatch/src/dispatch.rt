@@ -37,7 +37,7 @@ pub fn apply(alloc: Global, state: &mut State, event: &Event) -> Result<Outcome,
     ensures world { OnOk result (state.new ≡ (outcome state.old event.now).world) }
     ensures reply { IfOk result (λ o. o.reply ≡ reply_to state.old event.now) }
     ensures refusals { IfOk result (λ o. o.refusals ≡ refusals_of state.old event.now) }
-    ensures paid { IfOk result (λ o. o.paid ≡ part_paid (rules_of state.old) (event_asks event.now)) }
+    ensures paid { IfOk result (λ o. o.paid ≡ part_paid (rules_of state.old) (event_asks (rules_of state.old) event.now)) }
     ensures spent { IfOk result (λ o. o.spent ≡ tallied (rules_of state.old) 0 (event_parts state.old event.now)) }
     ensures reading { OnErr result (is_reading event.now ≡ true → state.new ≡ state.old) }
 {
@@ -66,7 +66,7 @@ fn answer(
     ensures world { OnOk result (state.new ≡ (request_outcome state.old caller.now request.now).world) }
     ensures reply { IfOk result (λ o. o.reply ≡ (request_outcome state.old caller.now request.now).reply) }
     ensures refusals { IfOk result (λ o. o.refusals ≡ (request_outcome state.old caller.now request.now).refusals) }
-    ensures paid { IfOk result (λ o. o.paid ≡ part_paid (rules_of state.old) (asks_itself caller.now request.now)) }
+    ensures paid { IfOk result (λ o. o.paid ≡ part_paid (rules_of state.old) (asks_itself (rules_of state.old) caller.now request.now)) }
     ensures spent { IfOk result (λ o. o.spent ≡ tallied (rules_of state.old) 0 (parts_walked state.old caller.now request.now)) }
     ensures reading { OnErr result (is_reading_request request.now ≡ true → state.new ≡ state.old) }
 {

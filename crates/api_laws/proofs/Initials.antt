@@ -1,14 +1,19 @@
 -- What an InitProducerId gives out, and what its answer depends on.
-use Rattle.std.proofs.Common.{◌≡◌, ℕ, zero, suc, ℤ, pos, negsuc, List, [], ◌∷◌, ◌++◌, length, Option, Some, None, refl, sym, ap, subst, ◌∙◌}
-use Rattle.std.specs.Prelude.{slice_get}
+use Rattle.std.proofs.Common.{◌≡◌, ℕ, zero, suc, ℤ, pos, negsuc, List, [], ◌∷◌, ◌++◌, length, Option, Some, None, Bool, true, false, cond, ◌&&◌, refl, sym, ap, subst, ◌∙◌}
+use Rattle.std.specs.Prelude.{slice_get, is_some}
+use Rattle.acl_binding.specs.declared.words.Kind.TheVariants.{Topic}
+use Rattle.acl_binding.specs.declared.words.Operation.TheVariants.{Write}
 use Rattle.acl_binding.specs.declared.question.Caller.{Caller}
 use Rattle.acl_binding.specs.declared.question.Question.{Question}
 use Rattle.acl_binding.specs.declared.question.Verdict.{Verdict}
 use Rattle.acl_binding.specs.declared.question.Verdict.TheVariants.{Yes, Denied, Nothing}
+use Rattle.acl_binding.specs.Verdict.{asked, verdict_of, IsDecided}
+use Rattle.acl_binding.proofs.Decided.{verdict_right}
 use Rattle.authorizer.specs.declared.answer.Refusal.{Refusal}
 use Rattle.authorizer.specs.declared.answer.Why.TheVariants as why
-use Rattle.authorizer.specs.Policy.{verdict}
-use Rattle.authorizer.specs.Asking.{Rules, refusal_by, first_of, part_refusal}
+use Rattle.authorizer.specs.Policy.{is_super, verdict}
+use Rattle.authorizer.specs.AnyTopic.{any_topic}
+use Rattle.authorizer.specs.Asking.{Rules, refusal_by, first_of, part_refusal, question_refusal}
 use Rattle.msg_txn.specs.declared.init_producer_id.InitProducerIdRequest.{InitProducerIdRequest}
 use Rattle.msg_admin.specs.declared.reply.Reply.TheVariants as replies
 use Rattle.txn_coordinator.specs.declared.turn.Turn.{Turn}
@@ -18,12 +23,13 @@ use Rattle.broker_world.specs.declared.node.Node.{Node}
 use Rattle.broker_world.specs.World.{World, rules_of}
 use Rattle.broker_world.specs.Outcome.{Outcome}
 use Rattle.broker_world.specs.Whole.{whole_by}
-use Rattle.txn_handlers.specs.InitProducerId.{init_question, init_given, init_error, init_answered, coordinator_for, reply_for, initialized, init_producer_id_outcome}
+use Rattle.txn_handlers.specs.InitProducerId.{init_question, init_questions, init_given, init_error, init_answered, coordinator_for, reply_for, initialized, init_producer_id_outcome}
 use Rattle.api_laws.specs.Tenants.{SameBase, SameGranted}
 use Rattle.api_laws.specs.DataTenants.{SameAnswer}
 use Rattle.api_laws.specs.AclLaws.{IsRefusedWhole}
 use Rattle.api_laws.specs.ProducerLaws.{GivesFresh, InitsOnce, InitDependsOnGrants}
 use Rattle.acl_handlers.proofs.BookBounds.{whole_topics}
+use Rattle.api_laws.proofs.Writers.{writes_any}
 use Rattle.api_laws.proofs.Recorded.{AreSame, same_fresh, same_init, same_answer}
 
 abbrev GivenIds : Type 0
@@ -70,11 +76,46 @@ pub inits_once : InitsOnce
 inits_once = record {
   fresh = λ w caller r none allowed.
       subst (GivesFresh w)
-      (sym (ap (λ (id : Option (List ℕ)). served_by w r (part_refusal (rules_of w) (init_question caller id ∷ []))) none ∙ ap (served_by w r) allowed))
+      (sym (ap (λ (id : Option (List ℕ)). served_by w r (part_refusal (rules_of w) (init_questions (rules_of w) caller id))) none ∙ ap (served_by w r) allowed))
       (gives_fresh w r none);
   refused = λ w caller q r is.
       subst (IsRefusedWhole w r) (ap (served_by w q) (sym is)) (record { world = refl; refusals = refl });
-}
+  waived = λ rules caller any. waived_by rules caller (any_topic rules.book.entries caller.who caller.host) (question_refusal rules (init_question caller None)) refl any;
+  unwaived = λ rules caller none.
+      ap (λ (b : Bool). part_refusal rules (cond (b && is_some (question_refusal rules (init_question caller None))) [] (init_question caller None ∷ []))) none
+      ∙ alone (question_refusal rules (init_question caller None));
+  granted = λ rules caller name allows. granted_by rules caller name (is_super rules.supers caller.who) refl allows;
+} where
+  alone : (o : Option Refusal) → first_of o None ≡ o
+  alone None = refl
+  alone (Some r) = refl
+
+  waived_by : (rules : Rules) (caller : Caller) (b : Bool) (o : Option Refusal) → question_refusal rules (init_question caller None) ≡ o → b ≡ true
+      → part_refusal rules (cond (b && is_some (question_refusal rules (init_question caller None))) [] (init_question caller None ∷ [])) ≡ None
+  waived_by rules caller true None is any = ap (λ (o : Option Refusal). part_refusal rules (cond (is_some o) [] (init_question caller None ∷ []))) is ∙ ap (λ (o : Option Refusal). first_of o None) is
+  waived_by rules caller true (Some r) is any = ap (λ (o : Option Refusal). part_refusal rules (cond (is_some o) [] (init_question caller None ∷ []))) is
+  waived_by rules caller false o is any = absurd (let clash : false ≡ true = any in cc)
+
+  unrefused : (rules : Rules) (caller : Caller) (any : Bool) → question_refusal rules (init_question caller None) ≡ None
+      → part_refusal rules (cond (any && is_some (question_refusal rules (init_question caller None))) [] (init_question caller None ∷ [])) ≡ None
+  unrefused rules caller true is = ap (λ (o : Option Refusal). part_refusal rules (cond (is_some o) [] (init_question caller None ∷ []))) is ∙ ap (λ (o : Option Refusal). first_of o None) is
+  unrefused rules caller false is = ap (λ (o : Option Refusal). first_of o None) is
+
+  yes_of : (x : Verdict) (q : Question) → refusal_by x q ≡ None → x ≡ Yes
+  yes_of Yes q h = refl
+  yes_of (Denied n) q h = absurd (let clash : Some (record { question = q; why = why.Denied n }) ≡ None = h in cc)
+  yes_of Nothing q h = absurd (let clash : Some (record { question = q; why = why.Nothing }) ≡ None = h in cc)
+
+  granted_by : (rules : Rules) (caller : Caller) (name : List ℕ) (super : Bool) → is_super rules.supers caller.who ≡ super → question_refusal rules (asked caller Write Topic name) ≡ None
+      → part_refusal rules (init_questions rules caller None) ≡ None
+  granted_by rules caller name true is allows =
+      unrefused rules caller (any_topic rules.book.entries caller.who caller.host)
+      (ap (λ (b : Bool). refusal_by (cond b Yes (verdict_of rules.book.entries (init_question caller None))) (init_question caller None)) is)
+  granted_by rules caller name false is allows =
+      let q = asked caller Write Topic name in
+      let granted : verdict_of rules.book.entries q ≡ Yes = yes_of (verdict_of rules.book.entries q) q (sym (ap (λ (b : Bool). refusal_by (cond b Yes (verdict_of rules.book.entries q)) q) is) ∙ allows) in
+      waived_by rules caller (any_topic rules.book.entries caller.who caller.host) (question_refusal rules (init_question caller None)) refl
+      (writes_any rules.book.entries caller name (subst (IsDecided rules.book.entries q) granted (verdict_right rules.book.entries q)))
 
 -- ---- what it depends on
 
@@ -87,7 +128,7 @@ module _ (v w : World) (caller : Caller) (timeout : ℤ) (base : SameBase v w) w
   same_node : (id : Option (List ℕ)) → reply_for id v.coordinator v.node.max_txn_timeout timeout ≡ reply_for id v.coordinator w.node.max_txn_timeout timeout
   same_node id = ap (λ (n : Node). reply_for id v.coordinator n.max_txn_timeout timeout) base.node
 
-  same_reply : (id : Option (List ℕ)) → SameGranted v w (init_question caller id ∷ []) → part_refusal (rules_of w) (init_question caller id ∷ []) ≡ None
+  same_reply : (id : Option (List ℕ)) → SameGranted v w (init_questions (rules_of w) caller id) → part_refusal (rules_of w) (init_questions (rules_of w) caller id) ≡ None
       → reply_for id v.coordinator w.node.max_txn_timeout timeout ≡ reply_for id w.coordinator w.node.max_txn_timeout timeout
   same_reply None same none = ap init_given (same_fresh v.coordinator w.coordinator base.given)
   same_reply (Some id) same none =
@@ -96,8 +137,8 @@ module _ (v w : World) (caller : Caller) (timeout : ℤ) (base : SameBase v w) w
       ap (λ (t : Turn). init_answered (turn_answer v.coordinator id t)) (same_init v.coordinator w.coordinator id timeout w.node.max_txn_timeout agree)
       ∙ ap init_answered (same_answer v.coordinator w.coordinator id (init w.coordinator id timeout w.node.max_txn_timeout) agree)
 
-same_by : (o : Option Refusal) (v w : World) (caller : Caller) (r : InitProducerIdRequest) → SameBase v w → SameGranted v w (init_question caller r.transactional_id ∷ [])
-    → part_refusal (rules_of w) (init_question caller r.transactional_id ∷ []) ≡ o → SameAnswer (served_by v r o) (served_by w r o)
+same_by : (o : Option Refusal) (v w : World) (caller : Caller) (r : InitProducerIdRequest) → SameBase v w → SameGranted v w (init_questions (rules_of w) caller r.transactional_id)
+    → part_refusal (rules_of w) (init_questions (rules_of w) caller r.transactional_id) ≡ o → SameAnswer (served_by v r o) (served_by w r o)
 same_by (Some x) v w caller r base same is = record { reply = refl; refusals = refl }
 same_by None v w caller r base same is = record {
   reply = ap (λ a. replies.InitProducerId a) (same_node v w caller r.timeout base r.transactional_id ∙ same_reply v w caller r.timeout base r.transactional_id same is);
@@ -110,8 +151,7 @@ same_refusal v w q rules = ap (λ (r : Rules). part_refusal r (q ∷ [])) (sym r
 pub init_depends : InitDependsOnGrants
 init_depends = record {
   same = λ v w caller r base same.
-      let q = init_question caller r.transactional_id in
-      subst (λ (o : Option Refusal). SameAnswer (served_by v r o) (init_producer_id_outcome w caller r)) (same_refusal v w q base.rules)
-      (same_by (part_refusal (rules_of w) (q ∷ [])) v w caller r base same refl);
-  topics = λ w caller r. whole_topics (part_refusal (rules_of w) (init_question caller r.transactional_id ∷ [])) w _ _ refl;
+      subst (λ (o : Option Refusal). SameAnswer (served_by v r o) (init_producer_id_outcome w caller r)) (ap (λ (rules : Rules). part_refusal rules (init_questions rules caller r.transactional_id)) (sym base.rules))
+      (same_by (part_refusal (rules_of w) (init_questions (rules_of w) caller r.transactional_id)) v w caller r base same refl);
+  topics = λ w caller r. whole_topics (part_refusal (rules_of w) (init_questions (rules_of w) caller r.transactional_id)) w _ _ refl;
 }

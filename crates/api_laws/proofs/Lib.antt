@@ -8,6 +8,7 @@ pub mod DataFetches
 pub mod AclEdits
 pub mod Groups
 pub mod Recorded
+pub mod Writers
 pub mod Initials
 pub mod Together
 pub mod Sequenced

@@ -31,7 +31,8 @@ use Rattle.data_handlers.specs.Judged.{partition_at, judged, topics_produced}
 use Rattle.data_handlers.specs.Produce.{produce_questions, produce_rule, producing}
 use Rattle.acl_handlers.specs.DescribeAcls.{describe_acls_questions}
 use Rattle.acl_handlers.specs.CreateAcls.{alter_questions}
-use Rattle.txn_handlers.specs.InitProducerId.{init_question}
+use Rattle.txn_handlers.specs.EndTxn.{end_questions}
+use Rattle.txn_handlers.specs.InitProducerId.{init_questions}
 use Rattle.api_dispatch.specs.Step.{outcome, step, reached}
 use Rattle.api_laws.specs.ProducerLaws.{HoldsOnce}
 use Rattle.acl_handlers.proofs.BookBounds.{whole_topics}
@@ -39,7 +40,6 @@ use Rattle.txn_coordinator.specs.declared.marker.OwedMarker.{OwedMarker}
 use Rattle.txn_coordinator.specs.declared.target.Target.{Target}
 use Rattle.txn_coordinator.specs.declared.target.Target.TheVariants.{Partition, Group}
 use Rattle.txn_coordinator.specs.Warrants.{next_warrant}
-use Rattle.broker_world.specs.Questions.{id_question}
 use Rattle.txn_handlers.specs.AddOffsets.{add_offsets_questions}
 use Rattle.broker_world.specs.Markers.{marker_batch, log_marked, marked_by}
 use Rattle.txn_handlers.specs.Marks.{marked_at, mark_by}
@@ -156,10 +156,10 @@ outcome_all w (Ask caller client (Heartbeat r)) all = subst AllLogs (sym (whole_
 outcome_all w (Ask caller client (LeaveGroup r)) all = subst AllLogs (sym (whole_topics (part_refusal (rules_of w) (read_question caller r.group ∷ [])) w _ _ refl)) all
 outcome_all w (Ask caller client (SyncGroup r)) all = subst AllLogs (sym (whole_topics (part_refusal (rules_of w) (read_question caller r.group ∷ [])) w _ _ refl)) all
 outcome_all w (Ask caller client (FindCoordinator r)) all = subst AllLogs (sym (whole_topics (part_refusal (rules_of w) (find_questions caller (kind_of r.key_type) r.key)) w _ _ refl)) all
-outcome_all w (Ask caller client (InitProducerId r)) all = subst AllLogs (sym (whole_topics (part_refusal (rules_of w) (init_question caller r.transactional_id ∷ [])) w _ _ refl)) all
+outcome_all w (Ask caller client (InitProducerId r)) all = subst AllLogs (sym (whole_topics (part_refusal (rules_of w) (init_questions (rules_of w) caller r.transactional_id)) w _ _ refl)) all
 outcome_all w (Ask caller client (AddPartitionsToTxn r)) all = subst AllLogs (sym (add_keeps (λ v. v.topics) (λ v c. refl) w caller r)) all
 outcome_all w (Ask caller client (AddOffsetsToTxn r)) all = subst AllLogs (sym (whole_topics (part_refusal (rules_of w) (add_offsets_questions caller r.transactional_id r.group)) w _ _ refl)) all
-outcome_all w (Ask caller client (EndTxn r)) all = subst AllLogs (sym (whole_topics (part_refusal (rules_of w) (id_question caller r.transactional_id ∷ [])) w _ _ refl)) all
+outcome_all w (Ask caller client (EndTxn r)) all = subst AllLogs (sym (whole_topics (part_refusal (rules_of w) (end_questions caller r)) w _ _ refl)) all
 outcome_all w (Ask caller client (TxnOffsetCommit r)) all = all
 outcome_all w (Ask caller client (SaslHandshake r)) all = all
 outcome_all w (Ask caller client ApiVersions) all = all

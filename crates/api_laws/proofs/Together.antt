@@ -30,29 +30,30 @@ use Rattle.txn_coordinator.specs.declared.transaction.Phase.TheVariants.{Empty, 
 use Rattle.txn_coordinator.specs.declared.transaction.Transaction.{Transaction}
 use Rattle.record_batch.specs.declared.outcome.Outcome.{Outcome as Ending}
 use Rattle.record_batch.specs.declared.outcome.Outcome.TheVariants.{Commit, Abort}
-use Rattle.txn_coordinator.specs.declared.ending.EndForm.TheVariants.{Plain}
+use Rattle.txn_coordinator.specs.declared.ending.EndForm.{EndForm}
+use Rattle.txn_coordinator.specs.declared.ending.EndForm.TheVariants.{Plain, Fencing, Raising}
 use Rattle.txn_coordinator.specs.declared.turn.Turn.{Turn}
 use Rattle.txn_coordinator.specs.declared.turn.Turn.TheVariants.{Stays, Puts}
 use Rattle.txn_coordinator.specs.Words.{is_empty}
 use Rattle.txn_coordinator.specs.Preparing.{pair_refusal}
-use Rattle.txn_coordinator.specs.Coordinator.{CoordinatorValue, recorded, fresh, turned, turn_code}
+use Rattle.txn_coordinator.specs.Coordinator.{CoordinatorValue, recorded, fresh, turned, turn_code, turn_answer}
 use Rattle.txn_coordinator.specs.InitProducerId.{timeout_within, init_in, init_for, init}
 use Rattle.txn_coordinator.specs.Adding.{open_in, open_by, open_found, open_transaction, grown, with_partitions, with_group, add_partitions, add_group}
-use Rattle.txn_coordinator.specs.EndTxn.{end_in, end_by, end_found, end}
+use Rattle.txn_coordinator.specs.EndTxn.{other_epoch, end_ongoing, end_closed, end_in, is_again, end_again, end_by, end_found, end}
 use Rattle.txn_coordinator.proofs.Table.{recorded_id}
 use Rattle.broker_world.specs.World.{World, LogValue, rules_of, find_topic}
 use Rattle.broker_world.specs.Outcome.{Outcome}
 use Rattle.broker_world.specs.Logs.{log_at}
 use Rattle.broker_world.specs.Whole.{Served, whole_by}
-use Rattle.txn_handlers.specs.InitProducerId.{init_question, initialized, coordinator_for, init_producer_id_outcome}
+use Rattle.txn_handlers.specs.InitProducerId.{init_questions, initialized, coordinator_for, init_producer_id_outcome}
 use Rattle.broker_world.specs.Questions.{id_question}
-use Rattle.txn_handlers.specs.EndTxn.{end_reply, end_turn, ended, ending, end_txn_outcome}
+use Rattle.txn_handlers.specs.EndTxn.{end_reply, end_turn, ended, end_txn_outcome, end_questions, end_error, ending_id, ending_pair, ending_outcome, form_of}
 use Rattle.txn_handlers.specs.AddPartitions.{add_questions, added_partition, cut_code, cut_rule, told_rule, is_missing_in, is_missing, is_cut, add_turn, add_reply, cut_outcome, added_outcome, add_partitions_outcome, partitions_in, partitions_of}
 use Rattle.api_laws.specs.Tenants.{SameBase, SameGranted}
 use Rattle.api_laws.specs.DataTenants.{SameForParts, SameAnswer}
 use Rattle.api_laws.specs.AclLaws.{IsRefusedWhole}
 use Rattle.api_laws.specs.TxnLaws.{IsAddable, IsCut, IsWhole, AddsAllOrNone, TransactionsDependOnGrants, TransactionsKeepTheRest}
-use Rattle.api_laws.proofs.Recorded.{AreSame, recorded_put, same_end, same_add}
+use Rattle.api_laws.proofs.Recorded.{AreSame, recorded_put, same_end, same_add, same_answer}
 use Rattle.api_laws.proofs.Initials.{yes_alone, same_refusal}
 use Rattle.api_laws.proofs.DataGrants.{same_topic, same_log, rest_of, yes_of}
 use Rattle.txn_handlers.proofs.Adds.{add_keeps}
@@ -172,31 +173,48 @@ init_id c id timeout greatest = by_empty (is_empty id) where
   by_empty true = tt
   by_empty false = by_found (timeout_within timeout greatest) (recorded c.transactions id) refl
 
-ended_id : (p : Phase) (t : Transaction) (next : ℤ) (o : Ending) (id : List ℕ) → t.id ≡ id → OfId id (end_in p Plain t next o)
+closed_id : (form : EndForm) (t : Transaction) (next : ℤ) (o : Ending) (code : ErrorCode) (id : List ℕ) → t.id ≡ id → OfId id (end_closed form t next o code)
 unfolding OfId
-ended_id Ongoing t next o id own = own
-ended_id PrepareCommit t next Commit id own = tt
-ended_id PrepareCommit t next Abort id own = tt
-ended_id PrepareAbort t next Commit id own = tt
-ended_id PrepareAbort t next Abort id own = tt
-ended_id Empty t next o id own = tt
-ended_id CompleteCommit t next Commit id own = tt
-ended_id CompleteCommit t next Abort id own = tt
-ended_id CompleteAbort t next Commit id own = tt
-ended_id CompleteAbort t next Abort id own = tt
+closed_id Plain t next o code id own = tt
+closed_id Fencing t next o code id own = tt
+closed_id Raising t next Commit code id own = tt
+closed_id Raising t next Abort code id own = own
 
-end_id : (c : CoordinatorValue) (id : List ℕ) (pair : Pair) (o : Ending) → OfId id (end c Plain id pair o)
+ongoing_id : (form : EndForm) (t : Transaction) (next : ℤ) (o : Ending) (id : List ℕ) → t.id ≡ id → OfId id (end_ongoing form t next o)
 unfolding OfId
-end_id c id pair o = by_empty (is_empty id) where
-  by_refusal : (x : Option ErrorCode) (t : Transaction) → t.id ≡ id → OfId id (end_by x Plain t (fresh c) o)
+ongoing_id Plain t next o id own = own
+ongoing_id Fencing t next o id own = own
+ongoing_id Raising t next o id own = own
+
+ended_id : (p : Phase) (form : EndForm) (t : Transaction) (next : ℤ) (o : Ending) (id : List ℕ) → t.id ≡ id → OfId id (end_in p form t next o)
+unfolding OfId
+ended_id Ongoing form t next o id own = ongoing_id form t next o id own
+ended_id PrepareCommit form t next Commit id own = tt
+ended_id PrepareCommit form t next Abort id own = tt
+ended_id PrepareAbort form t next Commit id own = tt
+ended_id PrepareAbort form t next Abort id own = tt
+ended_id Empty form t next o id own = closed_id form t next o codes.InvalidTxnState id own
+ended_id CompleteCommit form t next Commit id own = closed_id form t next Commit codes.None id own
+ended_id CompleteCommit form t next Abort id own = closed_id form t next Abort codes.InvalidTxnState id own
+ended_id CompleteAbort form t next Commit id own = closed_id form t next Commit codes.InvalidTxnState id own
+ended_id CompleteAbort form t next Abort id own = closed_id form t next Abort codes.None id own
+
+end_id : (c : CoordinatorValue) (form : EndForm) (id : List ℕ) (pair : Pair) (o : Ending) → OfId id (end c form id pair o)
+unfolding OfId
+end_id c form id pair o = by_empty (is_empty id) where
+  by_refusal : (x : Option ErrorCode) (t : Transaction) → t.id ≡ id → OfId id (end_by x form t (fresh c) o)
   by_refusal (Some code) t own = tt
-  by_refusal None t own = ended_id t.phase t (fresh c) o id own
+  by_refusal None t own = ended_id t.phase form t (fresh c) o id own
 
-  by_found : (found : Option Transaction) → recorded c.transactions id ≡ found → OfId id (end_found found Plain (fresh c) pair o)
+  by_again : (b : Bool) (t : Transaction) → t.id ≡ id → OfId id (cond b (Stays (end_again t.phase o)) (end_by (pair_refusal (other_epoch form) t pair) form t (fresh c) o))
+  by_again true t own = tt
+  by_again false t own = by_refusal (pair_refusal (other_epoch form) t pair) t own
+
+  by_found : (found : Option Transaction) → recorded c.transactions id ≡ found → OfId id (end_found found form (fresh c) pair o)
   by_found None is = tt
-  by_found (Some t) is = by_refusal (pair_refusal codes.InvalidProducerEpoch t pair) t (recorded_id c.transactions id t is)
+  by_found (Some t) is = by_again (is_again form t pair) t (recorded_id c.transactions id t is)
 
-  by_empty : (b : Bool) → OfId id (cond b (Stays codes.InvalidRequest) (end_found (recorded c.transactions id) Plain (fresh c) pair o))
+  by_empty : (b : Bool) → OfId id (cond b (Stays codes.InvalidRequest) (end_found (recorded c.transactions id) form (fresh c) pair o))
   by_empty true = tt
   by_empty false = by_found (recorded c.transactions id) refl
 
@@ -274,7 +292,7 @@ refused_add w caller q r is = by_case (refused_or_empty w caller q.transactional
 -- ---- what stays as it was
 
 abbrev ended_by : World → EndTxnRequest → Option Refusal → Outcome
-ended_by w r o = whole_by o w (λ code. replies.EndTxn (end_reply code)) (ended w r)
+ended_by w r o = whole_by o w (λ code. replies.EndTxn (end_error r code)) (ended w r)
 
 add_others : (w : World) (caller : Caller) (r : AddPartitionsToTxnRequest) (other : List ℕ) → (other ≡ r.transactional_id → ⊥) → recorded (add_partitions_outcome w caller r).world.coordinator.transactions other ≡ recorded w.coordinator.transactions other
 add_others w caller r other differ = by_cut (is_cut caller r.transactional_id w.topics (rules_of w) r.topics) where
@@ -284,20 +302,20 @@ add_others w caller r other differ = by_cut (is_cut caller r.transactional_id w.
 
 init_others : (w : World) (caller : Caller) (r : InitProducerIdRequest) (id other : List ℕ) → r.transactional_id ≡ Some id → (other ≡ id → ⊥) → recorded (init_producer_id_outcome w caller r).world.coordinator.transactions other ≡ recorded w.coordinator.transactions other
 init_others w caller r id other is differ =
-    whole_kept (part_refusal (rules_of w) (init_question caller r.transactional_id ∷ [])) w _ (initialized w r) other
+    whole_kept (part_refusal (rules_of w) (init_questions (rules_of w) caller r.transactional_id)) w _ (initialized w r) other
     (ap (λ (o : Option (List ℕ)). recorded (coordinator_for o w.coordinator w.node.max_txn_timeout r.timeout).transactions other) is
     ∙ other_kept w.coordinator id other (init w.coordinator id r.timeout w.node.max_txn_timeout) (init_id w.coordinator id r.timeout w.node.max_txn_timeout) differ)
 
-end_others : (w : World) (caller : Caller) (r : EndTxnRequest) (other : List ℕ) → (other ≡ r.transactional_id → ⊥) → recorded (end_txn_outcome w caller r).world.coordinator.transactions other ≡ recorded w.coordinator.transactions other
+end_others : (w : World) (caller : Caller) (r : EndTxnRequest) (other : List ℕ) → (other ≡ ending_id r → ⊥) → recorded (end_txn_outcome w caller r).world.coordinator.transactions other ≡ recorded w.coordinator.transactions other
 end_others w caller r other differ =
-    whole_kept (part_refusal (rules_of w) (id_question caller r.transactional_id ∷ [])) w _ (ended w r) other
-    (other_kept w.coordinator r.transactional_id other (end_turn w.coordinator r) (end_id w.coordinator r.transactional_id _ (ending r.committed)) differ)
+    whole_kept (part_refusal (rules_of w) (end_questions caller r)) w _ (ended w r) other
+    (other_kept w.coordinator (ending_id r) other (end_turn w.coordinator r) (end_id w.coordinator (form_of r) (ending_id r) _ (ending_outcome r)) differ)
 
 pub keep_the_rest : TransactionsKeepTheRest
 keep_the_rest = record {
   inits = λ w caller r id is. record {
     others = λ other differ. init_others w caller r id other is differ;
-    topics = whole_topics (part_refusal (rules_of w) (init_question caller r.transactional_id ∷ [])) w _ _ refl;
+    topics = whole_topics (part_refusal (rules_of w) (init_questions (rules_of w) caller r.transactional_id)) w _ _ refl;
   };
   adds = λ w caller r. record {
     others = λ other differ. add_others w caller r other differ;
@@ -305,7 +323,7 @@ keep_the_rest = record {
   };
   ends = λ w caller r. record {
     others = λ other differ. end_others w caller r other differ;
-    topics = whole_topics (part_refusal (rules_of w) (id_question caller r.transactional_id ∷ [])) w _ _ refl;
+    topics = whole_topics (part_refusal (rules_of w) (end_questions caller r)) w _ _ refl;
   };
   refused_end = λ w caller q r is. subst (IsRefusedWhole w r) (ap (ended_by w q) (sym is)) (record { world = refl; refusals = refl });
   refused_add = refused_add;
@@ -313,20 +331,22 @@ keep_the_rest = record {
 
 -- ---- what the answers depend on
 
-same_ended : (o : Option Refusal) (v w : World) (caller : Caller) (r : EndTxnRequest) → SameBase v w → SameGranted v w (id_question caller r.transactional_id ∷ [])
-    → part_refusal (rules_of w) (id_question caller r.transactional_id ∷ []) ≡ o → SameAnswer (ended_by v r o) (ended_by w r o)
+same_ended : (o : Option Refusal) (v w : World) (caller : Caller) (r : EndTxnRequest) → SameBase v w → SameGranted v w (end_questions caller r)
+    → part_refusal (rules_of w) (end_questions caller r) ≡ o → SameAnswer (ended_by v r o) (ended_by w r o)
 same_ended (Some x) v w caller r base same is = record { reply = refl; refusals = refl }
 same_ended None v w caller r base same is =
-    let q = id_question caller r.transactional_id in
-    let agree : AreSame v.coordinator w.coordinator r.transactional_id = record { given = base.given; recorded = same.0 (yes_alone (verdict w.book w.supers q) q is) } in
+    let q = id_question caller (ending_id r) in
+    let agree : AreSame v.coordinator w.coordinator (ending_id r) = record { given = base.given; recorded = same.0 (yes_alone (verdict w.book w.supers q) q is) } in
     record {
-      reply = ap (λ (t : Turn). replies.EndTxn (end_reply (turn_code t))) (same_end v.coordinator w.coordinator Plain r.transactional_id (record { producer = r.producer; epoch = r.epoch }) (ending r.committed) agree);
+      reply =
+          ap (λ (t : Turn). replies.EndTxn (end_reply r (turn_answer v.coordinator (ending_id r) t))) (same_end v.coordinator w.coordinator (form_of r) (ending_id r) (ending_pair r) (ending_outcome r) agree)
+          ∙ ap (λ a. replies.EndTxn (end_reply r a)) (same_answer v.coordinator w.coordinator (ending_id r) (end_turn w.coordinator r) agree);
       refusals = refl;
     }
 
-end_depends : (v w : World) (caller : Caller) (r : EndTxnRequest) → SameBase v w → SameGranted v w (id_question caller r.transactional_id ∷ []) → SameAnswer (end_txn_outcome v caller r) (end_txn_outcome w caller r)
+end_depends : (v w : World) (caller : Caller) (r : EndTxnRequest) → SameBase v w → SameGranted v w (end_questions caller r) → SameAnswer (end_txn_outcome v caller r) (end_txn_outcome w caller r)
 end_depends v w caller r base same =
-    let q = id_question caller r.transactional_id in
+    let q = id_question caller (ending_id r) in
     subst (λ (o : Option Refusal). SameAnswer (ended_by v r o) (end_txn_outcome w caller r)) (same_refusal v w q base.rules)
     (same_ended (part_refusal (rules_of w) (q ∷ [])) v w caller r base same refl)
 

@@ -1,8 +1,12 @@
 -- What holds of producer ids, and of what producers wrote.
-use Rattle.std.specs.Prelude.{◌≡◌, ◌≤ℤ◌, ℕ, ℤ, pos, List, [], ◌∷◌, Some, None}
+use Rattle.std.specs.Prelude.{◌≡◌, ◌≤ℤ◌, ℕ, ℤ, pos, true, false, List, Some, None}
+use Rattle.acl_binding.specs.declared.words.Kind.TheVariants.{Topic}
+use Rattle.acl_binding.specs.declared.words.Operation.TheVariants.{Write}
 use Rattle.acl_binding.specs.declared.question.Caller.{Caller}
+use Rattle.acl_binding.specs.Verdict.{asked}
 use Rattle.authorizer.specs.declared.answer.Refusal.{Refusal}
-use Rattle.authorizer.specs.Asking.{part_refusal}
+use Rattle.authorizer.specs.AnyTopic.{any_topic}
+use Rattle.authorizer.specs.Asking.{Rules, part_refusal, question_refusal}
 use Rattle.settings.specs.declared.settings.Settings.{Settings}
 use Rattle.producer_state.specs.Sequences.{written_by}
 use Rattle.producer_state.specs.Laws.{IsInSequence}
@@ -15,7 +19,7 @@ use Rattle.broker_world.specs.World.{World, LogValue, rules_of}
 use Rattle.broker_world.specs.First.{first_world}
 use Rattle.broker_world.specs.Logs.{log_at}
 use Rattle.broker_world.specs.Outcome.{Outcome}
-use Rattle.txn_handlers.specs.InitProducerId.{init_question, init_given, init_producer_id_outcome}
+use Rattle.txn_handlers.specs.InitProducerId.{init_question, init_questions, init_given, init_producer_id_outcome}
 use Rattle.api_dispatch.specs.Step.{reached}
 use Rattle.api_laws.specs.Tenants.{SameBase, SameGranted}
 use Rattle.api_laws.specs.DataTenants.{SameAnswer}
@@ -41,11 +45,16 @@ pub record GivesFresh (w : World) (o : Outcome) : Type 0 where
 
 pub record InitsOnce : Type 0 where
   -- without a transactional id, where it is allowed
-  pub fresh : (w : World) (caller : Caller) (r : InitProducerIdRequest) → r.transactional_id ≡ None → part_refusal (rules_of w) (init_question caller None ∷ []) ≡ None → GivesFresh w (init_producer_id_outcome w caller r)
-  pub refused : (w : World) (caller : Caller) (q : InitProducerIdRequest) (r : Refusal) → part_refusal (rules_of w) (init_question caller q.transactional_id ∷ []) ≡ Some r → IsRefusedWhole w r (init_producer_id_outcome w caller q)
+  pub fresh : (w : World) (caller : Caller) (r : InitProducerIdRequest) → r.transactional_id ≡ None → part_refusal (rules_of w) (init_questions (rules_of w) caller None) ≡ None → GivesFresh w (init_producer_id_outcome w caller r)
+  pub refused : (w : World) (caller : Caller) (q : InitProducerIdRequest) (r : Refusal) → part_refusal (rules_of w) (init_questions (rules_of w) caller q.transactional_id) ≡ Some r → IsRefusedWhole w r (init_producer_id_outcome w caller q)
+  -- without one it is allowed to whoever may write to some topic, and refused to another as the question is
+  pub waived : (rules : Rules) (caller : Caller) → any_topic rules.book.entries caller.who caller.host ≡ true → part_refusal rules (init_questions rules caller None) ≡ None
+  pub unwaived : (rules : Rules) (caller : Caller) → any_topic rules.book.entries caller.who caller.host ≡ false → part_refusal rules (init_questions rules caller None) ≡ question_refusal rules (init_question caller None)
+  -- so it is allowed to whoever is granted to write a topic, of whatever name
+  pub granted : (rules : Rules) (caller : Caller) (name : List ℕ) → question_refusal rules (asked caller Write Topic name) ≡ None → part_refusal rules (init_questions rules caller None) ≡ None
 
 -- Worlds of one book that gave out the same producer ids, and that agree on the transactional id where writing with it
 -- is granted, give the same answer, whatever their topics hold; and no topic is touched.
 pub record InitDependsOnGrants : Type 0 where
-  pub same : (v w : World) (caller : Caller) (r : InitProducerIdRequest) → SameBase v w → SameGranted v w (init_question caller r.transactional_id ∷ []) → SameAnswer (init_producer_id_outcome v caller r) (init_producer_id_outcome w caller r)
+  pub same : (v w : World) (caller : Caller) (r : InitProducerIdRequest) → SameBase v w → SameGranted v w (init_questions (rules_of w) caller r.transactional_id) → SameAnswer (init_producer_id_outcome v caller r) (init_producer_id_outcome w caller r)
   pub topics : (w : World) (caller : Caller) (r : InitProducerIdRequest) → (init_producer_id_outcome w caller r).world.topics ≡ w.topics

@@ -14,7 +14,7 @@ use Rattle.broker_world.specs.Outcome.{Outcome}
 use Rattle.broker_world.specs.Logs.{log_at}
 use Rattle.txn_handlers.specs.InitProducerId.{init_producer_id_outcome}
 use Rattle.broker_world.specs.Questions.{id_question}
-use Rattle.txn_handlers.specs.EndTxn.{end_txn_outcome}
+use Rattle.txn_handlers.specs.EndTxn.{end_txn_outcome, end_questions, ending_id}
 use Rattle.txn_handlers.specs.AddPartitions.{add_questions, cut_rule, told_rule, add_turn, add_reply, add_partitions_outcome}
 use Rattle.api_laws.specs.Tenants.{SameBase, SameGranted}
 use Rattle.api_laws.specs.DataTenants.{SameForParts, SameAnswer}
@@ -50,7 +50,7 @@ pub record AddsAllOrNone : Type 0 where
 
 -- Worlds that agree on what is granted of a request, and on the producer ids given out, give the same answer.
 pub record TransactionsDependOnGrants : Type 0 where
-  pub ends : (v w : World) (caller : Caller) (r : EndTxnRequest) → SameBase v w → SameGranted v w (id_question caller r.transactional_id ∷ []) → SameAnswer (end_txn_outcome v caller r) (end_txn_outcome w caller r)
+  pub ends : (v w : World) (caller : Caller) (r : EndTxnRequest) → SameBase v w → SameGranted v w (end_questions caller r) → SameAnswer (end_txn_outcome v caller r) (end_txn_outcome w caller r)
   pub adds : (v w : World) (caller : Caller) (r : AddPartitionsToTxnRequest) → SameBase v w → SameForParts v w (cut_rule caller r.transactional_id w.topics) r.topics → SameAnswer (add_partitions_outcome v caller r) (add_partitions_outcome w caller r)
 
 -- ---- what stays as it was
@@ -63,7 +63,7 @@ pub record KeepsOtherIds (w : World) (id : List ℕ) (o : Outcome) : Type 0 wher
 pub record TransactionsKeepTheRest : Type 0 where
   pub inits : (w : World) (caller : Caller) (r : InitProducerIdRequest) (id : List ℕ) → r.transactional_id ≡ Some id → KeepsOtherIds w id (init_producer_id_outcome w caller r)
   pub adds : (w : World) (caller : Caller) (r : AddPartitionsToTxnRequest) → KeepsOtherIds w r.transactional_id (add_partitions_outcome w caller r)
-  pub ends : (w : World) (caller : Caller) (r : EndTxnRequest) → KeepsOtherIds w r.transactional_id (end_txn_outcome w caller r)
+  pub ends : (w : World) (caller : Caller) (r : EndTxnRequest) → KeepsOtherIds w (ending_id r) (end_txn_outcome w caller r)
   -- and where writing with the id isn't granted, nothing changes
-  pub refused_end : (w : World) (caller : Caller) (q : EndTxnRequest) (r : Refusal) → part_refusal (rules_of w) (id_question caller q.transactional_id ∷ []) ≡ Some r → IsRefusedWhole w r (end_txn_outcome w caller q)
+  pub refused_end : (w : World) (caller : Caller) (q : EndTxnRequest) (r : Refusal) → part_refusal (rules_of w) (end_questions caller q) ≡ Some r → IsRefusedWhole w r (end_txn_outcome w caller q)
   pub refused_add : (w : World) (caller : Caller) (q : AddPartitionsToTxnRequest) (r : Refusal) → part_refusal (rules_of w) (id_question caller q.transactional_id ∷ []) ≡ Some r → (add_partitions_outcome w caller q).world ≡ w

@@ -110,7 +110,7 @@ denied_parts T U (e ∷ es) q =
     ∙ denial_step e.number (is_denial q e.binding) (T e) (U e) _ _ _ (denied_parts T U es q)
     ∙ sym (ap least (denials_cond (T e || U e) e (filter (λ x. T x || U x) es) q))
 
-allowed_parts : (T U p : Numbered → Bool) (es : List Numbered) → (list_any p (filter T es) || list_any p (filter U es)) ≡ list_any p (filter (λ e. T e || U e) es)
+pub allowed_parts : (T U p : Numbered → Bool) (es : List Numbered) → (list_any p (filter T es) || list_any p (filter U es)) ≡ list_any p (filter (λ e. T e || U e) es)
 allowed_parts T U p [] = refl
 allowed_parts T U p (e ∷ es) =
     ap (λ (b : Bool). b || list_any p (cond (U e) (e ∷ filter U es) (filter U es))) (grants_cond (T e) e (filter T es) p)

@@ -51,7 +51,7 @@ on_err (Err e) p = p
 
 -- ---- what `clean` leaves
 
-none_after : (k : String Global) (name : List ℕ) (es : List (String Global × List Numbered)) → bytes_eq name (string_bytes k) ≡ true → AllByRecursion (λ y. string_eq k y ≡ false) (keys_of es) → lookup (is_text name) es ≡ None
+pub none_after : (k : String Global) (name : List ℕ) (es : List (String Global × List Numbered)) → bytes_eq name (string_bytes k) ≡ true → AllByRecursion (λ y. string_eq k y ≡ false) (keys_of es) → lookup (is_text name) es ≡ None
 none_after k name [] same apart = refl
 none_after k name (e ∷ es) same apart =
     let here : bytes_eq name (string_bytes e.0) ≡ false = ap (λ (t : List ℕ). bytes_eq t (string_bytes e.0)) (same_bytes name (string_bytes k) same) ∙ apart.0 in

@@ -7,3 +7,4 @@ pub mod Looking
 pub mod Kept
 pub mod Contents
 pub mod Picking
+pub mod AnyTopic

@@ -1,12 +1,15 @@
 //! The bindings of one kind, pattern and name.
 
 ghost use Rattle.std.specs.Prelude.{◌≡◌, [], ◌∷◌, ◌++◌, length, nat_eq, not, is_ok, if◌then◌else◌, IfOk, filter as kept};
+ghost use Rattle.std.specs.List.{list_any};
 ghost use Rattle.acl_binding.specs.Filter.{stays};
+ghost use Rattle.authorizer.specs.AnyTopic.{is_unbarred};
 
+use crate::indexed::IndexedBook;
 use acl_binding::{Filter, Numbered};
 use std::alloc::{AllocError, Global};
 use std::marker::Model;
-use wire_types::Shared;
+use wire_types::{Shared, Text};
 
 /// Bindings in creation order, seen as their list.
 #[derive(Drop)]
@@ -37,6 +40,15 @@ impl Bucket {
         ensures { result.now ≡ self.now }
     {
         &self.entries
+    }
+
+    /// Some binding lets the caller write, and no denial of the book stands over it.
+    pub(crate) fn any_unbarred(&self, book: &IndexedBook, who: &Text, host: &Text) -> bool
+        ensures { result ≡ list_any (is_unbarred book.now.entries who.now host.now) self.now }
+    {
+        self.entries
+            .iter()
+            .any(|entry| book.is_unbarred(entry.value(), who, host))
     }
 
     /// One more binding, the last.

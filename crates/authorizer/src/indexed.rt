@@ -1,12 +1,13 @@
 //! The book of bindings with its index.
 
 ghost use Rattle.std.specs.Prelude.{◌≡◌, ◌+◌, ◌^◌, ◌<◌, ◌≤◌, length, Some, None, IfOk, OnOk, OnErr, filter as kept};
+ghost use Rattle.std.specs.List.{AllByRecursion};
 ghost use Rattle.std.specs.Str.{chars};
 ghost use Rattle.acl_binding.specs.Adding.{adding_answer};
 ghost use Rattle.acl_binding.specs.Book.{empty_book, number_of, added, appended};
 ghost use Rattle.acl_binding.specs.Filter.{matching, removed};
 ghost use Rattle.acl_binding.specs.Verdict.{verdict_of};
-ghost use Rattle.authorizer.specs.Looking.{finding};
+ghost use Rattle.authorizer.specs.Looking.{finding, IsIndexed, IsNamed};
 ghost use Rattle.authorizer.specs.Picking.{numbered, picks, AreAllAt};
 ghost use Rattle.acl_binding.specs.declared.words.Pattern.TheVariants.{Prefixed};
 
@@ -64,6 +65,14 @@ impl IndexedBook {
             contents: IndexMap::new(alloc),
             index: Index::new(alloc),
         }
+    }
+
+    /// The bindings by kind, pattern and name.
+    pub(crate) fn index(&self) -> &Index
+        ensures indexed { IsIndexed result.now self.now.entries }
+        ensures named { AllByRecursion IsNamed self.now.entries }
+    {
+        &self.index
     }
 
     /// Adds a binding under the next creation number, unless an equal one is there.

@@ -5,6 +5,7 @@
 #![tactic(auto)]
 
 mod answer;
+mod any_topic;
 mod asking;
 mod bucket;
 mod content;

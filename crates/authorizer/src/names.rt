@@ -1,16 +1,23 @@
 //! The bindings of one kind and one pattern, by their names.
 
-ghost use Rattle.std.specs.Prelude.{◌≡◌, ◌+◌, ◌^◌, ◌<◌, [], ◌∷◌, List, ℕ, Some, if◌then◌else◌, OnOk, OnErr};
+ghost use Rattle.std.specs.Prelude.{◌≡◌, ◌+◌, ◌^◌, ◌<◌, [], ◌∷◌, ◌&&◌, List, ℕ, Some, if◌then◌else◌, OnOk, OnErr};
 ghost use Rattle.std.specs.HashMap.{get_by_text};
 ghost use Rattle.std.specs.Str.{bytes_eq};
+ghost use Rattle.std.specs.List.{list_any};
+ghost use Rattle.acl_binding.specs.declared.binding.Numbered.{Numbered as Entry};
+ghost use Rattle.acl_binding.specs.declared.words.Kind.{Kind};
+ghost use Rattle.acl_binding.specs.declared.words.Pattern.{Pattern};
+ghost use Rattle.authorizer.specs.AnyTopic.{is_of, is_unbarred};
 ghost use Rattle.authorizer.specs.Index.{held_by, HasMore, HasSame, HasLess, HasLessAt};
+ghost use Rattle.authorizer.specs.Looking.{IsTableOf};
 
 use crate::bucket::Bucket;
+use crate::indexed::IndexedBook;
 use acl_binding::{Filter, Numbered};
 use indexmap::IndexMap;
 use std::alloc::{AllocError, Global};
 use std::marker::Model;
-use wire_types::Shared;
+use wire_types::{Shared, Text};
 
 /// The name that stands for all of them.
 pub(crate) const ANY_NAME: &str = "*";
@@ -58,6 +65,18 @@ impl Names {
     {
         *looked += 1;
         self.held(name)
+    }
+
+    /// Some binding lets the caller write, and no denial of the book stands over it.
+    pub(crate) fn any_unbarred(&self, book: &IndexedBook, who: &Text, host: &Text) -> bool
+        ensures { (kind : Kind) (pattern : Pattern) (es : List Entry) → IsTableOf self.now kind pattern es → result ≡ list_any (λ (e : Entry). is_of kind pattern e && is_unbarred book.now.entries who.now host.now e) es }
+    {
+        for (_name, bucket) in self.buckets.iter() {
+            if bucket.any_unbarred(book, who, host) {
+                return true;
+            }
+        }
+        false
     }
 
     /// One more binding, the last one of its name.

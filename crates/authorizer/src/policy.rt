@@ -4,6 +4,7 @@ ghost use Rattle.std.specs.Prelude.{◌≡◌, ◌+◌, ◌^◌, ◌<◌, ◌≤
 ghost use Rattle.acl_binding.specs.Adding.{adding_answer};
 ghost use Rattle.acl_binding.specs.Filter.{matching};
 ghost use Rattle.authorizer.specs.Policy.{first_policy, policy_verdict, look_ups, policy_added, policy_removed, is_super};
+ghost use Rattle.authorizer.specs.AnyTopic.{any_topic};
 ghost use Rattle.authorizer.specs.Asking.{asking_answer};
 ghost use Rattle.acl_binding.specs.declared.words.Pattern.TheVariants.{Prefixed};
 
@@ -110,6 +111,14 @@ impl Policy {
             return (Verdict::Yes, 0);
         }
         self.book.verdict_counted(question)
+    }
+
+    /// Some binding lets the caller write to topics, and no denial stands over it: who has that may have a producer id
+    /// without a transactional id (KIP-679).
+    pub fn any_topic(&self, who: &Text, host: &Text) -> bool
+        ensures { result ≡ any_topic self.now.book.entries who.now host.now }
+    {
+        self.book.any_topic(who, host)
     }
 
     /// A permit exactly where the verdict is `Yes`.

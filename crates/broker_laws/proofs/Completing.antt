@@ -4,6 +4,7 @@ use Rattle.msg_admin.specs.declared.request.Request.TheVariants.{Produce, Fetch,
 use Rattle.audit_trail.specs.declared.event.Event.{Event}
 use Rattle.audit_trail.specs.declared.event.Event.TheVariants.{Ask, Mark, Tick}
 use Rattle.txn_coordinator.specs.declared.pair.Pair.{Pair}
+use Rattle.msg_txn.specs.declared.end_txn.EndTxnRequest.TheVariants as versions
 use Rattle.txn_coordinator.specs.declared.target.Target.{Target}
 use Rattle.txn_coordinator.specs.declared.target.Target.TheVariants.{Partition, Group}
 use Rattle.txn_coordinator.specs.declared.transaction.Transaction.{Transaction}
@@ -95,7 +96,12 @@ own_producer (Ask caller client (SyncGroup r)) pair = refl
 own_producer (Ask caller client (InitProducerId r)) pair = refl
 own_producer (Ask caller client (AddPartitionsToTxn r)) pair = refl
 own_producer (Ask caller client (AddOffsetsToTxn r)) pair = refl
-own_producer (Ask caller client (EndTxn r)) pair = refl
+own_producer (Ask caller client (EndTxn (versions.Version0 body))) pair = refl
+own_producer (Ask caller client (EndTxn (versions.Version1 body))) pair = refl
+own_producer (Ask caller client (EndTxn (versions.Version2 body))) pair = refl
+own_producer (Ask caller client (EndTxn (versions.Version3 body))) pair = refl
+own_producer (Ask caller client (EndTxn (versions.Version4 body))) pair = refl
+own_producer (Ask caller client (EndTxn (versions.Version5 body))) pair = refl
 own_producer (Ask caller client (TxnOffsetCommit r)) pair = refl
 own_producer (Ask caller client (SaslHandshake r)) pair = refl
 own_producer (Ask caller client ApiVersions) pair = refl

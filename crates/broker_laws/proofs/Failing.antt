@@ -13,32 +13,36 @@ use Rattle.msg_txn.specs.declared.add_offsets.AddOffsetsToTxnReply.{AddOffsetsTo
 use Rattle.msg_txn.specs.declared.add_partitions.AddPartitionsToTxnRequest.{AddPartitionsToTxnRequest}
 use Rattle.msg_txn.specs.declared.add_partitions.AddPartitionsToTxnReply.{AddPartitionsToTxnReply}
 use Rattle.msg_txn.specs.declared.add_partitions.AddedPartition.{AddedPartition}
+use Rattle.msg_txn.specs.declared.end_txn.FlexibleEndTxn.{FlexibleEndTxn}
 use Rattle.msg_txn.specs.declared.end_txn.EndTxnRequest.{EndTxnRequest}
+use Rattle.msg_txn.specs.declared.end_txn.EndTxnRequest.TheVariants as versions
+use Rattle.txn_coordinator.specs.declared.ending.EndForm.{EndForm}
+use Rattle.txn_coordinator.specs.declared.ending.EndForm.TheVariants.{Plain, Fencing, Raising}
 use Rattle.msg_txn.specs.declared.end_txn.EndTxnReply.{EndTxnReply}
+use Rattle.msg_txn.specs.EndTxn.{error_of}
 use Rattle.msg_admin.specs.declared.reply.Reply.TheVariants as replies
 use Rattle.walk.specs.Walk.{plain_parts, plain_topics, answers}
 use Rattle.walk.proofs.Weaving.{woven}
 use Rattle.txn_coordinator.specs.declared.pair.Pair.{Pair}
 use Rattle.txn_coordinator.specs.declared.target.Target.{Target}
 use Rattle.txn_coordinator.specs.declared.target.TopicPartition.{TopicPartition}
-use Rattle.txn_coordinator.specs.declared.ending.EndForm.TheVariants.{Plain}
 use Rattle.txn_coordinator.specs.Coordinator.{CoordinatorValue, turn_code}
 use Rattle.txn_coordinator.specs.Adding.{add_partitions, add_group}
 use Rattle.txn_coordinator.specs.EndTxn.{end}
 use Rattle.txn_laws.specs.Sound.{Each}
 use Rattle.broker_world.specs.World.{World, LogValue, rules_of}
 use Rattle.broker_world.specs.Logs.{log_at}
-use Rattle.broker_world.specs.Questions.{id_question}
 use Rattle.broker_world.specs.Whole.{whole_by}
 use Rattle.data_handlers.specs.Sent.{sent}
 use Rattle.data_handlers.specs.Judged.{partition_at, are_acks, producer_code, passed, passed_by, batch_in, judged}
 use Rattle.data_handlers.specs.Produce.{produced_by}
-use Rattle.txn_handlers.specs.EndTxn.{ending, end_reply, ended}
+use Rattle.txn_handlers.specs.EndTxn.{ended, end_questions, end_error, form_of, ending_id, ending_pair, ending_outcome}
 use Rattle.txn_handlers.specs.AddOffsets.{add_offsets_questions, add_offsets_reply, offsets_added}
 use Rattle.txn_handlers.specs.AddPartitions.{cut_code, cut_rule, told_rule, is_cut, partitions_in, partitions_of, add_turn, cut_outcome, added_outcome}
 use Rattle.api_laws.proofs.DataAnswers.{judged_called}
-use Rattle.broker_laws.specs.Laws.{TurnsAway, RequestsFail, pair_with}
+use Rattle.broker_laws.specs.Laws.{IsRepeated, TurnsAway, RequestsFail, pair_with}
 use Rattle.broker_laws.proofs.Passing.{never_none}
+use Rattle.broker_laws.proofs.Preparing.{end_code}
 use Rattle.broker_laws.proofs.Walks.{walk_is}
 
 abbrev NotNone : ErrorCode → Type 0
@@ -46,21 +50,31 @@ NotNone code = code ≡ codes.None → ⊥
 
 -- ---- EndTxn and AddOffsetsToTxn
 
-end_error : (a b : EndTxnReply) → replies.EndTxn a ≡ replies.EndTxn b → a.error ≡ b.error
-end_error a b h = let same : a ≡ b = cc in ap (λ (x : EndTxnReply). x.error) same
-
 group_error : (a b : AddOffsetsToTxnReply) → replies.AddOffsetsToTxn a ≡ replies.AddOffsetsToTxn b → a.error ≡ b.error
 group_error a b h = let same : a ≡ b = cc in ap (λ (x : AddOffsetsToTxnReply). x.error) same
 
 add_topics : (a b : AddPartitionsToTxnReply) → replies.AddPartitionsToTxn a ≡ replies.AddPartitionsToTxn b → a.topics ≡ b.topics
 add_topics a b h = let same : a ≡ b = cc in ap (λ (x : AddPartitionsToTxnReply). x.topics) same
 
+-- only version 5 raises the epoch
+raising_version : (r : EndTxnRequest) → form_of r ≡ Raising → (body : FlexibleEndTxn) × (r ≡ versions.Version5 body)
+raising_version (versions.Version0 body) form = absurd (let clash : Plain ≡ Raising = form in cc)
+raising_version (versions.Version1 body) form = absurd (let clash : Plain ≡ Raising = form in cc)
+raising_version (versions.Version2 body) form = absurd (let clash : Fencing ≡ Raising = form in cc)
+raising_version (versions.Version3 body) form = absurd (let clash : Fencing ≡ Raising = form in cc)
+raising_version (versions.Version4 body) form = absurd (let clash : Fencing ≡ Raising = form in cc)
+raising_version (versions.Version5 body) form = (body, refl)
+
 module _ (w : World) (pair : Pair) (away : TurnsAway w.coordinator pair) where
-  endings_fail : (r : EndTxnRequest) (reply : EndTxnReply) → pair_with r.producer r.epoch ≡ pair → (o : Option Refusal) → (whole_by o w (λ code. replies.EndTxn (end_reply code)) (ended w r)).reply ≡ replies.EndTxn reply → NotNone reply.error
-  endings_fail r reply same (Some refusal) told none = never_none refusal.question.kind (end_error (end_reply _) reply told ∙ none)
+  endings_fail : (r : EndTxnRequest) (reply : EndTxnReply) → ending_pair r ≡ pair → (o : Option Refusal) → (whole_by o w (λ code. replies.EndTxn (end_error r code)) (ended w r)).reply ≡ replies.EndTxn reply → error_of reply ≡ codes.None
+      → (body : FlexibleEndTxn) × (r ≡ versions.Version5 body) × IsRepeated w.coordinator Raising (ending_id r) pair (ending_outcome r)
+  endings_fail r reply same (Some refusal) told none = absurd (never_none refusal.question.kind (end_code r _ reply told ∙ none))
   endings_fail r reply same None told none =
-      away.endings r.transactional_id (ending r.committed)
-      (subst (λ (p : Pair). turn_code (end w.coordinator Plain r.transactional_id p (ending r.committed)) ≡ codes.None) same (end_error (end_reply _) reply told ∙ none))
+      let repeated =
+          away.endings (form_of r) (ending_id r) (ending_outcome r)
+          (subst (λ (p : Pair). turn_code (end w.coordinator (form_of r) (ending_id r) p (ending_outcome r)) ≡ codes.None) same (end_code r _ reply told ∙ none)) in
+      let version = raising_version r repeated.raises in
+      (version.0, version.1, subst (λ (f : EndForm). IsRepeated w.coordinator f (ending_id r) pair (ending_outcome r)) repeated.raises repeated)
 
   groups_fail : (r : AddOffsetsToTxnRequest) (reply : AddOffsetsToTxnReply) → pair_with r.producer r.epoch ≡ pair → (o : Option Refusal) → (whole_by o w (λ code. replies.AddOffsetsToTxn (add_offsets_reply code)) (offsets_added w r)).reply ≡ replies.AddOffsetsToTxn reply → NotNone reply.error
   groups_fail r reply same (Some refusal) told none = never_none refusal.question.kind (group_error (add_offsets_reply _) reply told ∙ none)
@@ -134,7 +148,7 @@ produced_fails (Err code) p (Some log) never called h = called (ap Err h)
 
 pub requests_fail : (w : World) (pair : Pair) → TurnsAway w.coordinator pair → RequestsFail w pair
 requests_fail w pair away = record {
-  endings = λ caller client r reply same told. endings_fail w pair away r reply same (part_refusal (rules_of w) (id_question caller r.transactional_id ∷ [])) told;
+  endings = λ caller client r reply same told. endings_fail w pair away r reply same (part_refusal (rules_of w) (end_questions caller r)) told;
   group_additions = λ caller client r reply same told. groups_fail w pair away r reply same (part_refusal (rules_of w) (add_offsets_questions caller r.transactional_id r.group)) told;
   additions = λ caller client r reply same told. additions_fail w pair away caller r reply same (is_cut caller r.transactional_id w.topics (rules_of w) r.topics) told;
   batches = λ most id acks topics name p records b whose is own.

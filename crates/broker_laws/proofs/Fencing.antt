@@ -13,12 +13,14 @@ use Rattle.txn_coordinator.specs.declared.target.Target.{Target}
 use Rattle.txn_coordinator.specs.declared.target.Target.TheVariants.{Partition, Group}
 use Rattle.txn_coordinator.specs.declared.transaction.Transaction.{Transaction}
 use Rattle.record_batch.specs.declared.outcome.Outcome.{Outcome as Ending}
-use Rattle.txn_coordinator.specs.declared.ending.EndForm.TheVariants.{Plain}
+use Rattle.txn_coordinator.specs.declared.ending.EndForm.{EndForm}
+use Rattle.txn_coordinator.specs.declared.ending.EndForm.TheVariants.{Plain, Fencing, Raising}
 use Rattle.txn_coordinator.specs.declared.turn.Turn.TheVariants.{Stays}
 use Rattle.txn_coordinator.specs.Words.{last_epoch, is_empty, raised}
+use Rattle.txn_coordinator.specs.Preparing.{pair_refusal}
 use Rattle.txn_coordinator.specs.Coordinator.{CoordinatorValue, recorded, owner, given_by, fresh, turn_code}
 use Rattle.txn_coordinator.specs.Adding.{with_partitions, with_group, open_by, open_found, open_transaction, grown, add_partitions, add_group}
-use Rattle.txn_coordinator.specs.EndTxn.{end_by, end_found, end}
+use Rattle.txn_coordinator.specs.EndTxn.{other_epoch, is_kept, is_again, end_again, end_by, end_found, end}
 use Rattle.txn_laws.specs.Small.{World as SmallWorld, Move, moved_all}
 use Rattle.txn_laws.specs.Sound.{IsFenced, IsOrdered, IsSound}
 use Rattle.txn_laws.specs.Laws.{IsSilent, HasPair as HadPair, Refuses}
@@ -32,7 +34,7 @@ use Rattle.txn_handlers.specs.TxnOffsetCommit.{Staging, staging, staging_refusal
 use Rattle.api_dispatch.specs.Step.{reached}
 use Rattle.broker_laws.specs.Entries.{entries_in}
 use Rattle.broker_laws.specs.Moves.{moves_of_all}
-use Rattle.broker_laws.specs.Laws.{InReached, TurnsAway, FencedWriteNothing, NoDataBehindAGreaterMarker}
+use Rattle.broker_laws.specs.Laws.{InReached, IsRepeated, TurnsAway, FencedWriteNothing, NoDataBehindAGreaterMarker}
 use Rattle.broker_laws.proofs.Passing.{held_holds, owner_free}
 use Rattle.broker_laws.proofs.Noted.{stages_nothing}
 use Rattle.broker_laws.proofs.Failing.{requests_fail}
@@ -108,22 +110,50 @@ not_opened s id pair sound f own moment grow none = by_empty (is_empty own) none
 addition_refused : (s : SmallWorld) (id : List ℕ) (pair : Pair) → IsSound s → IsFenced s.coordinator id (raised pair) → (own : List ℕ) (moment : ℕ) (p : TopicPartition) (ps : List TopicPartition) → turn_code (add_partitions s.coordinator own pair moment (p ∷ ps)) ≡ codes.None → ⊥
 addition_refused s id pair sound f own moment p ps none = not_opened s id pair sound f own moment (with_partitions (p ∷ ps)) none
 
-ending_refused : (s : SmallWorld) (id : List ℕ) (pair : Pair) → IsSound s → IsFenced s.coordinator id (raised pair) → (own : List ℕ) (o : Ending) → turn_code (end s.coordinator Plain own pair o) ≡ codes.None → ⊥
-ending_refused s id pair sound f own o none = by_empty (is_empty own) none where
-  by_tests : (t : Transaction) (a b l : Bool) → (a ≡ true → b ≡ true → ⊥) → turn_code (end_by (told a b l codes.InvalidProducerEpoch) Plain t (fresh s.coordinator) o) ≡ codes.None → ⊥
+other_told : (form : EndForm) → other_epoch form ≡ codes.None → ⊥
+other_told Plain h = let clash : codes.InvalidProducerEpoch ≡ codes.None = h in cc
+other_told Fencing h = let clash : codes.ProducerFenced ≡ codes.None = h in cc
+other_told Raising h = let clash : codes.ProducerFenced ≡ codes.None = h in cc
+
+-- only version 5 knows a call once more, by the pair that is kept
+again_form : (form : EndForm) (t : Transaction) (pair : Pair) → is_again form t pair ≡ true → (form ≡ Raising) × (is_kept t.kept pair ≡ true)
+again_form Plain t pair h = absurd (let clash : false ≡ true = h in cc)
+again_form Fencing t pair h = absurd (let clash : false ≡ true = h in cc)
+again_form Raising t pair h = (refl, h)
+
+ending_refused : (s : SmallWorld) (id : List ℕ) (pair : Pair) → IsSound s → IsFenced s.coordinator id (raised pair) → (form : EndForm) (own : List ℕ) (o : Ending) → turn_code (end s.coordinator form own pair o) ≡ codes.None → IsRepeated s.coordinator form own pair o
+ending_refused s id pair sound f form own o none = by_empty (is_empty own) refl none where
+  by_tests : (t : Transaction) (a b l : Bool) → (a ≡ true → b ≡ true → ⊥) → turn_code (end_by (told a b l (other_epoch form)) form t (fresh s.coordinator) o) ≡ codes.None → ⊥
   by_tests t true true l differ none = differ refl refl
-  by_tests t true false l differ none = let clash : codes.InvalidProducerEpoch ≡ codes.None = none in cc
+  by_tests t true false l differ none = other_told form none
   by_tests t false b l differ none = let clash : codes.InvalidProducerIdMapping ≡ codes.None = none in cc
 
-  by_found : (found : Option Transaction) → recorded s.coordinator.transactions own ≡ found → turn_code (end_found found Plain (fresh s.coordinator) pair o) ≡ codes.None → ⊥
-  by_found None e none = let clash : codes.InvalidProducerIdMapping ≡ codes.None = none in cc
-  by_found (Some t) e none =
-      by_tests t (int_eq t.pair.producer pair.producer) (int_eq t.pair.epoch pair.epoch) (int_lt pair.epoch last_epoch)
-      (λ producer epoch. not_own s id own pair t sound f e (same_number t.pair.producer pair.producer producer) (same_number t.pair.epoch pair.epoch epoch)) none
+  by_again : (t : Transaction) (b : Bool) → is_empty own ≡ false → recorded s.coordinator.transactions own ≡ Some t → is_again form t pair ≡ b
+      → turn_code (cond b (Stays (end_again t.phase o)) (end_by (pair_refusal (other_epoch form) t pair) form t (fresh s.coordinator) o)) ≡ codes.None → IsRepeated s.coordinator form own pair o
+  by_again t true named found again none =
+      let how = again_form form t pair again in
+      record {
+        raises = how.0;
+        transaction = t;
+        found = found;
+        keeps = how.1;
+        stays =
+            ap (λ (b : Bool). cond b (Stays codes.InvalidRequest) (end_found (recorded s.coordinator.transactions own) form (fresh s.coordinator) pair o)) named
+            ∙ ap (λ (x : Option Transaction). end_found x form (fresh s.coordinator) pair o) found
+            ∙ ap (λ (b : Bool). cond b (Stays (end_again t.phase o)) (end_by (pair_refusal (other_epoch form) t pair) form t (fresh s.coordinator) o)) again
+            ∙ ap (λ code. Stays code) none;
+      }
+  by_again t false named found again none =
+      absurd (by_tests t (int_eq t.pair.producer pair.producer) (int_eq t.pair.epoch pair.epoch) (int_lt pair.epoch last_epoch)
+      (λ producer epoch. not_own s id own pair t sound f found (same_number t.pair.producer pair.producer producer) (same_number t.pair.epoch pair.epoch epoch)) none)
 
-  by_empty : (b : Bool) → turn_code (cond b (Stays codes.InvalidRequest) (end_found (recorded s.coordinator.transactions own) Plain (fresh s.coordinator) pair o)) ≡ codes.None → ⊥
-  by_empty true none = let clash : codes.InvalidRequest ≡ codes.None = none in cc
-  by_empty false none = by_found (recorded s.coordinator.transactions own) refl none
+  by_found : (found : Option Transaction) → is_empty own ≡ false → recorded s.coordinator.transactions own ≡ found → turn_code (end_found found form (fresh s.coordinator) pair o) ≡ codes.None → IsRepeated s.coordinator form own pair o
+  by_found None named e none = absurd (let clash : codes.InvalidProducerIdMapping ≡ codes.None = none in cc)
+  by_found (Some t) named e none = by_again t (is_again form t pair) named e refl none
+
+  by_empty : (b : Bool) → is_empty own ≡ b → turn_code (cond b (Stays codes.InvalidRequest) (end_found (recorded s.coordinator.transactions own) form (fresh s.coordinator) pair o)) ≡ codes.None → IsRepeated s.coordinator form own pair o
+  by_empty true named none = absurd (let clash : codes.InvalidRequest ≡ codes.None = none in cc)
+  by_empty false named none = by_found (recorded s.coordinator.transactions own) named refl none
 
 group_addition_refused : (s : SmallWorld) (id : List ℕ) (pair : Pair) → IsSound s → IsFenced s.coordinator id (raised pair) → (own : List ℕ) (moment : ℕ) (group : List ℕ) → turn_code (add_group s.coordinator own pair moment group) ≡ codes.None → ⊥
 group_addition_refused s id pair sound f own moment group none = not_opened s id pair sound f own moment (with_group group) none

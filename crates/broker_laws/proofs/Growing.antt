@@ -21,11 +21,10 @@ use Rattle.broker_world.specs.Whole.{Served, whole_by}
 use Rattle.broker_world.specs.Questions.{read_question}
 use Rattle.group_handlers.specs.Members.{joined, synced, heard, left}
 use Rattle.group_handlers.specs.FindCoordinator.{kind_of, find_questions}
-use Rattle.txn_handlers.specs.InitProducerId.{init_question, initialized}
+use Rattle.txn_handlers.specs.InitProducerId.{init_questions, initialized}
 use Rattle.txn_handlers.specs.AddPartitions.{is_cut, cut_outcome, added_outcome}
 use Rattle.txn_handlers.specs.AddOffsets.{add_offsets_questions, offsets_added}
-use Rattle.broker_world.specs.Questions.{id_question}
-use Rattle.txn_handlers.specs.EndTxn.{ended}
+use Rattle.txn_handlers.specs.EndTxn.{ended, end_questions}
 use Rattle.group_handlers.specs.OffsetCommit.{committing_rule}
 use Rattle.txn_handlers.specs.TxnOffsetCommit.{staging_rule}
 use Rattle.acl_handlers.specs.DescribeAcls.{describe_acls_questions}
@@ -86,14 +85,14 @@ step_goes w (Ask caller client (SyncGroup r)) =
     let e = Ask caller client (SyncGroup r) in
     unless_refused (part_refusal (rules_of w) (read_question caller r.group ∷ [])) w e _ (synced w r) (go_kept (ComesBy w e) w.groups (synced w r).world.groups (sync_keeps w.groups r w.moment))
 step_goes w (Ask caller client (InitProducerId r)) =
-    let e = Ask caller client (InitProducerId r) in unless_refused (part_refusal (rules_of w) (init_question caller r.transactional_id ∷ [])) w e _ (initialized w r) (unchanged w e)
+    let e = Ask caller client (InitProducerId r) in unless_refused (part_refusal (rules_of w) (init_questions (rules_of w) caller r.transactional_id)) w e _ (initialized w r) (unchanged w e)
 step_goes w (Ask caller client (AddPartitionsToTxn r)) = by_cut (is_cut caller r.transactional_id w.topics (rules_of w) r.topics) where
   by_cut : (b : Bool) → Goes w (Ask caller client (AddPartitionsToTxn r)) (cond b (cut_outcome w caller r) (added_outcome w r)).world
   by_cut true = unchanged w (Ask caller client (AddPartitionsToTxn r))
   by_cut false = unchanged w (Ask caller client (AddPartitionsToTxn r))
 step_goes w (Ask caller client (AddOffsetsToTxn r)) =
     let e = Ask caller client (AddOffsetsToTxn r) in unless_refused (part_refusal (rules_of w) (add_offsets_questions caller r.transactional_id r.group)) w e _ (offsets_added w r) (unchanged w e)
-step_goes w (Ask caller client (EndTxn r)) = let e = Ask caller client (EndTxn r) in unless_refused (part_refusal (rules_of w) (id_question caller r.transactional_id ∷ [])) w e _ (ended w r) (unchanged w e)
+step_goes w (Ask caller client (EndTxn r)) = let e = Ask caller client (EndTxn r) in unless_refused (part_refusal (rules_of w) (end_questions caller r)) w e _ (ended w r) (unchanged w e)
 step_goes w (Ask caller client (TxnOffsetCommit r)) =
     let e = Ask caller client (TxnOffsetCommit r) in
     subst (GoOn (ComesBy w e) w.groups) (woven (staging_rule w caller r) (rules_of w) w.groups r.topics).world

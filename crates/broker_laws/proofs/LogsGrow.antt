@@ -29,15 +29,15 @@ use Rattle.broker_world.specs.First.{magnitude}
 use Rattle.broker_world.specs.Logs.{log_at, with_log, log_by, appended_by}
 use Rattle.broker_world.specs.Markers.{marker_batch, marked_by}
 use Rattle.broker_world.specs.Whole.{Served, whole_by}
-use Rattle.broker_world.specs.Questions.{read_question, id_question}
+use Rattle.broker_world.specs.Questions.{read_question}
 use Rattle.data_handlers.specs.Judged.{partition_at, judged, topics_produced}
 use Rattle.data_handlers.specs.Produce.{producing}
 use Rattle.group_handlers.specs.Members.{joined, synced, heard, left}
 use Rattle.group_handlers.specs.FindCoordinator.{kind_of, find_questions}
-use Rattle.txn_handlers.specs.InitProducerId.{init_question, initialized}
+use Rattle.txn_handlers.specs.InitProducerId.{init_questions, initialized}
 use Rattle.txn_handlers.specs.AddPartitions.{is_cut, cut_outcome, added_outcome}
 use Rattle.txn_handlers.specs.AddOffsets.{add_offsets_questions, offsets_added}
-use Rattle.txn_handlers.specs.EndTxn.{ended}
+use Rattle.txn_handlers.specs.EndTxn.{ended, end_questions}
 use Rattle.acl_handlers.specs.DescribeAcls.{describe_acls_questions}
 use Rattle.acl_handlers.specs.CreateAcls.{alter_questions}
 use Rattle.txn_handlers.specs.Marks.{marked_at, mark_by}
@@ -126,13 +126,13 @@ step_grows w (Ask caller client (JoinGroup r)) = unless_refused (part_refusal (r
 step_grows w (Ask caller client (Heartbeat r)) = unless_refused (part_refusal (rules_of w) (read_question caller r.group ∷ [])) w _ (heard w r) (grow_same w.topics)
 step_grows w (Ask caller client (LeaveGroup r)) = unless_refused (part_refusal (rules_of w) (read_question caller r.group ∷ [])) w _ (left w r) (grow_same w.topics)
 step_grows w (Ask caller client (SyncGroup r)) = unless_refused (part_refusal (rules_of w) (read_question caller r.group ∷ [])) w _ (synced w r) (grow_same w.topics)
-step_grows w (Ask caller client (InitProducerId r)) = unless_refused (part_refusal (rules_of w) (init_question caller r.transactional_id ∷ [])) w _ (initialized w r) (grow_same w.topics)
+step_grows w (Ask caller client (InitProducerId r)) = unless_refused (part_refusal (rules_of w) (init_questions (rules_of w) caller r.transactional_id)) w _ (initialized w r) (grow_same w.topics)
 step_grows w (Ask caller client (AddPartitionsToTxn r)) = by_cut (is_cut caller r.transactional_id w.topics (rules_of w) r.topics) where
   by_cut : (b : Bool) → Grow w.topics (cond b (cut_outcome w caller r) (added_outcome w r)).world.topics
   by_cut true = grow_same w.topics
   by_cut false = grow_same w.topics
 step_grows w (Ask caller client (AddOffsetsToTxn r)) = unless_refused (part_refusal (rules_of w) (add_offsets_questions caller r.transactional_id r.group)) w _ (offsets_added w r) (grow_same w.topics)
-step_grows w (Ask caller client (EndTxn r)) = unless_refused (part_refusal (rules_of w) (id_question caller r.transactional_id ∷ [])) w _ (ended w r) (grow_same w.topics)
+step_grows w (Ask caller client (EndTxn r)) = unless_refused (part_refusal (rules_of w) (end_questions caller r)) w _ (ended w r) (grow_same w.topics)
 step_grows w (Ask caller client (TxnOffsetCommit r)) = grow_same w.topics
 step_grows w (Ask caller client (SaslHandshake r)) = grow_same w.topics
 step_grows w (Ask caller client ApiVersions) = grow_same w.topics

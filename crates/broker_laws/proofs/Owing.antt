@@ -12,6 +12,7 @@ use Rattle.msg_txn.specs.declared.init_producer_id.InitProducerIdRequest.{InitPr
 use Rattle.msg_txn.specs.declared.add_partitions.AddPartitionsToTxnRequest.{AddPartitionsToTxnRequest}
 use Rattle.msg_txn.specs.declared.add_offsets.AddOffsetsToTxnRequest.{AddOffsetsToTxnRequest}
 use Rattle.msg_txn.specs.declared.end_txn.EndTxnRequest.{EndTxnRequest}
+use Rattle.msg_txn.specs.declared.end_txn.EndTxnRequest.TheVariants as versions
 use Rattle.msg_admin.specs.declared.reply.Reply.{Reply}
 use Rattle.msg_admin.specs.declared.reply.Reply.TheVariants as replies
 use Rattle.msg_admin.specs.declared.request.Request.TheVariants.{Produce, Fetch, ListOffsets, Metadata, OffsetCommit, OffsetFetch, FindCoordinator, JoinGroup, Heartbeat, LeaveGroup, SyncGroup, SaslHandshake, ApiVersions, InitProducerId, AddPartitionsToTxn, AddOffsetsToTxn, EndTxn, TxnOffsetCommit, DescribeAcls, CreateAcls, DeleteAcls, SaslAuthenticate}
@@ -26,7 +27,8 @@ use Rattle.txn_coordinator.specs.declared.transaction.Transaction.{Transaction}
 use Rattle.record_batch.specs.declared.outcome.Outcome.{Outcome as Ending}
 use Rattle.record_batch.specs.declared.outcome.Outcome.TheVariants.{Commit, Abort}
 use Rattle.txn_coordinator.specs.declared.marker.OwedMarker.{OwedMarker}
-use Rattle.txn_coordinator.specs.declared.ending.EndForm.TheVariants.{Plain}
+use Rattle.txn_coordinator.specs.declared.ending.EndForm.{EndForm}
+use Rattle.txn_coordinator.specs.declared.ending.EndForm.TheVariants.{Plain, Fencing, Raising}
 use Rattle.txn_coordinator.specs.declared.turn.Turn.{Turn}
 use Rattle.txn_coordinator.specs.declared.turn.Turn.TheVariants.{Stays, Puts}
 use Rattle.txn_coordinator.specs.Words.{is_empty, raised, pair_after, given_after, prepared, targets}
@@ -34,7 +36,7 @@ use Rattle.txn_coordinator.specs.Coordinator.{CoordinatorValue, has_id, recorded
 use Rattle.txn_coordinator.specs.Preparing.{marker_for, markers, fenced, fence_markers, pair_refusal}
 use Rattle.txn_coordinator.specs.InitProducerId.{timeout_within, created, begun, init_in, init_for, init}
 use Rattle.txn_coordinator.specs.Adding.{grown, with_partitions, with_group, open_transaction, add_partitions}
-use Rattle.txn_coordinator.specs.EndTxn.{end_in, end_by, end_found, end}
+use Rattle.txn_coordinator.specs.EndTxn.{other_epoch, end_ongoing, end_closed, end_in, is_again, end_again, end_by, end_found, end}
 use Rattle.txn_coordinator.specs.Expiry.{is_due, expired, expiry_markers}
 use Rattle.txn_coordinator.proofs.Table.{recorded_id}
 use Rattle.txn_laws.specs.Small.{World as SmallWorld, Move, Move as moves, marked, moved}
@@ -45,22 +47,50 @@ use Rattle.txn_laws.proofs.Complete.{ongoing_waits}
 use Rattle.txn_laws.proofs.Prepared.{preparing_law}
 use Rattle.broker_world.specs.World.{World, rules_of}
 use Rattle.broker_world.specs.Whole.{Served, whole_by}
-use Rattle.broker_world.specs.Questions.{read_question, id_question}
+use Rattle.broker_world.specs.Questions.{read_question}
 use Rattle.broker_world.specs.Clock.{moment_after}
 use Rattle.group_handlers.specs.Members.{joined, synced, heard, left}
 use Rattle.group_handlers.specs.FindCoordinator.{kind_of, find_questions}
-use Rattle.txn_handlers.specs.InitProducerId.{init_question, init_error, coordinator_for, initialized}
+use Rattle.txn_handlers.specs.InitProducerId.{init_questions, init_error, coordinator_for, initialized}
 use Rattle.txn_handlers.specs.AddPartitions.{is_cut, cut_outcome, added_outcome, partitions_of}
 use Rattle.txn_handlers.specs.AddOffsets.{add_offsets_questions, add_offsets_reply, offsets_added}
-use Rattle.txn_handlers.specs.EndTxn.{ending, end_reply, ended}
+use Rattle.txn_handlers.specs.EndTxn.{ended, end_questions, end_error, form_of, ending_id, ending_pair, ending_outcome}
 use Rattle.acl_handlers.specs.DescribeAcls.{describe_acls_questions}
 use Rattle.acl_handlers.specs.CreateAcls.{alter_questions}
 use Rattle.api_dispatch.specs.Step.{step}
 use Rattle.api_dispatch.proofs.Wholes.{offsets_keep}
 use Rattle.broker_laws.specs.Entries.{entries_in}
-use Rattle.broker_laws.specs.Laws.{InReached, marker_pair, OwesEach, OwesPrepared}
+use Rattle.broker_laws.specs.Laws.{InReached, marker_pair, left_pair, OwesEach, OwesPrepared}
 use Rattle.broker_laws.proofs.Offsets.{same_entries, expiry_keeps}
 use Rattle.broker_laws.proofs.Reached.{full, IsGood, good_moved, good}
+
+-- ---- the pairs by the form of an EndTxn
+
+abbrev ending_marker : EndForm → Pair → Pair
+ending_marker Plain own = own
+ending_marker Fencing own = own
+ending_marker Raising own = raised own
+
+abbrev ending_left : EndForm → Pair → ℤ → Pair
+ending_left Plain own next = own
+ending_left Fencing own next = own
+ending_left Raising own next = pair_after own next
+
+marker_of : (caller : Caller) (client : Option (List ℕ)) (r : EndTxnRequest) (own : Pair) → marker_pair (Ask caller client (EndTxn r)) own ≡ ending_marker (form_of r) own
+marker_of caller client (versions.Version0 body) own = refl
+marker_of caller client (versions.Version1 body) own = refl
+marker_of caller client (versions.Version2 body) own = refl
+marker_of caller client (versions.Version3 body) own = refl
+marker_of caller client (versions.Version4 body) own = refl
+marker_of caller client (versions.Version5 body) own = refl
+
+left_of : (w : World) (caller : Caller) (client : Option (List ℕ)) (r : EndTxnRequest) (own : Pair) → left_pair w (Ask caller client (EndTxn r)) own ≡ ending_left (form_of r) own (fresh w.coordinator)
+left_of w caller client (versions.Version0 body) own = refl
+left_of w caller client (versions.Version1 body) own = refl
+left_of w caller client (versions.Version2 body) own = refl
+left_of w caller client (versions.Version3 body) own = refl
+left_of w caller client (versions.Version4 body) own = refl
+left_of w caller client (versions.Version5 body) own = refl
 
 -- ---- records
 
@@ -71,16 +101,24 @@ still ts id t u o before ongoing after waits =
     let e : t ≡ u = cc in
     ongoing_waits o (sym ongoing ∙ ap (λ (y : Transaction). y.phase) e ∙ waits)
 
+empty_waits : (end : Ending) → Empty ≡ prepared end → ⊥
+empty_waits Commit h = cc
+empty_waits Abort h = cc
+
+aborted_waits : (end : Ending) → CompleteAbort ≡ prepared end → ⊥
+aborted_waits Commit h = cc
+aborted_waits Abort h = cc
+
 -- ---- calls of the coordinator
 
 -- the id's transaction, which is open
 module _ (c : CoordinatorValue) (id : List ℕ) (t : Transaction) (o : Ending) (before : recorded c.transactions id ≡ Some t) (ongoing : t.phase ≡ Ongoing) where
-  -- if the turn prepares it, it owes the markers of this pair, which the record then has
-  abbrev Owes : (Transaction → Pair) → Turn → Type 0
-  Owes pair turn = (u : Transaction) → recorded (turned c turn).transactions id ≡ Some u → u.phase ≡ prepared o → ((turned c turn).warrants ≡ c.warrants ++ markers t (pair t) o) × (u.pair ≡ pair t)
+  -- if the turn prepares it, it owes the markers of one pair, and the record then has the other
+  abbrev Owes : (Transaction → Pair) → (Transaction → Pair) → Turn → Type 0
+  Owes pair left turn = (u : Transaction) → recorded (turned c turn).transactions id ≡ Some u → u.phase ≡ prepared o → ((turned c turn).warrants ≡ c.warrants ++ markers t (pair t) o) × (u.pair ≡ left t)
 
-  stays : (pair : Transaction → Pair) (code : ErrorCode) → Owes pair (Stays code)
-  stays pair code u after waits = absurd (still c.transactions id t u o before ongoing after waits)
+  stays : (pair left : Transaction → Pair) (code : ErrorCode) → Owes pair left (Stays code)
+  stays pair left code u after waits = absurd (still c.transactions id t u o before ongoing after waits)
 
   -- a record that is put in place of another waits only if that one was the id's
   put_is : (own : List ℕ) (y r u : Transaction) → recorded c.transactions own ≡ Some y → r.id ≡ y.id → recorded (put c.transactions r) id ≡ Some u → u.phase ≡ prepared o → (y ≡ t) × (r ≡ u)
@@ -94,76 +132,92 @@ module _ (c : CoordinatorValue) (id : List ℕ) (t : Transaction) (o : Ending) (
     by_id false e = absurd (still c.transactions id t u o before ongoing (sym (put_at_test c.transactions r id false e) ∙ after) waits)
 
   -- it owes the markers of a record that is put in its place
-  puts : (pair : Transaction → Pair) (own : List ℕ) (y r : Transaction) (code : ErrorCode) (x : Ending) → recorded c.transactions own ≡ Some y → r.id ≡ y.id → r.phase ≡ prepared x → r.pair ≡ pair y → Owes pair (Puts code r [] (markers y (pair y) x))
-  puts pair own y r code x found same phase is u after waits =
+  puts : (pair left : Transaction → Pair) (own : List ℕ) (y r : Transaction) (code : ErrorCode) (given : List (Option (List ℕ))) (x : Ending) → recorded c.transactions own ≡ Some y → r.id ≡ y.id → r.phase ≡ prepared x → r.pair ≡ left y → Owes pair left (Puts code r given (markers y (pair y) x))
+  puts pair left own y r code given x found same phase is u after waits =
       let one = put_is own y r u found same after waits in
       let outcome : x ≡ o = same_outcome x o (sym phase ∙ ap (λ (z : Transaction). z.phase) one.1 ∙ waits) in (
         ap (λ (z : Transaction). c.warrants ++ markers z (pair z) x) one.0 ∙ ap (λ end. c.warrants ++ markers t (pair t) end) outcome,
-        ap (λ (z : Transaction). z.pair) (sym one.1) ∙ is ∙ ap pair one.0,
+        ap (λ (z : Transaction). z.pair) (sym one.1) ∙ is ∙ ap left one.0,
       )
 
-  -- a record that is put and has nothing open is another id's
-  closed : (pair : Transaction → Pair) (r : Transaction) (code : ErrorCode) (given : List (Option (List ℕ))) → r.phase ≡ Empty → Owes pair (Puts code r given [])
-  closed pair r code given phase u after waits = by_id (has_id id r) refl where
-    empty_waits : (end : Ending) → Empty ≡ prepared end → ⊥
-    empty_waits Commit h = cc
-    empty_waits Abort h = cc
-
-    by_id : (b : Bool) → has_id id r ≡ b → (c.warrants ++ [] ≡ c.warrants ++ markers t (pair t) o) × (u.pair ≡ pair t)
+  -- a record that is put and doesn't wait is another id's
+  closed : (pair left : Transaction → Pair) (r : Transaction) (code : ErrorCode) (given : List (Option (List ℕ))) → ((end : Ending) → r.phase ≡ prepared end → ⊥) → Owes pair left (Puts code r given [])
+  closed pair left r code given phase u after waits = by_id (has_id id r) refl where
+    by_id : (b : Bool) → has_id id r ≡ b → (c.warrants ++ [] ≡ c.warrants ++ markers t (pair t) o) × (u.pair ≡ left t)
     by_id true e =
         let here : Some r ≡ Some u = sym (put_at_test c.transactions r id true e) ∙ after in
         let same : r ≡ u = cc in
-        absurd (empty_waits o (sym phase ∙ ap (λ (z : Transaction). z.phase) same ∙ waits))
+        absurd (phase o (ap (λ (z : Transaction). z.phase) same ∙ waits))
     by_id false e = absurd (still c.transactions id t u o before ongoing (sym (put_at_test c.transactions r id false e) ∙ after) waits)
 
   -- EndTxn
-  end_owes : (own : List ℕ) (pair : Pair) (x : Ending) → Owes (λ y. y.pair) (end c Plain own pair x)
-  end_owes own pair x = by_empty (is_empty own) where
-    by_phase : (y : Transaction) (phase : Phase) → recorded c.transactions own ≡ Some y → (outcome : Ending) → Owes (λ z. z.pair) (end_in phase Plain y (fresh c) outcome)
-    by_phase y Ongoing found outcome = puts (λ z. z.pair) own y (record y { phase = prepared outcome }) codes.None outcome found refl refl refl
-    by_phase y Empty found outcome = stays (λ z. z.pair) codes.InvalidTxnState
-    by_phase y PrepareCommit found Commit = stays (λ z. z.pair) codes.ConcurrentTransactions
-    by_phase y PrepareCommit found Abort = stays (λ z. z.pair) codes.InvalidTxnState
-    by_phase y PrepareAbort found Commit = stays (λ z. z.pair) codes.InvalidTxnState
-    by_phase y PrepareAbort found Abort = stays (λ z. z.pair) codes.ConcurrentTransactions
-    by_phase y CompleteCommit found Commit = stays (λ z. z.pair) codes.None
-    by_phase y CompleteCommit found Abort = stays (λ z. z.pair) codes.InvalidTxnState
-    by_phase y CompleteAbort found Commit = stays (λ z. z.pair) codes.InvalidTxnState
-    by_phase y CompleteAbort found Abort = stays (λ z. z.pair) codes.None
+  ongoing_owes : (form : EndForm) (own : List ℕ) (y : Transaction) (x : Ending) → recorded c.transactions own ≡ Some y → Owes (λ z. ending_marker form z.pair) (λ z. ending_left form z.pair (fresh c)) (end_ongoing form y (fresh c) x)
+  ongoing_owes Plain own y x found = puts (λ z. z.pair) (λ z. z.pair) own y (record y { phase = prepared x }) codes.None [] x found refl refl refl
+  ongoing_owes Fencing own y x found = puts (λ z. z.pair) (λ z. z.pair) own y (record y { phase = prepared x }) codes.None [] x found refl refl refl
+  ongoing_owes Raising own y x found =
+      puts (λ z. raised z.pair) (λ z. pair_after z.pair (fresh c)) own y (record y { pair = pair_after y.pair (fresh c); phase = prepared x; kept = Some y.pair }) codes.None (given_after y.pair y.id) x found refl refl refl
 
-    by_refusal : (y : Transaction) → recorded c.transactions own ≡ Some y → (refusal : Option ErrorCode) → Owes (λ z. z.pair) (end_by refusal Plain y (fresh c) x)
-    by_refusal y found (Some code) = stays (λ z. z.pair) code
+  closed_owes : (form : EndForm) (y : Transaction) (x : Ending) (code : ErrorCode) → Owes (λ z. ending_marker form z.pair) (λ z. ending_left form z.pair (fresh c)) (end_closed form y (fresh c) x code)
+  closed_owes Plain y x code = stays (λ z. z.pair) (λ z. z.pair) code
+  closed_owes Fencing y x code = stays (λ z. z.pair) (λ z. z.pair) code
+  closed_owes Raising y Commit code = stays (λ z. raised z.pair) (λ z. pair_after z.pair (fresh c)) codes.InvalidTxnState
+  closed_owes Raising y Abort code =
+      closed (λ z. raised z.pair) (λ z. pair_after z.pair (fresh c)) (record y { pair = pair_after y.pair (fresh c); phase = CompleteAbort; kept = Some y.pair }) codes.None (given_after y.pair y.id) aborted_waits
+
+  end_owes : (form : EndForm) (own : List ℕ) (pair : Pair) (x : Ending) → Owes (λ z. ending_marker form z.pair) (λ z. ending_left form z.pair (fresh c)) (end c form own pair x)
+  end_owes form own pair x = by_empty (is_empty own) where
+    waits_not : (code : ErrorCode) → Owes (λ z. ending_marker form z.pair) (λ z. ending_left form z.pair (fresh c)) (Stays code)
+    waits_not code = stays (λ z. ending_marker form z.pair) (λ z. ending_left form z.pair (fresh c)) code
+
+    by_phase : (y : Transaction) (phase : Phase) → recorded c.transactions own ≡ Some y → (outcome : Ending) → Owes (λ z. ending_marker form z.pair) (λ z. ending_left form z.pair (fresh c)) (end_in phase form y (fresh c) outcome)
+    by_phase y Ongoing found outcome = ongoing_owes form own y outcome found
+    by_phase y Empty found outcome = closed_owes form y outcome codes.InvalidTxnState
+    by_phase y PrepareCommit found Commit = waits_not codes.ConcurrentTransactions
+    by_phase y PrepareCommit found Abort = waits_not codes.InvalidTxnState
+    by_phase y PrepareAbort found Commit = waits_not codes.InvalidTxnState
+    by_phase y PrepareAbort found Abort = waits_not codes.ConcurrentTransactions
+    by_phase y CompleteCommit found Commit = closed_owes form y Commit codes.None
+    by_phase y CompleteCommit found Abort = closed_owes form y Abort codes.InvalidTxnState
+    by_phase y CompleteAbort found Commit = closed_owes form y Commit codes.InvalidTxnState
+    by_phase y CompleteAbort found Abort = closed_owes form y Abort codes.None
+
+    by_refusal : (y : Transaction) → recorded c.transactions own ≡ Some y → (refusal : Option ErrorCode) → Owes (λ z. ending_marker form z.pair) (λ z. ending_left form z.pair (fresh c)) (end_by refusal form y (fresh c) x)
+    by_refusal y found (Some code) = waits_not code
     by_refusal y found None = by_phase y y.phase found x
 
-    by_found : (f : Option Transaction) → recorded c.transactions own ≡ f → Owes (λ z. z.pair) (end_found f Plain (fresh c) pair x)
-    by_found None e = stays (λ z. z.pair) codes.InvalidProducerIdMapping
-    by_found (Some y) e = by_refusal y e (pair_refusal codes.InvalidProducerEpoch y pair)
+    by_again : (b : Bool) (y : Transaction) → recorded c.transactions own ≡ Some y → Owes (λ z. ending_marker form z.pair) (λ z. ending_left form z.pair (fresh c)) (cond b (Stays (end_again y.phase x)) (end_by (pair_refusal (other_epoch form) y pair) form y (fresh c) x))
+    by_again true y found = waits_not (end_again y.phase x)
+    by_again false y found = by_refusal y found (pair_refusal (other_epoch form) y pair)
 
-    by_empty : (b : Bool) → Owes (λ z. z.pair) (cond b (Stays codes.InvalidRequest) (end_found (recorded c.transactions own) Plain (fresh c) pair x))
-    by_empty true = stays (λ z. z.pair) codes.InvalidRequest
+    by_found : (f : Option Transaction) → recorded c.transactions own ≡ f → Owes (λ z. ending_marker form z.pair) (λ z. ending_left form z.pair (fresh c)) (end_found f form (fresh c) pair x)
+    by_found None e = waits_not codes.InvalidProducerIdMapping
+    by_found (Some y) e = by_again (is_again form y pair) y e
+
+    by_empty : (b : Bool) → Owes (λ z. ending_marker form z.pair) (λ z. ending_left form z.pair (fresh c)) (cond b (Stays codes.InvalidRequest) (end_found (recorded c.transactions own) form (fresh c) pair x))
+    by_empty true = waits_not codes.InvalidRequest
     by_empty false = by_found (recorded c.transactions own) refl
 
   -- InitProducerId
-  init_owes : (own : List ℕ) (timeout greatest : ℤ) → Owes (λ y. raised y.pair) (init c own timeout greatest)
+  init_owes : (own : List ℕ) (timeout greatest : ℤ) → Owes (λ y. raised y.pair) (λ y. raised y.pair) (init c own timeout greatest)
   init_owes own timeout greatest = by_empty (is_empty own) where
-    begins : (y : Transaction) (n : ℕ) → Owes (λ z. raised z.pair) (begun y (fresh c) n)
-    begins y n = closed (λ z. raised z.pair) (record y { pair = pair_after y.pair (fresh c); timeout = n; phase = Empty; kept = None }) codes.None (given_after y.pair y.id) refl
+    begins : (y : Transaction) (n : ℕ) → Owes (λ z. raised z.pair) (λ z. raised z.pair) (begun y (fresh c) n)
+    begins y n = closed (λ z. raised z.pair) (λ z. raised z.pair) (record y { pair = pair_after y.pair (fresh c); timeout = n; phase = Empty; kept = None }) codes.None (given_after y.pair y.id) empty_waits
 
-    by_phase : (y : Transaction) (phase : Phase) (n : ℕ) → recorded c.transactions own ≡ Some y → Owes (λ z. raised z.pair) (init_in phase y (fresh c) n)
-    by_phase y Ongoing n found = puts (λ z. raised z.pair) own y (fenced y) codes.ConcurrentTransactions Abort found refl refl refl
+    by_phase : (y : Transaction) (phase : Phase) (n : ℕ) → recorded c.transactions own ≡ Some y → Owes (λ z. raised z.pair) (λ z. raised z.pair) (init_in phase y (fresh c) n)
+    by_phase y Ongoing n found = puts (λ z. raised z.pair) (λ z. raised z.pair) own y (fenced y) codes.ConcurrentTransactions [] Abort found refl refl refl
     by_phase y Empty n found = begins y n
     by_phase y CompleteCommit n found = begins y n
     by_phase y CompleteAbort n found = begins y n
-    by_phase y PrepareCommit n found = stays (λ z. raised z.pair) codes.ConcurrentTransactions
-    by_phase y PrepareAbort n found = stays (λ z. raised z.pair) codes.ConcurrentTransactions
+    by_phase y PrepareCommit n found = stays (λ z. raised z.pair) (λ z. raised z.pair) codes.ConcurrentTransactions
+    by_phase y PrepareAbort n found = stays (λ z. raised z.pair) (λ z. raised z.pair) codes.ConcurrentTransactions
 
-    by_found : (n : Option ℕ) (f : Option Transaction) → recorded c.transactions own ≡ f → Owes (λ z. raised z.pair) (init_for n f own (fresh c))
-    by_found None f e = stays (λ z. raised z.pair) codes.InvalidTransactionTimeout
-    by_found (Some n) None e = closed (λ z. raised z.pair) (created own (fresh c) n) codes.None (Some own ∷ []) refl
+    by_found : (n : Option ℕ) (f : Option Transaction) → recorded c.transactions own ≡ f → Owes (λ z. raised z.pair) (λ z. raised z.pair) (init_for n f own (fresh c))
+    by_found None f e = stays (λ z. raised z.pair) (λ z. raised z.pair) codes.InvalidTransactionTimeout
+    by_found (Some n) None e = closed (λ z. raised z.pair) (λ z. raised z.pair) (created own (fresh c) n) codes.None (Some own ∷ []) empty_waits
     by_found (Some n) (Some y) e = by_phase y y.phase n e
 
-    by_empty : (b : Bool) → Owes (λ z. raised z.pair) (cond b (Stays codes.InvalidRequest) (init_for (timeout_within timeout greatest) (recorded c.transactions own) own (fresh c)))
-    by_empty true = stays (λ z. raised z.pair) codes.InvalidRequest
+    by_empty : (b : Bool) → Owes (λ z. raised z.pair) (λ z. raised z.pair) (cond b (Stays codes.InvalidRequest) (init_for (timeout_within timeout greatest) (recorded c.transactions own) own (fresh c)))
+    by_empty true = stays (λ z. raised z.pair) (λ z. raised z.pair) codes.InvalidRequest
     by_empty false = by_found (timeout_within timeout greatest) (recorded c.transactions own) refl
 
 -- ---- moves that owe nothing
@@ -281,38 +335,38 @@ module _ (w : World) (good : IsGood w) (id : List ℕ) (t u : Transaction) (o : 
   unless_refused e (Some x) refused served same after = absurd (still w.coordinator.transactions id t u o before ongoing after waits)
 
   -- a turn that owes the markers at once
-  owes_all : (e : Event) (pair : Pair) (warrants : List OwedMarker) → (step w e).coordinator.warrants ≡ warrants → warrants ≡ w.coordinator.warrants ++ markers t pair o → marker_pair e t.pair ≡ pair
-      → recorded (step w e).coordinator.transactions id ≡ Some u → u.pair ≡ pair → ((target : Target) → entries_in (step w e) target ≡ entries_in w target) → OwesEach w e id t o
-  owes_all e pair warrants now owed carries after own entries = record {
+  owes_all : (e : Event) (pair left : Pair) (warrants : List OwedMarker) → (step w e).coordinator.warrants ≡ warrants → warrants ≡ w.coordinator.warrants ++ markers t pair o → marker_pair e t.pair ≡ pair → left_pair w e t.pair ≡ left
+      → recorded (step w e).coordinator.transactions id ≡ Some u → u.pair ≡ left → ((target : Target) → entries_in (step w e) target ≡ entries_in w target) → OwesEach w e id t o
+  owes_all e pair left warrants now owed carries leaves after own entries = record {
     front = [];
     back = [];
     owed = now ∙ owed ∙ ap (λ l. w.coordinator.warrants ++ l) (sym (append-nil (markers t pair o))) ∙ ap (λ p. w.coordinator.warrants ++ (markers t p o ++ [])) (sym carries);
     entries = entries;
-    pair = λ v found. ap (λ (y : Transaction). y.pair) (same_record (step w e).coordinator.transactions v after found) ∙ own ∙ sym carries;
+    pair = λ v found. ap (λ (y : Transaction). y.pair) (same_record (step w e).coordinator.transactions v after found) ∙ own ∙ sym leaves;
   }
 
   end_event : (caller : Caller) (client : Option (List ℕ)) (r : EndTxnRequest) → recorded (step w (Ask caller client (EndTxn r))).coordinator.transactions id ≡ Some u → OwesEach w (Ask caller client (EndTxn r)) id t o
-  end_event caller client r after = by_refusal (part_refusal (rules_of w) (id_question caller r.transactional_id ∷ [])) refl where
+  end_event caller client r after = by_refusal (part_refusal (rules_of w) (end_questions caller r)) refl where
     e : Event
     e = Ask caller client (EndTxn r)
 
     left_by : Option Refusal → World
-    left_by x = (whole_by x w (λ code. replies.EndTxn (end_reply code)) (ended w r)).world
+    left_by x = (whole_by x w (λ code. replies.EndTxn (end_error r code)) (ended w r)).world
 
     entries : (x : Option Refusal) (target : Target) → entries_in (left_by x) target ≡ entries_in w target
     entries None target = refl
     entries (Some x) target = refl
 
-    by_refusal : (x : Option Refusal) → part_refusal (rules_of w) (id_question caller r.transactional_id ∷ []) ≡ x → OwesEach w e id t o
+    by_refusal : (x : Option Refusal) → part_refusal (rules_of w) (end_questions caller r) ≡ x → OwesEach w e id t o
     by_refusal x is = by_served x (ap (λ y. (left_by y).coordinator) is) where
       by_served : (y : Option Refusal) → (step w e).coordinator ≡ (left_by y).coordinator → OwesEach w e id t o
       by_served (Some y) same = unchanged e same after
       by_served None same =
-          let owes = end_owes w.coordinator id t o before ongoing r.transactional_id (record { producer = r.producer; epoch = r.epoch }) (ending r.committed) u (ap (λ (c : CoordinatorValue). recorded c.transactions id) (sym same) ∙ after) waits in
-          owes_all e t.pair _ (ap (λ (c : CoordinatorValue). c.warrants) same) owes.0 refl after owes.1 (entries (part_refusal (rules_of w) (id_question caller r.transactional_id ∷ [])))
+          let owes = end_owes w.coordinator id t o before ongoing (form_of r) (ending_id r) (ending_pair r) (ending_outcome r) u (ap (λ (c : CoordinatorValue). recorded c.transactions id) (sym same) ∙ after) waits in
+          owes_all e (ending_marker (form_of r) t.pair) (ending_left (form_of r) t.pair (fresh w.coordinator)) _ (ap (λ (c : CoordinatorValue). c.warrants) same) owes.0 (marker_of caller client r t.pair) (left_of w caller client r t.pair) after owes.1 (entries (part_refusal (rules_of w) (end_questions caller r)))
 
   init_event : (caller : Caller) (client : Option (List ℕ)) (r : InitProducerIdRequest) → recorded (step w (Ask caller client (InitProducerId r))).coordinator.transactions id ≡ Some u → OwesEach w (Ask caller client (InitProducerId r)) id t o
-  init_event caller client r after = by_refusal (part_refusal (rules_of w) (init_question caller r.transactional_id ∷ [])) refl where
+  init_event caller client r after = by_refusal (part_refusal (rules_of w) (init_questions (rules_of w) caller r.transactional_id)) refl where
     e : Event
     e = Ask caller client (InitProducerId r)
 
@@ -327,9 +381,9 @@ module _ (w : World) (good : IsGood w) (id : List ℕ) (t u : Transaction) (o : 
     by_id None same = absurd (still w.coordinator.transactions id t u o before ongoing (ap (λ (c : CoordinatorValue). recorded c.transactions id) (sym same) ∙ after) waits)
     by_id (Some own) same =
         let owes = init_owes w.coordinator id t o before ongoing own r.timeout w.node.max_txn_timeout u (ap (λ (c : CoordinatorValue). recorded c.transactions id) (sym same) ∙ after) waits in
-        owes_all e (raised t.pair) _ (ap (λ (c : CoordinatorValue). c.warrants) same) owes.0 refl after owes.1 (entries (part_refusal (rules_of w) (init_question caller r.transactional_id ∷ [])))
+        owes_all e (raised t.pair) (raised t.pair) _ (ap (λ (c : CoordinatorValue). c.warrants) same) owes.0 refl refl after owes.1 (entries (part_refusal (rules_of w) (init_questions (rules_of w) caller r.transactional_id)))
 
-    by_refusal : (x : Option Refusal) → part_refusal (rules_of w) (init_question caller r.transactional_id ∷ []) ≡ x → OwesEach w e id t o
+    by_refusal : (x : Option Refusal) → part_refusal (rules_of w) (init_questions (rules_of w) caller r.transactional_id) ≡ x → OwesEach w e id t o
     by_refusal x is = by_served x (ap (λ y. (left_by y).coordinator) is) where
       by_served : (y : Option Refusal) → (step w e).coordinator ≡ (left_by y).coordinator → OwesEach w e id t o
       by_served (Some y) same = unchanged e same after

@@ -1,10 +1,9 @@
 -- Which events prepare a transaction, and which make an id leave its pair.
-use Rattle.std.proofs.Common.{◌≡◌, ℕ, ℤ, pos, List, [], ◌∷◌, Option, Some, None, Bool, true, false, cond, refl, sym, ap, subst, ◌∙◌, arith}
+use Rattle.std.proofs.Common.{◌≡◌, ℕ, ℤ, pos, List, [], Option, Some, None, Bool, true, false, cond, refl, sym, ap, subst, ◌∙◌, arith}
 use Rattle.std.specs.Prelude.{◌&&◌, ◌+ℤ◌, int_lt}
 use Rattle.std.specs.Ordering.{int_eq}
 use Rattle.std.specs.Str.{bytes_eq}
 use Rattle.std.proofs.lemmas.Int.{ints}
-use Rattle.acl_binding.specs.declared.question.Caller.{Caller}
 use Rattle.acl_binding.specs.declared.words.Kind.{Kind}
 use Rattle.acl_binding.specs.declared.words.Kind.TheVariants as kinds
 use Rattle.authorizer.specs.declared.answer.Refusal.{Refusal}
@@ -15,32 +14,38 @@ use Rattle.msg_txn.specs.declared.init_producer_id.InitProducerIdRequest.{InitPr
 use Rattle.msg_txn.specs.declared.init_producer_id.InitProducerIdReply.{InitProducerIdReply}
 use Rattle.msg_txn.specs.declared.end_txn.EndTxnRequest.{EndTxnRequest}
 use Rattle.msg_txn.specs.declared.end_txn.EndTxnReply.{EndTxnReply}
+use Rattle.msg_txn.specs.declared.end_txn.EndTxnRequest.TheVariants as versions
+use Rattle.msg_txn.specs.EndTxn.{error_of}
 use Rattle.msg_admin.specs.declared.reply.Reply.TheVariants as replies
 use Rattle.msg_admin.specs.declared.request.Request.TheVariants.{InitProducerId}
 use Rattle.audit_trail.specs.declared.event.Event.TheVariants.{Ask, Tick}
 use Rattle.walk.specs.Codes.{permission_code, refusal_code}
 use Rattle.txn_coordinator.specs.declared.pair.Pair.{Pair}
+use Rattle.txn_coordinator.specs.declared.pair.PairAnswer.{PairAnswer}
+use Rattle.txn_coordinator.specs.declared.marker.OwedMarker.{OwedMarker}
 use Rattle.txn_coordinator.specs.declared.transaction.Phase.{Phase}
 use Rattle.txn_coordinator.specs.declared.transaction.Phase.TheVariants.{Empty, Ongoing, PrepareCommit, PrepareAbort, CompleteCommit, CompleteAbort}
 use Rattle.txn_coordinator.specs.declared.transaction.Transaction.{Transaction}
 use Rattle.record_batch.specs.declared.outcome.Outcome.{Outcome as Ending}
-use Rattle.txn_coordinator.specs.declared.ending.EndForm.TheVariants.{Plain}
+use Rattle.record_batch.specs.declared.outcome.Outcome.TheVariants.{Commit, Abort}
+use Rattle.txn_coordinator.specs.declared.ending.EndForm.{EndForm}
+use Rattle.txn_coordinator.specs.declared.ending.EndForm.TheVariants.{Plain, Fencing, Raising}
 use Rattle.txn_coordinator.specs.declared.turn.Turn.{Turn}
-use Rattle.txn_coordinator.specs.declared.turn.Turn.TheVariants.{Stays}
-use Rattle.txn_coordinator.specs.Words.{last_epoch, is_empty, raised, is_exhausted, pair_after, prepared}
+use Rattle.txn_coordinator.specs.declared.turn.Turn.TheVariants.{Stays, Puts}
+use Rattle.txn_coordinator.specs.Words.{last_epoch, is_empty, raised, is_exhausted, pair_after, given_after, prepared}
 use Rattle.txn_coordinator.specs.Coordinator.{CoordinatorValue, recorded, put, owner, fresh, turned, turn_code}
-use Rattle.txn_coordinator.specs.Preparing.{fenced, fencing}
+use Rattle.txn_coordinator.specs.Preparing.{markers, pair_refusal, fenced, fencing}
 use Rattle.txn_coordinator.specs.InitProducerId.{timeout_within, begun, init_in, init_for, init}
-use Rattle.txn_coordinator.specs.EndTxn.{prepared_plain, end_in, end_by, end_found, end}
+use Rattle.txn_coordinator.specs.EndTxn.{other_epoch, renewed, end_ongoing, end_closed, end_in, is_kept, is_again, end_again, end_by, end_found, end}
 use Rattle.txn_coordinator.specs.Expiry.{is_due}
 use Rattle.txn_coordinator.proofs.Table.{recorded_id}
 use Rattle.txn_laws.proofs.Base.{is_same, put_at_test, owner_is, given_within}
 use Rattle.txn_laws.proofs.Calls.{ongoing_is}
+use Rattle.txn_laws.proofs.Targets.{same_number}
 use Rattle.broker_world.specs.World.{World, rules_of}
 use Rattle.broker_world.specs.Whole.{whole_by}
-use Rattle.txn_handlers.specs.InitProducerId.{init_question, init_answered, init_error, coordinator_for, reply_for, initialized}
-use Rattle.broker_world.specs.Questions.{id_question}
-use Rattle.txn_handlers.specs.EndTxn.{ending, end_reply, end_turn, ended}
+use Rattle.txn_handlers.specs.InitProducerId.{init_questions, init_answered, init_error, coordinator_for, reply_for, initialized}
+use Rattle.txn_handlers.specs.EndTxn.{end_reply, end_turn, ended, end_questions, end_error, form_of, ending_id, ending_pair, ending_outcome}
 use Rattle.broker_world.specs.Clock.{moment_after}
 use Rattle.api_dispatch.specs.Step.{step}
 use Rattle.broker_laws.specs.Laws.{InReached, Prepares, HasPair, Fences}
@@ -56,8 +61,17 @@ never_again kinds.Group h = cc
 never_again kinds.Cluster h = cc
 never_again kinds.TransactionalId h = cc
 
-end_code : (a b : ErrorCode) → replies.EndTxn (end_reply a) ≡ replies.EndTxn (end_reply b) → a ≡ b
-end_code a b h = let same : end_reply a ≡ end_reply b = cc in ap (λ (r : EndTxnReply). r.error) same
+told_code : (r : EndTxnRequest) (a : PairAnswer) → a.code ≡ error_of (end_reply r a)
+told_code (versions.Version0 r) a = refl
+told_code (versions.Version1 r) a = refl
+told_code (versions.Version2 r) a = refl
+told_code (versions.Version3 r) a = refl
+told_code (versions.Version4 r) a = refl
+told_code (versions.Version5 r) a = refl
+
+-- the code of an EndTxn's answer
+pub end_code : (r : EndTxnRequest) (a : PairAnswer) (reply : EndTxnReply) → replies.EndTxn (end_reply r a) ≡ replies.EndTxn reply → a.code ≡ error_of reply
+end_code r a reply h = let same : end_reply r a ≡ reply = cc in told_code r a ∙ ap error_of same
 
 init_code : (a b : InitProducerIdReply) → replies.InitProducerId a ≡ replies.InitProducerId b → a.error ≡ b.error
 init_code a b h = let same : a ≡ b = cc in ap (λ (r : InitProducerIdReply). r.error) same
@@ -79,34 +93,53 @@ Waits c id o = (u : Transaction) × (recorded c.transactions id ≡ Some u) × (
 
 -- ---- EndTxn
 
-end_puts : (c : CoordinatorValue) (id : List ℕ) (pair : Pair) (o : Ending) (t : Transaction) → recorded c.transactions id ≡ Some t → t.phase ≡ Ongoing → turn_code (end c Plain id pair o) ≡ codes.None → end c Plain id pair o ≡ prepared_plain t o
-end_puts c id pair o t found ongoing none = by_empty (is_empty id) none where
-  by_tests : (y : Transaction) (a b l : Bool) → y ≡ t → turn_code (end_by (cond a (cond (b && l) None (Some codes.InvalidProducerEpoch)) (Some codes.InvalidProducerIdMapping)) Plain y (fresh c) o) ≡ codes.None
-      → end_by (cond a (cond (b && l) None (Some codes.InvalidProducerEpoch)) (Some codes.InvalidProducerIdMapping)) Plain y (fresh c) o ≡ prepared_plain t o
-  by_tests y true true true same none = ap (λ (z : Transaction). end_in z.phase Plain z (fresh c) o) same ∙ ap (λ phase. end_in phase Plain t (fresh c) o) ongoing
-  by_tests y true true false same none = absurd (let clash : codes.InvalidProducerEpoch ≡ codes.None = none in cc)
-  by_tests y true false l same none = absurd (let clash : codes.InvalidProducerEpoch ≡ codes.None = none in cc)
+other_told : (form : EndForm) → other_epoch form ≡ codes.None → ⊥
+other_told Plain h = let clash : codes.InvalidProducerEpoch ≡ codes.None = h in cc
+other_told Fencing h = let clash : codes.ProducerFenced ≡ codes.None = h in cc
+other_told Raising h = let clash : codes.ProducerFenced ≡ codes.None = h in cc
+
+-- an open transaction is prepared where there is no error
+end_puts : (c : CoordinatorValue) (form : EndForm) (id : List ℕ) (pair : Pair) (o : Ending) (t : Transaction) → recorded c.transactions id ≡ Some t → t.phase ≡ Ongoing → turn_code (end c form id pair o) ≡ codes.None → end c form id pair o ≡ end_ongoing form t (fresh c) o
+end_puts c form id pair o t found ongoing none = by_empty (is_empty id) none where
+  by_tests : (y : Transaction) (a b l : Bool) → y ≡ t → turn_code (end_by (cond a (cond (b && l) None (Some (other_epoch form))) (Some codes.InvalidProducerIdMapping)) form y (fresh c) o) ≡ codes.None
+      → end_by (cond a (cond (b && l) None (Some (other_epoch form))) (Some codes.InvalidProducerIdMapping)) form y (fresh c) o ≡ end_ongoing form t (fresh c) o
+  by_tests y true true true same none = ap (λ (z : Transaction). end_in z.phase form z (fresh c) o) same ∙ ap (λ phase. end_in phase form t (fresh c) o) ongoing
+  by_tests y true true false same none = absurd (other_told form none)
+  by_tests y true false l same none = absurd (other_told form none)
   by_tests y false b l same none = absurd (let clash : codes.InvalidProducerIdMapping ≡ codes.None = none in cc)
 
-  by_found : (f : Option Transaction) → f ≡ Some t → turn_code (end_found f Plain (fresh c) pair o) ≡ codes.None → end_found f Plain (fresh c) pair o ≡ prepared_plain t o
-  by_found None e none = absurd (let clash : None ≡ Some t = e in cc)
-  by_found (Some y) e none = let same : y ≡ t = cc in by_tests y (int_eq y.pair.producer pair.producer) (int_eq y.pair.epoch pair.epoch) (int_lt pair.epoch last_epoch) same none
+  by_again : (b : Bool) (y : Transaction) → y ≡ t → turn_code (cond b (Stays (end_again y.phase o)) (end_by (pair_refusal (other_epoch form) y pair) form y (fresh c) o)) ≡ codes.None
+      → cond b (Stays (end_again y.phase o)) (end_by (pair_refusal (other_epoch form) y pair) form y (fresh c) o) ≡ end_ongoing form t (fresh c) o
+  by_again true y same none =
+      let clash : codes.InvalidTxnState ≡ codes.None = sym (ap (λ (z : Transaction). end_again z.phase o) same ∙ ap (λ phase. end_again phase o) ongoing) ∙ none in
+      absurd cc
+  by_again false y same none = by_tests y (int_eq y.pair.producer pair.producer) (int_eq y.pair.epoch pair.epoch) (int_lt pair.epoch last_epoch) same none
 
-  by_empty : (b : Bool) → turn_code (cond b (Stays codes.InvalidRequest) (end_found (recorded c.transactions id) Plain (fresh c) pair o)) ≡ codes.None → cond b (Stays codes.InvalidRequest) (end_found (recorded c.transactions id) Plain (fresh c) pair o) ≡ prepared_plain t o
+  by_found : (f : Option Transaction) → f ≡ Some t → turn_code (end_found f form (fresh c) pair o) ≡ codes.None → end_found f form (fresh c) pair o ≡ end_ongoing form t (fresh c) o
+  by_found None e none = absurd (let clash : None ≡ Some t = e in cc)
+  by_found (Some y) e none = let same : y ≡ t = cc in by_again (is_again form y pair) y same none
+
+  by_empty : (b : Bool) → turn_code (cond b (Stays codes.InvalidRequest) (end_found (recorded c.transactions id) form (fresh c) pair o)) ≡ codes.None
+      → cond b (Stays codes.InvalidRequest) (end_found (recorded c.transactions id) form (fresh c) pair o) ≡ end_ongoing form t (fresh c) o
   by_empty true none = absurd (let clash : codes.InvalidRequest ≡ codes.None = none in cc)
   by_empty false none = by_found (recorded c.transactions id) found none
 
-end_waits : (w : World) (caller : Caller) (r : EndTxnRequest) (t : Transaction) → recorded w.coordinator.transactions r.transactional_id ≡ Some t → t.phase ≡ Ongoing → (x : Option Refusal)
-    → (whole_by x w (λ code. replies.EndTxn (end_reply code)) (ended w r)).reply ≡ replies.EndTxn (end_reply codes.None) → Waits (whole_by x w (λ code. replies.EndTxn (end_reply code)) (ended w r)).world.coordinator r.transactional_id (ending r.committed)
-end_waits w caller r t found ongoing (Some x) reply = absurd (never_none x.question.kind (end_code (refusal_code x) codes.None reply))
-end_waits w caller r t found ongoing None reply =
+-- and then it waits
+put_waits : (c : CoordinatorValue) (id : List ℕ) (t r : Transaction) (code : ErrorCode) (given : List (Option (List ℕ))) (owed : List OwedMarker) (o : Ending) → recorded c.transactions id ≡ Some t → r.id ≡ t.id → r.phase ≡ prepared o → Waits (turned c (Puts code r given owed)) id o
+put_waits c id t r code given owed o found own phase = (r, found_again c.transactions r id (ap (λ x. bytes_eq x id) own ∙ own_test c.transactions id t found), phase)
+
+ongoing_waits_so : (form : EndForm) (c : CoordinatorValue) (id : List ℕ) (t : Transaction) (o : Ending) → recorded c.transactions id ≡ Some t → Waits (turned c (end_ongoing form t (fresh c) o)) id o
+ongoing_waits_so Plain c id t o found = put_waits c id t (record t { phase = prepared o }) codes.None [] (markers t t.pair o) o found refl refl
+ongoing_waits_so Fencing c id t o found = put_waits c id t (record t { phase = prepared o }) codes.None [] (markers t t.pair o) o found refl refl
+ongoing_waits_so Raising c id t o found = put_waits c id t (record t { pair = pair_after t.pair (fresh c); phase = prepared o; kept = Some t.pair }) codes.None (given_after t.pair t.id) (markers t (raised t.pair) o) o found refl refl
+
+end_waits : (w : World) (r : EndTxnRequest) (reply : EndTxnReply) (t : Transaction) → recorded w.coordinator.transactions (ending_id r) ≡ Some t → t.phase ≡ Ongoing → (x : Option Refusal)
+    → (whole_by x w (λ code. replies.EndTxn (end_error r code)) (ended w r)).reply ≡ replies.EndTxn reply → error_of reply ≡ codes.None → Waits (whole_by x w (λ code. replies.EndTxn (end_error r code)) (ended w r)).world.coordinator (ending_id r) (ending_outcome r)
+end_waits w r reply t found ongoing (Some x) told none = absurd (never_none x.question.kind (end_code r _ reply told ∙ none))
+end_waits w r reply t found ongoing None told none =
     let c = w.coordinator in
-    let o = ending r.committed in
-    let puts = end_puts c r.transactional_id (record { producer = r.producer; epoch = r.epoch }) o t found ongoing (end_code (turn_code (end_turn c r)) codes.None reply) in (
-      record t { phase = prepared o },
-      ap (λ turn. recorded (turned c turn).transactions r.transactional_id) puts ∙ found_again c.transactions (record t { phase = prepared o }) r.transactional_id (own_test c.transactions r.transactional_id t found),
-      refl,
-    )
+    let puts = end_puts c (form_of r) (ending_id r) (ending_pair r) (ending_outcome r) t found ongoing (end_code r _ reply told ∙ none) in
+    subst (λ turn. Waits (turned c turn) (ending_id r) (ending_outcome r)) (sym puts) (ongoing_waits_so (form_of r) c (ending_id r) t (ending_outcome r) found)
 
 -- ---- InitProducerId
 
@@ -150,14 +183,14 @@ due_open moment t due = ongoing_is t.phase _ due
 
 pub prepares : (w : World) → Prepares w
 prepares w = record {
-  ended = λ caller client r t found ongoing reply.
-      let h = end_waits w caller r t found ongoing (part_refusal (rules_of w) (id_question caller r.transactional_id ∷ [])) reply in
+  ended = λ caller client r reply t found ongoing told none.
+      let h = end_waits w r reply t found ongoing (part_refusal (rules_of w) (end_questions caller r)) told none in
       record { before = found; ongoing = ongoing; transaction = h.0; after = h.1; waits = h.2 };
   taken_over = λ caller client r id t own found ongoing reply. record {
     before = found;
     ongoing = ongoing;
     transaction = fenced t;
-    after = taken_record w r id t own found ongoing (part_refusal (rules_of w) (init_question caller r.transactional_id ∷ [])) reply;
+    after = taken_record w r id t own found ongoing (part_refusal (rules_of w) (init_questions (rules_of w) caller r.transactional_id)) reply;
     waits = refl;
   };
   timed_out = λ told id t found due. record { before = found; ongoing = due_open (moment_after w.moment told) t due; transaction = fenced t; after = timed_record w told id t found due; waits = refl };
@@ -219,13 +252,74 @@ begun_leaves w good r id t new own found None reply has =
     ∙ found_again c.transactions next id (own_test c.transactions id t found) in
     left (coordinator_for r.transactional_id c w.node.max_txn_timeout r.timeout).transactions id t.pair next here (not_after c id t.pair (good.sound.owned id t found)) has
 
+-- what an EndTxn of version 5 that is answered no error puts, unless it is one once more
+pub record Renews (c : CoordinatorValue) (t : Transaction) (pair : Pair) (turn : Turn) : Type 0 where
+  pub phase : Phase
+  pub owed : List OwedMarker
+  pub puts : turn ≡ renewed t (fresh c) phase owed
+  pub own : t.pair ≡ pair
+
+end_renews : (c : CoordinatorValue) (id : List ℕ) (pair : Pair) (o : Ending) (t : Transaction) → recorded c.transactions id ≡ Some t → is_kept t.kept pair ≡ false → turn_code (end c Raising id pair o) ≡ codes.None → Renews c t pair (end c Raising id pair o)
+end_renews c id pair o t found again none = by_empty (is_empty id) none where
+  by_closed : (code : ErrorCode) (o : Ending) → t.pair ≡ pair → turn_code (end_closed Raising t (fresh c) o code) ≡ codes.None → Renews c t pair (end_closed Raising t (fresh c) o code)
+  by_closed code Commit same none = absurd (let clash : codes.InvalidTxnState ≡ codes.None = none in cc)
+  by_closed code Abort same none = record { phase = CompleteAbort; owed = []; puts = refl; own = same }
+
+  by_phase : (phase : Phase) (o : Ending) → t.pair ≡ pair → turn_code (end_in phase Raising t (fresh c) o) ≡ codes.None → Renews c t pair (end_in phase Raising t (fresh c) o)
+  by_phase Ongoing o same none = record { phase = prepared o; owed = markers t (raised t.pair) o; puts = refl; own = same }
+  by_phase PrepareCommit Commit same none = absurd (let clash : codes.ConcurrentTransactions ≡ codes.None = none in cc)
+  by_phase PrepareCommit Abort same none = absurd (let clash : codes.InvalidTxnState ≡ codes.None = none in cc)
+  by_phase PrepareAbort Commit same none = absurd (let clash : codes.InvalidTxnState ≡ codes.None = none in cc)
+  by_phase PrepareAbort Abort same none = absurd (let clash : codes.ConcurrentTransactions ≡ codes.None = none in cc)
+  by_phase Empty o same none = by_closed codes.InvalidTxnState o same none
+  by_phase CompleteCommit Commit same none = by_closed codes.None Commit same none
+  by_phase CompleteCommit Abort same none = by_closed codes.InvalidTxnState Abort same none
+  by_phase CompleteAbort Commit same none = by_closed codes.InvalidTxnState Commit same none
+  by_phase CompleteAbort Abort same none = by_closed codes.None Abort same none
+
+  by_tests : (a b l : Bool) → int_eq t.pair.producer pair.producer ≡ a → int_eq t.pair.epoch pair.epoch ≡ b → turn_code (end_by (cond a (cond (b && l) None (Some codes.ProducerFenced)) (Some codes.InvalidProducerIdMapping)) Raising t (fresh c) o) ≡ codes.None
+      → Renews c t pair (end_by (cond a (cond (b && l) None (Some codes.ProducerFenced)) (Some codes.InvalidProducerIdMapping)) Raising t (fresh c) o)
+  by_tests true true true producer epoch none = by_phase t.phase o (λ i. record { producer = same_number t.pair.producer pair.producer producer i; epoch = same_number t.pair.epoch pair.epoch epoch i }) none
+  by_tests true true false producer epoch none = absurd (let clash : codes.ProducerFenced ≡ codes.None = none in cc)
+  by_tests true false l producer epoch none = absurd (let clash : codes.ProducerFenced ≡ codes.None = none in cc)
+  by_tests false b l producer epoch none = absurd (let clash : codes.InvalidProducerIdMapping ≡ codes.None = none in cc)
+
+  by_again : (b : Bool) → b ≡ false → turn_code (cond b (Stays (end_again t.phase o)) (end_by (pair_refusal codes.ProducerFenced t pair) Raising t (fresh c) o)) ≡ codes.None
+      → Renews c t pair (cond b (Stays (end_again t.phase o)) (end_by (pair_refusal codes.ProducerFenced t pair) Raising t (fresh c) o))
+  by_again true e none = absurd (let clash : true ≡ false = e in cc)
+  by_again false e none = by_tests (int_eq t.pair.producer pair.producer) (int_eq t.pair.epoch pair.epoch) (int_lt pair.epoch last_epoch) refl refl none
+
+  by_found : (f : Option Transaction) → f ≡ Some t → turn_code (end_found f Raising (fresh c) pair o) ≡ codes.None → Renews c t pair (end_found f Raising (fresh c) pair o)
+  by_found None e none = absurd (let clash : None ≡ Some t = e in cc)
+  by_found (Some y) e none =
+      let same : t ≡ y = cc in
+      subst (λ z. turn_code (end_found (Some z) Raising (fresh c) pair o) ≡ codes.None → Renews c t pair (end_found (Some z) Raising (fresh c) pair o)) same (by_again (is_kept t.kept pair) again) none
+
+  by_empty : (b : Bool) → turn_code (cond b (Stays codes.InvalidRequest) (end_found (recorded c.transactions id) Raising (fresh c) pair o)) ≡ codes.None → Renews c t pair (cond b (Stays codes.InvalidRequest) (end_found (recorded c.transactions id) Raising (fresh c) pair o))
+  by_empty true none = absurd (let clash : codes.InvalidRequest ≡ codes.None = none in cc)
+  by_empty false none = by_found (recorded c.transactions id) found none
+
+ended_leaves : (w : World) → IsGood w → (r : EndTxnRequest) (reply : EndTxnReply) (t : Transaction) → form_of r ≡ Raising → recorded w.coordinator.transactions (ending_id r) ≡ Some t → is_kept t.kept (ending_pair r) ≡ false → (x : Option Refusal)
+    → (whole_by x w (λ code. replies.EndTxn (end_error r code)) (ended w r)).reply ≡ replies.EndTxn reply → error_of reply ≡ codes.None → HasPair (whole_by x w (λ code. replies.EndTxn (end_error r code)) (ended w r)).world (ending_id r) (ending_pair r) → ⊥
+ended_leaves w good r reply t form found again (Some x) told none has = never_none x.question.kind (end_code r _ reply told ∙ none)
+ended_leaves w good r reply t form found again None told none has =
+    let c = w.coordinator in
+    let raising : end_turn c r ≡ end c Raising (ending_id r) (ending_pair r) (ending_outcome r) = ap (λ f. end c f (ending_id r) (ending_pair r) (ending_outcome r)) form in
+    let renews = end_renews c (ending_id r) (ending_pair r) (ending_outcome r) t found again (sym (ap turn_code raising) ∙ end_code r _ reply told ∙ none) in
+    let next : Transaction = record t { pair = pair_after t.pair (fresh c); phase = renews.phase; kept = Some t.pair } in
+    let here : recorded (turned c (end_turn c r)).transactions (ending_id r) ≡ Some next =
+    ap (λ turn. recorded (turned c turn).transactions (ending_id r)) (raising ∙ renews.puts) ∙ found_again c.transactions next (ending_id r) (own_test c.transactions (ending_id r) t found) in
+    left (turned c (end_turn c r)).transactions (ending_id r) (ending_pair r) next here (λ h. not_after c (ending_id r) t.pair (good.sound.owned (ending_id r) t found) (h ∙ sym renews.own)) has
+
 fences_of : (w : World) → IsGood w → Fences w
 fences_of w good = record {
   begun = λ caller client r id pair new own had reply has.
-      begun_leaves w good r id had.0 new own had.1 (part_refusal (rules_of w) (init_question caller r.transactional_id ∷ [])) reply (subst (HasPair (step w (Ask caller client (InitProducerId r))) id) (sym had.2) has);
+      begun_leaves w good r id had.0 new own had.1 (part_refusal (rules_of w) (init_questions (rules_of w) caller r.transactional_id)) reply (subst (HasPair (step w (Ask caller client (InitProducerId r))) id) (sym had.2) has);
   taken_over = λ caller client r id t own found ongoing reply has.
-      left _ id t.pair (fenced t) (taken_record w r id t own found ongoing (part_refusal (rules_of w) (init_question caller r.transactional_id ∷ [])) reply) (not_raised t.pair) has;
+      left _ id t.pair (fenced t) (taken_record w r id t own found ongoing (part_refusal (rules_of w) (init_questions (rules_of w) caller r.transactional_id)) reply) (not_raised t.pair) has;
   timed_out = λ told id t found due has. left _ id t.pair (fenced t) (timed_record w told id t found due) (not_raised t.pair) has;
+  ended = λ caller client body reply t found again told none has.
+      ended_leaves w good (versions.Version5 body) reply t refl found again (part_refusal (rules_of w) (end_questions caller (versions.Version5 body))) told none has;
 }
 
 pub fences : InReached Fences

@@ -36,10 +36,10 @@ use Rattle.broker_world.specs.First.{magnitude, empty_logs, first_topic, first_t
 use Rattle.broker_world.specs.Logs.{log_in, log_of, log_at}
 use Rattle.data_handlers.specs.Judged.{pair_of, partition_at, judged}
 use Rattle.data_handlers.specs.Produce.{producing}
-use Rattle.txn_handlers.specs.InitProducerId.{init_question}
+use Rattle.txn_handlers.specs.EndTxn.{end_questions}
+use Rattle.txn_handlers.specs.InitProducerId.{init_questions}
 use Rattle.txn_handlers.specs.AddPartitions.{is_cut, partitions_of}
 use Rattle.txn_handlers.specs.AddOffsets.{add_offsets_questions}
-use Rattle.broker_world.specs.Questions.{id_question}
 use Rattle.api_dispatch.specs.Step.{step, reached}
 use Rattle.broker_laws.specs.Entries.{log_entries, entries_in, small}
 use Rattle.broker_laws.specs.Moves.{topics_moves, storing, appending, moves_by, batch_moves, produced_moves, initializing, moves_of, moves_of_all, mark_count, marks}
@@ -198,13 +198,13 @@ event_marks w (Ask caller client (Heartbeat r)) = refl
 event_marks w (Ask caller client (LeaveGroup r)) = refl
 event_marks w (Ask caller client (SyncGroup r)) = refl
 event_marks w (Ask caller client (InitProducerId r)) =
-    unmarked_refusal (part_refusal (rules_of w) (init_question caller r.transactional_id ∷ [])) _ (unmarked_init r.transactional_id r.timeout w.node.max_txn_timeout)
+    unmarked_refusal (part_refusal (rules_of w) (init_questions (rules_of w) caller r.transactional_id)) _ (unmarked_init r.transactional_id r.timeout w.node.max_txn_timeout)
 event_marks w (Ask caller client (AddPartitionsToTxn r)) = by_cut (is_cut caller r.transactional_id w.topics (rules_of w) r.topics) where
   by_cut : (b : Bool) → small_marks (cond b [] (AddPartitions r.transactional_id (record { producer = r.producer; epoch = r.epoch }) (partitions_of r.topics) ∷ [])) ≡ 0
   by_cut true = refl
   by_cut false = refl
 event_marks w (Ask caller client (AddOffsetsToTxn r)) = unmarked_refusal (part_refusal (rules_of w) (add_offsets_questions caller r.transactional_id r.group)) _ refl
-event_marks w (Ask caller client (EndTxn r)) = unmarked_refusal (part_refusal (rules_of w) (id_question caller r.transactional_id ∷ [])) _ refl
+event_marks w (Ask caller client (EndTxn r)) = unmarked_refusal (part_refusal (rules_of w) (end_questions caller r)) _ refl
 event_marks w (Ask caller client (TxnOffsetCommit r)) = unmarked_stages w caller r
 event_marks w (Ask caller client (SaslHandshake r)) = refl
 event_marks w (Ask caller client ApiVersions) = refl

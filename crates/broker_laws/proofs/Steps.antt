@@ -46,11 +46,10 @@ use Rattle.broker_world.specs.Logs.{log_at, log_after, appended_by}
 use Rattle.data_handlers.specs.Judged.{partition_at, judged, topics_produced}
 use Rattle.data_handlers.specs.Produce.{producing}
 use Rattle.broker_world.specs.Whole.{Served, whole_by}
-use Rattle.txn_handlers.specs.InitProducerId.{init_question, coordinator_for, initialized}
+use Rattle.txn_handlers.specs.InitProducerId.{init_questions, coordinator_for, initialized}
 use Rattle.txn_handlers.specs.AddPartitions.{cut_rule, is_missing_in, is_missing, is_cut, partitions_in, partitions_of, cut_outcome, added_outcome, add_turn}
 use Rattle.txn_handlers.specs.AddOffsets.{add_offsets_questions, add_offsets_turn, offsets_added}
-use Rattle.broker_world.specs.Questions.{id_question}
-use Rattle.txn_handlers.specs.EndTxn.{ended, ending, end_turn}
+use Rattle.txn_handlers.specs.EndTxn.{ended, end_turn, end_questions, form_of, ending_id, ending_outcome}
 use Rattle.group_handlers.specs.OffsetCommit.{committing_rule}
 use Rattle.txn_handlers.specs.TxnOffsetCommit.{staging_rule}
 use Rattle.acl_handlers.specs.DescribeAcls.{describe_acls_questions}
@@ -140,14 +139,14 @@ step_moved w (Ask caller client (LeaveGroup r)) all own =
 step_moved w (Ask caller client (SyncGroup r)) all own =
     unmoved (part_refusal (rules_of w) (read_question caller r.group ∷ [])) w _ (synced w r) (grouped w (synced w r).world.groups (sync_keeps w.groups r w.moment))
 step_moved w (Ask caller client (InitProducerId r)) all own =
-    granted_moved (part_refusal (rules_of w) (init_question caller r.transactional_id ∷ [])) w _ (initialized w r) (initializing r.transactional_id r.timeout w.node.max_txn_timeout) (init_moved w r.transactional_id r.timeout w.node.max_txn_timeout)
+    granted_moved (part_refusal (rules_of w) (init_questions (rules_of w) caller r.transactional_id)) w _ (initialized w r) (initializing r.transactional_id r.timeout w.node.max_txn_timeout) (init_moved w r.transactional_id r.timeout w.node.max_txn_timeout)
 step_moved w (Ask caller client (AddPartitionsToTxn r)) all own = by_cut (is_cut caller r.transactional_id w.topics (rules_of w) r.topics) where
   by_cut : (b : Bool) → small (cond b (cut_outcome w caller r) (added_outcome w r)).world ≡ kept_moved_all (small w) (cond b [] (AddPartitions r.transactional_id (record { producer = r.producer; epoch = r.epoch }) (partitions_of r.topics) ∷ []))
   by_cut true = refl
   by_cut false = refl
 step_moved w (Ask caller client (AddOffsetsToTxn r)) all own =
     granted_moved (part_refusal (rules_of w) (add_offsets_questions caller r.transactional_id r.group)) w _ (offsets_added w r) _ refl
-step_moved w (Ask caller client (EndTxn r)) all own = granted_moved (part_refusal (rules_of w) (id_question caller r.transactional_id ∷ [])) w _ (ended w r) _ refl
+step_moved w (Ask caller client (EndTxn r)) all own = granted_moved (part_refusal (rules_of w) (end_questions caller r)) w _ (ended w r) _ refl
 step_moved w (Ask caller client (TxnOffsetCommit r)) all own =
     ap (λ gs. small (record w { groups = gs })) (sym (woven (staging_rule w caller r) (rules_of w) w.groups r.topics).world)
     ∙ stages_moved w caller r
@@ -250,7 +249,7 @@ step_targets w (Ask caller client (Heartbeat r)) all = granted_all (part_refusal
 step_targets w (Ask caller client (LeaveGroup r)) all = granted_all (part_refusal (rules_of w) (read_question caller r.group ∷ [])) w _ _ all all
 step_targets w (Ask caller client (SyncGroup r)) all = granted_all (part_refusal (rules_of w) (read_question caller r.group ∷ [])) w _ _ all all
 step_targets w (Ask caller client (InitProducerId r)) all =
-    granted_all (part_refusal (rules_of w) (init_question caller r.transactional_id ∷ [])) w _ (initialized w r) all (init_all w r.transactional_id r.timeout w.node.max_txn_timeout all)
+    granted_all (part_refusal (rules_of w) (init_questions (rules_of w) caller r.transactional_id)) w _ (initialized w r) all (init_all w r.transactional_id r.timeout w.node.max_txn_timeout all)
 step_targets w (Ask caller client (AddPartitionsToTxn r)) all = by_cut (is_cut caller r.transactional_id w.topics (rules_of w) r.topics) refl where
   by_cut : (b : Bool) → is_cut caller r.transactional_id w.topics (rules_of w) r.topics ≡ b → HasTargets (cond b (cut_outcome w caller r) (added_outcome w r)).world
   by_cut true e = all
@@ -261,8 +260,8 @@ step_targets w (Ask caller client (AddOffsetsToTxn r)) all =
     granted_all (part_refusal (rules_of w) (add_offsets_questions caller r.transactional_id r.group)) w _ (offsets_added w r) all
     (turned_exist w.topics w.coordinator (add_offsets_turn w.coordinator w.moment r) all (add_group_exists w.topics w.coordinator r.transactional_id _ w.moment r.group all))
 step_targets w (Ask caller client (EndTxn r)) all =
-    granted_all (part_refusal (rules_of w) (id_question caller r.transactional_id ∷ [])) w _ (ended w r) all
-    (turned_exist w.topics w.coordinator (end_turn w.coordinator r) all (end_exists w.topics w.coordinator r.transactional_id _ (ending r.committed) all))
+    granted_all (part_refusal (rules_of w) (end_questions caller r)) w _ (ended w r) all
+    (turned_exist w.topics w.coordinator (end_turn w.coordinator r) all (end_exists w.topics w.coordinator (form_of r) (ending_id r) _ (ending_outcome r) all))
 step_targets w (Ask caller client (TxnOffsetCommit r)) all = all
 step_targets w (Ask caller client (SaslHandshake r)) all = all
 step_targets w (Ask caller client ApiVersions) all = all

@@ -18,7 +18,7 @@ use Rattle.txn_laws.specs.Laws.{up_to_last}
 use Rattle.txn_laws.proofs.Base.{each_append}
 use Rattle.broker_world.specs.World.{World}
 use Rattle.broker_world.specs.First.{first_world}
-use Rattle.txn_handlers.specs.EndTxn.{ending}
+use Rattle.txn_handlers.specs.EndTxn.{ending_id, ending_outcome}
 use Rattle.txn_handlers.specs.Marks.{mark_by}
 use Rattle.api_dispatch.specs.Step.{step, reply_to, refusals_of, reached, is_reading}
 use Rattle.request_handlers.specs.declared.stop.Stop.{Stop}
@@ -114,9 +114,9 @@ pub trail_tells : TrailTells
 trail_tells core is before behind x parts =
     let w = world_behind core before in
     record {
-      ended = λ caller client r t event reply found ongoing.
+      ended = λ caller client r reply t event told none found ongoing.
           let e = Ask caller client (EndTxn r) in
-          subst (λ y. IsPreparedBy w y r.transactional_id t (ending r.committed)) (sym event) ((prepares w).ended caller client r t found ongoing (sym (reply_is core is.history before behind x parts e event) ∙ reply));
+          subst (λ y. IsPreparedBy w y (ending_id r) t (ending_outcome r)) (sym event) ((prepares w).ended caller client r reply t found ongoing (sym (reply_is core is.history before behind x parts e event) ∙ told) none);
       taken_over = λ caller client r id t event own reply found ongoing.
           let e = Ask caller client (InitProducerId r) in
           subst (λ y. IsPreparedBy w y id t Abort) (sym event) ((prepares w).taken_over caller client r id t own found ongoing (sym (reply_is core is.history before behind x parts e event) ∙ reply));

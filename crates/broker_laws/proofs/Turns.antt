@@ -13,15 +13,16 @@ use Rattle.txn_coordinator.specs.declared.transaction.Transaction.{Transaction}
 use Rattle.record_batch.specs.declared.outcome.Outcome.{Outcome}
 use Rattle.record_batch.specs.declared.outcome.Outcome.TheVariants.{Commit, Abort}
 use Rattle.txn_coordinator.specs.declared.marker.OwedMarker.{OwedMarker}
-use Rattle.txn_coordinator.specs.declared.ending.EndForm.TheVariants.{Plain}
+use Rattle.txn_coordinator.specs.declared.ending.EndForm.{EndForm}
+use Rattle.txn_coordinator.specs.declared.ending.EndForm.TheVariants.{Plain, Fencing, Raising}
 use Rattle.txn_coordinator.specs.declared.turn.Turn.{Turn}
 use Rattle.txn_coordinator.specs.declared.turn.Turn.TheVariants.{Stays, Puts}
-use Rattle.txn_coordinator.specs.Words.{is_empty, has_partition, targets}
+use Rattle.txn_coordinator.specs.Words.{is_empty, has_partition, raised, targets}
 use Rattle.txn_coordinator.specs.Coordinator.{CoordinatorValue, has_id, recorded, put, fresh, turned}
 use Rattle.txn_coordinator.specs.Preparing.{marker_for, markers, fenced, fence_markers, pair_refusal}
 use Rattle.txn_coordinator.specs.InitProducerId.{timeout_within, init_in, init_for, init}
 use Rattle.txn_coordinator.specs.Adding.{partition_added, partitions_added, with_partitions, group_added, with_group, open_in, open_by, open_found, open_transaction, grown, add_partitions, add_group}
-use Rattle.txn_coordinator.specs.EndTxn.{other_epoch, end_in, end_by, end_found, end}
+use Rattle.txn_coordinator.specs.EndTxn.{other_epoch, end_ongoing, end_closed, end_in, is_again, end_again, end_by, end_found, end}
 use Rattle.txn_coordinator.specs.Expiry.{is_due, expired, expiry_markers, expire}
 use Rattle.txn_coordinator.specs.Warrants.{owes, completed, with_completed, written_by}
 use Rattle.txn_laws.specs.Sound.{Each}
@@ -160,31 +161,46 @@ module _ (topics : List TopicValue) where
 
   -- ---- EndTxn
 
-  end_in_exists : (phase : Phase) (t : Transaction) (next : ℤ) (o : Outcome) → TakesInExisting topics t → TurnExists (end_in phase Plain t next o)
-  end_in_exists Ongoing t next o h = (h, markers_exist t t.pair o h)
-  end_in_exists PrepareCommit t next Commit h = tt
-  end_in_exists PrepareCommit t next Abort h = tt
-  end_in_exists PrepareAbort t next Commit h = tt
-  end_in_exists PrepareAbort t next Abort h = tt
-  end_in_exists Empty t next o h = tt
-  end_in_exists CompleteCommit t next Commit h = tt
-  end_in_exists CompleteCommit t next Abort h = tt
-  end_in_exists CompleteAbort t next Commit h = tt
-  end_in_exists CompleteAbort t next Abort h = tt
+  end_ongoing_exists : (form : EndForm) (t : Transaction) (next : ℤ) (o : Outcome) → TakesInExisting topics t → TurnExists (end_ongoing form t next o)
+  end_ongoing_exists Plain t next o h = (h, markers_exist t t.pair o h)
+  end_ongoing_exists Fencing t next o h = (h, markers_exist t t.pair o h)
+  end_ongoing_exists Raising t next o h = (h, markers_exist t (raised t.pair) o h)
 
-  end_by_exists : (refusal : Option ErrorCode) (t : Transaction) (next : ℤ) (o : Outcome) → TakesInExisting topics t → TurnExists (end_by refusal Plain t next o)
-  end_by_exists (Some code) t next o h = tt
-  end_by_exists None t next o h = end_in_exists t.phase t next o h
+  end_closed_exists : (form : EndForm) (t : Transaction) (next : ℤ) (o : Outcome) (code : ErrorCode) → TakesInExisting topics t → TurnExists (end_closed form t next o code)
+  end_closed_exists Plain t next o code h = tt
+  end_closed_exists Fencing t next o code h = tt
+  end_closed_exists Raising t next Commit code h = tt
+  end_closed_exists Raising t next Abort code h = (h, tt)
 
-  end_found_exists : (found : Option Transaction) (next : ℤ) (pair : Pair) (o : Outcome) → ((t : Transaction) → found ≡ Some t → TakesInExisting topics t) → TurnExists (end_found found Plain next pair o)
-  end_found_exists None next pair o h = tt
-  end_found_exists (Some t) next pair o h = end_by_exists (pair_refusal (other_epoch Plain) t pair) t next o (h t refl)
+  end_in_exists : (phase : Phase) (form : EndForm) (t : Transaction) (next : ℤ) (o : Outcome) → TakesInExisting topics t → TurnExists (end_in phase form t next o)
+  end_in_exists Ongoing form t next o h = end_ongoing_exists form t next o h
+  end_in_exists PrepareCommit form t next Commit h = tt
+  end_in_exists PrepareCommit form t next Abort h = tt
+  end_in_exists PrepareAbort form t next Commit h = tt
+  end_in_exists PrepareAbort form t next Abort h = tt
+  end_in_exists Empty form t next o h = end_closed_exists form t next o codes.InvalidTxnState h
+  end_in_exists CompleteCommit form t next Commit h = end_closed_exists form t next Commit codes.None h
+  end_in_exists CompleteCommit form t next Abort h = end_closed_exists form t next Abort codes.InvalidTxnState h
+  end_in_exists CompleteAbort form t next Commit h = end_closed_exists form t next Commit codes.InvalidTxnState h
+  end_in_exists CompleteAbort form t next Abort h = end_closed_exists form t next Abort codes.None h
 
-  pub end_exists : (c : CoordinatorValue) (id : List ℕ) (pair : Pair) (o : Outcome) → AllExist topics c → TurnExists (end c Plain id pair o)
-  end_exists c id pair o all = by_empty (is_empty id) where
-    by_empty : (b : Bool) → TurnExists (cond b (Stays codes.InvalidRequest) (end_found (recorded c.transactions id) Plain (fresh c) pair o))
+  end_by_exists : (refusal : Option ErrorCode) (form : EndForm) (t : Transaction) (next : ℤ) (o : Outcome) → TakesInExisting topics t → TurnExists (end_by refusal form t next o)
+  end_by_exists (Some code) form t next o h = tt
+  end_by_exists None form t next o h = end_in_exists t.phase form t next o h
+
+  end_again_exists : (b : Bool) (form : EndForm) (t : Transaction) (next : ℤ) (pair : Pair) (o : Outcome) → TakesInExisting topics t → TurnExists (cond b (Stays (end_again t.phase o)) (end_by (pair_refusal (other_epoch form) t pair) form t next o))
+  end_again_exists true form t next pair o h = tt
+  end_again_exists false form t next pair o h = end_by_exists (pair_refusal (other_epoch form) t pair) form t next o h
+
+  end_found_exists : (found : Option Transaction) (form : EndForm) (next : ℤ) (pair : Pair) (o : Outcome) → ((t : Transaction) → found ≡ Some t → TakesInExisting topics t) → TurnExists (end_found found form next pair o)
+  end_found_exists None form next pair o h = tt
+  end_found_exists (Some t) form next pair o h = end_again_exists (is_again form t pair) form t next pair o (h t refl)
+
+  pub end_exists : (c : CoordinatorValue) (form : EndForm) (id : List ℕ) (pair : Pair) (o : Outcome) → AllExist topics c → TurnExists (end c form id pair o)
+  end_exists c form id pair o all = by_empty (is_empty id) where
+    by_empty : (b : Bool) → TurnExists (cond b (Stays codes.InvalidRequest) (end_found (recorded c.transactions id) form (fresh c) pair o))
     by_empty true = tt
-    by_empty false = end_found_exists (recorded c.transactions id) (fresh c) pair o (λ t found. each_recorded (TakesInExisting topics) c.transactions id t all.added found)
+    by_empty false = end_found_exists (recorded c.transactions id) form (fresh c) pair o (λ t found. each_recorded (TakesInExisting topics) c.transactions id t all.added found)
 
   -- ---- a marker step
 

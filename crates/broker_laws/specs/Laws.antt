@@ -16,8 +16,11 @@ use Rattle.msg_txn.specs.declared.add_offsets.AddOffsetsToTxnReply.{AddOffsetsTo
 use Rattle.msg_txn.specs.declared.add_partitions.AddPartitionsToTxnRequest.{AddPartitionsToTxnRequest}
 use Rattle.msg_txn.specs.declared.add_partitions.AddPartitionsToTxnReply.{AddPartitionsToTxnReply}
 use Rattle.msg_txn.specs.declared.add_partitions.AddedPartition.{AddedPartition}
+use Rattle.msg_txn.specs.declared.end_txn.FlexibleEndTxn.{FlexibleEndTxn}
 use Rattle.msg_txn.specs.declared.end_txn.EndTxnRequest.{EndTxnRequest}
+use Rattle.msg_txn.specs.declared.end_txn.EndTxnRequest.TheVariants as versions
 use Rattle.msg_txn.specs.declared.end_txn.EndTxnReply.{EndTxnReply}
+use Rattle.msg_txn.specs.EndTxn.{error_of}
 use Rattle.msg_txn.specs.declared.txn_offset_commit.TxnOffsetCommitRequest.{TxnOffsetCommitRequest}
 use Rattle.msg_txn.specs.declared.txn_offset_commit.TxnOffsetCommitReply.{TxnOffsetCommitReply}
 use Rattle.msg_txn.specs.declared.txn_offset_commit.StagedOffset.{StagedOffset}
@@ -34,12 +37,14 @@ use Rattle.txn_coordinator.specs.declared.transaction.Phase.TheVariants.{Ongoing
 use Rattle.record_batch.specs.declared.outcome.Outcome.{Outcome as Ending}
 use Rattle.record_batch.specs.declared.outcome.Outcome.TheVariants.{Commit, Abort}
 use Rattle.txn_coordinator.specs.declared.marker.OwedMarker.{OwedMarker}
-use Rattle.txn_coordinator.specs.declared.ending.EndForm.TheVariants.{Plain}
-use Rattle.txn_coordinator.specs.Words.{raised, prepared, complete, targets}
-use Rattle.txn_coordinator.specs.Coordinator.{CoordinatorValue, recorded, turn_code}
+use Rattle.txn_coordinator.specs.declared.turn.Turn.TheVariants.{Stays}
+use Rattle.txn_coordinator.specs.declared.ending.EndForm.{EndForm}
+use Rattle.txn_coordinator.specs.declared.ending.EndForm.TheVariants.{Raising}
+use Rattle.txn_coordinator.specs.Words.{raised, pair_after, prepared, complete, targets}
+use Rattle.txn_coordinator.specs.Coordinator.{CoordinatorValue, recorded, fresh, turn_code}
 use Rattle.txn_coordinator.specs.Preparing.{markers}
 use Rattle.txn_coordinator.specs.Adding.{add_partitions, add_group}
-use Rattle.txn_coordinator.specs.EndTxn.{end}
+use Rattle.txn_coordinator.specs.EndTxn.{is_kept, end}
 use Rattle.txn_coordinator.specs.Expiry.{is_due}
 use Rattle.txn_coordinator.specs.Warrants.{next_warrant}
 use Rattle.group_offsets.specs.declared.event.PartitionOffset.{PartitionOffset}
@@ -60,7 +65,7 @@ use Rattle.data_handlers.specs.Sent.{sent}
 use Rattle.data_handlers.specs.Judged.{pair_of, partition_at, producer_code, judged}
 use Rattle.data_handlers.specs.Produce.{produced}
 use Rattle.txn_handlers.specs.InitProducerId.{init_answered, init_error}
-use Rattle.txn_handlers.specs.EndTxn.{ending, end_reply}
+use Rattle.txn_handlers.specs.EndTxn.{ending_id, ending_pair, ending_outcome}
 use Rattle.txn_handlers.specs.TxnOffsetCommit.{Staging, staging, staging_refusal}
 use Rattle.broker_world.specs.Clock.{moment_after}
 use Rattle.api_dispatch.specs.Step.{step, reply_to, reached, refusals_of}
@@ -107,19 +112,27 @@ pub record IsPreparedBy (w : World) (e : Event) (id : List ℕ) (t : Transaction
 -- what prepares an open transaction
 pub record Prepares (w : World) : Type 0 where
   -- an EndTxn that is answered no error, with the outcome that it names
-  pub ended : (caller : Caller) (client : Option (List ℕ)) (r : EndTxnRequest) (t : Transaction) → recorded w.coordinator.transactions r.transactional_id ≡ Some t → t.phase ≡ Ongoing
-      → reply_to w (Ask caller client (EndTxn r)) ≡ replies.EndTxn (end_reply codes.None) → IsPreparedBy w (Ask caller client (EndTxn r)) r.transactional_id t (ending r.committed)
+  pub ended : (caller : Caller) (client : Option (List ℕ)) (r : EndTxnRequest) (reply : EndTxnReply) (t : Transaction) → recorded w.coordinator.transactions (ending_id r) ≡ Some t → t.phase ≡ Ongoing
+      → reply_to w (Ask caller client (EndTxn r)) ≡ replies.EndTxn reply → error_of reply ≡ codes.None → IsPreparedBy w (Ask caller client (EndTxn r)) (ending_id r) t (ending_outcome r)
   -- an InitProducerId of a producer that takes the id over, which is told to come again
   pub taken_over : (caller : Caller) (client : Option (List ℕ)) (r : InitProducerIdRequest) (id : List ℕ) (t : Transaction) → r.transactional_id ≡ Some id → recorded w.coordinator.transactions id ≡ Some t → t.phase ≡ Ongoing
       → reply_to w (Ask caller client (InitProducerId r)) ≡ replies.InitProducerId (init_error codes.ConcurrentTransactions) → IsPreparedBy w (Ask caller client (InitProducerId r)) id t Abort
   -- a tick behind the end of its time
   pub timed_out : (told : ℕ) (id : List ℕ) (t : Transaction) → recorded w.coordinator.transactions id ≡ Some t → is_due (moment_after w.moment told) t ≡ true → IsPreparedBy w (Tick told) id t Abort
 
--- the pair that the markers of a transaction carry: where an EndTxn (of version 0) ends it, its producer's own; where an
--- InitProducerId or a tick aborts it, the producer's with the epoch raised by one, so that it is fenced
+-- the pair that the markers of a transaction carry: where an EndTxn up to version 4 ends it, its producer's own; where an
+-- EndTxn of version 5 does, or an InitProducerId or a tick aborts it, the producer's with the epoch raised by one, so that
+-- it is fenced
 abbrev pub marker_pair : Event → Pair → Pair
+marker_pair (Ask caller client (EndTxn (versions.Version5 r))) own = raised own
 marker_pair (Ask caller client (EndTxn r)) own = own
 marker_pair e own = raised own
+
+-- the pair that the id's record has then: that of the markers, but behind an EndTxn of version 5 the pair that follows,
+-- which is a fresh producer id where the epochs are used up
+abbrev pub left_pair : World → Event → Pair → Pair
+left_pair w (Ask caller client (EndTxn (versions.Version5 r))) own = pair_after own (fresh w.coordinator)
+left_pair w e own = marker_pair e own
 
 -- An event that prepares a transaction changes no entry, and owes a marker of the outcome and of that pair to each partition
 -- and group that was added, behind the markers that were owed. Besides them it owes those of other transactions, where a
@@ -129,8 +142,8 @@ pub record OwesEach (w : World) (e : Event) (id : List ℕ) (t : Transaction) (o
   pub back : List OwedMarker
   pub owed : (step w e).coordinator.warrants ≡ w.coordinator.warrants ++ (front ++ (markers t (marker_pair e t.pair) outcome ++ back))
   pub entries : (target : Target) → entries_in (step w e) target ≡ entries_in w target
-  -- the id's record then has that pair
-  pub pair : (u : Transaction) → recorded (step w e).coordinator.transactions id ≡ Some u → u.pair ≡ marker_pair e t.pair
+  -- the id's record then has its pair
+  pub pair : (u : Transaction) → recorded (step w e).coordinator.transactions id ≡ Some u → u.pair ≡ left_pair w e t.pair
 
 abbrev pub OwesPrepared : World → Type 0
 OwesPrepared w = (e : Event) (id : List ℕ) (t : Transaction) (outcome : Ending) → IsPreparedBy w e id t outcome → OwesEach w e id t outcome
@@ -267,6 +280,17 @@ MarksAreNotRefused = (w : World) → refusals_of w Mark ≡ []
 abbrev pub HasPair : World → List ℕ → Pair → Type 0
 HasPair w id pair = (t : Transaction) × (recorded w.coordinator.transactions id ≡ Some t) × (t.pair ≡ pair)
 
+abbrev pub pair_with : ℤ → ℤ → Pair
+pair_with producer epoch = record { producer = producer; epoch = epoch }
+
+-- an EndTxn of version 5 once more: the id's record keeps the pair with which it was ended, and the call leaves it as it is
+pub record IsRepeated (c : CoordinatorValue) (form : EndForm) (id : List ℕ) (pair : Pair) (outcome : Ending) : Type 0 where
+  pub raises : form ≡ Raising
+  pub transaction : Transaction
+  pub found : recorded c.transactions id ≡ Some transaction
+  pub keeps : is_kept transaction.kept pair ≡ true
+  pub stays : end c form id pair outcome ≡ Stays codes.None
+
 -- what makes an id's record leave its pair
 pub record Fences (w : World) : Type 0 where
   -- an InitProducerId with the id that is answered a pair
@@ -276,18 +300,20 @@ pub record Fences (w : World) : Type 0 where
   pub taken_over : (caller : Caller) (client : Option (List ℕ)) (r : InitProducerIdRequest) (id : List ℕ) (t : Transaction) → r.transactional_id ≡ Some id → recorded w.coordinator.transactions id ≡ Some t → t.phase ≡ Ongoing
       → reply_to w (Ask caller client (InitProducerId r)) ≡ replies.InitProducerId (init_error codes.ConcurrentTransactions) → HasPair (step w (Ask caller client (InitProducerId r))) id t.pair → ⊥
   pub timed_out : (told : ℕ) (id : List ℕ) (t : Transaction) → recorded w.coordinator.transactions id ≡ Some t → is_due (moment_after w.moment told) t ≡ true → HasPair (step w (Tick told)) id t.pair → ⊥
-
-abbrev pub pair_with : ℤ → ℤ → Pair
-pair_with producer epoch = record { producer = producer; epoch = epoch }
+  -- an EndTxn of version 5 that is answered no error, and isn't one once more
+  pub ended : (caller : Caller) (client : Option (List ℕ)) (body : FlexibleEndTxn) (reply : EndTxnReply) (t : Transaction)
+      → recorded w.coordinator.transactions body.asked.transactional_id ≡ Some t → is_kept t.kept (pair_with body.asked.producer body.asked.epoch) ≡ false
+      → reply_to w (Ask caller client (EndTxn (versions.Version5 body))) ≡ replies.EndTxn reply → error_of reply ≡ codes.None
+      → HasPair (step w (Ask caller client (EndTxn (versions.Version5 body)))) body.asked.transactional_id (pair_with body.asked.producer body.asked.epoch) → ⊥
 
 -- no batch of the pair passes Produce's check, no offset of it that of TxnOffsetCommit, and no call that comes with the
--- pair is told that there is no error
+-- pair is told that there is no error, but for an EndTxn of version 5 once more
 pub record TurnsAway (c : CoordinatorValue) (pair : Pair) : Type 0 where
   pub batches : (id : Option (List ℕ)) (target : Target) (h : BatchHeader) → pair_of h ≡ pair → producer_code c id target h ≡ None → ⊥
   pub additions : (id : List ℕ) (moment : ℕ) (p : TopicPartition) (ps : List TopicPartition) → turn_code (add_partitions c id pair moment (p ∷ ps)) ≡ codes.None → ⊥
   pub group_additions : (id : List ℕ) (moment : ℕ) (group : List ℕ) → turn_code (add_group c id pair moment group) ≡ codes.None → ⊥
   pub stagings : (s : Staging) → s.pair ≡ pair → staging_refusal c s ≡ None → ⊥
-  pub endings : (id : List ℕ) (outcome : Ending) → turn_code (end c Plain id pair outcome) ≡ codes.None → ⊥
+  pub endings : (form : EndForm) (id : List ℕ) (outcome : Ending) → turn_code (end c form id pair outcome) ≡ codes.None → IsRepeated c form id pair outcome
 
 -- a TxnOffsetCommit leaves each group as it is, and is answered an error for each partition
 pub record StagesNothing (w : World) (e : Event) : Type 0 where
@@ -295,9 +321,10 @@ pub record StagesNothing (w : World) (e : Event) : Type 0 where
   pub fails : (reply : TxnOffsetCommitReply) → reply_to w e ≡ replies.TxnOffsetCommit reply → Each (λ (t : Topic StagedOffset). Each (λ (p : StagedOffset). p.error ≡ codes.None → ⊥) t.partitions) reply.topics
 
 -- each request that comes with the pair is answered an error, for each partition where it names partitions; and so is a
--- partition of a Produce for which a batch of the pair was sent
+-- partition of a Produce for which a batch of the pair was sent. An EndTxn of version 5 once more changes nothing.
 pub record RequestsFail (w : World) (pair : Pair) : Type 0 where
-  pub endings : (caller : Caller) (client : Option (List ℕ)) (r : EndTxnRequest) (reply : EndTxnReply) → pair_with r.producer r.epoch ≡ pair → reply_to w (Ask caller client (EndTxn r)) ≡ replies.EndTxn reply → reply.error ≡ codes.None → ⊥
+  pub endings : (caller : Caller) (client : Option (List ℕ)) (r : EndTxnRequest) (reply : EndTxnReply) → ending_pair r ≡ pair → reply_to w (Ask caller client (EndTxn r)) ≡ replies.EndTxn reply → error_of reply ≡ codes.None
+      → (body : FlexibleEndTxn) × (r ≡ versions.Version5 body) × IsRepeated w.coordinator Raising (ending_id r) pair (ending_outcome r)
   pub group_additions : (caller : Caller) (client : Option (List ℕ)) (r : AddOffsetsToTxnRequest) (reply : AddOffsetsToTxnReply) → pair_with r.producer r.epoch ≡ pair
       → reply_to w (Ask caller client (AddOffsetsToTxn r)) ≡ replies.AddOffsetsToTxn reply → reply.error ≡ codes.None → ⊥
   pub additions : (caller : Caller) (client : Option (List ℕ)) (r : AddPartitionsToTxnRequest) (reply : AddPartitionsToTxnReply) → pair_with r.producer r.epoch ≡ pair

@@ -31,7 +31,6 @@ use Rattle.walk.specs.Steps.{part_world, parts_world}
 use Rattle.txn_coordinator.specs.declared.pair.Pair.{Pair}
 use Rattle.txn_coordinator.specs.declared.target.Target.{Target}
 use Rattle.txn_coordinator.specs.declared.target.Target.TheVariants.{Group}
-use Rattle.txn_coordinator.specs.declared.ending.EndForm.TheVariants as forms
 use Rattle.group_offsets.specs.declared.group.Group.{Group as GroupValue}
 use Rattle.group_offsets.specs.Turn.{Turn, Stays, Puts}
 use Rattle.group_offsets.specs.Groups.{commit}
@@ -42,11 +41,10 @@ use Rattle.broker_world.specs.First.{magnitude}
 use Rattle.broker_world.specs.Logs.{log_at}
 use Rattle.data_handlers.specs.Judged.{pair_of, partition_at, judged}
 use Rattle.data_handlers.specs.Produce.{producing}
-use Rattle.txn_handlers.specs.InitProducerId.{init_question}
+use Rattle.txn_handlers.specs.InitProducerId.{init_questions}
 use Rattle.txn_handlers.specs.AddPartitions.{is_cut, partitions_of}
 use Rattle.txn_handlers.specs.AddOffsets.{add_offsets_questions}
-use Rattle.broker_world.specs.Questions.{id_question}
-use Rattle.txn_handlers.specs.EndTxn.{ending}
+use Rattle.txn_handlers.specs.EndTxn.{end_questions, form_of, ending_id, ending_pair, ending_outcome}
 use Rattle.group_handlers.specs.OffsetCommit.{Committing, committing, offset_of, committing_rule}
 use Rattle.txn_handlers.specs.TxnOffsetCommit.{staging, staging_refusal, stage_turn, staging_rule}
 use Rattle.broker_world.specs.Clock.{moment_after}
@@ -126,7 +124,7 @@ initializing None timeout greatest = moves.Give ∷ []
 initializing (Some id) timeout greatest = moves.Init id timeout greatest ∷ []
 
 abbrev pub init_moves : World → Caller → InitProducerIdRequest → List Move
-init_moves w caller r = unless_refused (part_refusal (rules_of w) (init_question caller r.transactional_id ∷ [])) (initializing r.transactional_id r.timeout w.node.max_txn_timeout)
+init_moves w caller r = unless_refused (part_refusal (rules_of w) (init_questions (rules_of w) caller r.transactional_id)) (initializing r.transactional_id r.timeout w.node.max_txn_timeout)
 
 abbrev pub add_moves : World → Caller → AddPartitionsToTxnRequest → List Move
 add_moves w caller r =
@@ -140,8 +138,8 @@ add_group_moves w caller r =
 
 abbrev pub end_moves : World → Caller → EndTxnRequest → List Move
 end_moves w caller r =
-    unless_refused (part_refusal (rules_of w) (id_question caller r.transactional_id ∷ []))
-    (moves.End forms.Plain r.transactional_id (record { producer = r.producer; epoch = r.epoch }) (ending r.committed) ∷ [])
+    unless_refused (part_refusal (rules_of w) (end_questions caller r))
+    (moves.End (form_of r) (ending_id r) (ending_pair r) (ending_outcome r) ∷ [])
 
 -- ---- an event
 

@@ -7,6 +7,8 @@ use Rattle.record_batch.specs.declared.outcome.Outcome.{Outcome as Ending}
 use Rattle.record_batch.specs.declared.outcome.Outcome.TheVariants.{Abort}
 use Rattle.msg_txn.specs.declared.init_producer_id.InitProducerIdRequest.{InitProducerIdRequest}
 use Rattle.msg_txn.specs.declared.end_txn.EndTxnRequest.{EndTxnRequest}
+use Rattle.msg_txn.specs.declared.end_txn.EndTxnReply.{EndTxnReply}
+use Rattle.msg_txn.specs.EndTxn.{error_of}
 use Rattle.msg_admin.specs.declared.request.Request.TheVariants.{InitProducerId, EndTxn}
 use Rattle.msg_admin.specs.declared.reply.Reply.TheVariants as replies
 use Rattle.audit_trail.specs.declared.event.Event.{Event}
@@ -26,7 +28,7 @@ use Rattle.broker_world.specs.World.{World}
 use Rattle.broker_world.specs.First.{first_world}
 use Rattle.broker_world.specs.Clock.{moment_after}
 use Rattle.txn_handlers.specs.InitProducerId.{init_error}
-use Rattle.txn_handlers.specs.EndTxn.{ending, end_reply}
+use Rattle.txn_handlers.specs.EndTxn.{ending_id, ending_outcome}
 use Rattle.api_dispatch.specs.Step.{step, reached}
 use Rattle.request_handlers.specs.declared.stop.Stop.{Stop}
 use Rattle.request_handlers.specs.Core.{CoreValue, IsCore, Ran, NoRoom, events_of}
@@ -68,8 +70,8 @@ world_behind core before = reached (first_world core.settings) (events_of before
 -- what an entry tells of a transaction that stood open in the world in which its event was taken
 pub record TellsOf (w : World) (x : Entry) : Type 0 where
   -- an EndTxn that was answered no error prepared it, with the outcome that it names
-  pub ended : (caller : Caller) (client : Option (List ℕ)) (r : EndTxnRequest) (t : Transaction) → x.event ≡ Ask caller client (EndTxn r) → x.reply ≡ replies.EndTxn (end_reply codes.None)
-      → recorded w.coordinator.transactions r.transactional_id ≡ Some t → t.phase ≡ Ongoing → IsPreparedBy w x.event r.transactional_id t (ending r.committed)
+  pub ended : (caller : Caller) (client : Option (List ℕ)) (r : EndTxnRequest) (reply : EndTxnReply) (t : Transaction) → x.event ≡ Ask caller client (EndTxn r) → x.reply ≡ replies.EndTxn reply → error_of reply ≡ codes.None
+      → recorded w.coordinator.transactions (ending_id r) ≡ Some t → t.phase ≡ Ongoing → IsPreparedBy w x.event (ending_id r) t (ending_outcome r)
   -- an InitProducerId that was told to come again aborts it
   pub taken_over : (caller : Caller) (client : Option (List ℕ)) (r : InitProducerIdRequest) (id : List ℕ) (t : Transaction) → x.event ≡ Ask caller client (InitProducerId r) → r.transactional_id ≡ Some id → x.reply ≡ replies.InitProducerId (init_error codes.ConcurrentTransactions)
       → recorded w.coordinator.transactions id ≡ Some t → t.phase ≡ Ongoing → IsPreparedBy w x.event id t Abort

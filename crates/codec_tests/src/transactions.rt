@@ -3,9 +3,9 @@
 use crate::bodies::{comes_back, comes_back_as, read};
 use msg_txn::{
     AddOffsetsToTxnReply, AddOffsetsToTxnRequest, AddPartitionsToTxnReply,
-    AddPartitionsToTxnRequest, EndTxnReply, EndTxnRequest, FindCoordinatorReply,
-    FindCoordinatorRequest, InitProducerIdReply, InitProducerIdRequest, StagedOffset,
-    TxnOffsetCommitReply, TxnOffsetCommitRequest,
+    AddPartitionsToTxnRequest, EndTxn, Ended, EndedWithPair, FindCoordinatorReply,
+    FindCoordinatorRequest, FlexibleEndTxn, FlexibleEnded, InitProducerIdReply,
+    InitProducerIdRequest, StagedOffset, TxnOffsetCommitReply, TxnOffsetCommitRequest,
 };
 use wire_types::{Malformed, ReadFault};
 
@@ -34,9 +34,16 @@ fn requests_of_transactions(rt: HostRuntime) {
     );
     // a commit
     assert!(rt;
-        comes_back::<EndTxnRequest>(
+        comes_back::<EndTxn>(
             alloc,
             b"\x00\x01t\x00\x00\x00\x00\x00\x00\x00\x00\x00\x00\x01"
+        )
+    );
+    // the same in a flexible version
+    assert!(rt;
+        comes_back::<FlexibleEndTxn>(
+            alloc,
+            b"\x02t\x00\x00\x00\x00\x00\x00\x00\x00\x00\x00\x01\x00"
         )
     );
     // an unknown key type
@@ -74,7 +81,16 @@ fn replies_of_transactions(rt: HostRuntime) {
     // a group of another epoch
     assert!(rt; comes_back::<AddOffsetsToTxnReply>(alloc, b"\x00\x00\x00\x00\x00\x2f"));
     // a commit under way
-    assert!(rt; comes_back::<EndTxnReply>(alloc, b"\x00\x00\x00\x00\x00\x33"));
+    assert!(rt; comes_back::<Ended>(alloc, b"\x00\x00\x00\x00\x00\x33"));
+    // the same in a flexible version
+    assert!(rt; comes_back::<FlexibleEnded>(alloc, b"\x00\x00\x00\x00\x00\x33\x00"));
+    // the pair that follows
+    assert!(rt;
+        comes_back::<EndedWithPair>(
+            alloc,
+            b"\x00\x00\x00\x00\x00\x00\x00\x00\x00\x00\x00\x00\x00\x00\x00\x01\x00"
+        )
+    );
     // no coordinator
     assert!(rt;
         comes_back::<FindCoordinatorReply>(

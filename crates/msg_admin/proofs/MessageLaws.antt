@@ -27,7 +27,8 @@ use Rattle.msg_group.specs.LeaveGroup.{leave_group_request}
 use Rattle.msg_group.specs.SyncGroup.{sync_group_request}
 use Rattle.msg_txn.specs.AddPartitions.{add_partitions_to_txn_request}
 use Rattle.msg_txn.specs.AddOffsets.{add_offsets_to_txn_request}
-use Rattle.msg_txn.specs.EndTxn.{end_txn_request}
+use Rattle.msg_txn.specs.EndTxn.{end_txn, flexible_end_txn}
+use Rattle.msg_txn.specs.declared.end_txn.EndTxnRequest.TheVariants as endings
 use Rattle.msg_txn.specs.TxnOffsetCommit.{txn_offset_commit_request}
 use Rattle.msg_login.specs.SaslHandshake.{sasl_handshake_request}
 use Rattle.msg_login.specs.SaslAuthenticate.{sasl_authenticate_request}
@@ -39,7 +40,7 @@ use Rattle.msg_admin.specs.declared.request.Request.TheVariants as requests
 use Rattle.msg_admin.specs.declared.reply.Reply.{Reply}
 use Rattle.msg_admin.specs.Api.{api_at, is_flexible}
 use Rattle.msg_admin.specs.Header.{header, request_header, response_header, least_header}
-use Rattle.msg_admin.specs.Bodies.{api_of, sent_as, request_body, reply_body, asked_produce, produce-asked, asked_fetch, fetch-asked, asked_list_offsets, list_offsets-asked, asked_metadata, metadata-asked, asked_offset_commit, offset_commit-asked, asked_offset_fetch, offset_fetch-asked, asked_find_coordinator, find_coordinator-asked, asked_join_group, join_group-asked, asked_heartbeat, heartbeat-asked, asked_leave_group, leave_group-asked, asked_sync_group, sync_group-asked, asked_init_producer_id, init_producer_id-asked, asked_add_partitions_to_txn, add_partitions_to_txn-asked, asked_add_offsets_to_txn, add_offsets_to_txn-asked, asked_end_txn, end_txn-asked, asked_txn_offset_commit, txn_offset_commit-asked, asked_describe_acls, describe_acls-asked, asked_create_acls, create_acls-asked, asked_delete_acls, delete_acls-asked, asked_sasl_handshake, sasl_handshake-asked, asked_sasl_authenticate, sasl_authenticate-asked}
+use Rattle.msg_admin.specs.Bodies.{api_of, sent_as, request_body, reply_body, asked_produce, produce-asked, asked_fetch, fetch-asked, asked_list_offsets, list_offsets-asked, asked_metadata, metadata-asked, asked_offset_commit, offset_commit-asked, asked_offset_fetch, offset_fetch-asked, asked_find_coordinator, find_coordinator-asked, asked_join_group, join_group-asked, asked_heartbeat, heartbeat-asked, asked_leave_group, leave_group-asked, asked_sync_group, sync_group-asked, asked_init_producer_id, init_producer_id-asked, asked_add_partitions_to_txn, add_partitions_to_txn-asked, asked_add_offsets_to_txn, add_offsets_to_txn-asked, asked_end_txn_0, end_txn_0-asked, asked_end_txn_1, end_txn_1-asked, asked_end_txn_2, end_txn_2-asked, asked_end_txn_3, end_txn_3-asked, asked_end_txn_4, end_txn_4-asked, asked_end_txn_5, end_txn_5-asked, asked_txn_offset_commit, txn_offset_commit-asked, asked_describe_acls, describe_acls-asked, asked_create_acls, create_acls-asked, asked_delete_acls, delete_acls-asked, asked_sasl_handshake, sasl_handshake-asked, asked_sasl_authenticate, sasl_authenticate-asked}
 use Rattle.msg_admin.specs.Frame.{framed}
 use Rattle.msg_admin.specs.Request.{IsRequest, Fits, request_text, is_writable}
 use Rattle.msg_admin.specs.Response.{response_as, response_text, IsResponse, sendable_as}
@@ -88,7 +89,12 @@ spelled_api apis.ApiVersions text r h = ap api_of h.1
 spelled_api apis.InitProducerId text r h = ap api_of (sym (of_variant requests.InitProducerId asked_init_producer_id (init_producer_id_request.Spells text) r (init_producer_id-asked r) (asked_init_producer_id r) refl h).1)
 spelled_api apis.AddPartitionsToTxn text r h = ap api_of (sym (of_variant requests.AddPartitionsToTxn asked_add_partitions_to_txn (add_partitions_to_txn_request.Spells text) r (add_partitions_to_txn-asked r) (asked_add_partitions_to_txn r) refl h).1)
 spelled_api apis.AddOffsetsToTxn text r h = ap api_of (sym (of_variant requests.AddOffsetsToTxn asked_add_offsets_to_txn (add_offsets_to_txn_request.Spells text) r (add_offsets_to_txn-asked r) (asked_add_offsets_to_txn r) refl h).1)
-spelled_api apis.EndTxn text r h = ap api_of (sym (of_variant requests.EndTxn asked_end_txn (end_txn_request.Spells text) r (end_txn-asked r) (asked_end_txn r) refl h).1)
+spelled_api apis.EndTxn0 text r h = ap api_of (sym (of_variant (λ x. requests.EndTxn (endings.Version0 x)) asked_end_txn_0 (end_txn.Spells text) r (end_txn_0-asked r) (asked_end_txn_0 r) refl h).1)
+spelled_api apis.EndTxn1 text r h = ap api_of (sym (of_variant (λ x. requests.EndTxn (endings.Version1 x)) asked_end_txn_1 (end_txn.Spells text) r (end_txn_1-asked r) (asked_end_txn_1 r) refl h).1)
+spelled_api apis.EndTxn2 text r h = ap api_of (sym (of_variant (λ x. requests.EndTxn (endings.Version2 x)) asked_end_txn_2 (end_txn.Spells text) r (end_txn_2-asked r) (asked_end_txn_2 r) refl h).1)
+spelled_api apis.EndTxn3 text r h = ap api_of (sym (of_variant (λ x. requests.EndTxn (endings.Version3 x)) asked_end_txn_3 (flexible_end_txn.Spells text) r (end_txn_3-asked r) (asked_end_txn_3 r) refl h).1)
+spelled_api apis.EndTxn4 text r h = ap api_of (sym (of_variant (λ x. requests.EndTxn (endings.Version4 x)) asked_end_txn_4 (flexible_end_txn.Spells text) r (end_txn_4-asked r) (asked_end_txn_4 r) refl h).1)
+spelled_api apis.EndTxn5 text r h = ap api_of (sym (of_variant (λ x. requests.EndTxn (endings.Version5 x)) asked_end_txn_5 (flexible_end_txn.Spells text) r (end_txn_5-asked r) (asked_end_txn_5 r) refl h).1)
 spelled_api apis.TxnOffsetCommit text r h = ap api_of (sym (of_variant requests.TxnOffsetCommit asked_txn_offset_commit (txn_offset_commit_request.Spells text) r (txn_offset_commit-asked r) (asked_txn_offset_commit r) refl h).1)
 spelled_api apis.DescribeAcls text r h = ap api_of (sym (of_variant requests.DescribeAcls asked_describe_acls (describe_acls_request.Spells text) r (describe_acls-asked r) (asked_describe_acls r) refl h).1)
 spelled_api apis.CreateAcls text r h = ap api_of (sym (of_variant requests.CreateAcls asked_create_acls (create_acls_request.Spells text) r (create_acls-asked r) (asked_create_acls r) refl h).1)

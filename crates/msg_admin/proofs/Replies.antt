@@ -13,7 +13,8 @@ use Rattle.wire_types.specs.Schema.{int32}
 use Rattle.msg_data.specs.Strings.{is_short}
 use Rattle.msg_acl.proofs.ReplyStrings.{describe_acls_tells, create_acls_tells, delete_acls_tells}
 use Rattle.msg_group.proofs.ReplyStrings.{offset_commit_tells, offset_fetch_tells, join_group_tells, heartbeat_tells, leave_group_tells, sync_group_tells}
-use Rattle.msg_txn.proofs.ReplyStrings.{find_coordinator_tells, init_producer_id_tells, add_partitions_to_txn_tells, add_offsets_to_txn_tells, end_txn_tells, txn_offset_commit_tells}
+use Rattle.msg_txn.specs.declared.end_txn.EndTxnReply.TheVariants as ended_as
+use Rattle.msg_txn.proofs.ReplyStrings.{find_coordinator_tells, init_producer_id_tells, add_partitions_to_txn_tells, add_offsets_to_txn_tells, ended_tells, flexible_ended_tells, ended_with_pair_tells, txn_offset_commit_tells}
 use Rattle.msg_data.proofs.ReplyStrings.{produce_tells, fetch_tells, list_offsets_tells, metadata_tells}
 use Rattle.msg_login.proofs.ReplyStrings.{sasl_handshake_tells, sasl_authenticate_tells, api_versions_tells}
 use Rattle.msg_admin.specs.declared.api.Api.{Api}
@@ -76,7 +77,12 @@ decided (replies.ApiVersions m) = (api_versions_tells.short m, api_versions_tell
 decided (replies.InitProducerId m) = (init_producer_id_tells.short m, init_producer_id_tells.fits m)
 decided (replies.AddPartitionsToTxn m) = (add_partitions_to_txn_tells.short m, add_partitions_to_txn_tells.fits m)
 decided (replies.AddOffsetsToTxn m) = (add_offsets_to_txn_tells.short m, add_offsets_to_txn_tells.fits m)
-decided (replies.EndTxn m) = (end_txn_tells.short m, end_txn_tells.fits m)
+decided (replies.EndTxn (ended_as.Version0 m)) = (ended_tells.short m, ended_tells.fits m)
+decided (replies.EndTxn (ended_as.Version1 m)) = (ended_tells.short m, ended_tells.fits m)
+decided (replies.EndTxn (ended_as.Version2 m)) = (ended_tells.short m, ended_tells.fits m)
+decided (replies.EndTxn (ended_as.Version3 m)) = (flexible_ended_tells.short m, flexible_ended_tells.fits m)
+decided (replies.EndTxn (ended_as.Version4 m)) = (flexible_ended_tells.short m, flexible_ended_tells.fits m)
+decided (replies.EndTxn (ended_as.Version5 m)) = (ended_with_pair_tells.short m, ended_with_pair_tells.fits m)
 decided (replies.TxnOffsetCommit m) = (txn_offset_commit_tells.short m, txn_offset_commit_tells.fits m)
 decided (replies.DescribeAcls m) = (describe_acls_tells.short m, describe_acls_tells.fits m)
 decided (replies.CreateAcls m) = (create_acls_tells.short m, create_acls_tells.fits m)

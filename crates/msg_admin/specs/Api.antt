@@ -1,4 +1,4 @@
--- The apis that are served, each under its key in one version (Kafka protocol guide, "Api Keys").
+-- The apis that are served, each under its key in one version, but EndTxn in six (Kafka protocol guide, "Api Keys").
 use Rattle.std.specs.Prelude.{◌≡◌, ℤ, pos, Bool, true, false, ◌&&◌, List, [], ◌∷◌, Option, Some, refl}
 use Rattle.std.specs.List.{find}
 use Rattle.std.specs.Ordering.{int_eq}
@@ -22,7 +22,12 @@ key_of apis.ApiVersions = pos 18
 key_of apis.InitProducerId = pos 22
 key_of apis.AddPartitionsToTxn = pos 24
 key_of apis.AddOffsetsToTxn = pos 25
-key_of apis.EndTxn = pos 26
+key_of apis.EndTxn0 = pos 26
+key_of apis.EndTxn1 = pos 26
+key_of apis.EndTxn2 = pos 26
+key_of apis.EndTxn3 = pos 26
+key_of apis.EndTxn4 = pos 26
+key_of apis.EndTxn5 = pos 26
 key_of apis.TxnOffsetCommit = pos 28
 key_of apis.DescribeAcls = pos 29
 key_of apis.CreateAcls = pos 30
@@ -46,7 +51,12 @@ version_of apis.ApiVersions = pos 0
 version_of apis.InitProducerId = pos 0
 version_of apis.AddPartitionsToTxn = pos 0
 version_of apis.AddOffsetsToTxn = pos 0
-version_of apis.EndTxn = pos 0
+version_of apis.EndTxn0 = pos 0
+version_of apis.EndTxn1 = pos 1
+version_of apis.EndTxn2 = pos 2
+version_of apis.EndTxn3 = pos 3
+version_of apis.EndTxn4 = pos 4
+version_of apis.EndTxn5 = pos 5
 version_of apis.TxnOffsetCommit = pos 3
 version_of apis.DescribeAcls = pos 1
 version_of apis.CreateAcls = pos 1
@@ -71,7 +81,12 @@ is_flexible apis.ApiVersions = false
 is_flexible apis.InitProducerId = false
 is_flexible apis.AddPartitionsToTxn = false
 is_flexible apis.AddOffsetsToTxn = false
-is_flexible apis.EndTxn = false
+is_flexible apis.EndTxn0 = false
+is_flexible apis.EndTxn1 = false
+is_flexible apis.EndTxn2 = false
+is_flexible apis.EndTxn3 = true
+is_flexible apis.EndTxn4 = true
+is_flexible apis.EndTxn5 = true
 is_flexible apis.TxnOffsetCommit = true
 is_flexible apis.DescribeAcls = false
 is_flexible apis.CreateAcls = false
@@ -79,7 +94,7 @@ is_flexible apis.DeleteAcls = false
 is_flexible apis.SaslAuthenticate = false
 
 unfoldable pub all_apis : List Api
-all_apis = apis.Produce ∷ apis.Fetch ∷ apis.ListOffsets ∷ apis.Metadata ∷ apis.OffsetCommit ∷ apis.OffsetFetch ∷ apis.FindCoordinator ∷ apis.JoinGroup ∷ apis.Heartbeat ∷ apis.LeaveGroup ∷ apis.SyncGroup ∷ apis.SaslHandshake ∷ apis.ApiVersions ∷ apis.InitProducerId ∷ apis.AddPartitionsToTxn ∷ apis.AddOffsetsToTxn ∷ apis.EndTxn ∷ apis.TxnOffsetCommit ∷ apis.DescribeAcls ∷ apis.CreateAcls ∷ apis.DeleteAcls ∷ apis.SaslAuthenticate ∷ []
+all_apis = apis.Produce ∷ apis.Fetch ∷ apis.ListOffsets ∷ apis.Metadata ∷ apis.OffsetCommit ∷ apis.OffsetFetch ∷ apis.FindCoordinator ∷ apis.JoinGroup ∷ apis.Heartbeat ∷ apis.LeaveGroup ∷ apis.SyncGroup ∷ apis.SaslHandshake ∷ apis.ApiVersions ∷ apis.InitProducerId ∷ apis.AddPartitionsToTxn ∷ apis.AddOffsetsToTxn ∷ apis.EndTxn0 ∷ apis.EndTxn1 ∷ apis.EndTxn2 ∷ apis.EndTxn3 ∷ apis.EndTxn4 ∷ apis.EndTxn5 ∷ apis.TxnOffsetCommit ∷ apis.DescribeAcls ∷ apis.CreateAcls ∷ apis.DeleteAcls ∷ apis.SaslAuthenticate ∷ []
 
 -- the api that is served under a key in a version
 unfoldable pub api_at : ℤ → ℤ → Option Api
@@ -104,7 +119,12 @@ api_at-own apis.ApiVersions = refl
 api_at-own apis.InitProducerId = refl
 api_at-own apis.AddPartitionsToTxn = refl
 api_at-own apis.AddOffsetsToTxn = refl
-api_at-own apis.EndTxn = refl
+api_at-own apis.EndTxn0 = refl
+api_at-own apis.EndTxn1 = refl
+api_at-own apis.EndTxn2 = refl
+api_at-own apis.EndTxn3 = refl
+api_at-own apis.EndTxn4 = refl
+api_at-own apis.EndTxn5 = refl
 api_at-own apis.TxnOffsetCommit = refl
 api_at-own apis.DescribeAcls = refl
 api_at-own apis.CreateAcls = refl

@@ -48,9 +48,16 @@ use Rattle.msg_txn.specs.AddPartitions.{add_partitions_to_txn_request, add_parti
 use Rattle.msg_txn.specs.declared.add_offsets.AddOffsetsToTxnRequest.{AddOffsetsToTxnRequest}
 use Rattle.msg_txn.specs.declared.add_offsets.AddOffsetsToTxnReply.{AddOffsetsToTxnReply}
 use Rattle.msg_txn.specs.AddOffsets.{add_offsets_to_txn_request, add_offsets_to_txn_reply}
+use Rattle.msg_txn.specs.declared.end_txn.EndTxn.{EndTxn}
+use Rattle.msg_txn.specs.declared.end_txn.FlexibleEndTxn.{FlexibleEndTxn}
 use Rattle.msg_txn.specs.declared.end_txn.EndTxnRequest.{EndTxnRequest}
+use Rattle.msg_txn.specs.declared.end_txn.EndTxnRequest.TheVariants as endings
+use Rattle.msg_txn.specs.declared.end_txn.Ended.{Ended}
+use Rattle.msg_txn.specs.declared.end_txn.FlexibleEnded.{FlexibleEnded}
+use Rattle.msg_txn.specs.declared.end_txn.EndedWithPair.{EndedWithPair}
 use Rattle.msg_txn.specs.declared.end_txn.EndTxnReply.{EndTxnReply}
-use Rattle.msg_txn.specs.EndTxn.{end_txn_request, end_txn_reply}
+use Rattle.msg_txn.specs.declared.end_txn.EndTxnReply.TheVariants as ended_as
+use Rattle.msg_txn.specs.EndTxn.{end_txn, flexible_end_txn, ended, flexible_ended, ended_with_pair}
 use Rattle.msg_txn.specs.declared.txn_offset_commit.TxnOffsetCommitRequest.{TxnOffsetCommitRequest}
 use Rattle.msg_txn.specs.declared.txn_offset_commit.TxnOffsetCommitReply.{TxnOffsetCommitReply}
 use Rattle.msg_txn.specs.TxnOffsetCommit.{txn_offset_commit_request, txn_offset_commit_reply}
@@ -75,6 +82,23 @@ use Rattle.msg_admin.specs.declared.request.Request.TheVariants as requests
 use Rattle.msg_admin.specs.declared.reply.Reply.{Reply}
 use Rattle.msg_admin.specs.declared.reply.Reply.TheVariants as replies
 
+-- an EndTxn is asked in its version, and answered in that of its answer
+abbrev pub ending_api : EndTxnRequest → Api
+ending_api (endings.Version0 r) = apis.EndTxn0
+ending_api (endings.Version1 r) = apis.EndTxn1
+ending_api (endings.Version2 r) = apis.EndTxn2
+ending_api (endings.Version3 r) = apis.EndTxn3
+ending_api (endings.Version4 r) = apis.EndTxn4
+ending_api (endings.Version5 r) = apis.EndTxn5
+
+abbrev pub ended_api : EndTxnReply → Api
+ended_api (ended_as.Version0 r) = apis.EndTxn0
+ended_api (ended_as.Version1 r) = apis.EndTxn1
+ended_api (ended_as.Version2 r) = apis.EndTxn2
+ended_api (ended_as.Version3 r) = apis.EndTxn3
+ended_api (ended_as.Version4 r) = apis.EndTxn4
+ended_api (ended_as.Version5 r) = apis.EndTxn5
+
 -- the api that a request asks
 abbrev pub api_of : Request → Api
 api_of (requests.Produce r) = apis.Produce
@@ -93,7 +117,7 @@ api_of requests.ApiVersions = apis.ApiVersions
 api_of (requests.InitProducerId r) = apis.InitProducerId
 api_of (requests.AddPartitionsToTxn r) = apis.AddPartitionsToTxn
 api_of (requests.AddOffsetsToTxn r) = apis.AddOffsetsToTxn
-api_of (requests.EndTxn r) = apis.EndTxn
+api_of (requests.EndTxn r) = ending_api r
 api_of (requests.TxnOffsetCommit r) = apis.TxnOffsetCommit
 api_of (requests.DescribeAcls r) = apis.DescribeAcls
 api_of (requests.CreateAcls r) = apis.CreateAcls
@@ -119,7 +143,7 @@ sent_as (replies.ApiVersions r) = Some apis.ApiVersions
 sent_as (replies.InitProducerId r) = Some apis.InitProducerId
 sent_as (replies.AddPartitionsToTxn r) = Some apis.AddPartitionsToTxn
 sent_as (replies.AddOffsetsToTxn r) = Some apis.AddOffsetsToTxn
-sent_as (replies.EndTxn r) = Some apis.EndTxn
+sent_as (replies.EndTxn r) = Some (ended_api r)
 sent_as (replies.TxnOffsetCommit r) = Some apis.TxnOffsetCommit
 sent_as (replies.DescribeAcls r) = Some apis.DescribeAcls
 sent_as (replies.CreateAcls r) = Some apis.CreateAcls
@@ -446,23 +470,103 @@ pub add_offsets_to_txn-answered : (r : Reply) (x : AddOffsetsToTxnReply) → ans
 add_offsets_to_txn-answered (replies.AddOffsetsToTxn y) x e = cc
 add_offsets_to_txn-answered _ x e = absurd cc
 
--- ---- EndTxn
+-- ---- EndTxn, by version
 
-abbrev pub asked_end_txn : Request → Option EndTxnRequest
-asked_end_txn (requests.EndTxn r) = Some r
-asked_end_txn _ = None
+abbrev pub asked_end_txn_0 : Request → Option EndTxn
+asked_end_txn_0 (requests.EndTxn (endings.Version0 r)) = Some r
+asked_end_txn_0 _ = None
 
-pub end_txn-asked : (r : Request) (x : EndTxnRequest) → asked_end_txn r ≡ Some x → requests.EndTxn x ≡ r
-end_txn-asked (requests.EndTxn y) x e = cc
-end_txn-asked _ x e = absurd cc
+pub end_txn_0-asked : (r : Request) (x : EndTxn) → asked_end_txn_0 r ≡ Some x → requests.EndTxn (endings.Version0 x) ≡ r
+end_txn_0-asked (requests.EndTxn (endings.Version0 y)) x e = cc
+end_txn_0-asked _ x e = absurd cc
 
-abbrev pub answered_end_txn : Reply → Option EndTxnReply
-answered_end_txn (replies.EndTxn r) = Some r
-answered_end_txn _ = None
+abbrev pub answered_end_txn_0 : Reply → Option Ended
+answered_end_txn_0 (replies.EndTxn (ended_as.Version0 r)) = Some r
+answered_end_txn_0 _ = None
 
-pub end_txn-answered : (r : Reply) (x : EndTxnReply) → answered_end_txn r ≡ Some x → replies.EndTxn x ≡ r
-end_txn-answered (replies.EndTxn y) x e = cc
-end_txn-answered _ x e = absurd cc
+pub end_txn_0-answered : (r : Reply) (x : Ended) → answered_end_txn_0 r ≡ Some x → replies.EndTxn (ended_as.Version0 x) ≡ r
+end_txn_0-answered (replies.EndTxn (ended_as.Version0 y)) x e = cc
+end_txn_0-answered _ x e = absurd cc
+
+abbrev pub asked_end_txn_1 : Request → Option EndTxn
+asked_end_txn_1 (requests.EndTxn (endings.Version1 r)) = Some r
+asked_end_txn_1 _ = None
+
+pub end_txn_1-asked : (r : Request) (x : EndTxn) → asked_end_txn_1 r ≡ Some x → requests.EndTxn (endings.Version1 x) ≡ r
+end_txn_1-asked (requests.EndTxn (endings.Version1 y)) x e = cc
+end_txn_1-asked _ x e = absurd cc
+
+abbrev pub answered_end_txn_1 : Reply → Option Ended
+answered_end_txn_1 (replies.EndTxn (ended_as.Version1 r)) = Some r
+answered_end_txn_1 _ = None
+
+pub end_txn_1-answered : (r : Reply) (x : Ended) → answered_end_txn_1 r ≡ Some x → replies.EndTxn (ended_as.Version1 x) ≡ r
+end_txn_1-answered (replies.EndTxn (ended_as.Version1 y)) x e = cc
+end_txn_1-answered _ x e = absurd cc
+
+abbrev pub asked_end_txn_2 : Request → Option EndTxn
+asked_end_txn_2 (requests.EndTxn (endings.Version2 r)) = Some r
+asked_end_txn_2 _ = None
+
+pub end_txn_2-asked : (r : Request) (x : EndTxn) → asked_end_txn_2 r ≡ Some x → requests.EndTxn (endings.Version2 x) ≡ r
+end_txn_2-asked (requests.EndTxn (endings.Version2 y)) x e = cc
+end_txn_2-asked _ x e = absurd cc
+
+abbrev pub answered_end_txn_2 : Reply → Option Ended
+answered_end_txn_2 (replies.EndTxn (ended_as.Version2 r)) = Some r
+answered_end_txn_2 _ = None
+
+pub end_txn_2-answered : (r : Reply) (x : Ended) → answered_end_txn_2 r ≡ Some x → replies.EndTxn (ended_as.Version2 x) ≡ r
+end_txn_2-answered (replies.EndTxn (ended_as.Version2 y)) x e = cc
+end_txn_2-answered _ x e = absurd cc
+
+abbrev pub asked_end_txn_3 : Request → Option FlexibleEndTxn
+asked_end_txn_3 (requests.EndTxn (endings.Version3 r)) = Some r
+asked_end_txn_3 _ = None
+
+pub end_txn_3-asked : (r : Request) (x : FlexibleEndTxn) → asked_end_txn_3 r ≡ Some x → requests.EndTxn (endings.Version3 x) ≡ r
+end_txn_3-asked (requests.EndTxn (endings.Version3 y)) x e = cc
+end_txn_3-asked _ x e = absurd cc
+
+abbrev pub answered_end_txn_3 : Reply → Option FlexibleEnded
+answered_end_txn_3 (replies.EndTxn (ended_as.Version3 r)) = Some r
+answered_end_txn_3 _ = None
+
+pub end_txn_3-answered : (r : Reply) (x : FlexibleEnded) → answered_end_txn_3 r ≡ Some x → replies.EndTxn (ended_as.Version3 x) ≡ r
+end_txn_3-answered (replies.EndTxn (ended_as.Version3 y)) x e = cc
+end_txn_3-answered _ x e = absurd cc
+
+abbrev pub asked_end_txn_4 : Request → Option FlexibleEndTxn
+asked_end_txn_4 (requests.EndTxn (endings.Version4 r)) = Some r
+asked_end_txn_4 _ = None
+
+pub end_txn_4-asked : (r : Request) (x : FlexibleEndTxn) → asked_end_txn_4 r ≡ Some x → requests.EndTxn (endings.Version4 x) ≡ r
+end_txn_4-asked (requests.EndTxn (endings.Version4 y)) x e = cc
+end_txn_4-asked _ x e = absurd cc
+
+abbrev pub answered_end_txn_4 : Reply → Option FlexibleEnded
+answered_end_txn_4 (replies.EndTxn (ended_as.Version4 r)) = Some r
+answered_end_txn_4 _ = None
+
+pub end_txn_4-answered : (r : Reply) (x : FlexibleEnded) → answered_end_txn_4 r ≡ Some x → replies.EndTxn (ended_as.Version4 x) ≡ r
+end_txn_4-answered (replies.EndTxn (ended_as.Version4 y)) x e = cc
+end_txn_4-answered _ x e = absurd cc
+
+abbrev pub asked_end_txn_5 : Request → Option FlexibleEndTxn
+asked_end_txn_5 (requests.EndTxn (endings.Version5 r)) = Some r
+asked_end_txn_5 _ = None
+
+pub end_txn_5-asked : (r : Request) (x : FlexibleEndTxn) → asked_end_txn_5 r ≡ Some x → requests.EndTxn (endings.Version5 x) ≡ r
+end_txn_5-asked (requests.EndTxn (endings.Version5 y)) x e = cc
+end_txn_5-asked _ x e = absurd cc
+
+abbrev pub answered_end_txn_5 : Reply → Option EndedWithPair
+answered_end_txn_5 (replies.EndTxn (ended_as.Version5 r)) = Some r
+answered_end_txn_5 _ = None
+
+pub end_txn_5-answered : (r : Reply) (x : EndedWithPair) → answered_end_txn_5 r ≡ Some x → replies.EndTxn (ended_as.Version5 x) ≡ r
+end_txn_5-answered (replies.EndTxn (ended_as.Version5 y)) x e = cc
+end_txn_5-answered _ x e = absurd cc
 
 -- ---- TxnOffsetCommit
 
@@ -573,7 +677,12 @@ request_body apis.ApiVersions = empty_body requests.ApiVersions is_api_versions 
 request_body apis.InitProducerId = body_of (variant requests.InitProducerId asked_init_producer_id (λ x. refl) init_producer_id-asked init_producer_id_request)
 request_body apis.AddPartitionsToTxn = body_of (variant requests.AddPartitionsToTxn asked_add_partitions_to_txn (λ x. refl) add_partitions_to_txn-asked add_partitions_to_txn_request)
 request_body apis.AddOffsetsToTxn = body_of (variant requests.AddOffsetsToTxn asked_add_offsets_to_txn (λ x. refl) add_offsets_to_txn-asked add_offsets_to_txn_request)
-request_body apis.EndTxn = body_of (variant requests.EndTxn asked_end_txn (λ x. refl) end_txn-asked end_txn_request)
+request_body apis.EndTxn0 = body_of (variant (λ x. requests.EndTxn (endings.Version0 x)) asked_end_txn_0 (λ x. refl) end_txn_0-asked end_txn)
+request_body apis.EndTxn1 = body_of (variant (λ x. requests.EndTxn (endings.Version1 x)) asked_end_txn_1 (λ x. refl) end_txn_1-asked end_txn)
+request_body apis.EndTxn2 = body_of (variant (λ x. requests.EndTxn (endings.Version2 x)) asked_end_txn_2 (λ x. refl) end_txn_2-asked end_txn)
+request_body apis.EndTxn3 = body_of (variant (λ x. requests.EndTxn (endings.Version3 x)) asked_end_txn_3 (λ x. refl) end_txn_3-asked flexible_end_txn)
+request_body apis.EndTxn4 = body_of (variant (λ x. requests.EndTxn (endings.Version4 x)) asked_end_txn_4 (λ x. refl) end_txn_4-asked flexible_end_txn)
+request_body apis.EndTxn5 = body_of (variant (λ x. requests.EndTxn (endings.Version5 x)) asked_end_txn_5 (λ x. refl) end_txn_5-asked flexible_end_txn)
 request_body apis.TxnOffsetCommit = body_of (variant requests.TxnOffsetCommit asked_txn_offset_commit (λ x. refl) txn_offset_commit-asked txn_offset_commit_request)
 request_body apis.DescribeAcls = body_of (variant requests.DescribeAcls asked_describe_acls (λ x. refl) describe_acls-asked describe_acls_request)
 request_body apis.CreateAcls = body_of (variant requests.CreateAcls asked_create_acls (λ x. refl) create_acls-asked create_acls_request)
@@ -597,7 +706,12 @@ reply_body apis.ApiVersions = variant replies.ApiVersions answered_api_versions 
 reply_body apis.InitProducerId = variant replies.InitProducerId answered_init_producer_id (λ x. refl) init_producer_id-answered init_producer_id_reply
 reply_body apis.AddPartitionsToTxn = variant replies.AddPartitionsToTxn answered_add_partitions_to_txn (λ x. refl) add_partitions_to_txn-answered add_partitions_to_txn_reply
 reply_body apis.AddOffsetsToTxn = variant replies.AddOffsetsToTxn answered_add_offsets_to_txn (λ x. refl) add_offsets_to_txn-answered add_offsets_to_txn_reply
-reply_body apis.EndTxn = variant replies.EndTxn answered_end_txn (λ x. refl) end_txn-answered end_txn_reply
+reply_body apis.EndTxn0 = variant (λ x. replies.EndTxn (ended_as.Version0 x)) answered_end_txn_0 (λ x. refl) end_txn_0-answered ended
+reply_body apis.EndTxn1 = variant (λ x. replies.EndTxn (ended_as.Version1 x)) answered_end_txn_1 (λ x. refl) end_txn_1-answered ended
+reply_body apis.EndTxn2 = variant (λ x. replies.EndTxn (ended_as.Version2 x)) answered_end_txn_2 (λ x. refl) end_txn_2-answered ended
+reply_body apis.EndTxn3 = variant (λ x. replies.EndTxn (ended_as.Version3 x)) answered_end_txn_3 (λ x. refl) end_txn_3-answered flexible_ended
+reply_body apis.EndTxn4 = variant (λ x. replies.EndTxn (ended_as.Version4 x)) answered_end_txn_4 (λ x. refl) end_txn_4-answered flexible_ended
+reply_body apis.EndTxn5 = variant (λ x. replies.EndTxn (ended_as.Version5 x)) answered_end_txn_5 (λ x. refl) end_txn_5-answered ended_with_pair
 reply_body apis.TxnOffsetCommit = variant replies.TxnOffsetCommit answered_txn_offset_commit (λ x. refl) txn_offset_commit-answered txn_offset_commit_reply
 reply_body apis.DescribeAcls = variant replies.DescribeAcls answered_describe_acls (λ x. refl) describe_acls-answered describe_acls_reply
 reply_body apis.CreateAcls = variant replies.CreateAcls answered_create_acls (λ x. refl) create_acls-answered create_acls_reply

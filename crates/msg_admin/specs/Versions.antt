@@ -1,6 +1,6 @@
 -- What ApiVersions is answered (Kafka protocol guide, "Retrieving Supported API versions"). It is answered in a version that
 -- is not served too: a client asks it before it knows the versions (KIP-511).
-use Rattle.std.specs.Prelude.{◌≡◌, ℕ, ℤ, pos, List, [], ◌∷◌, ◌++◌, map, not, ◌&&◌, Option, Some, None, if◌then◌else◌, refl}
+use Rattle.std.specs.Prelude.{◌≡◌, ℕ, ℤ, pos, List, [], ◌∷◌, ◌++◌, map, filter, Bool, not, ◌&&◌, Option, Some, None, if◌then◌else◌, refl}
 use Rattle.std.specs.List.{find}
 use Rattle.std.specs.Option.{option_and_then}
 use Rattle.std.specs.Ordering.{int_eq}
@@ -18,13 +18,36 @@ use Rattle.msg_admin.specs.Api.{key_of, version_of, all_apis}
 use Rattle.msg_admin.specs.Header.{names}
 use Rattle.msg_admin.specs.Frame.{framed}
 
+-- the first version in which an api is served, and the last: one, but of EndTxn 0 to 5
+abbrev pub first_version : Api → ℤ
+first_version apis.EndTxn0 = pos 0
+first_version apis.EndTxn1 = pos 0
+first_version apis.EndTxn2 = pos 0
+first_version apis.EndTxn3 = pos 0
+first_version apis.EndTxn4 = pos 0
+first_version apis.EndTxn5 = pos 0
+first_version api = version_of api
+
+abbrev pub last_version : Api → ℤ
+last_version apis.EndTxn0 = pos 5
+last_version apis.EndTxn1 = pos 5
+last_version apis.EndTxn2 = pos 5
+last_version apis.EndTxn3 = pos 5
+last_version apis.EndTxn4 = pos 5
+last_version apis.EndTxn5 = pos 5
+last_version api = version_of api
+
 -- an api with the versions in which it is served
 abbrev pub served_in : Api → ServedVersions
-served_in api = record { key = key_of api; min = version_of api; max = version_of api }
+served_in api = record { key = key_of api; min = first_version api; max = last_version api }
+
+-- each api once, by its first version
+abbrev pub is_first : Api → Bool
+is_first api = int_eq (version_of api) (first_version api)
 
 -- every api that is served
 abbrev pub versions_reply : ApiVersionsReply
-versions_reply = record { error = codes.None; apis = map served_in all_apis }
+versions_reply = record { error = codes.None; apis = map served_in (filter is_first all_apis) }
 
 -- each api stands in it under its key
 pub served_in-listed : (api : Api) → find (λ v. int_eq v.key (key_of api)) versions_reply.apis ≡ Some (served_in api)
@@ -45,7 +68,12 @@ served_in-listed apis.ApiVersions = refl
 served_in-listed apis.InitProducerId = refl
 served_in-listed apis.AddPartitionsToTxn = refl
 served_in-listed apis.AddOffsetsToTxn = refl
-served_in-listed apis.EndTxn = refl
+served_in-listed apis.EndTxn0 = refl
+served_in-listed apis.EndTxn1 = refl
+served_in-listed apis.EndTxn2 = refl
+served_in-listed apis.EndTxn3 = refl
+served_in-listed apis.EndTxn4 = refl
+served_in-listed apis.EndTxn5 = refl
 served_in-listed apis.TxnOffsetCommit = refl
 served_in-listed apis.DescribeAcls = refl
 served_in-listed apis.CreateAcls = refl

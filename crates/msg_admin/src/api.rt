@@ -1,40 +1,46 @@
-//! The apis that are served, each under its key in one version.
+//! The apis that are served, each under its key in one version, but EndTxn in six.
 
 ghost use Rattle.std.specs.Prelude.{◌≡◌, ◌&&◌};
 ghost use Rattle.std.specs.List.{find};
 ghost use Rattle.std.specs.Ordering.{int_eq};
 ghost use Rattle.msg_admin.specs.Api.{key_of, version_of, is_flexible, api_at};
+ghost use Rattle.msg_admin.specs.Versions.{first_version, last_version, is_first};
 
-/// What a request may ask for.
+/// What a request may ask for, in a version.
 #[derive(Clone, Copy, Debug, PartialEq, Eq)]
 pub enum Api {
-    Produce = 0,
-    Fetch = 1,
-    ListOffsets = 2,
-    Metadata = 3,
-    OffsetCommit = 8,
-    OffsetFetch = 9,
-    FindCoordinator = 10,
-    JoinGroup = 11,
-    Heartbeat = 12,
-    LeaveGroup = 13,
-    SyncGroup = 14,
-    SaslHandshake = 17,
-    ApiVersions = 18,
-    InitProducerId = 22,
-    AddPartitionsToTxn = 24,
-    AddOffsetsToTxn = 25,
-    EndTxn = 26,
-    TxnOffsetCommit = 28,
-    DescribeAcls = 29,
-    CreateAcls = 30,
-    DeleteAcls = 31,
-    SaslAuthenticate = 36,
+    Produce,
+    Fetch,
+    ListOffsets,
+    Metadata,
+    OffsetCommit,
+    OffsetFetch,
+    FindCoordinator,
+    JoinGroup,
+    Heartbeat,
+    LeaveGroup,
+    SyncGroup,
+    SaslHandshake,
+    ApiVersions,
+    InitProducerId,
+    AddPartitionsToTxn,
+    AddOffsetsToTxn,
+    EndTxn0,
+    EndTxn1,
+    EndTxn2,
+    EndTxn3,
+    EndTxn4,
+    EndTxn5,
+    TxnOffsetCommit,
+    DescribeAcls,
+    CreateAcls,
+    DeleteAcls,
+    SaslAuthenticate,
 }
 
 impl Api {
-    /// Every api, in rising order of keys.
-    pub const ALL: [Api; 22] = [
+    /// Every api in each of its versions, in rising order of keys and versions.
+    pub const ALL: [Api; 27] = [
         Api::Produce,
         Api::Fetch,
         Api::ListOffsets,
@@ -51,7 +57,12 @@ impl Api {
         Api::InitProducerId,
         Api::AddPartitionsToTxn,
         Api::AddOffsetsToTxn,
-        Api::EndTxn,
+        Api::EndTxn0,
+        Api::EndTxn1,
+        Api::EndTxn2,
+        Api::EndTxn3,
+        Api::EndTxn4,
+        Api::EndTxn5,
         Api::TxnOffsetCommit,
         Api::DescribeAcls,
         Api::CreateAcls,
@@ -64,7 +75,31 @@ impl Api {
     pub fn key(self) -> i16
         ensures { result ≡ key_of self }
     {
-        self as i16
+        match self {
+            Api::Produce => 0,
+            Api::Fetch => 1,
+            Api::ListOffsets => 2,
+            Api::Metadata => 3,
+            Api::OffsetCommit => 8,
+            Api::OffsetFetch => 9,
+            Api::FindCoordinator => 10,
+            Api::JoinGroup => 11,
+            Api::Heartbeat => 12,
+            Api::LeaveGroup => 13,
+            Api::SyncGroup => 14,
+            Api::SaslHandshake => 17,
+            Api::ApiVersions => 18,
+            Api::InitProducerId => 22,
+            Api::AddPartitionsToTxn => 24,
+            Api::AddOffsetsToTxn => 25,
+            Api::EndTxn0 | Api::EndTxn1 | Api::EndTxn2 => 26,
+            Api::EndTxn3 | Api::EndTxn4 | Api::EndTxn5 => 26,
+            Api::TxnOffsetCommit => 28,
+            Api::DescribeAcls => 29,
+            Api::CreateAcls => 30,
+            Api::DeleteAcls => 31,
+            Api::SaslAuthenticate => 36,
+        }
     }
 
     /// The version in which the api is served.
@@ -89,13 +124,49 @@ impl Api {
             Api::InitProducerId => 0,
             Api::AddPartitionsToTxn => 0,
             Api::AddOffsetsToTxn => 0,
-            Api::EndTxn => 0,
+            Api::EndTxn0 => 0,
+            Api::EndTxn1 => 1,
+            Api::EndTxn2 => 2,
+            Api::EndTxn3 => 3,
+            Api::EndTxn4 => 4,
+            Api::EndTxn5 => 5,
             Api::TxnOffsetCommit => 3,
             Api::DescribeAcls => 1,
             Api::CreateAcls => 1,
             Api::DeleteAcls => 1,
             Api::SaslAuthenticate => 0,
         }
+    }
+
+    /// The first version in which the api is served.
+    #[tactic(auto, unfolding(crate::specs::Api::version_of))]
+    pub fn first_version(self) -> i16
+        ensures { result ≡ first_version self }
+    {
+        match self {
+            Api::EndTxn0 | Api::EndTxn1 | Api::EndTxn2 => 0,
+            Api::EndTxn3 | Api::EndTxn4 | Api::EndTxn5 => 0,
+            _ => self.version(),
+        }
+    }
+
+    /// The last version in which the api is served.
+    #[tactic(auto, unfolding(crate::specs::Api::version_of))]
+    pub fn last_version(self) -> i16
+        ensures { result ≡ last_version self }
+    {
+        match self {
+            Api::EndTxn0 | Api::EndTxn1 | Api::EndTxn2 => 5,
+            Api::EndTxn3 | Api::EndTxn4 | Api::EndTxn5 => 5,
+            _ => self.version(),
+        }
+    }
+
+    /// Whether this is the first version of the api.
+    pub(crate) fn is_first(self) -> bool
+        ensures { result ≡ is_first self }
+    {
+        self.version() == self.first_version()
     }
 
     /// Whether that version is a flexible one, whose headers end in a tagged section.
@@ -110,7 +181,9 @@ impl Api {
             Api::Heartbeat | Api::LeaveGroup | Api::SyncGroup => false,
             Api::SaslHandshake | Api::ApiVersions | Api::SaslAuthenticate => false,
             Api::InitProducerId | Api::AddPartitionsToTxn => false,
-            Api::AddOffsetsToTxn | Api::EndTxn => false,
+            Api::AddOffsetsToTxn => false,
+            Api::EndTxn0 | Api::EndTxn1 | Api::EndTxn2 => false,
+            Api::EndTxn3 | Api::EndTxn4 | Api::EndTxn5 => true,
             Api::TxnOffsetCommit => true,
             Api::DescribeAcls | Api::CreateAcls | Api::DeleteAcls => false,
         }

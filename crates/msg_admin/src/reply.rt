@@ -179,8 +179,23 @@ fn write_response(alloc: Global, correlation: i32, reply: &Reply) -> Result<Byte
                 answer,
             )
         }
-        Reply::EndTxn(answer) => {
-            write_frame(alloc, Api::EndTxn.is_flexible(), &correlation, answer)
+        Reply::EndTxn(EndTxnReply::Version0(answer)) => {
+            write_frame(alloc, Api::EndTxn0.is_flexible(), &correlation, answer)
+        }
+        Reply::EndTxn(EndTxnReply::Version1(answer)) => {
+            write_frame(alloc, Api::EndTxn1.is_flexible(), &correlation, answer)
+        }
+        Reply::EndTxn(EndTxnReply::Version2(answer)) => {
+            write_frame(alloc, Api::EndTxn2.is_flexible(), &correlation, answer)
+        }
+        Reply::EndTxn(EndTxnReply::Version3(answer)) => {
+            write_frame(alloc, Api::EndTxn3.is_flexible(), &correlation, answer)
+        }
+        Reply::EndTxn(EndTxnReply::Version4(answer)) => {
+            write_frame(alloc, Api::EndTxn4.is_flexible(), &correlation, answer)
+        }
+        Reply::EndTxn(EndTxnReply::Version5(answer)) => {
+            write_frame(alloc, Api::EndTxn5.is_flexible(), &correlation, answer)
         }
         Reply::TxnOffsetCommit(answer) => {
             write_frame(

@@ -5,7 +5,7 @@ ghost use Rattle.wire_types.specs.Reading.{Reads};
 ghost use Rattle.msg_admin.specs.Api.{api_at};
 ghost use Rattle.msg_admin.specs.Bodies.{request_body};
 ghost use Rattle.msg_admin.specs.Request.{IsRequest, Answers, request_at, GivesRequest, Fits};
-ghost use Rattle.msg_admin.specs.Bodies.{api_of};
+ghost use Rattle.msg_admin.specs.Bodies.{ending_api, api_of};
 ghost use Rattle.msg_admin.specs.declared.header.Header.{Header};
 ghost use Rattle.msg_admin.specs.declared.request.Request.{Request};
 
@@ -22,8 +22,8 @@ use msg_group::{
 };
 use msg_login::{SaslAuthenticateRequest, SaslHandshakeRequest};
 use msg_txn::{
-    AddOffsetsToTxnRequest, AddPartitionsToTxnRequest, EndTxnRequest, FindCoordinatorRequest,
-    InitProducerIdRequest, TxnOffsetCommitRequest,
+    AddOffsetsToTxnRequest, AddPartitionsToTxnRequest, EndTxn, EndTxnRequest,
+    FindCoordinatorRequest, FlexibleEndTxn, InitProducerIdRequest, TxnOffsetCommitRequest,
 };
 use std::alloc::Global;
 use wire_types::{Cursor, Malformed, ReadFault, Wire, WriteFault, room_behind};
@@ -89,6 +89,35 @@ impl Drop for Request {
     }
 }
 
+/// An EndTxn in its version.
+fn ending_api(request: &EndTxnRequest) -> Api
+    ensures { result ≡ ending_api request.now }
+{
+    match request {
+        EndTxnRequest::Version0(_) => Api::EndTxn0,
+        EndTxnRequest::Version1(_) => Api::EndTxn1,
+        EndTxnRequest::Version2(_) => Api::EndTxn2,
+        EndTxnRequest::Version3(_) => Api::EndTxn3,
+        EndTxnRequest::Version4(_) => Api::EndTxn4,
+        EndTxnRequest::Version5(_) => Api::EndTxn5,
+    }
+}
+
+/// What an EndTxn's body leaves of a room.
+#[tactic(auto, unfolding(crate::specs::Bodies::request_body))]
+fn ending_room(request: &EndTxnRequest, room: usize) -> Option<usize>
+    ensures { result ≡ (request_body (ending_api request.now)).left (Request.EndTxn request.now) room }
+{
+    match request {
+        EndTxnRequest::Version0(body) => body.room_left(room),
+        EndTxnRequest::Version1(body) => body.room_left(room),
+        EndTxnRequest::Version2(body) => body.room_left(room),
+        EndTxnRequest::Version3(body) => body.room_left(room),
+        EndTxnRequest::Version4(body) => body.room_left(room),
+        EndTxnRequest::Version5(body) => body.room_left(room),
+    }
+}
+
 impl Request {
     /// The api that is asked.
     pub fn api(&self) -> Api
@@ -111,7 +140,7 @@ impl Request {
             Request::InitProducerId(_) => Api::InitProducerId,
             Request::AddPartitionsToTxn(_) => Api::AddPartitionsToTxn,
             Request::AddOffsetsToTxn(_) => Api::AddOffsetsToTxn,
-            Request::EndTxn(_) => Api::EndTxn,
+            Request::EndTxn(body) => ending_api(body),
             Request::TxnOffsetCommit(_) => Api::TxnOffsetCommit,
             Request::DescribeAcls(_) => Api::DescribeAcls,
             Request::CreateAcls(_) => Api::CreateAcls,
@@ -151,7 +180,7 @@ impl Request {
             Request::InitProducerId(body) => body.room_left(room),
             Request::AddPartitionsToTxn(body) => body.room_left(room),
             Request::AddOffsetsToTxn(body) => body.room_left(room),
-            Request::EndTxn(body) => body.room_left(room),
+            Request::EndTxn(body) => ending_room(body, room),
             Request::TxnOffsetCommit(body) => body.room_left(room),
             Request::DescribeAcls(body) => body.room_left(room),
             Request::CreateAcls(body) => body.room_left(room),
@@ -216,7 +245,30 @@ fn read_body(alloc: Global, api: Api, cursor: &mut Cursor<'_>) -> Result<Request
             let body = AddOffsetsToTxnRequest::read(alloc, cursor)?;
             Ok(Request::AddOffsetsToTxn(body))
         }
-        Api::EndTxn => Ok(Request::EndTxn(EndTxnRequest::read(alloc, cursor)?)),
+        Api::EndTxn0 => {
+            let body = EndTxn::read(alloc, cursor)?;
+            Ok(Request::EndTxn(EndTxnRequest::Version0(body)))
+        }
+        Api::EndTxn1 => {
+            let body = EndTxn::read(alloc, cursor)?;
+            Ok(Request::EndTxn(EndTxnRequest::Version1(body)))
+        }
+        Api::EndTxn2 => {
+            let body = EndTxn::read(alloc, cursor)?;
+            Ok(Request::EndTxn(EndTxnRequest::Version2(body)))
+        }
+        Api::EndTxn3 => {
+            let body = FlexibleEndTxn::read(alloc, cursor)?;
+            Ok(Request::EndTxn(EndTxnRequest::Version3(body)))
+        }
+        Api::EndTxn4 => {
+            let body = FlexibleEndTxn::read(alloc, cursor)?;
+            Ok(Request::EndTxn(EndTxnRequest::Version4(body)))
+        }
+        Api::EndTxn5 => {
+            let body = FlexibleEndTxn::read(alloc, cursor)?;
+            Ok(Request::EndTxn(EndTxnRequest::Version5(body)))
+        }
         Api::TxnOffsetCommit => {
             let body = TxnOffsetCommitRequest::read(alloc, cursor)?;
             Ok(Request::TxnOffsetCommit(body))
@@ -301,7 +353,24 @@ pub fn write_request(alloc: Global, header: &Header, request: &Request) -> Resul
         Request::InitProducerId(body) => write_frame(alloc, flexible, header, body),
         Request::AddPartitionsToTxn(body) => write_frame(alloc, flexible, header, body),
         Request::AddOffsetsToTxn(body) => write_frame(alloc, flexible, header, body),
-        Request::EndTxn(body) => write_frame(alloc, flexible, header, body),
+        Request::EndTxn(EndTxnRequest::Version0(body)) => write_frame(
+            alloc, flexible, header, body,
+        ),
+        Request::EndTxn(EndTxnRequest::Version1(body)) => write_frame(
+            alloc, flexible, header, body,
+        ),
+        Request::EndTxn(EndTxnRequest::Version2(body)) => write_frame(
+            alloc, flexible, header, body,
+        ),
+        Request::EndTxn(EndTxnRequest::Version3(body)) => write_frame(
+            alloc, flexible, header, body,
+        ),
+        Request::EndTxn(EndTxnRequest::Version4(body)) => write_frame(
+            alloc, flexible, header, body,
+        ),
+        Request::EndTxn(EndTxnRequest::Version5(body)) => write_frame(
+            alloc, flexible, header, body,
+        ),
         Request::TxnOffsetCommit(body) => write_frame(alloc, flexible, header, body),
         Request::DescribeAcls(body) => write_frame(alloc, flexible, header, body),
         Request::CreateAcls(body) => write_frame(alloc, flexible, header, body),

@@ -3,11 +3,11 @@
 //! A client asks for the versions before it knows them, and so in any version. Of a request in another than the one that
 //! is served only that is read which each header starts with, and the answer has the form of version 0.
 
-ghost use Rattle.std.specs.Prelude.{◌≡◌, ℤ, map, IfOk, IfSome, OnSome, Some, Err};
+ghost use Rattle.std.specs.Prelude.{◌≡◌, ℤ, map, filter, IfOk, IfSome, OnSome, Some, Err};
 ghost use Rattle.wire_types.specs.declared.fault.Malformed.TheVariants.{Unknown};
 ghost use Rattle.wire_types.specs.Reading.{Takes};
 ghost use Rattle.msg_admin.specs.Request.{request_at};
-ghost use Rattle.msg_admin.specs.Versions.{start, served_in, versions_reply, AsksUnsupported, unsupported_at, unsupported_reply, unsupported_response};
+ghost use Rattle.msg_admin.specs.Versions.{start, served_in, is_first, versions_reply, AsksUnsupported, unsupported_at, unsupported_reply, unsupported_response};
 
 use crate::api::Api;
 use crate::frame::write_frame;
@@ -22,17 +22,20 @@ fn served_in(api: Api) -> ServedVersions
 {
     ServedVersions {
         key: api.key(),
-        min: api.version(),
-        max: api.version(),
+        min: api.first_version(),
+        max: api.last_version(),
     }
 }
 
+/// Each api once.
 fn all_served(alloc: Global, apis: &[Api]) -> Result<Items<ServedVersions>, AllocError>
-    ensures { IfOk result (λ served. served ≡ map served_in apis.now) }
+    ensures { IfOk result (λ served. served ≡ map served_in (filter is_first apis.now)) }
 {
     let mut served = Items::new(alloc);
     for api in apis {
-        served.push(served_in(*api))?;
+        if api.is_first() {
+            served.push(served_in(*api))?;
+        }
     }
     Ok(served)
 }

@@ -1,38 +1,119 @@
-//! EndTxn, version 0: a transaction is committed or aborted.
+//! EndTxn, versions 0 to 5: a transaction is committed or aborted. From version 3 on its messages are flexible, and
+//! version 5 answers the pair that the transactional id has from then on (KIP-890).
+
+ghost use Rattle.std.specs.Prelude.{◌≡◌};
+ghost use Rattle.msg_txn.specs.EndTxn.{asked, error_of};
 
 use std::alloc::Global;
 use wire_types::{
-    Cursor, ErrorCode, ReadFault, Text, Wire, WriteFault, room_behind, string_room, write_bool,
-    write_i16, write_i32, write_i64, write_string,
+    Cursor, ErrorCode, ReadFault, Text, Wire, WriteFault, compact_string_room, room_behind,
+    string_room, write_bool, write_compact_string, write_i16, write_i32, write_i64, write_no_tags,
+    write_string,
 };
 
-/// Asks to end a producer's transaction.
+/// What is asked, in each version.
 #[derive(Clone, Debug, Drop, PartialEq, Eq)]
-pub struct EndTxnRequest {
+pub struct EndTxn {
     pub transactional_id: Text,
     pub producer: i64,
     pub epoch: i16,
     pub committed: bool,
 }
 
+/// What is asked, in the form of versions 3 to 5.
+#[derive(Clone, Debug, Drop, PartialEq, Eq)]
+pub struct FlexibleEndTxn {
+    pub asked: EndTxn,
+}
+
+/// Asks to end a producer's transaction.
+#[derive(Clone, Debug, Drop, PartialEq, Eq)]
+pub enum EndTxnRequest {
+    Version0(EndTxn),
+    Version1(EndTxn),
+    Version2(EndTxn),
+    Version3(FlexibleEndTxn),
+    Version4(FlexibleEndTxn),
+    Version5(FlexibleEndTxn),
+}
+
 /// How the ending came off.
 #[derive(Clone, Debug, Drop, PartialEq, Eq)]
-pub struct EndTxnReply {
+pub struct Ended {
     pub throttle: i32,
     pub error: ErrorCode,
 }
 
-impl Wire for EndTxnRequest {
-    ghost use Rattle.msg_txn.specs.EndTxn.{end_txn_request};
+/// How the ending came off, in the form of versions 3 and 4.
+#[derive(Clone, Debug, Drop, PartialEq, Eq)]
+pub struct FlexibleEnded {
+    pub throttle: i32,
+    pub error: ErrorCode,
+}
 
-    ghost grammar = { end_txn_request };
+/// How the ending came off, in the form of version 5: with an error code the pair is -1 and -1.
+#[derive(Clone, Debug, Drop, PartialEq, Eq)]
+pub struct EndedWithPair {
+    pub throttle: i32,
+    pub error: ErrorCode,
+    pub producer: i64,
+    pub epoch: i16,
+}
 
-    fn read(alloc: Global, cursor: &mut Cursor<'_>) -> Result<EndTxnRequest, ReadFault> {
+/// How the ending came off, in the version that asked for it.
+#[derive(Clone, Debug, Drop, PartialEq, Eq)]
+pub enum EndTxnReply {
+    Version0(Ended),
+    Version1(Ended),
+    Version2(Ended),
+    Version3(FlexibleEnded),
+    Version4(FlexibleEnded),
+    Version5(EndedWithPair),
+}
+
+impl EndTxnRequest {
+    /// What is asked, whatever the version.
+    pub fn asked(&self) -> &EndTxn
+        ensures { result.now ≡ asked self.now }
+    {
+        match self {
+            EndTxnRequest::Version0(body) => body,
+            EndTxnRequest::Version1(body) => body,
+            EndTxnRequest::Version2(body) => body,
+            EndTxnRequest::Version3(body) => &body.asked,
+            EndTxnRequest::Version4(body) => &body.asked,
+            EndTxnRequest::Version5(body) => &body.asked,
+        }
+    }
+}
+
+impl EndTxnReply {
+    /// The error code, whatever the version.
+    pub fn error(&self) -> ErrorCode
+        ensures { result ≡ error_of self.now }
+    {
+        match self {
+            EndTxnReply::Version0(body) => body.error,
+            EndTxnReply::Version1(body) => body.error,
+            EndTxnReply::Version2(body) => body.error,
+            EndTxnReply::Version3(body) => body.error,
+            EndTxnReply::Version4(body) => body.error,
+            EndTxnReply::Version5(body) => body.error,
+        }
+    }
+}
+
+impl Wire for EndTxn {
+    ghost use Rattle.msg_txn.specs.EndTxn.{end_txn};
+
+    ghost grammar = { end_txn };
+
+    fn read(alloc: Global, cursor: &mut Cursor<'_>) -> Result<EndTxn, ReadFault> {
         let transactional_id = cursor.read_string(alloc)?;
         let producer = cursor.read_i64()?;
         let epoch = cursor.read_i16()?;
         let committed = cursor.read_bool()?;
-        Ok(EndTxnRequest {
+        Ok(EndTxn {
             transactional_id,
             producer,
             epoch,
@@ -56,15 +137,54 @@ impl Wire for EndTxnRequest {
     }
 }
 
-impl Wire for EndTxnReply {
-    ghost use Rattle.msg_txn.specs.EndTxn.{end_txn_reply};
+impl Wire for FlexibleEndTxn {
+    ghost use Rattle.msg_txn.specs.EndTxn.{flexible_end_txn};
 
-    ghost grammar = { end_txn_reply };
+    ghost grammar = { flexible_end_txn };
 
-    fn read(alloc: Global, cursor: &mut Cursor<'_>) -> Result<EndTxnReply, ReadFault> {
+    fn read(alloc: Global, cursor: &mut Cursor<'_>) -> Result<FlexibleEndTxn, ReadFault> {
+        let transactional_id = cursor.read_compact_string(alloc)?;
+        let producer = cursor.read_i64()?;
+        let epoch = cursor.read_i16()?;
+        let committed = cursor.read_bool()?;
+        cursor.skip_tags()?;
+        Ok(FlexibleEndTxn {
+            asked: EndTxn {
+                transactional_id,
+                producer,
+                epoch,
+                committed,
+            },
+        })
+    }
+
+    fn write(&self, out: &mut Vec<u8>) -> Result<(), WriteFault> {
+        write_compact_string(out, &self.asked.transactional_id)?;
+        write_i64(out, self.asked.producer)?;
+        write_i16(out, self.asked.epoch)?;
+        write_bool(out, self.asked.committed)?;
+        write_no_tags(out)?;
+        Ok(())
+    }
+
+    fn room_left(&self, room: usize) -> Option<usize> {
+        let room = compact_string_room(&self.asked.transactional_id, room)?;
+        let room = room_behind(8, room)?;
+        let room = room_behind(2, room)?;
+        let room = room_behind(1, room)?;
+        room_behind(1, room)
+    }
+}
+
+impl Wire for Ended {
+    ghost use Rattle.msg_txn.specs.EndTxn.{ended};
+
+    ghost grammar = { ended };
+
+    fn read(alloc: Global, cursor: &mut Cursor<'_>) -> Result<Ended, ReadFault> {
         let throttle = cursor.read_i32()?;
         let error = ErrorCode::read(alloc, cursor)?;
-        Ok(EndTxnReply { throttle, error })
+        Ok(Ended { throttle, error })
     }
 
     fn write(&self, out: &mut Vec<u8>) -> Result<(), WriteFault> {
@@ -76,5 +196,68 @@ impl Wire for EndTxnReply {
     fn room_left(&self, room: usize) -> Option<usize> {
         let room = room_behind(4, room)?;
         self.error.room_left(room)
+    }
+}
+
+impl Wire for FlexibleEnded {
+    ghost use Rattle.msg_txn.specs.EndTxn.{flexible_ended};
+
+    ghost grammar = { flexible_ended };
+
+    fn read(alloc: Global, cursor: &mut Cursor<'_>) -> Result<FlexibleEnded, ReadFault> {
+        let throttle = cursor.read_i32()?;
+        let error = ErrorCode::read(alloc, cursor)?;
+        cursor.skip_tags()?;
+        Ok(FlexibleEnded { throttle, error })
+    }
+
+    fn write(&self, out: &mut Vec<u8>) -> Result<(), WriteFault> {
+        write_i32(out, self.throttle)?;
+        self.error.write(out)?;
+        write_no_tags(out)?;
+        Ok(())
+    }
+
+    fn room_left(&self, room: usize) -> Option<usize> {
+        let room = room_behind(4, room)?;
+        let room = self.error.room_left(room)?;
+        room_behind(1, room)
+    }
+}
+
+impl Wire for EndedWithPair {
+    ghost use Rattle.msg_txn.specs.EndTxn.{ended_with_pair};
+
+    ghost grammar = { ended_with_pair };
+
+    fn read(alloc: Global, cursor: &mut Cursor<'_>) -> Result<EndedWithPair, ReadFault> {
+        let throttle = cursor.read_i32()?;
+        let error = ErrorCode::read(alloc, cursor)?;
+        let producer = cursor.read_i64()?;
+        let epoch = cursor.read_i16()?;
+        cursor.skip_tags()?;
+        Ok(EndedWithPair {
+            throttle,
+            error,
+            producer,
+            epoch,
+        })
+    }
+
+    fn write(&self, out: &mut Vec<u8>) -> Result<(), WriteFault> {
+        write_i32(out, self.throttle)?;
+        self.error.write(out)?;
+        write_i64(out, self.producer)?;
+        write_i16(out, self.epoch)?;
+        write_no_tags(out)?;
+        Ok(())
+    }
+
+    fn room_left(&self, room: usize) -> Option<usize> {
+        let room = room_behind(4, room)?;
+        let room = self.error.room_left(room)?;
+        let room = room_behind(8, room)?;
+        let room = room_behind(2, room)?;
+        room_behind(1, room)
     }
 }

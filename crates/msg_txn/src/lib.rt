@@ -12,7 +12,9 @@ mod txn_offset_commit;
 
 pub use add_offsets::{AddOffsetsToTxnReply, AddOffsetsToTxnRequest};
 pub use add_partitions::{AddPartitionsToTxnReply, AddPartitionsToTxnRequest, AddedPartition};
-pub use end_txn::{EndTxnReply, EndTxnRequest};
+pub use end_txn::{
+    EndTxn, EndTxnReply, EndTxnRequest, Ended, EndedWithPair, FlexibleEndTxn, FlexibleEnded,
+};
 pub use find_coordinator::{FindCoordinatorReply, FindCoordinatorRequest};
 pub use init_producer_id::{InitProducerIdReply, InitProducerIdRequest};
 pub use txn_offset_commit::{

@@ -38,11 +38,10 @@ use Rattle.group_handlers.specs.OffsetFetch.{group_question, offset_rule, told_f
 use Rattle.group_handlers.specs.FindCoordinator.{kind_of, find_questions, find_reply}
 use Rattle.broker_world.specs.Questions.{read_question}
 use Rattle.group_handlers.specs.Members.{joined, synced, heard, left}
-use Rattle.txn_handlers.specs.InitProducerId.{init_question, initialized}
+use Rattle.txn_handlers.specs.InitProducerId.{init_questions, initialized}
 use Rattle.txn_handlers.specs.AddPartitions.{add_questions, cut_rule, told_rule, is_missing, add_turn, add_reply, cut_outcome, added_outcome}
 use Rattle.txn_handlers.specs.AddOffsets.{add_offsets_questions, offsets_added}
-use Rattle.broker_world.specs.Questions.{id_question}
-use Rattle.txn_handlers.specs.EndTxn.{ended}
+use Rattle.txn_handlers.specs.EndTxn.{ended, end_questions}
 use Rattle.txn_handlers.specs.TxnOffsetCommit.{staging, stage_questions, staging_rule}
 use Rattle.acl_binding.specs.Entries.{filter_of}
 use Rattle.acl_handlers.specs.DescribeAcls.{describe_acls_questions, describe_acls_reply}
@@ -205,10 +204,10 @@ module _ (w : World) (caller : Caller) where
   plain_is (Heartbeat r) = whole_is (read_question caller r.group ∷ []) _ (heard (unbound w caller) r) (freed w caller (read_question caller r.group ∷ []) (refl, tt))
   plain_is (LeaveGroup r) = whole_is (read_question caller r.group ∷ []) _ (left (unbound w caller) r) (freed w caller (read_question caller r.group ∷ []) (refl, tt))
   plain_is (SyncGroup r) = whole_is (read_question caller r.group ∷ []) _ (synced (unbound w caller) r) (freed w caller (read_question caller r.group ∷ []) (refl, tt))
-  plain_is (InitProducerId r) = whole_is (init_question caller r.transactional_id ∷ []) _ (initialized (unbound w caller) r) (init_freed w caller None r.transactional_id)
+  plain_is (InitProducerId r) = whole_is (init_questions (rules_of (unbound w caller)) caller r.transactional_id) _ (initialized (unbound w caller) r) (init_freed w caller None (rules_of (unbound w caller)) r.transactional_id)
   plain_is (AddPartitionsToTxn r) = add_is r
   plain_is (AddOffsetsToTxn r) = whole_is (add_offsets_questions caller r.transactional_id r.group) _ (offsets_added (unbound w caller) r) (freed w caller (add_offsets_questions caller r.transactional_id r.group) (refl, (refl, tt)))
-  plain_is (EndTxn r) = whole_is (id_question caller r.transactional_id ∷ []) _ (ended (unbound w caller) r) (freed w caller (id_question caller r.transactional_id ∷ []) (refl, tt))
+  plain_is (EndTxn r) = whole_is (end_questions caller r) _ (ended (unbound w caller) r) (freed w caller (end_questions caller r) (refl, tt))
   plain_is (TxnOffsetCommit r) =
       walk_bare (staging_rule w caller r) (staging_rule w nobody r) (λ v name p. refl) (λ v name p. refl)
       (λ v l rs. record { world = record (unbound w caller) { groups = v }; reply = replies.TxnOffsetCommit (record { throttle = pos 0; topics = l }); refusals = rs }) (rules_of (unbound w caller)) (λ name p. freed w caller (stage_questions caller (staging r) name) (refl, (refl, (refl, tt)))) w.groups r.topics

@@ -79,7 +79,7 @@ module _ (rules : Rules) where
 
   module _ (caller : Caller) where
     -- a request that is one part
-    whole : (request : Request) (qs : List Question) → parts_of caller request ≡ qs ∷ [] → request_refusals rules caller request ≡ refusals_in rules (qs ∷ []) → IsExact rules caller request (rest_or_nothing request (part_refusal rules qs))
+    whole : (request : Request) (qs : List Question) → parts_of rules caller request ≡ qs ∷ [] → request_refusals rules caller request ≡ refusals_in rules (qs ∷ []) → IsExact rules caller request (rest_or_nothing request (part_refusal rules qs))
     whole request qs parts refusals = by_refusal (part_refusal rules qs) refl where
       by_refusal : (o : Option Refusal) → part_refusal rules qs ≡ o → IsExact rules caller request (rest_or_nothing request o)
       by_refusal None is = parts ∙ sym (ap (filter (is_granted rules)) parts ∙ ap (λ (o : Option Refusal). cond (is_none o) (qs ∷ []) []) is)
@@ -142,7 +142,12 @@ refused_answers = record {
   leave_group = λ code r. refl;
   init_producer_id = λ code r. refl;
   add_offsets = λ code r. refl;
-  end_txn = λ code r. refl;
+  end_txn_0 = λ code r. refl;
+  end_txn_1 = λ code r. refl;
+  end_txn_2 = λ code r. refl;
+  end_txn_3 = λ code r. refl;
+  end_txn_4 = λ code r. refl;
+  end_txn_5 = λ code r. refl;
   describe_acls = λ code r. refl;
   create_acls = λ code r. refl;
   delete_acls = λ code r. refl;

@@ -1,14 +1,15 @@
 -- The apis whose request is one part.
-use Rattle.std.proofs.Common.{◌≡◌, ℕ, List, [], ◌∷◌, Option, Some, None, refl, sym, ap, ◌∙◌}
+use Rattle.std.proofs.Common.{◌≡◌, ℕ, List, [], ◌∷◌, Option, Some, None, Bool, true, false, cond, refl, sym, ap, ◌∙◌}
 use Rattle.acl_binding.specs.declared.question.Caller.{Caller}
 use Rattle.acl_binding.specs.declared.question.Question.{Question}
 use Rattle.acl_binding.specs.declared.words.Kind.{Kind}
 use Rattle.authorizer.specs.declared.answer.Refusal.{Refusal}
-use Rattle.authorizer.specs.Asking.{part_refusal}
+use Rattle.authorizer.specs.Asking.{Rules, part_refusal}
 use Rattle.wire_types.specs.declared.error_code.ErrorCode.{ErrorCode}
 use Rattle.msg_admin.specs.declared.request.Request.{Request}
 use Rattle.msg_admin.specs.declared.request.Request.TheVariants.{FindCoordinator, JoinGroup, Heartbeat, LeaveGroup, SyncGroup, InitProducerId, AddOffsetsToTxn, EndTxn, DescribeAcls, CreateAcls, DeleteAcls}
 use Rattle.msg_admin.specs.declared.reply.Reply.{Reply}
+use Rattle.msg_admin.specs.declared.reply.Reply.TheVariants as replies
 use Rattle.msg_txn.specs.declared.find_coordinator.FindCoordinatorRequest.{FindCoordinatorRequest}
 use Rattle.msg_txn.specs.declared.init_producer_id.InitProducerIdRequest.{InitProducerIdRequest}
 use Rattle.msg_txn.specs.declared.add_offsets.AddOffsetsToTxnRequest.{AddOffsetsToTxnRequest}
@@ -25,9 +26,9 @@ use Rattle.broker_world.specs.Outcome.{Outcome}
 use Rattle.broker_world.specs.Whole.{Served, whole_by, whole}
 use Rattle.group_handlers.specs.FindCoordinator.{kind_of, find_questions}
 use Rattle.broker_world.specs.Questions.{read_question}
-use Rattle.txn_handlers.specs.InitProducerId.{init_question}
+use Rattle.txn_handlers.specs.EndTxn.{end_questions}
+use Rattle.txn_handlers.specs.InitProducerId.{init_question, is_waived, init_questions, init_error, initialized}
 use Rattle.txn_handlers.specs.AddOffsets.{add_offsets_questions}
-use Rattle.broker_world.specs.Questions.{id_question}
 use Rattle.acl_handlers.specs.DescribeAcls.{describe_acls_questions}
 use Rattle.acl_handlers.specs.CreateAcls.{alter_questions}
 use Rattle.api_dispatch.specs.Step.{request_outcome, counted}
@@ -71,9 +72,13 @@ module _ (w : World) (caller : Caller) (client : Option (List ℕ)) where
   find_freed None key = refl
   find_freed (Some kind) key = freed w caller (find_questions caller (Some kind) key) (refl, tt)
 
-  pub init_freed : (id : Option (List ℕ)) → part_refusal (rules_of (unbound w caller)) (init_question caller id ∷ []) ≡ None
-  init_freed None = freed w caller (init_question caller None ∷ []) (refl, tt)
-  init_freed (Some id) = freed w caller (init_question caller (Some id) ∷ []) (refl, tt)
+  -- whatever rules say what is asked
+  pub init_freed : (rules : Rules) (id : Option (List ℕ)) → part_refusal (rules_of (unbound w caller)) (init_questions rules caller id) ≡ None
+  init_freed rules None = by_waiver (is_waived rules caller) where
+    by_waiver : (b : Bool) → part_refusal (rules_of (unbound w caller)) (cond b [] (init_question caller None ∷ [])) ≡ None
+    by_waiver true = refl
+    by_waiver false = freed w caller (init_question caller None ∷ []) (refl, tt)
+  init_freed rules (Some id) = freed w caller (init_question caller (Some id) ∷ []) (refl, tt)
 
   pub finds : (r : FindCoordinatorRequest) → IsPlainOfAllowed w caller client (FindCoordinator r)
   finds r = by_whole (FindCoordinator r) (find_questions caller (kind_of r.key_type) r.key) _ _ _ (record { here = refl; there = refl; granted = find_freed (kind_of r.key_type) r.key; same = refl; by_parts = refl; told = λ code. refl; put = λ reply. refl })
@@ -91,13 +96,21 @@ module _ (w : World) (caller : Caller) (client : Option (List ℕ)) where
   syncs r = by_whole (SyncGroup r) (read_question caller r.group ∷ []) _ _ _ (record { here = refl; there = refl; granted = freed w caller (read_question caller r.group ∷ []) (refl, tt); same = refl; by_parts = refl; told = λ code. refl; put = λ reply. refl })
 
   pub inits : (r : InitProducerIdRequest) → IsPlainOfAllowed w caller client (InitProducerId r)
-  inits r = by_whole (InitProducerId r) (init_question caller r.transactional_id ∷ []) _ _ _ (record { here = refl; there = refl; granted = init_freed r.transactional_id; same = refl; by_parts = refl; told = λ code. refl; put = λ reply. refl })
+  inits r = by_whole (InitProducerId r) (init_questions (rules_of w) caller r.transactional_id) (λ code. replies.InitProducerId (init_error code)) _ (initialized (unbound w caller) r) (record {
+    here = refl;
+    there = ap (λ (o : Option Refusal). whole_by o (unbound w caller) (λ code. replies.InitProducerId (init_error code)) (initialized (unbound w caller) r)) (init_freed (rules_of (unbound w caller)) r.transactional_id ∙ sym (init_freed (rules_of w) r.transactional_id));
+    granted = init_freed (rules_of w) r.transactional_id;
+    same = refl;
+    by_parts = refl;
+    told = λ code. refl;
+    put = λ reply. refl;
+  })
 
   pub adds_offsets : (r : AddOffsetsToTxnRequest) → IsPlainOfAllowed w caller client (AddOffsetsToTxn r)
   adds_offsets r = by_whole (AddOffsetsToTxn r) (add_offsets_questions caller r.transactional_id r.group) _ _ _ (record { here = refl; there = refl; granted = freed w caller (add_offsets_questions caller r.transactional_id r.group) (refl, (refl, tt)); same = refl; by_parts = refl; told = λ code. refl; put = λ reply. refl })
 
   pub ends : (r : EndTxnRequest) → IsPlainOfAllowed w caller client (EndTxn r)
-  ends r = by_whole (EndTxn r) (id_question caller r.transactional_id ∷ []) _ _ _ (record { here = refl; there = refl; granted = freed w caller (id_question caller r.transactional_id ∷ []) (refl, tt); same = refl; by_parts = refl; told = λ code. refl; put = λ reply. refl })
+  ends r = by_whole (EndTxn r) (end_questions caller r) _ _ _ (record { here = refl; there = refl; granted = freed w caller (end_questions caller r) (refl, tt); same = refl; by_parts = refl; told = λ code. refl; put = λ reply. refl })
 
   pub describes : (r : DescribeAclsRequest) → IsPlainOfAllowed w caller client (DescribeAcls r)
   describes r = by_whole (DescribeAcls r) (describe_acls_questions caller) _ _ _ (record { here = refl; there = refl; granted = freed w caller (describe_acls_questions caller) (refl, tt); same = refl; by_parts = refl; told = λ code. refl; put = λ reply. refl })

@@ -26,7 +26,7 @@ pub data Allowed : Type 0 where
 
 -- the refusal of the request itself
 abbrev pub refused_itself : Rules → Caller → Request → Option Refusal
-refused_itself rules caller request = part_refusal rules (asks_itself caller request)
+refused_itself rules caller request = part_refusal rules (asks_itself rules caller request)
 
 -- the refusal of each of its parts that is of the topic of this name
 abbrev pub refused_at : Rules → Caller → Request → List ℕ → Option Refusal

@@ -14,7 +14,10 @@ use Rattle.msg_txn.specs.declared.txn_offset_commit.OffsetToStage.{OffsetToStage
 use Rattle.msg_txn.specs.declared.find_coordinator.FindCoordinatorRequest.{FindCoordinatorRequest}
 use Rattle.msg_txn.specs.declared.init_producer_id.InitProducerIdRequest.{InitProducerIdRequest}
 use Rattle.msg_txn.specs.declared.add_offsets.AddOffsetsToTxnRequest.{AddOffsetsToTxnRequest}
-use Rattle.msg_txn.specs.declared.end_txn.EndTxnRequest.{EndTxnRequest}
+use Rattle.msg_txn.specs.declared.end_txn.EndTxn.{EndTxn}
+use Rattle.msg_txn.specs.declared.end_txn.FlexibleEndTxn.{FlexibleEndTxn}
+use Rattle.msg_txn.specs.declared.end_txn.EndTxnRequest.TheVariants as endings
+use Rattle.msg_txn.specs.declared.end_txn.EndTxnReply.TheVariants as ended
 use Rattle.msg_group.specs.declared.offset_fetch.OffsetFetchRequest.{OffsetFetchRequest}
 use Rattle.msg_group.specs.declared.heartbeat.HeartbeatRequest.{HeartbeatRequest}
 use Rattle.msg_group.specs.declared.leave_group.LeaveGroupRequest.{LeaveGroupRequest}
@@ -47,8 +50,8 @@ is_granted rules questions = is_none (part_refusal rules questions)
 
 -- what is left asks what the granted parts of the request asked, in order; nothing is left where one refusal is all
 abbrev pub IsExact : Rules → Caller → Request → Allowed → Type 0
-IsExact rules caller request (Rest rest) = parts_of caller rest ≡ filter (is_granted rules) (parts_of caller request)
-IsExact rules caller request (Cut cut) = parts_of caller (requests.AddPartitionsToTxn cut) ≡ filter (is_granted rules) (parts_of caller request)
+IsExact rules caller request (Rest rest) = parts_of rules caller rest ≡ filter (is_granted rules) (parts_of rules caller request)
+IsExact rules caller request (Cut cut) = parts_of rules caller (requests.AddPartitionsToTxn cut) ≡ filter (is_granted rules) (parts_of rules caller request)
 IsExact rules caller request (Nothing code) = (r : Refusal) × (request_refusals rules caller request ≡ r ∷ []) × (refusal_code r ≡ code)
 
 abbrev pub AllowedIsExact : Type 0
@@ -73,7 +76,12 @@ pub record RefusedAnswers : Type 0 where
   pub leave_group : (code : ErrorCode) (r : LeaveGroupRequest) → refused_whole code (requests.LeaveGroup r) ≡ replies.LeaveGroup (record { throttle = pos 0; error = code })
   pub init_producer_id : (code : ErrorCode) (r : InitProducerIdRequest) → refused_whole code (requests.InitProducerId r) ≡ replies.InitProducerId (record { throttle = pos 0; error = code; producer = negsuc 0; epoch = negsuc 0 })
   pub add_offsets : (code : ErrorCode) (r : AddOffsetsToTxnRequest) → refused_whole code (requests.AddOffsetsToTxn r) ≡ replies.AddOffsetsToTxn (record { throttle = pos 0; error = code })
-  pub end_txn : (code : ErrorCode) (r : EndTxnRequest) → refused_whole code (requests.EndTxn r) ≡ replies.EndTxn (record { throttle = pos 0; error = code })
+  pub end_txn_0 : (code : ErrorCode) (r : EndTxn) → refused_whole code (requests.EndTxn (endings.Version0 r)) ≡ replies.EndTxn (ended.Version0 (record { throttle = pos 0; error = code }))
+  pub end_txn_1 : (code : ErrorCode) (r : EndTxn) → refused_whole code (requests.EndTxn (endings.Version1 r)) ≡ replies.EndTxn (ended.Version1 (record { throttle = pos 0; error = code }))
+  pub end_txn_2 : (code : ErrorCode) (r : EndTxn) → refused_whole code (requests.EndTxn (endings.Version2 r)) ≡ replies.EndTxn (ended.Version2 (record { throttle = pos 0; error = code }))
+  pub end_txn_3 : (code : ErrorCode) (r : FlexibleEndTxn) → refused_whole code (requests.EndTxn (endings.Version3 r)) ≡ replies.EndTxn (ended.Version3 (record { throttle = pos 0; error = code }))
+  pub end_txn_4 : (code : ErrorCode) (r : FlexibleEndTxn) → refused_whole code (requests.EndTxn (endings.Version4 r)) ≡ replies.EndTxn (ended.Version4 (record { throttle = pos 0; error = code }))
+  pub end_txn_5 : (code : ErrorCode) (r : FlexibleEndTxn) → refused_whole code (requests.EndTxn (endings.Version5 r)) ≡ replies.EndTxn (ended.Version5 (record { throttle = pos 0; error = code; producer = negsuc 0; epoch = negsuc 0 }))
   pub describe_acls : (code : ErrorCode) (r : DescribeAclsRequest) → refused_whole code (requests.DescribeAcls r) ≡ replies.DescribeAcls (record { throttle = pos 0; error = code; message = None; resources = [] })
   -- with an answer for each entry
   pub create_acls : (code : ErrorCode) (r : CreateAclsRequest) → refused_whole code (requests.CreateAcls r) ≡ replies.CreateAcls (record { throttle = pos 0; results = map (λ (e : BindingEntry). record { error = code; message = None }) r.creations })

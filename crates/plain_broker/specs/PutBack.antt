@@ -28,7 +28,7 @@ use Rattle.group_handlers.specs.Members.{join_error, sync_reply, beat_reply, lea
 use Rattle.txn_handlers.specs.InitProducerId.{init_error}
 use Rattle.txn_handlers.specs.AddPartitions.{added_partition}
 use Rattle.txn_handlers.specs.AddOffsets.{add_offsets_reply}
-use Rattle.txn_handlers.specs.EndTxn.{end_reply}
+use Rattle.txn_handlers.specs.EndTxn.{end_error}
 use Rattle.txn_handlers.specs.TxnOffsetCommit.{staged_code}
 use Rattle.acl_handlers.specs.DescribeAcls.{describe_acls_error}
 use Rattle.acl_handlers.specs.CreateAcls.{created_with, create_acls_reply}
@@ -80,7 +80,7 @@ refused_whole code (requests.LeaveGroup r) = replies.LeaveGroup (leave_reply cod
 refused_whole code (requests.SyncGroup r) = replies.SyncGroup (sync_reply (Err code))
 refused_whole code (requests.InitProducerId r) = replies.InitProducerId (init_error code)
 refused_whole code (requests.AddOffsetsToTxn r) = replies.AddOffsetsToTxn (add_offsets_reply code)
-refused_whole code (requests.EndTxn r) = replies.EndTxn (end_reply code)
+refused_whole code (requests.EndTxn r) = replies.EndTxn (end_error r code)
 refused_whole code (requests.DescribeAcls r) = replies.DescribeAcls (describe_acls_error code)
 refused_whole code (requests.CreateAcls r) = replies.CreateAcls (create_acls_reply (map (λ (e : BindingEntry). created_with code) r.creations))
 refused_whole code (requests.DeleteAcls r) = replies.DeleteAcls (delete_acls_reply (map (λ (e : FilterEntry). deleted_error code) r.filters))

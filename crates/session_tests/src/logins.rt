@@ -11,13 +11,13 @@ use std::alloc::Global;
 use std::test::Fail;
 use wire_types::{ErrorCode, Items, Text};
 
-/// ApiVersions in the version that is served, and its answer: each api by its key, with the one version that is served of it.
+/// ApiVersions, and its answer: each api by its key, with the first and the last version that is served.
 const VERSIONS: &str = "0000000a0012000000000007ffff";
 
 const VERSIONS_TOLD: &str =
     "0000008e0000000700000000001600000003000300010004000400020002000200030001000100080002000200090007\
     0007000a00010001000b00020002000c00010001000d00010001000e0001000100110001000100120000000000160000\
-    0000001800000000001900000000001a00000000001c00030003001d00010001001e00010001001f0001000100240000\
+    0000001800000000001900000000001a00000005001c00030003001d00010001001e00010001001f0001000100240000\
     0000";
 
 /// ApiVersions in another one, and its answer.

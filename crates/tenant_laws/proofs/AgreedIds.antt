@@ -4,6 +4,7 @@ use Rattle.std.proofs.Common.{◌≡◌, ◌⊎◌, inl, inr, ℕ, ℤ, Bool, tr
 use Rattle.std.specs.Prelude.{is_none, is_some, map, ◌||◌}
 use Rattle.std.specs.List.{cons_option}
 use Rattle.acl_binding.specs.declared.question.Caller.{Caller}
+use Rattle.acl_binding.specs.declared.question.Question.{Question}
 use Rattle.acl_binding.specs.declared.words.Kind.TheVariants as kinds
 use Rattle.acl_binding.specs.declared.words.Operation.TheVariants as operations
 use Rattle.acl_binding.specs.Verdict.{asked}
@@ -20,7 +21,6 @@ use Rattle.walk.specs.Woven.{has_any}
 use Rattle.walk.specs.Alike.{AllParts, AllTopics}
 use Rattle.txn_coordinator.specs.declared.target.TopicPartition.{TopicPartition}
 use Rattle.txn_coordinator.specs.declared.transaction.Transaction.{Transaction}
-use Rattle.txn_coordinator.specs.declared.ending.EndForm.TheVariants.{Plain}
 use Rattle.txn_coordinator.specs.declared.turn.Turn.{Turn}
 use Rattle.txn_coordinator.specs.declared.turn.Turn.TheVariants.{Stays, Puts}
 use Rattle.txn_coordinator.specs.Coordinator.{CoordinatorValue, has_id, recorded, turned}
@@ -29,9 +29,11 @@ use Rattle.txn_coordinator.specs.Adding.{add_partitions}
 use Rattle.broker_world.specs.declared.node.Node.{Node}
 use Rattle.broker_world.specs.World.{World, LogValue, rules_of}
 use Rattle.broker_world.specs.Logs.{log_at}
-use Rattle.txn_handlers.specs.InitProducerId.{init_question, coordinator_for, initialized, init_producer_id_outcome}
+use Rattle.broker_world.specs.Whole.{whole_by}
+use Rattle.msg_admin.specs.declared.reply.Reply.TheVariants as replies
+use Rattle.txn_handlers.specs.InitProducerId.{init_question, init_questions, init_error, coordinator_for, initialized, init_producer_id_outcome}
 use Rattle.broker_world.specs.Questions.{id_question}
-use Rattle.txn_handlers.specs.EndTxn.{ending, end_turn, ended, end_txn_outcome}
+use Rattle.txn_handlers.specs.EndTxn.{end_turn, ended, end_txn_outcome, end_questions, ending_id, ending_pair, ending_outcome, form_of}
 use Rattle.txn_handlers.specs.AddOffsets.{add_offsets_questions, add_offsets_turn, offsets_added, add_offsets_outcome}
 use Rattle.txn_handlers.specs.AddPartitions.{add_questions, cut_rule, is_missing_in, is_missing, is_cut, add_turn, cut_outcome, added_outcome, add_partitions_outcome, partitions_in, partitions_of}
 use Rattle.broker_world.specs.Questions.{read_question}
@@ -60,7 +62,7 @@ module _ (v w : World) (caller : Caller) (base : SameBase v w) where
 
   -- ---- InitProducerId
 
-  init_by : (id : Option (List ℕ)) (timeout : ℤ) → SameGranted v w (init_question caller id ∷ []) → part_refusal (rules_of w) (init_question caller id ∷ []) ≡ None
+  init_by : (id : Option (List ℕ)) (timeout : ℤ) → SameGranted v w (init_questions (rules_of w) caller id) → part_refusal (rules_of w) (init_questions (rules_of w) caller id) ≡ None
       → AgreeBehind v w (record v { coordinator = coordinator_for id v.coordinator v.node.max_txn_timeout timeout }) (record w { coordinator = coordinator_for id w.coordinator w.node.max_txn_timeout timeout })
   init_by None timeout same none = by_coordinator v w base _ _ (given_more v.coordinator.given w.coordinator.given (None ∷ []) base.given) (λ name agree. agree)
   init_by (Some id) timeout same none =
@@ -69,17 +71,20 @@ module _ (v w : World) (caller : Caller) (base : SameBase v w) where
       turn_agrees (init v.coordinator id timeout v.node.max_txn_timeout) (init w.coordinator id timeout w.node.max_txn_timeout)
       (ap (λ (n : Node). init v.coordinator id timeout n.max_txn_timeout) base.node ∙ same_init v.coordinator w.coordinator id timeout w.node.max_txn_timeout agree)
 
-  pub init_agrees : (r : InitProducerIdRequest) → SameGranted v w (init_question caller r.transactional_id ∷ []) → AgreeBehind v w (init_producer_id_outcome v caller r).world (init_producer_id_outcome w caller r).world
-  init_agrees r same = by_whole v w base (init_question caller r.transactional_id ∷ []) _ (initialized v r) (initialized w r) (init_by r.transactional_id r.timeout same)
+  pub init_agrees : (r : InitProducerIdRequest) → SameGranted v w (init_questions (rules_of w) caller r.transactional_id) → AgreeBehind v w (init_producer_id_outcome v caller r).world (init_producer_id_outcome w caller r).world
+  init_agrees r same =
+      subst (λ (qs : List Question). AgreeBehind v w (whole_by (part_refusal (rules_of v) qs) v (λ code. replies.InitProducerId (init_error code)) (initialized v r)).world (init_producer_id_outcome w caller r).world)
+      (ap (λ (rules : Rules). init_questions rules caller r.transactional_id) (sym base.rules))
+      (by_whole v w base (init_questions (rules_of w) caller r.transactional_id) _ (initialized v r) (initialized w r) (init_by r.transactional_id r.timeout same))
 
   -- ---- EndTxn and AddOffsetsToTxn
 
-  pub end_agrees : (r : EndTxnRequest) → SameGranted v w (id_question caller r.transactional_id ∷ []) → AgreeBehind v w (end_txn_outcome v caller r).world (end_txn_outcome w caller r).world
+  pub end_agrees : (r : EndTxnRequest) → SameGranted v w (end_questions caller r) → AgreeBehind v w (end_txn_outcome v caller r).world (end_txn_outcome w caller r).world
   end_agrees r same =
-      let q = id_question caller r.transactional_id in
+      let q = id_question caller (ending_id r) in
       by_whole v w base (q ∷ []) _ (ended v r) (ended w r) (λ none.
-      let agree : AreSame v.coordinator w.coordinator r.transactional_id = record { given = base.given; recorded = same.0 (yes_of (verdict w.book w.supers q) q None none) } in
-      turn_agrees (end_turn v.coordinator r) (end_turn w.coordinator r) (same_end v.coordinator w.coordinator Plain r.transactional_id (record { producer = r.producer; epoch = r.epoch }) (ending r.committed) agree))
+      let agree : AreSame v.coordinator w.coordinator (ending_id r) = record { given = base.given; recorded = same.0 (yes_of (verdict w.book w.supers q) q None none) } in
+      turn_agrees (end_turn v.coordinator r) (end_turn w.coordinator r) (same_end v.coordinator w.coordinator (form_of r) (ending_id r) (ending_pair r) (ending_outcome r) agree))
 
   pub add_group_agrees : (r : AddOffsetsToTxnRequest) → SameGranted v w (add_offsets_questions caller r.transactional_id r.group) → AgreeBehind v w (add_offsets_outcome v caller r).world (add_offsets_outcome w caller r).world
   add_group_agrees r same =

@@ -38,13 +38,13 @@ use Rattle.tenant_laws.proofs.Described.{same_listed}
 -- worlds of one book that agree on all that the request is granted
 pub record IsSame (v w : World) (caller : Caller) (request : Request) : Type 0 where
   pub base : SameBase v w
-  pub granted : SameGranted v w (questions_of caller request)
+  pub granted : SameGranted v w (questions_of (rules_of w) caller request)
   -- where the list of topics is null, on the topics that may be described, in order
   pub described : wants_all request ≡ true → described_slots (rules_of v) caller v.topics ≡ described_slots (rules_of w) caller w.topics
 
 module _ (v w : World) (caller : Caller) where
-  pub each : (request : Request) → IsSame v w caller request → AllByRecursion (SameGranted v w) (parts_of caller request)
-  each request same = granted_each v w (parts_of caller request) same.granted
+  pub each : (request : Request) → IsSame v w caller request → AllByRecursion (SameGranted v w) (parts_of (rules_of w) caller request)
+  each request same = granted_each v w (parts_of (rules_of w) caller request) same.granted
 
   pub by_partitions : {P : Type 0} (asks : List ℕ → List Question) (ts : List (Topic P)) → AllByRecursion (SameGranted v w) (partition_parts asks ts) → AllTopics (λ name p. SameGranted v w (asks name)) ts
   by_partitions asks ts all = each_partition asks (SameGranted v w) (λ name p. SameGranted v w (asks name)) (λ name p is. is) ts all

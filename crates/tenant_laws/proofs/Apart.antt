@@ -45,15 +45,15 @@ use Rattle.data_handlers.specs.Produce.{produce_questions, produced_error}
 use Rattle.data_handlers.specs.Fetch.{fetched_error}
 use Rattle.data_handlers.specs.ListOffsets.{listed_error}
 use Rattle.group_handlers.specs.OffsetCommit.{commit_questions, committed_code}
+use Rattle.txn_handlers.specs.EndTxn.{end_questions}
 use Rattle.txn_handlers.specs.TxnOffsetCommit.{staging, stage_questions, staged_code}
 use Rattle.group_handlers.specs.OffsetFetch.{group_question, fetched_code, fetch_reply, offsets_of, offset_fetch_by, told_topics}
 use Rattle.group_handlers.specs.FindCoordinator.{kind_of, find_questions}
 use Rattle.broker_world.specs.Questions.{read_question}
-use Rattle.txn_handlers.specs.InitProducerId.{init_question}
+use Rattle.txn_handlers.specs.InitProducerId.{init_questions}
 use Rattle.txn_handlers.specs.AddPartitions.{add_questions, cut_code, add_reply, is_cut, cut_outcome, added_outcome}
 use Rattle.txn_handlers.specs.AddPartitions.{added_partition}
 use Rattle.txn_handlers.specs.AddOffsets.{add_offsets_questions}
-use Rattle.broker_world.specs.Questions.{id_question}
 use Rattle.acl_handlers.specs.DescribeAcls.{describe_acls_questions}
 use Rattle.acl_handlers.specs.CreateAcls.{alter_questions}
 use Rattle.api_dispatch.specs.Step.{reply_to}
@@ -82,6 +82,10 @@ use Rattle.tenant_laws.proofs.Sizes.{told_sized, infos_of, told_by_sizes, infos_
 abbrev by_code : Request → Option ErrorCode → Allowed
 by_code request None = Rest request
 by_code request (Some code) = Nothing code
+
+abbrev pub first_part : List (List Question) → List Question
+first_part [] = []
+first_part (qs ∷ parts) = qs
 
 rest_code : (request : Request) (o : Option Refusal) → rest_or_nothing request o ≡ by_code request (option_map refusal_code o)
 rest_code request None = refl
@@ -123,8 +127,8 @@ module _ (v w : World) (caller : Caller) (client : Option (List ℕ)) where
   abbrev Replied : Request → Type 0
   Replied request = reply_to v (Ask caller client request) ≡ reply_to w (Ask caller client request)
 
-  each : (request : Request) → SameForReply v w caller request → AllByRecursion (SameCode v w) (parts_of caller request)
-  each request same = each_code v w (parts_of caller request) same.grants
+  each : (request : Request) → SameForReply v w caller request → AllByRecursion (SameCode v w) (parts_of rw caller request)
+  each request same = each_code v w (parts_of rw caller request) same.grants
 
   -- by the plain broker
   plainly : (request : Request) → (put_together v caller request (allowed rv caller request)).reply ≡ (put_together w caller request (allowed rw caller request)).reply → Replied request
@@ -134,7 +138,7 @@ module _ (v w : World) (caller : Caller) (client : Option (List ℕ)) where
 
   module _ {P : Type 0} (asks : List ℕ → List Question) (ts : List (Topic P)) (make : List (Topic P) → Request) (put : Rules → Reply → Reply) where
     walk_same : SameNumbers v w → wants_all (make (kept_topics (refused_by rw asks) ts)) ≡ false → (is_about_bindings (make (kept_topics (refused_by rw asks) ts)) ≡ true → v.book ≡ w.book)
-        → AllByRecursion (SameCode v w) (partition_parts asks ts) → AllByRecursion (SameAbout v w) (parts_of caller (make (kept_topics (refused_by rw asks) ts)))
+        → AllByRecursion (SameCode v w) (partition_parts asks ts) → AllByRecursion (SameAbout v w) (parts_of rw caller (make (kept_topics (refused_by rw asks) ts)))
         → put rv (plain w caller (make (kept_topics (refused_by rw asks) ts))).reply ≡ put rw (plain w caller (make (kept_topics (refused_by rw asks) ts))).reply
         → put rv (plain v caller (make (kept_topics (refused_by rv asks) ts))).reply ≡ put rw (plain w caller (make (kept_topics (refused_by rw asks) ts))).reply
     walk_same numbers named bindings all about puts =
@@ -142,7 +146,7 @@ module _ (v w : World) (caller : Caller) (client : Option (List ℕ)) where
         ∙ ap (put rv) (plain_same v w caller (make (kept_topics (refused_by rw asks) ts)) numbers named bindings about)
         ∙ puts
 
-  produce_put : (r : ProduceRequest) (b : Bool) (l : List (Topic ProducedOffset)) → AllByRecursion (SameCode v w) (parts_of caller (Produce r))
+  produce_put : (r : ProduceRequest) (b : Bool) (l : List (Topic ProducedOffset)) → AllByRecursion (SameCode v w) (parts_of rw caller (Produce r))
       → put_back rv caller (Produce r) (cond b (replies.SilentProduce (record { topics = l; throttle = pos 0 })) (replies.Produce (record { topics = l; throttle = pos 0 }))) ≡ put_back rw caller (Produce r) (cond b (replies.SilentProduce (record { topics = l; throttle = pos 0 })) (replies.Produce (record { topics = l; throttle = pos 0 })))
   produce_put r true l all = ap (λ (topics : List (Topic ProducedOffset)). replies.SilentProduce (record { topics = topics; throttle = pos 0 })) (put_same v w (produce_questions caller r.transactional_id) produced_error r.topics l all)
   produce_put r false l all = ap (λ (topics : List (Topic ProducedOffset)). replies.Produce (record { topics = topics; throttle = pos 0 })) (put_same v w (produce_questions caller r.transactional_id) produced_error r.topics l all)
@@ -179,7 +183,7 @@ module _ (v w : World) (caller : Caller) (client : Option (List ℕ)) where
 
   -- ---- a request that is one part
 
-  whole_same : (request : Request) (qs : List Question) → ((rules : Rules) (a : Reply) → put_back rules caller request a ≡ a) → wants_all request ≡ false → parts_of caller request ≡ qs ∷ [] → SameNumbers v w → (is_about_bindings request ≡ true → v.book ≡ w.book)
+  whole_same : (request : Request) (qs : List Question) → ((rules : Rules) (a : Reply) → put_back rules caller request a ≡ a) → wants_all request ≡ false → parts_of rw caller request ≡ qs ∷ [] → SameNumbers v w → (is_about_bindings request ≡ true → v.book ≡ w.book)
       → AllByRecursion (SameCode v w) (qs ∷ []) → AllByRecursion (SameAbout v w) (filter (is_granted rw) (qs ∷ []))
       → (put_together v caller request (rest_or_nothing request (part_refusal rv qs))).reply ≡ (put_together w caller request (rest_or_nothing request (part_refusal rw qs))).reply
   whole_same request qs put named parts numbers bindings all about =
@@ -207,7 +211,7 @@ module _ (v w : World) (caller : Caller) (client : Option (List ℕ)) where
     put_either true = put_added _
     put_either false = put_added _
 
-    by_refusals : (rs : List Refusal) → refusals_in rw (parts_of caller (AddPartitionsToTxn r)) ≡ rs
+    by_refusals : (rs : List Refusal) → refusals_in rw (parts_of rw caller (AddPartitionsToTxn r)) ≡ rs
         → (put_together v caller (AddPartitionsToTxn r) (whole_or_cut (AddPartitionsToTxn r) cut rs)).reply ≡ (put_together w caller (AddPartitionsToTxn r) (whole_or_cut (AddPartitionsToTxn r) cut rs)).reply
     by_refusals [] is =
         let exact : IsExact rw caller (AddPartitionsToTxn r) (whole_or_cut (AddPartitionsToTxn r) cut []) = subst (λ (rs : List Refusal). IsExact rw caller (AddPartitionsToTxn r) (whole_or_cut (AddPartitionsToTxn r) cut rs)) is (allowed_is_exact rw caller (AddPartitionsToTxn r)) in
@@ -221,11 +225,11 @@ module _ (v w : World) (caller : Caller) (client : Option (List ℕ)) where
     adds : Replied (AddPartitionsToTxn r)
     adds = plainly (AddPartitionsToTxn r)
         (ap (λ (a : Allowed). (put_together v caller (AddPartitionsToTxn r) a).reply)
-        (cut_code_by (AddPartitionsToTxn r) (record r { topics = kept_topics (refused_by rv asks) r.topics }) (refusals_in rv (parts_of caller (AddPartitionsToTxn r)))
-        ∙ ap (λ (b : Bool). cond b (Cut (record r { topics = kept_topics (refused_by rv asks) r.topics })) (Rest (AddPartitionsToTxn r))) (any_same v w (parts_of caller (AddPartitionsToTxn r)) (each (AddPartitionsToTxn r) same))
-        ∙ sym (cut_code_by (AddPartitionsToTxn r) (record r { topics = kept_topics (refused_by rv asks) r.topics }) (refusals_in rw (parts_of caller (AddPartitionsToTxn r)))))
-        ∙ ap (λ (l : List (Topic ℤ)). (put_together v caller (AddPartitionsToTxn r) (whole_or_cut (AddPartitionsToTxn r) (record r { topics = l }) (refusals_in rw (parts_of caller (AddPartitionsToTxn r))))).reply) (granted_same v w asks r.topics (each (AddPartitionsToTxn r) same))
-        ∙ by_refusals (refusals_in rw (parts_of caller (AddPartitionsToTxn r))) refl)
+        (cut_code_by (AddPartitionsToTxn r) (record r { topics = kept_topics (refused_by rv asks) r.topics }) (refusals_in rv (parts_of rw caller (AddPartitionsToTxn r)))
+        ∙ ap (λ (b : Bool). cond b (Cut (record r { topics = kept_topics (refused_by rv asks) r.topics })) (Rest (AddPartitionsToTxn r))) (any_same v w (parts_of rw caller (AddPartitionsToTxn r)) (each (AddPartitionsToTxn r) same))
+        ∙ sym (cut_code_by (AddPartitionsToTxn r) (record r { topics = kept_topics (refused_by rv asks) r.topics }) (refusals_in rw (parts_of rw caller (AddPartitionsToTxn r)))))
+        ∙ ap (λ (l : List (Topic ℤ)). (put_together v caller (AddPartitionsToTxn r) (whole_or_cut (AddPartitionsToTxn r) (record r { topics = l }) (refusals_in rw (parts_of rw caller (AddPartitionsToTxn r))))).reply) (granted_same v w asks r.topics (each (AddPartitionsToTxn r) same))
+        ∙ by_refusals (refusals_in rw (parts_of rw caller (AddPartitionsToTxn r))) refl)
 
   -- ---- Metadata
 
@@ -266,7 +270,7 @@ module _ (v w : World) (caller : Caller) (client : Option (List ℕ)) where
       by_group (Some x) is = refl
       by_group None is =
           let exact : IsExact rw caller named (rest_or_nothing (make (kept_topics (refused_by rw (topic_part caller)) ts)) None) = subst (λ (o : Option Refusal). IsExact rw caller named (rest_or_nothing (make (kept_topics (refused_by rw (topic_part caller)) ts)) o)) is (allowed_is_exact rw caller named) in
-          let parts : AllByRecursion (SameAbout v w) (filter (is_granted rw) (parts_of caller named)) = subst (λ (o : Option Refusal). AllByRecursion (SameAbout v w) (cond (is_none o) (filter (is_granted rw) (parts_of caller named)) [])) is same.granted in
+          let parts : AllByRecursion (SameAbout v w) (filter (is_granted rw) (parts_of rw caller named)) = subst (λ (o : Option Refusal). AllByRecursion (SameAbout v w) (cond (is_none o) (filter (is_granted rw) (parts_of rw caller named)) [])) is same.granted in
           walk_same (topic_part caller) ts make (λ rules a. put_back rules caller named a) same.numbers refl same.bindings (each named same).1
           (subst (AllByRecursion (SameAbout v w)) (sym exact) parts)
           (put_fetched (kept_topics (refused_by rw (topic_part caller)) ts) (part_refusal (rules_of (unbound w caller)) group_qs))
@@ -301,13 +305,18 @@ module _ (v w : World) (caller : Caller) (client : Option (List ℕ)) where
 
   -- ---- each api
 
-  whole : (request : Request) (qs : List Question) → ((rules : Rules) (a : Reply) → put_back rules caller request a ≡ a) → wants_all request ≡ false → parts_of caller request ≡ qs ∷ []
-      → ((rules : Rules) → allowed rules caller request ≡ rest_or_nothing request (part_refusal rules qs))
-      → granted_parts rw caller request ≡ filter (is_granted rw) (parts_of caller request) → SameForReply v w caller request → Replied request
-  whole request qs put named parts allow filtered same = plainly request
-      (ap (λ a. (put_together v caller request a).reply) (allow rv)
+  whole_by : (request : Request) (qs : List Question) → ((rules : Rules) (a : Reply) → put_back rules caller request a ≡ a) → wants_all request ≡ false → parts_of rw caller request ≡ qs ∷ []
+      → allowed rv caller request ≡ rest_or_nothing request (part_refusal rv qs) → allowed rw caller request ≡ rest_or_nothing request (part_refusal rw qs)
+      → granted_parts rw caller request ≡ filter (is_granted rw) (parts_of rw caller request) → SameForReply v w caller request → Replied request
+  whole_by request qs put named parts first second filtered same = plainly request
+      (ap (λ a. (put_together v caller request a).reply) first
       ∙ whole_same request qs put named parts same.numbers same.bindings (subst (AllByRecursion (SameCode v w)) parts (each request same)) (subst (AllByRecursion (SameAbout v w)) (filtered ∙ ap (filter (is_granted rw)) parts) same.granted)
-      ∙ sym (ap (λ a. (put_together w caller request a).reply) (allow rw)))
+      ∙ sym (ap (λ a. (put_together w caller request a).reply) second))
+
+  whole : (request : Request) (qs : List Question) → ((rules : Rules) (a : Reply) → put_back rules caller request a ≡ a) → wants_all request ≡ false → parts_of rw caller request ≡ qs ∷ []
+      → ((rules : Rules) → allowed rules caller request ≡ rest_or_nothing request (part_refusal rules qs))
+      → granted_parts rw caller request ≡ filter (is_granted rw) (parts_of rw caller request) → SameForReply v w caller request → Replied request
+  whole request qs put named parts allow filtered same = whole_by request qs put named parts (allow rv) (allow rw) filtered same
 
   replied : (request : Request) → SameForReply v w caller request → Replied request
   replied (Produce r) same = produces r same
@@ -321,10 +330,12 @@ module _ (v w : World) (caller : Caller) (client : Option (List ℕ)) where
   replied (Heartbeat r) same = whole (Heartbeat r) (read_question caller r.group ∷ []) (λ rules a. refl) refl refl (λ rules. refl) refl same
   replied (LeaveGroup r) same = whole (LeaveGroup r) (read_question caller r.group ∷ []) (λ rules a. refl) refl refl (λ rules. refl) refl same
   replied (SyncGroup r) same = whole (SyncGroup r) (read_question caller r.group ∷ []) (λ rules a. refl) refl refl (λ rules. refl) refl same
-  replied (InitProducerId r) same = whole (InitProducerId r) (init_question caller r.transactional_id ∷ []) (λ rules a. refl) refl refl (λ rules. refl) refl same
+  replied (InitProducerId r) same =
+      whole_by (InitProducerId r) (init_questions rw caller r.transactional_id) (λ rules a. refl) refl refl
+      (ap (λ (parts : List (List Question)). rest_or_nothing (InitProducerId r) (part_refusal rv (first_part parts))) same.questions) refl refl same
   replied (AddPartitionsToTxn r) same = adds r same
   replied (AddOffsetsToTxn r) same = whole (AddOffsetsToTxn r) (add_offsets_questions caller r.transactional_id r.group) (λ rules a. refl) refl refl (λ rules. refl) refl same
-  replied (EndTxn r) same = whole (EndTxn r) (id_question caller r.transactional_id ∷ []) (λ rules a. refl) refl refl (λ rules. refl) refl same
+  replied (EndTxn r) same = whole (EndTxn r) (end_questions caller r) (λ rules a. refl) refl refl (λ rules. refl) refl same
   replied (TxnOffsetCommit r) same = stages r same
   replied (SaslHandshake r) same = whole (SaslHandshake r) [] (λ rules a. refl) refl refl (λ rules. refl) refl same
   replied ApiVersions same = whole ApiVersions [] (λ rules a. refl) refl refl (λ rules. refl) refl same
@@ -335,31 +346,31 @@ module _ (v w : World) (caller : Caller) (client : Option (List ℕ)) where
 
   -- ---- refusals
 
-  refused : (request : Request) → AllByRecursion (SameRefusal v w) (parts_of caller request) → request_refusals rv caller request ≡ request_refusals rw caller request
-  refused (OffsetFetch r) all =
+  refused : (request : Request) → parts_of rv caller request ≡ parts_of rw caller request → AllByRecursion (SameRefusal v w) (parts_of rw caller request) → request_refusals rv caller request ≡ request_refusals rw caller request
+  refused (OffsetFetch r) asks all =
       ap (λ (o : Option Refusal). told_alone o (refusals_in rv (offset_parts caller r.topics))) all.0
       ∙ ap (told_alone (part_refusal rw (group_question caller r.group ∷ []))) (refusals_same v w (offset_parts caller r.topics) all.1)
-  refused (Produce r) all = refusals_same v w (parts_of caller (Produce r)) all
-  refused (Fetch r) all = refusals_same v w (parts_of caller (Fetch r)) all
-  refused (ListOffsets r) all = refusals_same v w (parts_of caller (ListOffsets r)) all
-  refused (Metadata r) all = refusals_same v w (parts_of caller (Metadata r)) all
-  refused (OffsetCommit r) all = refusals_same v w (parts_of caller (OffsetCommit r)) all
-  refused (FindCoordinator r) all = refusals_same v w (parts_of caller (FindCoordinator r)) all
-  refused (JoinGroup r) all = refusals_same v w (parts_of caller (JoinGroup r)) all
-  refused (Heartbeat r) all = refusals_same v w (parts_of caller (Heartbeat r)) all
-  refused (LeaveGroup r) all = refusals_same v w (parts_of caller (LeaveGroup r)) all
-  refused (SyncGroup r) all = refusals_same v w (parts_of caller (SyncGroup r)) all
-  refused (InitProducerId r) all = refusals_same v w (parts_of caller (InitProducerId r)) all
-  refused (AddPartitionsToTxn r) all = refusals_same v w (parts_of caller (AddPartitionsToTxn r)) all
-  refused (AddOffsetsToTxn r) all = refusals_same v w (parts_of caller (AddOffsetsToTxn r)) all
-  refused (EndTxn r) all = refusals_same v w (parts_of caller (EndTxn r)) all
-  refused (TxnOffsetCommit r) all = refusals_same v w (parts_of caller (TxnOffsetCommit r)) all
-  refused (SaslHandshake r) all = refusals_same v w (parts_of caller (SaslHandshake r)) all
-  refused ApiVersions all = refusals_same v w (parts_of caller ApiVersions) all
-  refused (SaslAuthenticate r) all = refusals_same v w (parts_of caller (SaslAuthenticate r)) all
-  refused (DescribeAcls r) all = refusals_same v w (parts_of caller (DescribeAcls r)) all
-  refused (CreateAcls r) all = refusals_same v w (parts_of caller (CreateAcls r)) all
-  refused (DeleteAcls r) all = refusals_same v w (parts_of caller (DeleteAcls r)) all
+  refused (Produce r) asks all = refusals_same v w (parts_of rw caller (Produce r)) all
+  refused (Fetch r) asks all = refusals_same v w (parts_of rw caller (Fetch r)) all
+  refused (ListOffsets r) asks all = refusals_same v w (parts_of rw caller (ListOffsets r)) all
+  refused (Metadata r) asks all = refusals_same v w (parts_of rw caller (Metadata r)) all
+  refused (OffsetCommit r) asks all = refusals_same v w (parts_of rw caller (OffsetCommit r)) all
+  refused (FindCoordinator r) asks all = refusals_same v w (parts_of rw caller (FindCoordinator r)) all
+  refused (JoinGroup r) asks all = refusals_same v w (parts_of rw caller (JoinGroup r)) all
+  refused (Heartbeat r) asks all = refusals_same v w (parts_of rw caller (Heartbeat r)) all
+  refused (LeaveGroup r) asks all = refusals_same v w (parts_of rw caller (LeaveGroup r)) all
+  refused (SyncGroup r) asks all = refusals_same v w (parts_of rw caller (SyncGroup r)) all
+  refused (InitProducerId r) asks all = ap (refusals_in rv) asks ∙ refusals_same v w (parts_of rw caller (InitProducerId r)) all
+  refused (AddPartitionsToTxn r) asks all = refusals_same v w (parts_of rw caller (AddPartitionsToTxn r)) all
+  refused (AddOffsetsToTxn r) asks all = refusals_same v w (parts_of rw caller (AddOffsetsToTxn r)) all
+  refused (EndTxn r) asks all = refusals_same v w (parts_of rw caller (EndTxn r)) all
+  refused (TxnOffsetCommit r) asks all = refusals_same v w (parts_of rw caller (TxnOffsetCommit r)) all
+  refused (SaslHandshake r) asks all = refusals_same v w (parts_of rw caller (SaslHandshake r)) all
+  refused ApiVersions asks all = refusals_same v w (parts_of rw caller ApiVersions) all
+  refused (SaslAuthenticate r) asks all = refusals_same v w (parts_of rw caller (SaslAuthenticate r)) all
+  refused (DescribeAcls r) asks all = refusals_same v w (parts_of rw caller (DescribeAcls r)) all
+  refused (CreateAcls r) asks all = refusals_same v w (parts_of rw caller (CreateAcls r)) all
+  refused (DeleteAcls r) asks all = refusals_same v w (parts_of rw caller (DeleteAcls r)) all
 
 pub replies_depend : RepliesDependOnGrantedParts
 replies_depend v w caller client request same = replied v w caller client request same
@@ -369,12 +380,12 @@ same_grants v w [] same = tt
 same_grants v w (q ∷ qs) same = (ap (λ (x : Verdict). is_yes x) same.0, same_grants v w qs same.1)
 
 for_reply : (v w : World) (caller : Caller) (request : Request) → SameForParts v w caller request → SameForReply v w caller request
-for_reply v w caller request same = record { numbers = same.numbers; grants = same_grants v w (questions_of caller request) same.verdicts; granted = same.granted; described = same.described; bindings = same.bindings }
+for_reply v w caller request same = record { numbers = same.numbers; questions = same.questions; grants = same_grants v w (questions_of (rules_of w) caller request) same.verdicts; granted = same.granted; described = same.described; bindings = same.bindings }
 
 pub answers_depend : AnswersDependOnGrantedParts
 answers_depend v w caller client request same = record {
   reply = replied v w caller client request (for_reply v w caller request same);
-  refusals = refusals_are_of_parts v caller client request ∙ refused v w caller client request (each_part v w (parts_of caller request) same.verdicts) ∙ sym (refusals_are_of_parts w caller client request);
+  refusals = refusals_are_of_parts v caller client request ∙ refused v w caller client request same.questions (each_part v w (parts_of (rules_of w) caller request) same.verdicts) ∙ sym (refusals_are_of_parts w caller client request);
 }
 
 -- the number of events is the place of the next one

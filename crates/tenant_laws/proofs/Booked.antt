@@ -36,7 +36,7 @@ use Rattle.plain_broker.proofs.Terms.{refused_by}
 use Rattle.plain_broker.proofs.Bare.{looks_at_no_book}
 use Rattle.plain_broker.proofs.Together.{plain_of_allowed}
 use Rattle.tenant_laws.specs.Laws.{SameVerdicts}
-use Rattle.tenant_laws.proofs.Apart.{same_grants}
+use Rattle.tenant_laws.proofs.Apart.{first_part, same_grants}
 use Rattle.tenant_laws.proofs.Decided.{SameRefusal, SameCode, each_part, each_code, refusals_same, granted_same, names_same}
 
 -- ---- what is left of a request that is not about the book isn't either
@@ -70,7 +70,7 @@ allowed_not rules caller (Heartbeat r) is = rest_not (Heartbeat r) (refused_itse
 allowed_not rules caller (LeaveGroup r) is = rest_not (LeaveGroup r) (refused_itself rules caller (LeaveGroup r)) refl
 allowed_not rules caller (SyncGroup r) is = rest_not (SyncGroup r) (refused_itself rules caller (SyncGroup r)) refl
 allowed_not rules caller (InitProducerId r) is = rest_not (InitProducerId r) (refused_itself rules caller (InitProducerId r)) refl
-allowed_not rules caller (AddPartitionsToTxn r) is = cut_not (AddPartitionsToTxn r) _ (refusals_in rules (parts_of caller (AddPartitionsToTxn r))) refl
+allowed_not rules caller (AddPartitionsToTxn r) is = cut_not (AddPartitionsToTxn r) _ (refusals_in rules (parts_of rules caller (AddPartitionsToTxn r))) refl
 allowed_not rules caller (AddOffsetsToTxn r) is = rest_not (AddOffsetsToTxn r) (refused_itself rules caller (AddOffsetsToTxn r)) refl
 allowed_not rules caller (EndTxn r) is = rest_not (EndTxn r) (refused_itself rules caller (EndTxn r)) refl
 allowed_not rules caller (TxnOffsetCommit r) is = refl
@@ -92,13 +92,16 @@ module _ (v w : World) (caller : Caller) where
   abbrev rn : Rules
   rn = rules_of near
 
+  abbrev rw : Rules
+  rw = rules_of w
+
   -- ---- the same is allowed
 
   abbrev Refusals : Request → Type 0
-  Refusals request = AllByRecursion (SameRefusal v near) (parts_of caller request)
+  Refusals request = AllByRecursion (SameRefusal v near) (parts_of rw caller request)
 
   abbrev Codes : Request → Type 0
-  Codes request = AllByRecursion (SameCode v near) (parts_of caller request)
+  Codes request = AllByRecursion (SameCode v near) (parts_of rw caller request)
 
   abbrev Allows : Request → Type 0
   Allows request = allowed rv caller request ≡ allowed rn caller request
@@ -113,31 +116,34 @@ module _ (v w : World) (caller : Caller) where
       ap (λ (l : List (Topic ℤ)). rest_or_nothing (OffsetFetch (record r { topics = Some l })) (part_refusal rv (group_question caller r.group ∷ []))) (granted_same v near (topic_part caller) ts codes.1)
       ∙ ap (rest_or_nothing (OffsetFetch (record r { topics = Some (kept_topics (refused_by rn (topic_part caller)) ts) }))) refusals.0
 
-  allowed_same : (request : Request) → Refusals request → Codes request → Allows request
-  allowed_same (Produce r) refusals codes = ap (λ (l : List (Topic ProducedRecords)). Rest (Produce (record r { topics = l }))) (granted_same v near (produce_questions caller r.transactional_id) r.topics codes)
-  allowed_same (Fetch r) refusals codes = ap (λ (l : List (Topic FetchPartition)). Rest (Fetch (record r { topics = l }))) (granted_same v near (fetch_questions caller) r.topics codes)
-  allowed_same (ListOffsets r) refusals codes = ap (λ (l : List (Topic WantedOffset)). Rest (ListOffsets (record r { topics = l }))) (granted_same v near (topic_part caller) r.topics codes)
-  allowed_same (Metadata r) refusals codes = metadata_same r r.topics codes
-  allowed_same (OffsetCommit r) refusals codes = ap (λ (l : List (Topic OffsetToCommit)). Rest (OffsetCommit (record r { topics = l }))) (granted_same v near (commit_questions caller r.group) r.topics codes)
-  allowed_same (OffsetFetch r) refusals codes = offsets_same r r.topics refusals codes
-  allowed_same (FindCoordinator r) refusals codes = ap (rest_or_nothing (FindCoordinator r)) refusals.0
-  allowed_same (JoinGroup r) refusals codes = ap (rest_or_nothing (JoinGroup r)) refusals.0
-  allowed_same (Heartbeat r) refusals codes = ap (rest_or_nothing (Heartbeat r)) refusals.0
-  allowed_same (LeaveGroup r) refusals codes = ap (rest_or_nothing (LeaveGroup r)) refusals.0
-  allowed_same (SyncGroup r) refusals codes = ap (rest_or_nothing (SyncGroup r)) refusals.0
-  allowed_same (InitProducerId r) refusals codes = ap (rest_or_nothing (InitProducerId r)) refusals.0
-  allowed_same (AddPartitionsToTxn r) refusals codes =
-      ap (λ (l : List (Topic ℤ)). whole_or_cut (AddPartitionsToTxn r) (record r { topics = l }) (refusals_in rv (parts_of caller (AddPartitionsToTxn r)))) (granted_same v near (add_questions caller r.transactional_id) r.topics codes)
-      ∙ ap (whole_or_cut (AddPartitionsToTxn r) (record r { topics = kept_topics (refused_by rn (add_questions caller r.transactional_id)) r.topics })) (refusals_same v near (parts_of caller (AddPartitionsToTxn r)) refusals)
-  allowed_same (AddOffsetsToTxn r) refusals codes = ap (rest_or_nothing (AddOffsetsToTxn r)) refusals.0
-  allowed_same (EndTxn r) refusals codes = ap (rest_or_nothing (EndTxn r)) refusals.0
-  allowed_same (TxnOffsetCommit r) refusals codes = ap (λ (l : List (Topic OffsetToStage)). Rest (TxnOffsetCommit (record r { topics = l }))) (granted_same v near (stage_questions caller (staging r)) r.topics codes)
-  allowed_same (SaslHandshake r) refusals codes = ap (rest_or_nothing (SaslHandshake r)) refusals.0
-  allowed_same ApiVersions refusals codes = ap (rest_or_nothing ApiVersions) refusals.0
-  allowed_same (SaslAuthenticate r) refusals codes = ap (rest_or_nothing (SaslAuthenticate r)) refusals.0
-  allowed_same (DescribeAcls r) refusals codes = ap (rest_or_nothing (DescribeAcls r)) refusals.0
-  allowed_same (CreateAcls r) refusals codes = ap (rest_or_nothing (CreateAcls r)) refusals.0
-  allowed_same (DeleteAcls r) refusals codes = ap (rest_or_nothing (DeleteAcls r)) refusals.0
+  allowed_same : (request : Request) → parts_of rv caller request ≡ parts_of rw caller request → parts_of rn caller request ≡ parts_of rw caller request → Refusals request → Codes request → Allows request
+  allowed_same (Produce r) asks near_asks refusals codes = ap (λ (l : List (Topic ProducedRecords)). Rest (Produce (record r { topics = l }))) (granted_same v near (produce_questions caller r.transactional_id) r.topics codes)
+  allowed_same (Fetch r) asks near_asks refusals codes = ap (λ (l : List (Topic FetchPartition)). Rest (Fetch (record r { topics = l }))) (granted_same v near (fetch_questions caller) r.topics codes)
+  allowed_same (ListOffsets r) asks near_asks refusals codes = ap (λ (l : List (Topic WantedOffset)). Rest (ListOffsets (record r { topics = l }))) (granted_same v near (topic_part caller) r.topics codes)
+  allowed_same (Metadata r) asks near_asks refusals codes = metadata_same r r.topics codes
+  allowed_same (OffsetCommit r) asks near_asks refusals codes = ap (λ (l : List (Topic OffsetToCommit)). Rest (OffsetCommit (record r { topics = l }))) (granted_same v near (commit_questions caller r.group) r.topics codes)
+  allowed_same (OffsetFetch r) asks near_asks refusals codes = offsets_same r r.topics refusals codes
+  allowed_same (FindCoordinator r) asks near_asks refusals codes = ap (rest_or_nothing (FindCoordinator r)) refusals.0
+  allowed_same (JoinGroup r) asks near_asks refusals codes = ap (rest_or_nothing (JoinGroup r)) refusals.0
+  allowed_same (Heartbeat r) asks near_asks refusals codes = ap (rest_or_nothing (Heartbeat r)) refusals.0
+  allowed_same (LeaveGroup r) asks near_asks refusals codes = ap (rest_or_nothing (LeaveGroup r)) refusals.0
+  allowed_same (SyncGroup r) asks near_asks refusals codes = ap (rest_or_nothing (SyncGroup r)) refusals.0
+  allowed_same (InitProducerId r) asks near_asks refusals codes =
+      ap (λ (parts : List (List Question)). rest_or_nothing (InitProducerId r) (part_refusal rv (first_part parts))) asks
+      ∙ ap (rest_or_nothing (InitProducerId r)) refusals.0
+      ∙ sym (ap (λ (parts : List (List Question)). rest_or_nothing (InitProducerId r) (part_refusal rn (first_part parts))) near_asks)
+  allowed_same (AddPartitionsToTxn r) asks near_asks refusals codes =
+      ap (λ (l : List (Topic ℤ)). whole_or_cut (AddPartitionsToTxn r) (record r { topics = l }) (refusals_in rv (parts_of rw caller (AddPartitionsToTxn r)))) (granted_same v near (add_questions caller r.transactional_id) r.topics codes)
+      ∙ ap (whole_or_cut (AddPartitionsToTxn r) (record r { topics = kept_topics (refused_by rn (add_questions caller r.transactional_id)) r.topics })) (refusals_same v near (parts_of rw caller (AddPartitionsToTxn r)) refusals)
+  allowed_same (AddOffsetsToTxn r) asks near_asks refusals codes = ap (rest_or_nothing (AddOffsetsToTxn r)) refusals.0
+  allowed_same (EndTxn r) asks near_asks refusals codes = ap (rest_or_nothing (EndTxn r)) refusals.0
+  allowed_same (TxnOffsetCommit r) asks near_asks refusals codes = ap (λ (l : List (Topic OffsetToStage)). Rest (TxnOffsetCommit (record r { topics = l }))) (granted_same v near (stage_questions caller (staging r)) r.topics codes)
+  allowed_same (SaslHandshake r) asks near_asks refusals codes = ap (rest_or_nothing (SaslHandshake r)) refusals.0
+  allowed_same ApiVersions asks near_asks refusals codes = ap (rest_or_nothing ApiVersions) refusals.0
+  allowed_same (SaslAuthenticate r) asks near_asks refusals codes = ap (rest_or_nothing (SaslAuthenticate r)) refusals.0
+  allowed_same (DescribeAcls r) asks near_asks refusals codes = ap (rest_or_nothing (DescribeAcls r)) refusals.0
+  allowed_same (CreateAcls r) asks near_asks refusals codes = ap (rest_or_nothing (CreateAcls r)) refusals.0
+  allowed_same (DeleteAcls r) asks near_asks refusals codes = ap (rest_or_nothing (DeleteAcls r)) refusals.0
 
   -- ---- and comes to the same
 
@@ -151,11 +157,12 @@ module _ (v w : World) (caller : Caller) where
   near_verdicts supers [] same = tt
   near_verdicts supers (q ∷ qs) same = (same.0 ∙ sym (ap (λ (s : List (List ℕ)). verdict w.book s q) supers), near_verdicts supers qs same.1)
 
-  pub step_near : (client : Option (List ℕ)) (request : Request) → v.supers ≡ w.supers → SameVerdicts v w (questions_of caller request) → is_about_bindings request ≡ false
+  pub step_near : (client : Option (List ℕ)) (request : Request) → v.supers ≡ w.supers → parts_of rv caller request ≡ parts_of rw caller request → SameVerdicts v w (questions_of rw caller request) → is_about_bindings request ≡ false
       → step near (Ask caller client request) ≡ record (step v (Ask caller client request)) { book = w.book }
-  step_near client request supers same is =
-      let all = near_verdicts supers (questions_of caller request) same in
-      let allows = allowed_same request (each_part v near (parts_of caller request) all) (each_code v near (parts_of caller request) (same_grants v near (questions_of caller request) all)) in
+  step_near client request supers asks same is =
+      let near_asks : parts_of rn caller request ≡ parts_of rw caller request = ap (λ (s : List (List ℕ)). parts_of (record { book = w.book; supers = s }) caller request) supers in
+      let all = near_verdicts supers (questions_of rw caller request) same in
+      let allows = allowed_same request asks near_asks (each_part v near (parts_of rw caller request) all) (each_code v near (parts_of rw caller request) (same_grants v near (questions_of rw caller request) all)) in
       (plain_of_allowed near caller client request).world
       ∙ ap (λ (a : Allowed). counted (put_together near caller request a).world) (sym allows)
       ∙ ap counted (near_together request (allowed rv caller request) (allowed_not rv caller request is))

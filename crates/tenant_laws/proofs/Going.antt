@@ -93,10 +93,10 @@ module _ (v w : World) (caller : Caller) (client : Option (List ℕ)) (request :
 
   any_book : is_about_bindings request ≡ false → wants_all request ≡ false → Goes v w (step v e) (step w e)
   any_book is named =
-      let left : step (near v w caller) e ≡ record (step v e) { book = w.book } = step_near v w caller client request same.base.supers same.verdicts is in
+      let left : step (near v w caller) e ≡ record (step v e) { book = w.book } = step_near v w caller client request same.base.supers same.questions same.verdicts is in
       let goes = agreement (near v w caller) w caller client request (record {
         base = record { node = same.base.node; rules = λ i. record { book = w.book; supers = same.base.supers i }; moment = same.base.moment; events = same.base.events; given = same.base.given };
-        granted = near_granted (questions_of caller request) same.granted;
+        granted = near_granted (questions_of (rules_of w) caller request) same.granted;
         described = λ all. absurd (let clash : false ≡ true = sym named ∙ all in cc);
       }) in
       let base : SameButForBook (record (step v e) { book = w.book }) (step w e) = subst (λ (x : World). SameButForBook x (step w e)) left (but_for_book (step (near v w caller) e) (step w e) goes.base) in

@@ -18,10 +18,9 @@ use Rattle.broker_world.specs.World.{World, rules_of}
 use Rattle.broker_world.specs.Whole.{Served, whole_by}
 use Rattle.broker_world.specs.Questions.{read_question}
 use Rattle.group_handlers.specs.Members.{join_group_outcome, sync_group_outcome, heartbeat_outcome, leave_group_outcome, joined, synced, heard, left}
-use Rattle.txn_handlers.specs.InitProducerId.{init_question, initialized}
+use Rattle.txn_handlers.specs.InitProducerId.{init_questions, initialized}
 use Rattle.txn_handlers.specs.AddOffsets.{add_offsets_questions, offsets_added}
-use Rattle.broker_world.specs.Questions.{id_question}
-use Rattle.txn_handlers.specs.EndTxn.{ended}
+use Rattle.txn_handlers.specs.EndTxn.{ended, end_questions}
 use Rattle.acl_handlers.specs.CreateAcls.{alter_questions, book_created}
 use Rattle.acl_handlers.specs.DeleteAcls.{book_deleted}
 use Rattle.api_dispatch.specs.Step.{request_outcome, counted, step, reached}
@@ -49,7 +48,7 @@ with_book w book TransactionalId name = refl
 -- ---- each api
 
 module _ (w : World) (caller : Caller) where
-  kept : (request : Request) (kind : Kind) (name : List ℕ) → NoPartIsGranted w kind name (parts_of caller request) → SameOn w (request_outcome w caller request).world kind name
+  kept : (request : Request) (kind : Kind) (name : List ℕ) → NoPartIsGranted w kind name (parts_of (rules_of w) caller request) → SameOn w (request_outcome w caller request).world kind name
   kept (Produce r) kind name none = produce_kept w caller r kind name none
   kept (Fetch r) kind name none = same_self w kind name
   kept (ListOffsets r) kind name none = same_self w kind name
@@ -74,7 +73,7 @@ module _ (w : World) (caller : Caller) where
   kept (DeleteAcls r) kind name none = whole_same (part_refusal (rules_of w) (alter_questions caller)) w _ _ kind name (with_book w (book_deleted w.book r.filters) kind name)
 
   -- what the id owes
-  owed_kept : (request : Request) (id : List ℕ) → NoPartIsGranted w TransactionalId id (parts_of caller request) → SameOwed w caller id (request_outcome w caller request).world
+  owed_kept : (request : Request) (id : List ℕ) → NoPartIsGranted w TransactionalId id (parts_of (rules_of w) caller request) → SameOwed w caller id (request_outcome w caller request).world
   owed_kept (Produce r) id none = refl
   owed_kept (Fetch r) id none = refl
   owed_kept (ListOffsets r) id none = refl
@@ -105,7 +104,7 @@ module _ (w : World) (caller : Caller) where
   not_altered : (Same : Type 0) → ((r : Refusal) → part_refusal (rules_of w) (alter_questions caller) ≡ Some r → Same) → NoPartIsGranted w Cluster cluster_name (alter_questions caller ∷ []) → Same
   not_altered Same refused none = one_refused w Cluster cluster_name (alter_questions caller) Same refused none (inl (refl, refl))
 
-  book_kept : (request : Request) → NoPartIsGranted w Cluster cluster_name (parts_of caller request) → (request_outcome w caller request).world.book ≡ w.book
+  book_kept : (request : Request) → NoPartIsGranted w Cluster cluster_name (parts_of (rules_of w) caller request) → (request_outcome w caller request).world.book ≡ w.book
   book_kept (Produce r) none = refl
   book_kept (Fetch r) none = refl
   book_kept (ListOffsets r) none = refl
@@ -117,10 +116,10 @@ module _ (w : World) (caller : Caller) where
   book_kept (Heartbeat r) none = asked_whole (read_question caller r.group ∷ []) _ (heard w r) refl
   book_kept (LeaveGroup r) none = asked_whole (read_question caller r.group ∷ []) _ (left w r) refl
   book_kept (SyncGroup r) none = asked_whole (read_question caller r.group ∷ []) _ (synced w r) refl
-  book_kept (InitProducerId r) none = asked_whole (init_question caller r.transactional_id ∷ []) _ (initialized w r) refl
+  book_kept (InitProducerId r) none = asked_whole (init_questions (rules_of w) caller r.transactional_id) _ (initialized w r) refl
   book_kept (AddPartitionsToTxn r) none = add_keeps (λ (u : World). u.book) (λ u c. refl) w caller r
   book_kept (AddOffsetsToTxn r) none = asked_whole (add_offsets_questions caller r.transactional_id r.group) _ (offsets_added w r) refl
-  book_kept (EndTxn r) none = asked_whole (id_question caller r.transactional_id ∷ []) _ (ended w r) refl
+  book_kept (EndTxn r) none = asked_whole (end_questions caller r) _ (ended w r) refl
   book_kept (TxnOffsetCommit r) none = refl
   book_kept (SaslHandshake r) none = refl
   book_kept ApiVersions none = refl
@@ -132,8 +131,8 @@ module _ (w : World) (caller : Caller) where
 settings_counted : (w : World) (caller : Caller) (request : Request) → KeepsSettings w (counted (request_outcome w caller request).world)
 settings_counted w caller request = let kept = settings_kept w caller request in record { node = kept.node; supers = kept.supers; moment = kept.moment; names = kept.names }
 
-pub by_questions : (w : World) (caller : Caller) (client : Option (List ℕ)) (request : Request) (kind : Kind) (name : List ℕ) → NoQuestionIsGranted w kind name (questions_of caller request) → SameOn w (step w (Ask caller client request)) kind name
-by_questions w caller client request kind name none = same_counted w (request_outcome w caller request).world kind name (kept w caller request kind name (no_part_granted w kind name (parts_of caller request) none))
+pub by_questions : (w : World) (caller : Caller) (client : Option (List ℕ)) (request : Request) (kind : Kind) (name : List ℕ) → NoQuestionIsGranted w kind name (questions_of (rules_of w) caller request) → SameOn w (step w (Ask caller client request)) kind name
+by_questions w caller client request kind name none = same_counted w (request_outcome w caller request).world kind name (kept w caller request kind name (no_part_granted w kind name (parts_of (rules_of w) caller request) none))
 
 over_events : (w : World) (kind : Kind) (name : List ℕ) (events : List Event) → AreUngranted w kind name events → SameOn w (reached w events) kind name
 over_events w kind name [] none = same_self w kind name
@@ -149,6 +148,6 @@ ungranted_stays = record {
   by_questions = by_questions;
   over_events = over_events;
   owed = λ w caller client request id none. owed_kept w caller request id none;
-  book = λ w caller client request none. book_kept w caller request (no_part_granted w Cluster cluster_name (parts_of caller request) none);
+  book = λ w caller client request none. book_kept w caller request (no_part_granted w Cluster cluster_name (parts_of (rules_of w) caller request) none);
   settings = λ w caller client request. settings_counted w caller request;
 }

@@ -39,8 +39,8 @@ module _ (v w : World) (caller : Caller) where
   if_any true parts all = all
   if_any false parts all = tt
 
-  pub about_parts : (request : Request) → AllByRecursion (SameAbout v w) (filter (is_granted (rules_of w)) (parts_of caller request)) → AllByRecursion (SameAbout v w) (granted_parts (rules_of w) caller request)
-  about_parts (OffsetFetch r) all = if_any (is_granted (rules_of w) (group_question caller r.group ∷ [])) (filter (is_granted (rules_of w)) (parts_of caller (OffsetFetch r))) all
+  pub about_parts : (request : Request) → AllByRecursion (SameAbout v w) (filter (is_granted (rules_of w)) (parts_of (rules_of w) caller request)) → AllByRecursion (SameAbout v w) (granted_parts (rules_of w) caller request)
+  about_parts (OffsetFetch r) all = if_any (is_granted (rules_of w) (group_question caller r.group ∷ [])) (filter (is_granted (rules_of w)) (parts_of (rules_of w) caller (OffsetFetch r))) all
   about_parts (Produce r) all = all
   about_parts (Fetch r) all = all
   about_parts (ListOffsets r) all = all

@@ -17,6 +17,7 @@ use Rattle.msg_data.specs.declared.produce.ProducedRecords.{ProducedRecords}
 use Rattle.msg_group.specs.declared.join_group.JoinGroupRequest.{JoinGroupRequest}
 use Rattle.msg_group.specs.declared.sync_group.SyncGroupRequest.{SyncGroupRequest}
 use Rattle.msg_group.specs.declared.offset_fetch.OffsetFetchRequest.{OffsetFetchRequest}
+use Rattle.msg_txn.specs.declared.end_txn.EndTxnRequest.{EndTxnRequest}
 use Rattle.msg_txn.specs.declared.add_partitions.AddPartitionsToTxnRequest.{AddPartitionsToTxnRequest}
 use Rattle.msg_admin.specs.declared.request.Request.{Request}
 use Rattle.msg_admin.specs.declared.request.Request.TheVariants.{Produce, Fetch, ListOffsets, Metadata, OffsetCommit, OffsetFetch, FindCoordinator, JoinGroup, Heartbeat, LeaveGroup, SyncGroup, SaslHandshake, ApiVersions, InitProducerId, AddPartitionsToTxn, AddOffsetsToTxn, EndTxn, TxnOffsetCommit, DescribeAcls, CreateAcls, DeleteAcls, SaslAuthenticate}
@@ -48,7 +49,6 @@ use Rattle.txn_coordinator.specs.Coordinator.{CoordinatorValue, recorded, owner,
 use Rattle.txn_coordinator.specs.InitProducerId.{init, init_for, timeout_within}
 use Rattle.txn_coordinator.specs.Adding.{open_in, open_by, open_found, grown, with_partitions, with_group, add_partitions}
 use Rattle.txn_coordinator.specs.EndTxn.{end_found}
-use Rattle.txn_coordinator.specs.declared.ending.EndForm.TheVariants.{Plain}
 use Rattle.broker_world.specs.World.{World, TopicValue, rules_of}
 use Rattle.broker_world.specs.First.{magnitude}
 use Rattle.broker_world.specs.Whole.{Served, whole_by}
@@ -61,11 +61,10 @@ use Rattle.group_handlers.specs.FindCoordinator.{kind_of, find_questions}
 use Rattle.broker_world.specs.Questions.{read_question}
 use Rattle.group_handlers.specs.Members.{joined, synced, heard, left, join_reply, sync_reply, beat_reply}
 use Rattle.broker_world.specs.Codes.{code_in}
-use Rattle.txn_handlers.specs.InitProducerId.{init_question, init_given, init_answered, reply_for, initialized}
+use Rattle.txn_handlers.specs.InitProducerId.{init_questions, init_given, init_answered, reply_for, initialized}
 use Rattle.txn_handlers.specs.AddPartitions.{is_cut, cut_outcome, added_outcome, told_rule, add_reply, partitions_of}
 use Rattle.txn_handlers.specs.AddOffsets.{add_offsets_questions, offsets_added, add_offsets_reply}
-use Rattle.broker_world.specs.Questions.{id_question}
-use Rattle.txn_handlers.specs.EndTxn.{ended, end_reply, ending}
+use Rattle.txn_handlers.specs.EndTxn.{ended, end_reply, end_questions, ending_id, ending_pair, ending_outcome, form_of, end_turn}
 use Rattle.acl_handlers.specs.DescribeAcls.{describe_acls_questions}
 use Rattle.acl_handlers.specs.CreateAcls.{alter_questions}
 use Rattle.api_laws.proofs.Recorded.{same_owner as owner_same, same_fresh as fresh_same}
@@ -112,6 +111,11 @@ module _ (c : CoordinatorValue) (given : List (Option (List ℕ))) (same : map i
       ap (λ (a : PairAnswer). init_answered a)
       (ap (λ (next : ℤ). turn_answer with_given id (cond (is_empty id) (Stays codes.InvalidRequest) (init_for (timeout_within timeout greatest) (recorded c.transactions id) id next))) same_fresh
       ∙ same_turn id (init c id timeout greatest))
+
+  pub same_end : (r : EndTxnRequest) → turn_answer with_given (ending_id r) (end_turn with_given r) ≡ turn_answer c (ending_id r) (end_turn c r)
+  same_end r =
+      ap (λ (next : ℤ). turn_answer with_given (ending_id r) (cond (is_empty (ending_id r)) (Stays codes.InvalidRequest) (end_found (recorded c.transactions (ending_id r)) (form_of r) next (ending_pair r) (ending_outcome r)))) same_fresh
+      ∙ same_turn (ending_id r) (end_turn c r)
 
 -- ---- a moment
 
@@ -241,14 +245,12 @@ module _ (w : World) (caller : Caller) (moment : ℕ) (given : List (Option (Lis
   moved_same (Heartbeat r) = whole_same (read_question caller r.group ∷ []) _ (heard x r) (heard u r) (ap (λ a. replies.Heartbeat (beat_reply (code_in a))) (beat_code (group.is_empty r.group) (group.member_refusal (group_of w.groups r.group) r.generation r.member) (group_of w.groups r.group) moment w.moment))
   moved_same (LeaveGroup r) = whole_same (read_question caller r.group ∷ []) _ (left x r) (left u r) refl
   moved_same (SyncGroup r) = whole_same (read_question caller r.group ∷ []) _ (synced x r) (synced u r) (ap (λ a. replies.SyncGroup (sync_reply a)) (sync_code (group.is_empty r.group) (group.member_refusal (group_of w.groups r.group) r.generation r.member) (group_of w.groups r.group) r moment w.moment))
-  moved_same (InitProducerId r) = whole_same (init_question caller r.transactional_id ∷ []) _ (initialized x r) (initialized u r) (ap (λ a. replies.InitProducerId a) (same_init w.coordinator given same r.transactional_id w.node.max_txn_timeout r.timeout))
+  moved_same (InitProducerId r) = whole_same (init_questions (rules_of u) caller r.transactional_id) _ (initialized x r) (initialized u r) (ap (λ a. replies.InitProducerId a) (same_init w.coordinator given same r.transactional_id w.node.max_txn_timeout r.timeout))
   moved_same (AddPartitionsToTxn r) = add_same r (is_cut caller r.transactional_id w.topics (rules_of u) r.topics)
   moved_same (AddOffsetsToTxn r) =
       whole_same (add_offsets_questions caller r.transactional_id r.group) _ (offsets_added x r) (offsets_added u r)
       (ap (λ (code : ErrorCode). replies.AddOffsetsToTxn (add_offsets_reply code)) (begun_code (with_group r.group) (is_empty r.transactional_id) (recorded w.coordinator.transactions r.transactional_id) (record { producer = r.producer; epoch = r.epoch }) moment w.moment))
-  moved_same (EndTxn r) =
-      whole_same (id_question caller r.transactional_id ∷ []) _ (ended x r) (ended u r)
-      (ap (λ (next : ℤ). replies.EndTxn (end_reply (turn_code (cond (is_empty r.transactional_id) (Stays codes.InvalidRequest) (end_found (recorded w.coordinator.transactions r.transactional_id) Plain next (record { producer = r.producer; epoch = r.epoch }) (ending r.committed)))))) (same_fresh w.coordinator given same))
+  moved_same (EndTxn r) = whole_same (end_questions caller r) _ (ended x r) (ended u r) (ap (λ a. replies.EndTxn (end_reply r a)) (same_end w.coordinator given same r))
   moved_same (TxnOffsetCommit r) = refl
   moved_same (SaslHandshake r) = refl
   moved_same ApiVersions = refl

@@ -16,7 +16,8 @@ use Rattle.txn_coordinator.specs.declared.transaction.Transaction.{Transaction}
 use Rattle.record_batch.specs.declared.outcome.Outcome.{Outcome as Ending}
 use Rattle.record_batch.specs.declared.outcome.Outcome.TheVariants.{Commit, Abort}
 use Rattle.txn_coordinator.specs.declared.marker.OwedMarker.{OwedMarker}
-use Rattle.txn_coordinator.specs.declared.ending.EndForm.TheVariants.{Plain}
+use Rattle.txn_coordinator.specs.declared.ending.EndForm.{EndForm}
+use Rattle.txn_coordinator.specs.declared.ending.EndForm.TheVariants.{Plain, Fencing, Raising}
 use Rattle.txn_coordinator.specs.declared.turn.Turn.{Turn}
 use Rattle.txn_coordinator.specs.declared.turn.Turn.TheVariants.{Stays, Puts}
 use Rattle.txn_coordinator.specs.Words.{is_empty, targets}
@@ -24,7 +25,7 @@ use Rattle.txn_coordinator.specs.Preparing.{marker_for, pair_refusal}
 use Rattle.txn_coordinator.specs.Coordinator.{CoordinatorValue, recorded, fresh, turned}
 use Rattle.txn_coordinator.specs.InitProducerId.{timeout_within, init_in, init_for, init}
 use Rattle.txn_coordinator.specs.Adding.{open_transaction, grown, with_partitions, with_group, add_partitions, add_group}
-use Rattle.txn_coordinator.specs.EndTxn.{end_in, end_by, end_found, end}
+use Rattle.txn_coordinator.specs.EndTxn.{other_epoch, end_ongoing, end_closed, end_in, is_again, end_again, end_by, end_found, end}
 use Rattle.txn_coordinator.proofs.Table.{recorded_id}
 use Rattle.tenant_laws.specs.Laws.{owed_by}
 
@@ -78,31 +79,48 @@ init_owes c id timeout greatest = by_empty (is_empty id) where
   by_empty true = tt
   by_empty false = by_found (timeout_within timeout greatest) (recorded c.transactions id) refl
 
-ended_owes : (p : Phase) (t : Transaction) (next : ℤ) (o : Ending) (id : List ℕ) → t.id ≡ id → Owes id (end_in p Plain t next o)
+ongoing_owes : (form : EndForm) (t : Transaction) (next : ℤ) (o : Ending) (id : List ℕ) → t.id ≡ id → Owes id (end_ongoing form t next o)
 unfolding Owes
-ended_owes Ongoing t next o id own = markers_of id _ o t.id own (targets t)
-ended_owes PrepareCommit t next Commit id own = tt
-ended_owes PrepareCommit t next Abort id own = tt
-ended_owes PrepareAbort t next Commit id own = tt
-ended_owes PrepareAbort t next Abort id own = tt
-ended_owes Empty t next o id own = tt
-ended_owes CompleteCommit t next Commit id own = tt
-ended_owes CompleteCommit t next Abort id own = tt
-ended_owes CompleteAbort t next Commit id own = tt
-ended_owes CompleteAbort t next Abort id own = tt
+ongoing_owes Plain t next o id own = markers_of id _ o t.id own (targets t)
+ongoing_owes Fencing t next o id own = markers_of id _ o t.id own (targets t)
+ongoing_owes Raising t next o id own = markers_of id _ o t.id own (targets t)
 
-pub end_owes : (c : CoordinatorValue) (id : List ℕ) (pair : Pair) (o : Ending) → Owes id (end c Plain id pair o)
+closed_owes : (form : EndForm) (t : Transaction) (next : ℤ) (o : Ending) (code : ErrorCode) (id : List ℕ) → Owes id (end_closed form t next o code)
 unfolding Owes
-end_owes c id pair o = by_empty (is_empty id) where
-  by_refusal : (x : Option ErrorCode) (t : Transaction) → t.id ≡ id → Owes id (end_by x Plain t (fresh c) o)
+closed_owes Plain t next o code id = tt
+closed_owes Fencing t next o code id = tt
+closed_owes Raising t next Commit code id = tt
+closed_owes Raising t next Abort code id = tt
+
+ended_owes : (p : Phase) (form : EndForm) (t : Transaction) (next : ℤ) (o : Ending) (id : List ℕ) → t.id ≡ id → Owes id (end_in p form t next o)
+unfolding Owes
+ended_owes Ongoing form t next o id own = ongoing_owes form t next o id own
+ended_owes PrepareCommit form t next Commit id own = tt
+ended_owes PrepareCommit form t next Abort id own = tt
+ended_owes PrepareAbort form t next Commit id own = tt
+ended_owes PrepareAbort form t next Abort id own = tt
+ended_owes Empty form t next o id own = closed_owes form t next o codes.InvalidTxnState id
+ended_owes CompleteCommit form t next Commit id own = closed_owes form t next Commit codes.None id
+ended_owes CompleteCommit form t next Abort id own = closed_owes form t next Abort codes.InvalidTxnState id
+ended_owes CompleteAbort form t next Commit id own = closed_owes form t next Commit codes.InvalidTxnState id
+ended_owes CompleteAbort form t next Abort id own = closed_owes form t next Abort codes.None id
+
+pub end_owes : (c : CoordinatorValue) (form : EndForm) (id : List ℕ) (pair : Pair) (o : Ending) → Owes id (end c form id pair o)
+unfolding Owes
+end_owes c form id pair o = by_empty (is_empty id) where
+  by_refusal : (x : Option ErrorCode) (t : Transaction) → t.id ≡ id → Owes id (end_by x form t (fresh c) o)
   by_refusal (Some code) t own = tt
-  by_refusal None t own = ended_owes t.phase t (fresh c) o id own
+  by_refusal None t own = ended_owes t.phase form t (fresh c) o id own
 
-  by_found : (found : Option Transaction) → recorded c.transactions id ≡ found → Owes id (end_found found Plain (fresh c) pair o)
+  by_again : (b : Bool) (t : Transaction) → t.id ≡ id → Owes id (cond b (Stays (end_again t.phase o)) (end_by (pair_refusal (other_epoch form) t pair) form t (fresh c) o))
+  by_again true t own = tt
+  by_again false t own = by_refusal (pair_refusal (other_epoch form) t pair) t own
+
+  by_found : (found : Option Transaction) → recorded c.transactions id ≡ found → Owes id (end_found found form (fresh c) pair o)
   by_found None is = tt
-  by_found (Some t) is = by_refusal (pair_refusal codes.InvalidProducerEpoch t pair) t (recorded_id c.transactions id t is)
+  by_found (Some t) is = by_again (is_again form t pair) t (recorded_id c.transactions id t is)
 
-  by_empty : (b : Bool) → Owes id (cond b (Stays codes.InvalidRequest) (end_found (recorded c.transactions id) Plain (fresh c) pair o))
+  by_empty : (b : Bool) → Owes id (cond b (Stays codes.InvalidRequest) (end_found (recorded c.transactions id) form (fresh c) pair o))
   by_empty true = tt
   by_empty false = by_found (recorded c.transactions id) refl
 

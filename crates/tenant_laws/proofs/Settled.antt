@@ -25,10 +25,9 @@ use Rattle.data_handlers.specs.Produce.{producing, produce_outcome}
 use Rattle.group_handlers.specs.OffsetCommit.{offset_commit_outcome}
 use Rattle.broker_world.specs.Questions.{read_question}
 use Rattle.group_handlers.specs.Members.{joined, synced, heard, left}
-use Rattle.txn_handlers.specs.InitProducerId.{init_question, initialized}
+use Rattle.txn_handlers.specs.InitProducerId.{init_questions, initialized}
 use Rattle.txn_handlers.specs.AddOffsets.{add_offsets_questions, offsets_added}
-use Rattle.broker_world.specs.Questions.{id_question}
-use Rattle.txn_handlers.specs.EndTxn.{ended}
+use Rattle.txn_handlers.specs.EndTxn.{ended, end_questions}
 use Rattle.txn_handlers.specs.TxnOffsetCommit.{txn_offset_commit_outcome}
 use Rattle.acl_handlers.specs.CreateAcls.{alter_questions, book_created}
 use Rattle.acl_handlers.specs.DeleteAcls.{book_deleted}
@@ -59,10 +58,10 @@ module _ (X : Type 0) (of : World → X) (same : (w : World) (book : BookValue) 
   settled produced (Heartbeat r) = asked (read_question caller r.group ∷ []) _ (heard w r) (same w w.book w.coordinator (heard w r).world.groups)
   settled produced (LeaveGroup r) = asked (read_question caller r.group ∷ []) _ (left w r) (same w w.book w.coordinator (left w r).world.groups)
   settled produced (SyncGroup r) = asked (read_question caller r.group ∷ []) _ (synced w r) (same w w.book w.coordinator (synced w r).world.groups)
-  settled produced (InitProducerId r) = asked (init_question caller r.transactional_id ∷ []) _ (initialized w r) (same w w.book (initialized w r).world.coordinator w.groups)
+  settled produced (InitProducerId r) = asked (init_questions (rules_of w) caller r.transactional_id) _ (initialized w r) (same w w.book (initialized w r).world.coordinator w.groups)
   settled produced (AddPartitionsToTxn r) = add_keeps of (λ u c. same u u.book c u.groups) w caller r
   settled produced (AddOffsetsToTxn r) = asked (add_offsets_questions caller r.transactional_id r.group) _ (offsets_added w r) (same w w.book (offsets_added w r).world.coordinator w.groups)
-  settled produced (EndTxn r) = asked (id_question caller r.transactional_id ∷ []) _ (ended w r) (same w w.book (ended w r).world.coordinator w.groups)
+  settled produced (EndTxn r) = asked (end_questions caller r) _ (ended w r) (same w w.book (ended w r).world.coordinator w.groups)
   settled produced (TxnOffsetCommit r) = same w w.book w.coordinator (txn_offset_commit_outcome w caller r).world.groups
   settled produced (SaslHandshake r) = refl
   settled produced ApiVersions = refl

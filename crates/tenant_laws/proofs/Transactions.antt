@@ -1,5 +1,5 @@
 -- What a request for a transactional id was not granted is as before: its record, and what it owes.
-use Rattle.std.proofs.Common.{◌≡◌, ◌⊎◌, inl, inr, ℕ, ℤ, Bool, true, false, cond, List, [], ◌∷◌, ◌++◌, Option, Some, None, refl, sym, ap, ◌∙◌}
+use Rattle.std.proofs.Common.{◌≡◌, ◌⊎◌, inl, inr, ℕ, ℤ, Bool, true, false, cond, List, [], ◌∷◌, ◌++◌, Option, Some, None, refl, sym, ap, subst, ◌∙◌}
 use Rattle.std.specs.Prelude.{◌||◌}
 use Rattle.std.specs.List.{cons_option}
 use Rattle.std.specs.Str.{bytes_eq}
@@ -27,9 +27,8 @@ use Rattle.group_offsets.specs.declared.group.Group.{Group as GroupValue}
 use Rattle.group_offsets.specs.Groups.{find_group}
 use Rattle.broker_world.specs.World.{World, TopicValue, rules_of, find_topic}
 use Rattle.broker_world.specs.Whole.{Served, whole_by}
-use Rattle.txn_handlers.specs.InitProducerId.{init_question, coordinator_for, initialized, init_producer_id_outcome}
-use Rattle.broker_world.specs.Questions.{id_question}
-use Rattle.txn_handlers.specs.EndTxn.{ending, end_turn, ended, end_txn_outcome}
+use Rattle.txn_handlers.specs.InitProducerId.{init_questions, coordinator_for, initialized, init_producer_id_outcome}
+use Rattle.txn_handlers.specs.EndTxn.{end_turn, ended, end_txn_outcome, end_questions, ending_id, ending_outcome, form_of}
 use Rattle.txn_handlers.specs.AddPartitions.{add_questions, cut_rule, is_missing, is_cut, add_turn, cut_outcome, added_outcome, add_partitions_outcome, partitions_in, partitions_of}
 use Rattle.txn_handlers.specs.AddOffsets.{add_offsets_questions, add_offsets_turn, offsets_added, add_offsets_outcome}
 use Rattle.api_laws.specs.Tenants.{SameOn}
@@ -39,7 +38,7 @@ use Rattle.api_laws.proofs.Together.{keep_the_rest}
 use Rattle.api_laws.proofs.Staged.{staging_keeps}
 use Rattle.txn_handlers.proofs.Adds.{add_keeps}
 use Rattle.api_dispatch.specs.Questions.{partition_parts}
-use Rattle.tenant_laws.specs.Laws.{NoPartIsGranted, owed_by}
+use Rattle.tenant_laws.specs.Laws.{AsksAbout, NoPartIsGranted, owed_by}
 use Rattle.tenant_laws.proofs.Parts.{each_partition}
 use Rattle.tenant_laws.proofs.Owed.{other_owed, init_owes, end_owes, add_owes, add_group_owes}
 use Rattle.tenant_laws.proofs.Settled.{whole_keeps}
@@ -49,31 +48,31 @@ use Rattle.tenant_laws.proofs.Resources.{same_by, differ, id_kept, one_refused}
 
 module _ (w : World) (caller : Caller) (r : InitProducerIdRequest) (kind : Kind) (name : List ℕ) where
   init_groups : (init_producer_id_outcome w caller r).world.groups ≡ w.groups
-  init_groups = whole_keeps (λ (u : World). u.groups) (part_refusal (rules_of w) (init_question caller r.transactional_id ∷ [])) w _ (initialized w r) refl
+  init_groups = whole_keeps (λ (u : World). u.groups) (part_refusal (rules_of w) (init_questions (rules_of w) caller r.transactional_id)) w _ (initialized w r) refl
 
-  init_refused : (id : List ℕ) → r.transactional_id ≡ Some id → NoPartIsGranted w kind name ((init_question caller r.transactional_id ∷ []) ∷ []) → kind ≡ TransactionalId → name ≡ id → (init_producer_id_outcome w caller r).world ≡ w
+  init_refused : (id : List ℕ) → r.transactional_id ≡ Some id → NoPartIsGranted w kind name (init_questions (rules_of w) caller r.transactional_id ∷ []) → kind ≡ TransactionalId → name ≡ id → (init_producer_id_outcome w caller r).world ≡ w
   init_refused id is none k named =
-      one_refused w kind name (init_question caller r.transactional_id ∷ []) ((init_producer_id_outcome w caller r).world ≡ w) (λ refusal refused. (inits_once.refused w caller r refusal refused).world) none
-      (inl (ap (λ (x : Option (List ℕ)). (init_question caller x).kind) is ∙ sym k, ap (λ (x : Option (List ℕ)). (init_question caller x).name) is ∙ sym named))
+      one_refused w kind name (init_questions (rules_of w) caller r.transactional_id) ((init_producer_id_outcome w caller r).world ≡ w) (λ refusal refused. (inits_once.refused w caller r refusal refused).world) none
+      (subst (λ (x : Option (List ℕ)). AsksAbout kind name (init_questions (rules_of w) caller x)) (sym is) (inl (sym k, sym named)))
 
-  pub init_kept : NoPartIsGranted w kind name ((init_question caller r.transactional_id ∷ []) ∷ []) → SameOn w (init_producer_id_outcome w caller r).world kind name
+  pub init_kept : NoPartIsGranted w kind name (init_questions (rules_of w) caller r.transactional_id ∷ []) → SameOn w (init_producer_id_outcome w caller r).world kind name
   init_kept none = by_id r.transactional_id refl where
     by_id : (id : Option (List ℕ)) → r.transactional_id ≡ id → SameOn w (init_producer_id_outcome w caller r).world kind name
     by_id None is =
         same_by w (init_producer_id_outcome w caller r).world kind name (λ k. ap (λ (ts : List TopicValue). find_topic ts name) (init_depends.topics w caller r)) (λ k. ap (λ (gs : List GroupValue). find_group gs name) init_groups)
-        (λ k. whole_keeps (λ (u : World). recorded u.coordinator.transactions name) (part_refusal (rules_of w) (init_question caller r.transactional_id ∷ [])) w _ (initialized w r)
+        (λ k. whole_keeps (λ (u : World). recorded u.coordinator.transactions name) (part_refusal (rules_of w) (init_questions (rules_of w) caller r.transactional_id)) w _ (initialized w r)
         (ap (λ (id : Option (List ℕ)). recorded (coordinator_for id w.coordinator w.node.max_txn_timeout r.timeout).transactions name) is))
     by_id (Some id) is = id_kept w id (init_producer_id_outcome w caller r) (keep_the_rest.inits w caller r id is) init_groups kind name (λ k named. init_refused id is none k named)
 
 -- ---- EndTxn
 
 module _ (w : World) (caller : Caller) (r : EndTxnRequest) (kind : Kind) (name : List ℕ) where
-  end_refused : NoPartIsGranted w kind name ((id_question caller r.transactional_id ∷ []) ∷ []) → kind ≡ TransactionalId → name ≡ r.transactional_id → (end_txn_outcome w caller r).world ≡ w
-  end_refused none k named = one_refused w kind name (id_question caller r.transactional_id ∷ []) ((end_txn_outcome w caller r).world ≡ w) (λ refusal refused. (keep_the_rest.refused_end w caller r refusal refused).world) none (inl (sym k, sym named))
+  end_refused : NoPartIsGranted w kind name (end_questions caller r ∷ []) → kind ≡ TransactionalId → name ≡ ending_id r → (end_txn_outcome w caller r).world ≡ w
+  end_refused none k named = one_refused w kind name (end_questions caller r) ((end_txn_outcome w caller r).world ≡ w) (λ refusal refused. (keep_the_rest.refused_end w caller r refusal refused).world) none (inl (sym k, sym named))
 
-  pub end_kept : NoPartIsGranted w kind name ((id_question caller r.transactional_id ∷ []) ∷ []) → SameOn w (end_txn_outcome w caller r).world kind name
+  pub end_kept : NoPartIsGranted w kind name (end_questions caller r ∷ []) → SameOn w (end_txn_outcome w caller r).world kind name
   end_kept none =
-      id_kept w r.transactional_id (end_txn_outcome w caller r) (keep_the_rest.ends w caller r) (whole_keeps (λ (u : World). u.groups) (part_refusal (rules_of w) (id_question caller r.transactional_id ∷ [])) w _ (ended w r) refl) kind name (end_refused none)
+      id_kept w (ending_id r) (end_txn_outcome w caller r) (keep_the_rest.ends w caller r) (whole_keeps (λ (u : World). u.groups) (part_refusal (rules_of w) (end_questions caller r)) w _ (ended w r) refl) kind name (end_refused none)
 
 -- ---- AddPartitionsToTxn
 
@@ -142,23 +141,23 @@ module _ (w : World) (caller : Caller) (id : List ℕ) where
   pub whole_owed : (qs : List Question) (refused : ErrorCode → Reply) (served : Served) → SameOwed served.world → SameOwed (whole_by (part_refusal (rules_of w) qs) w refused served).world
   whole_owed qs refused served same = whole_keeps (λ (u : World). owed_by id u.coordinator.warrants) (part_refusal (rules_of w) qs) w refused served same
 
-  pub init_owed : (r : InitProducerIdRequest) → NoPartIsGranted w TransactionalId id ((init_question caller r.transactional_id ∷ []) ∷ []) → SameOwed (init_producer_id_outcome w caller r).world
+  pub init_owed : (r : InitProducerIdRequest) → NoPartIsGranted w TransactionalId id (init_questions (rules_of w) caller r.transactional_id ∷ []) → SameOwed (init_producer_id_outcome w caller r).world
   init_owed r none = by_id r.transactional_id refl where
     owed_for : Option (List ℕ) → List OwedMarker
     owed_for x = owed_by id (coordinator_for x w.coordinator w.node.max_txn_timeout r.timeout).warrants
 
     by_id : (x : Option (List ℕ)) → r.transactional_id ≡ x → SameOwed (init_producer_id_outcome w caller r).world
-    by_id None is = whole_owed (init_question caller r.transactional_id ∷ []) _ (initialized w r) (ap owed_for is)
+    by_id None is = whole_owed (init_questions (rules_of w) caller r.transactional_id) _ (initialized w r) (ap owed_for is)
     by_id (Some own) is =
         owed_after (init_producer_id_outcome w caller r).world own (λ named. init_refused w caller r TransactionalId id own is none refl named)
-        (λ apart. whole_owed (init_question caller r.transactional_id ∷ []) _ (initialized w r)
+        (λ apart. whole_owed (init_questions (rules_of w) caller r.transactional_id) _ (initialized w r)
         (ap owed_for is ∙ other_owed w.coordinator own id (init w.coordinator own r.timeout w.node.max_txn_timeout) (init_owes w.coordinator own r.timeout w.node.max_txn_timeout) apart))
 
-  pub end_owed : (r : EndTxnRequest) → NoPartIsGranted w TransactionalId id ((id_question caller r.transactional_id ∷ []) ∷ []) → SameOwed (end_txn_outcome w caller r).world
+  pub end_owed : (r : EndTxnRequest) → NoPartIsGranted w TransactionalId id (end_questions caller r ∷ []) → SameOwed (end_txn_outcome w caller r).world
   end_owed r none =
-      owed_after (end_txn_outcome w caller r).world r.transactional_id (end_refused w caller r TransactionalId id none refl)
-      (λ apart. whole_owed (id_question caller r.transactional_id ∷ []) _ (ended w r)
-      (other_owed w.coordinator r.transactional_id id (end_turn w.coordinator r) (end_owes w.coordinator r.transactional_id _ (ending r.committed)) apart))
+      owed_after (end_txn_outcome w caller r).world (ending_id r) (end_refused w caller r TransactionalId id none refl)
+      (λ apart. whole_owed (end_questions caller r) _ (ended w r)
+      (other_owed w.coordinator (ending_id r) id (end_turn w.coordinator r) (end_owes w.coordinator (form_of r) (ending_id r) _ (ending_outcome r)) apart))
 
   pub add_owed : (r : AddPartitionsToTxnRequest) → NoPartIsGranted w TransactionalId id (partition_parts (add_questions caller r.transactional_id) r.topics) → SameOwed (add_partitions_outcome w caller r).world
   add_owed r none = owed_after (add_partitions_outcome w caller r).world r.transactional_id (add_refused w caller r TransactionalId id none refl) (by_cut (is_cut caller r.transactional_id w.topics (rules_of w) r.topics)) where

@@ -3,7 +3,7 @@ use Rattle.std.proofs.Common.{◌≡◌, ℕ, Bool, true, List, [], ◌∷◌, O
 use Rattle.acl_binding.specs.declared.question.Caller.{Caller}
 use Rattle.acl_binding.specs.declared.question.Question.{Question}
 use Rattle.msg_admin.specs.declared.request.Request.{Request}
-use Rattle.broker_world.specs.World.{World}
+use Rattle.broker_world.specs.World.{World, rules_of}
 use Rattle.api_dispatch.specs.Step.{step}
 use Rattle.acl_binding.specs.declared.words.Kind.{Kind}
 use Rattle.audit_trail.specs.declared.event.Event.TheVariants.{Ask}
@@ -32,8 +32,9 @@ module _ (among : Kind → List ℕ → Bool) where
     for_parts : SameForParts v w caller request
     for_parts = record {
       numbers = record { node = agree.base.node; events = agree.base.events; given = agree.base.given };
+      questions = within.questions;
       verdicts = within.verdicts;
-      granted = about_parts v w caller request (filtered v w caller (parts_of caller request) (granted_each v w (parts_of caller request) (granted_among (questions_of caller request) within.granted)));
+      granted = about_parts v w caller request (filtered v w caller (parts_of (rules_of w) caller request) (granted_each v w (parts_of (rules_of w) caller request) (granted_among (questions_of (rules_of w) caller request) within.granted)));
       described = within.described;
       bindings = within.bindings;
     }
@@ -45,5 +46,5 @@ module _ (among : Kind → List ℕ → Bool) where
 
     pub agree_behind : AgreeAmong among (step v (Ask caller client request)) (step w (Ask caller client request))
     agree_behind =
-        let goes = agreement_goes_on v w caller client request (record { base = agree.base; verdicts = within.verdicts; granted = granted_among (questions_of caller request) within.granted; bindings = within.bindings }) in
+        let goes = agreement_goes_on v w caller client request (record { base = agree.base; questions = within.questions; verdicts = within.verdicts; granted = granted_among (questions_of (rules_of w) caller request) within.granted; bindings = within.bindings }) in
         record { base = goes.base; resources = λ kind name is. goes.resources kind name (agree.resources kind name is) }

@@ -48,12 +48,13 @@ pub record SameButForBook (v w : World) : Type 0 where
 abbrev pub SameVerdicts : World → World → List Question → Type 0
 SameVerdicts v w questions = AllByRecursion (λ (q : Question). verdict v.book v.supers q ≡ verdict w.book w.supers q) questions
 
--- the worlds agree on all that the request is granted
+-- the request asks the same in both worlds, which agree on all that it is granted
 pub record SameForRequest (v w : World) (caller : Caller) (request : Request) : Type 0 where
   pub base : SameButForBook v w
-  pub verdicts : SameVerdicts v w (questions_of caller request)
+  pub questions : parts_of (rules_of v) caller request ≡ parts_of (rules_of w) caller request
+  pub verdicts : SameVerdicts v w (questions_of (rules_of w) caller request)
   -- on each topic, group and transactional id on which a question is granted: whether it is there, and all that it holds
-  pub granted : SameGranted v w (questions_of caller request)
+  pub granted : SameGranted v w (questions_of (rules_of w) caller request)
   -- and where it is about the book of bindings: on the book
   pub bindings : is_about_bindings request ≡ true → v.book ≡ w.book
 
@@ -91,7 +92,7 @@ NoQuestionIsGranted w kind name questions = AllByRecursion (λ q. IsAbout kind n
 
 -- the event is a request, of which no question about the resource is granted
 abbrev pub IsUngranted : World → Kind → List ℕ → Event → Type 0
-IsUngranted w kind name (Ask caller client request) = NoQuestionIsGranted w kind name (questions_of caller request)
+IsUngranted w kind name (Ask caller client request) = NoQuestionIsGranted w kind name (questions_of (rules_of w) caller request)
 IsUngranted w kind name Mark = ⊥
 IsUngranted w kind name (Tick told) = ⊥
 
@@ -115,15 +116,15 @@ pub record KeepsSettings (w new : World) : Type 0 where
 pub record UngrantedStays : Type 0 where
   -- a topic with its logs, a group, a transactional id
   pub by_parts : (w : World) (caller : Caller) (client : Option (List ℕ)) (request : Request) (kind : Kind) (name : List ℕ)
-      → NoPartIsGranted w kind name (parts_of caller request) → SameOn w (step w (Ask caller client request)) kind name
+      → NoPartIsGranted w kind name (parts_of (rules_of w) caller request) → SameOn w (step w (Ask caller client request)) kind name
   pub by_questions : (w : World) (caller : Caller) (client : Option (List ℕ)) (request : Request) (kind : Kind) (name : List ℕ)
-      → NoQuestionIsGranted w kind name (questions_of caller request) → SameOn w (step w (Ask caller client request)) kind name
+      → NoQuestionIsGranted w kind name (questions_of (rules_of w) caller request) → SameOn w (step w (Ask caller client request)) kind name
   pub over_events : (w : World) (kind : Kind) (name : List ℕ) (events : List Event) → AreUngranted w kind name events → SameOn w (reached w events) kind name
   -- what a transactional id owes
   pub owed : (w : World) (caller : Caller) (client : Option (List ℕ)) (request : Request) (id : List ℕ)
-      → NoPartIsGranted w TransactionalId id (parts_of caller request) → owed_by id (step w (Ask caller client request)).coordinator.warrants ≡ owed_by id w.coordinator.warrants
+      → NoPartIsGranted w TransactionalId id (parts_of (rules_of w) caller request) → owed_by id (step w (Ask caller client request)).coordinator.warrants ≡ owed_by id w.coordinator.warrants
   -- the book of bindings, which is the cluster's
   pub book : (w : World) (caller : Caller) (client : Option (List ℕ)) (request : Request)
-      → NoQuestionIsGranted w Cluster cluster_name (questions_of caller request) → (step w (Ask caller client request)).book ≡ w.book
+      → NoQuestionIsGranted w Cluster cluster_name (questions_of (rules_of w) caller request) → (step w (Ask caller client request)).book ≡ w.book
   -- and whatever was granted
   pub settings : (w : World) (caller : Caller) (client : Option (List ℕ)) (request : Request) → KeepsSettings w (step w (Ask caller client request))

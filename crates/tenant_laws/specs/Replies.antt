@@ -45,8 +45,8 @@ SameAbout v w questions = AllByRecursion (λ (q : Question). SameOn v w q.kind q
 
 -- The parts of the request that are granted. An OffsetFetch comes to its partitions where its group may be described.
 abbrev pub granted_parts : Rules → Caller → Request → List (List Question)
-granted_parts rules caller (OffsetFetch r) = if is_granted rules (group_question caller r.group ∷ []) then filter (is_granted rules) (parts_of caller (OffsetFetch r)) else []
-granted_parts rules caller request = filter (is_granted rules) (parts_of caller request)
+granted_parts rules caller (OffsetFetch r) = if is_granted rules (group_question caller r.group ∷ []) then filter (is_granted rules) (parts_of rules caller (OffsetFetch r)) else []
+granted_parts rules caller request = filter (is_granted rules) (parts_of rules caller request)
 
 -- ---- a null list of topics
 
@@ -70,10 +70,12 @@ comes_to_all rules caller request = false
 
 -- ---- the laws
 
--- the worlds grant the same of the request's questions, and agree on all that its granted parts ask about
+-- The request asks the same in both worlds (what it asks depends on the book for an InitProducerId without an id alone).
+-- They grant the same of its questions, and agree on all that its granted parts ask about.
 pub record SameForReply (v w : World) (caller : Caller) (request : Request) : Type 0 where
   pub numbers : SameNumbers v w
-  pub grants : SameGrants v w (questions_of caller request)
+  pub questions : parts_of (rules_of v) caller request ≡ parts_of (rules_of w) caller request
+  pub grants : SameGrants v w (questions_of (rules_of w) caller request)
   pub granted : AllByRecursion (SameAbout v w) (granted_parts (rules_of w) caller request)
   -- where the list of topics is null: the same topics may be described, with as many partitions
   pub described : comes_to_all (rules_of w) caller request ≡ true → described_sizes (rules_of v) caller v.topics ≡ described_sizes (rules_of w) caller w.topics
@@ -88,7 +90,8 @@ RepliesDependOnGrantedParts = (v w : World) (caller : Caller) (client : Option (
 -- that binding.
 pub record SameForParts (v w : World) (caller : Caller) (request : Request) : Type 0 where
   pub numbers : SameNumbers v w
-  pub verdicts : SameVerdicts v w (questions_of caller request)
+  pub questions : parts_of (rules_of v) caller request ≡ parts_of (rules_of w) caller request
+  pub verdicts : SameVerdicts v w (questions_of (rules_of w) caller request)
   pub granted : AllByRecursion (SameAbout v w) (granted_parts (rules_of w) caller request)
   -- where the list of topics is null: the same topics may be described, with as many partitions
   pub described : comes_to_all (rules_of w) caller request ≡ true → described_sizes (rules_of v) caller v.topics ≡ described_sizes (rules_of w) caller w.topics

@@ -17,7 +17,7 @@ use Rattle.txn_coordinator.specs.declared.target.Target.{Target}
 use Rattle.txn_coordinator.specs.declared.target.Target.TheVariants.{Partition, Group}
 use Rattle.txn_coordinator.specs.Warrants.{owes}
 use Rattle.broker_world.specs.World.{World, rules_of}
-use Rattle.api_dispatch.specs.Questions.{questions_of}
+use Rattle.api_dispatch.specs.Questions.{parts_of, questions_of}
 use Rattle.api_dispatch.specs.Step.{step}
 use Rattle.request_handlers.specs.Core.{entry_of}
 use Rattle.plain_broker.specs.Plainness.{is_about_bindings}
@@ -53,9 +53,10 @@ told_second w (Marks ∷ rounds) = told_second (step w Mark) rounds
 -- By the books that are in force in the two runs.
 pub record AsksWithin (among : Kind → List ℕ → Bool) (v w : World) (caller : Caller) (request : Request) : Type 0 where
   -- what is granted of the request is among the resources
-  pub granted : AllByRecursion (λ (q : Question). verdict w.book w.supers q ≡ Yes → among q.kind q.name ≡ true) (questions_of caller request)
-  -- each of its questions has the same verdict
-  pub verdicts : SameVerdicts v w (questions_of caller request)
+  pub granted : AllByRecursion (λ (q : Question). verdict w.book w.supers q ≡ Yes → among q.kind q.name ≡ true) (questions_of (rules_of w) caller request)
+  -- it asks the same in both, and each of its questions has the same verdict
+  pub questions : parts_of (rules_of v) caller request ≡ parts_of (rules_of w) caller request
+  pub verdicts : SameVerdicts v w (questions_of (rules_of w) caller request)
   -- where it comes to all topics that may be described: these are the same, with as many partitions
   pub described : comes_to_all (rules_of w) caller request ≡ true → described_sizes (rules_of v) caller v.topics ≡ described_sizes (rules_of w) caller w.topics
   -- where it is about the book: that is the same

@@ -1,5 +1,5 @@
--- InitProducerId: a producer, or a transactional id, is given a producer id with an epoch (Kafka protocol guide, "InitProducerId API (Key: 22)"; KIP-98).
-use Rattle.std.specs.Prelude.{ℕ, ℤ, pos, negsuc, List, [], ◌∷◌, Option, Some, None}
+-- InitProducerId: a producer, or a transactional id, is given a producer id with an epoch (Kafka protocol guide, "InitProducerId API (Key: 22)"; KIP-98; KIP-679 for who may).
+use Rattle.std.specs.Prelude.{ℕ, ℤ, pos, negsuc, Bool, ◌&&◌, List, [], ◌∷◌, if◌then◌else◌, Option, Some, None, is_some}
 use Rattle.wire_types.specs.declared.error_code.ErrorCode.{ErrorCode}
 use Rattle.wire_types.specs.declared.error_code.ErrorCode.TheVariants as codes
 use Rattle.msg_txn.specs.declared.init_producer_id.InitProducerIdRequest.{InitProducerIdRequest}
@@ -12,12 +12,14 @@ use Rattle.acl_binding.specs.Creatable.{cluster_name}
 use Rattle.acl_binding.specs.Verdict.{asked}
 use Rattle.msg_admin.specs.declared.reply.Reply.{Reply}
 use Rattle.msg_admin.specs.declared.reply.Reply.TheVariants as replies
+use Rattle.authorizer.specs.AnyTopic.{any_topic}
+use Rattle.authorizer.specs.Asking.{Rules, question_refusal}
 use Rattle.authorizer.specs.Policy.{PolicyValue, PermitValue, IsGood}
 use Rattle.txn_coordinator.specs.Permission.{MayWrite}
 use Rattle.txn_coordinator.specs.declared.pair.PairAnswer.{PairAnswer}
 use Rattle.txn_coordinator.specs.Coordinator.{CoordinatorValue, fresh, given_free, turned, turn_answer}
 use Rattle.txn_coordinator.specs.InitProducerId.{init}
-use Rattle.broker_world.specs.World.{World}
+use Rattle.broker_world.specs.World.{World, rules_of}
 use Rattle.broker_world.specs.Outcome.{Outcome}
 use Rattle.broker_world.specs.Whole.{Served, whole}
 
@@ -25,6 +27,14 @@ use Rattle.broker_world.specs.Whole.{Served, whole}
 abbrev pub init_question : Caller → Option (List ℕ) → Question
 init_question caller None = asked caller operations.IdempotentWrite kinds.Cluster cluster_name
 init_question caller (Some id) = asked caller operations.Write kinds.TransactionalId id
+
+-- who isn't granted that without an id but may write to some topic is asked nothing (KIP-679)
+abbrev pub is_waived : Rules → Caller → Bool
+is_waived rules caller = any_topic rules.book.entries caller.who caller.host && is_some (question_refusal rules (init_question caller None))
+
+abbrev pub init_questions : Rules → Caller → Option (List ℕ) → List Question
+init_questions rules caller None = if is_waived rules caller then [] else init_question caller None ∷ []
+init_questions rules caller (Some id) = init_question caller (Some id) ∷ []
 
 -- a producer id with its first epoch
 abbrev pub init_given : ℤ → InitProducerIdReply
@@ -57,7 +67,7 @@ abbrev pub initialized : World → InitProducerIdRequest → Served
 initialized w r = record { world = record w { coordinator = coordinator_after w.coordinator w.node.max_txn_timeout r }; reply = init_reply w.coordinator w.node.max_txn_timeout r }
 
 abbrev pub init_producer_id_outcome : World → Caller → InitProducerIdRequest → Outcome
-init_producer_id_outcome w caller r = whole w (init_question caller r.transactional_id ∷ []) (λ code. replies.InitProducerId (init_error code)) (initialized w r)
+init_producer_id_outcome w caller r = whole w (init_questions (rules_of w) caller r.transactional_id) (λ code. replies.InitProducerId (init_error code)) (initialized w r)
 
 -- ---- who may
 

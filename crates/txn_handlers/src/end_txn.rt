@@ -1,23 +1,21 @@
 //! EndTxn: a transaction is committed or aborted.
 
-ghost use Rattle.std.specs.Prelude.{◌≡◌, ◌∷◌, [], IfOk, OnOk};
+ghost use Rattle.std.specs.Prelude.{◌≡◌, IfOk, OnOk};
 ghost use Rattle.authorizer.specs.Asking.{part_paid};
 ghost use Rattle.broker_world.specs.World.{rules_of};
 ghost use Rattle.txn_coordinator.specs.Permission.{MayWrite as MayWriteId};
-ghost use Rattle.txn_coordinator.specs.Coordinator.{turned, turn_code};
-ghost use Rattle.broker_world.specs.Questions.{id_question};
-ghost use Rattle.txn_handlers.specs.EndTxn.{ending, end_reply, end_turn, end_txn_outcome};
+ghost use Rattle.txn_coordinator.specs.Coordinator.{turned, turn_answer};
+ghost use Rattle.txn_handlers.specs.EndTxn.{form_of, ending_id, ending, end_questions, end_reply, end_turn, end_txn_outcome};
 
-use acl_binding::{Caller, Kind, Operation, Question};
+use acl_binding::Caller;
 use authorizer::{Paid, Permit, Policy, Spent, ask_one};
 use broker_world::{Outcome, State, id_question, refused_whole, served_whole};
 use msg_admin::Reply;
-use msg_txn::{EndTxnReply, EndTxnRequest};
+use msg_txn::{EndTxnReply, EndTxnRequest, Ended, EndedWithPair, FlexibleEnded};
 use record_batch::Outcome as Ending;
 use std::alloc::{AllocError, Global};
-use txn_coordinator::{Coordinator, EndForm, Pair};
+use txn_coordinator::{Coordinator, EndForm, Pair, PairAnswer};
 use walk::refusal_code;
-use wire_types::{ErrorCode, Text};
 
 fn ending(committed: bool) -> Ending
     ensures { result ≡ ending committed }
@@ -29,10 +27,36 @@ fn ending(committed: bool) -> Ending
     }
 }
 
-fn end_reply(error: ErrorCode) -> Reply
-    ensures { result ≡ Reply.EndTxn (end_reply error) }
+/// What the request's version asks for.
+fn form_of(request: &EndTxnRequest) -> EndForm
+    ensures { result ≡ form_of request.now }
 {
-    Reply::EndTxn(EndTxnReply { throttle: 0, error })
+    match request {
+        EndTxnRequest::Version0(_) | EndTxnRequest::Version1(_) => EndForm::Plain,
+        EndTxnRequest::Version2(_) => EndForm::Fencing,
+        EndTxnRequest::Version3(_) | EndTxnRequest::Version4(_) => EndForm::Fencing,
+        EndTxnRequest::Version5(_) => EndForm::Raising,
+    }
+}
+
+/// The answer in the request's version.
+fn end_reply(request: &EndTxnRequest, answer: PairAnswer) -> Reply
+    ensures { result ≡ Reply.EndTxn (end_reply request.now answer) }
+{
+    let (throttle, error) = (0, answer.code);
+    Reply::EndTxn(match request {
+        EndTxnRequest::Version0(_) => EndTxnReply::Version0(Ended { throttle, error }),
+        EndTxnRequest::Version1(_) => EndTxnReply::Version1(Ended { throttle, error }),
+        EndTxnRequest::Version2(_) => EndTxnReply::Version2(Ended { throttle, error }),
+        EndTxnRequest::Version3(_) => EndTxnReply::Version3(FlexibleEnded { throttle, error }),
+        EndTxnRequest::Version4(_) => EndTxnReply::Version4(FlexibleEnded { throttle, error }),
+        EndTxnRequest::Version5(_) => EndTxnReply::Version5(EndedWithPair {
+            throttle,
+            error,
+            producer: answer.pair.producer,
+            epoch: answer.pair.epoch,
+        }),
+    })
 }
 
 /// Ends the transaction by a permit for its id.
@@ -42,21 +66,22 @@ fn end_by(
     policy: &Policy,
     permit: Permit,
     request: &EndTxnRequest,
-) -> Result<(Spent, ErrorCode), AllocError>
-    requires { MayWriteId policy.now permit request.now.transactional_id }
+) -> Result<(Spent, PairAnswer), AllocError>
+    requires { MayWriteId policy.now permit (ending_id request.now) }
     ensures spent { IfOk result (λ r. r.0 ≡ permit.question) }
     ensures coordinator { OnOk result (coordinator.new ≡ turned coordinator.old (end_turn coordinator.old request.now)) }
-    ensures code { IfOk result (λ r. r.1 ≡ turn_code (end_turn coordinator.old request.now)) }
+    ensures answer { IfOk result (λ r. r.1 ≡ turn_answer coordinator.old (ending_id request.now) (end_turn coordinator.old request.now)) }
 {
+    let asked = request.asked();
     let pair = Pair {
-        producer: request.producer,
-        epoch: request.epoch,
+        producer: asked.producer,
+        epoch: asked.epoch,
     };
-    let outcome = ending(request.committed);
-    let id = &request.transactional_id;
-    let (spent, answer) = coordinator.end(alloc, policy, permit, EndForm::Plain, id, pair, outcome);
-    let answer = answer?;
-    Ok((spent, answer.code))
+    let outcome = ending(asked.committed);
+    let id = &asked.transactional_id;
+    let form = form_of(request);
+    let (spent, answer) = coordinator.end(alloc, policy, permit, form, id, pair, outcome);
+    Ok((spent, answer?))
 }
 
 /// What an EndTxn does and is answered.
@@ -69,19 +94,22 @@ pub fn answer_end_txn(
     ensures world { OnOk result (state.new ≡ (end_txn_outcome state.old caller.now request.now).world) }
     ensures reply { IfOk result (λ o. o.reply ≡ (end_txn_outcome state.old caller.now request.now).reply) }
     ensures refusals { IfOk result (λ o. o.refusals ≡ (end_txn_outcome state.old caller.now request.now).refusals) }
-    ensures paid { IfOk result (λ o. o.paid ≡ part_paid (rules_of state.old) (id_question caller.now request.now.transactional_id ∷ [])) }
+    ensures paid { IfOk result (λ o. o.paid ≡ part_paid (rules_of state.old) (end_questions caller.now request.now)) }
     ensures spent { IfOk result (λ o. o.spent ≡ 0) }
 {
-    let question = id_question(caller, &request.transactional_id)?;
+    let question = id_question(caller, &request.asked().transactional_id)?;
     match ask_one(&state.policy, question) {
         Ok(permit) => {
             let (coordinator, policy) = (&mut state.coordinator, &state.policy);
-            let (spent, code) = end_by(alloc, coordinator, policy, permit, request)?;
-            Ok(served_whole(alloc, end_reply(code), Paid::one(spent)))
+            let (spent, answer) = end_by(alloc, coordinator, policy, permit, request)?;
+            Ok(served_whole(alloc, end_reply(request, answer), Paid::one(spent)))
         }
         Err(refusal) => {
-            let reply = end_reply(refusal_code(&refusal));
-            refused_whole(alloc, reply, refusal)
+            let answer = PairAnswer {
+                code: refusal_code(&refusal),
+                pair: Pair::NONE,
+            };
+            refused_whole(alloc, end_reply(request, answer), refusal)
         }
     }
 }

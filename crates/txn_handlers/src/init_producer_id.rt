@@ -1,9 +1,10 @@
 //! InitProducerId: a producer, or a transactional id, is given a producer id with an epoch.
 
-ghost use Rattle.std.specs.Prelude.{◌≡◌, ◌∷◌, [], IfOk, OnOk};
+ghost use Rattle.std.specs.Prelude.{◌≡◌, ◌&&◌, is_none, IfOk, OnOk};
+ghost use Rattle.authorizer.specs.AnyTopic.{any_topic};
 ghost use Rattle.authorizer.specs.Asking.{part_paid};
 ghost use Rattle.broker_world.specs.World.{rules_of};
-ghost use Rattle.txn_handlers.specs.InitProducerId.{IsInitPermit, init_question, init_given, init_error, init_answered, init_reply, coordinator_after, init_producer_id_outcome};
+ghost use Rattle.txn_handlers.specs.InitProducerId.{IsInitPermit, init_question, init_questions, init_given, init_error, init_answered, init_reply, coordinator_after, init_producer_id_outcome};
 
 use acl_binding::{Caller, Kind, Operation, Question};
 use authorizer::{Paid, Permit, Policy, Spent, ask_one};
@@ -69,7 +70,7 @@ pub fn answer_init_producer_id(
     ensures world { OnOk result (state.new ≡ (init_producer_id_outcome state.old caller.now request.now).world) }
     ensures reply { IfOk result (λ o. o.reply ≡ (init_producer_id_outcome state.old caller.now request.now).reply) }
     ensures refusals { IfOk result (λ o. o.refusals ≡ (init_producer_id_outcome state.old caller.now request.now).refusals) }
-    ensures paid { IfOk result (λ o. o.paid ≡ part_paid (rules_of state.old) (init_question caller.now request.now.transactional_id ∷ [])) }
+    ensures paid { IfOk result (λ o. o.paid ≡ part_paid (rules_of state.old) (init_questions (rules_of state.old) caller.now request.now.transactional_id)) }
     ensures spent { IfOk result (λ o. o.spent ≡ 0) }
 {
     let question = init_question(alloc, caller, &request.transactional_id)?;
@@ -80,11 +81,22 @@ pub fn answer_init_producer_id(
             let (spent, reply) = initialize(alloc, coordinator, policy, permit, greatest, request)?;
             Ok(served_whole(alloc, reply, Paid::one(spent)))
         }
+        Err(_) if any_topic_suffices(state, caller, request) => {
+            let reply = init_given(state.coordinator.fresh()?);
+            Ok(served_whole(alloc, reply, Paid::nothing()))
+        }
         Err(refusal) => {
             let reply = init_error(refusal_code(&refusal));
             refused_whole(alloc, reply, refusal)
         }
     }
+}
+
+/// Without an id it is enough that the caller may write to some topic.
+fn any_topic_suffices(state: &State, caller: &Caller, request: &InitProducerIdRequest) -> bool
+    ensures { result ≡ (is_none request.now.transactional_id && any_topic state.now.book.entries caller.now.who caller.now.host) }
+{
+    request.transactional_id.is_none() && state.policy.any_topic(&caller.who, &caller.host)
 }
 
 /// Gives out the next producer id, or has the coordinator give the transactional id its next pair.

@@ -1,8 +1,7 @@
-use Rattle.std.proofs.Common.{ap, rules}
-use Rattle.txn_coordinator.specs.declared.pair.PairAnswer.{PairAnswer}
+use Rattle.std.proofs.Common.{rules}
 use Rattle.txn_handlers.proofs.end_txn.end_by.Goals as goal
 
-pub returns-clause-code : goal.returns-clause-code
-returns-clause-code c =
+pub returns-clause-answer : goal.returns-clause-answer
+returns-clause-answer c =
     let told = rw c.in_ok-answer.was at c.end-spent.ensures.answer in
-    search (rules, ap (λ (a : PairAnswer). a.code) told)
+    search (rules, told)

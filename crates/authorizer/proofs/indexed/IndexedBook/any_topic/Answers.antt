@@ -1,0 +1,26 @@
+use Rattle.std.proofs.Common.{Bool, ◌&&◌, ◌||◌, sym, ap, ◌∙◌}
+use Rattle.std.specs.List.{list_any}
+use Rattle.std.proofs.lemmas.Bool.{or_left}
+use Rattle.acl_binding.specs.declared.words.Kind.TheVariants.{Topic}
+use Rattle.acl_binding.specs.declared.words.Pattern.TheVariants.{Literal, Prefixed}
+use Rattle.acl_binding.specs.declared.binding.Numbered.{Numbered}
+use Rattle.authorizer.specs.AnyTopic.{is_of, is_unbarred}
+use Rattle.authorizer.specs.Looking.{IsKindIndexed}
+use Rattle.authorizer.proofs.Unbarred.{any_of_both}
+use Rattle.authorizer.proofs.indexed.IndexedBook.any_topic.Goals as goal
+
+pub returns-then-any_unbarred : goal.returns-then-any_unbarred
+returns-then-any_unbarred c =
+    let es = c.args.self.now.entries in
+    let is : IsKindIndexed c.of-topics.result.now Topic es = rw c.of-topics.ensures c.index.ensures.indexed.topics in
+    c.if-any_unbarred.true
+    ∙ sym (or_left _ (list_any (λ (e : Numbered). is_of Topic Prefixed e && is_unbarred es c.args.who.now c.args.host.now e) es) (sym (c.any_unbarred.ensures Topic Literal es is.literal) ∙ c.if-any_unbarred.true))
+    ∙ any_of_both (is_unbarred es c.args.who.now c.args.host.now) es
+
+pub returns-else-any_unbarred : goal.returns-else-any_unbarred
+returns-else-any_unbarred c =
+    let es = c.args.self.now.entries in
+    let is : IsKindIndexed c.of-topics.result.now Topic es = rw c.of-topics.ensures c.index.ensures.indexed.topics in
+    c.any_unbarred-else-any_unbarred.ensures Topic Prefixed es is.prefixed
+    ∙ sym (ap (λ (x : Bool). x || list_any (λ (e : Numbered). is_of Topic Prefixed e && is_unbarred es c.args.who.now c.args.host.now e) es) (sym (c.any_unbarred.ensures Topic Literal es is.literal) ∙ c.if-any_unbarred.false))
+    ∙ any_of_both (is_unbarred es c.args.who.now c.args.host.now) es

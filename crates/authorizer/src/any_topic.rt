@@ -1,0 +1,95 @@
+//! Whether a caller may write to any topic at all.
+
+ghost use Rattle.std.specs.Prelude.{◌≡◌, ◌==◌, ◌&&◌, List, filter as kept};
+ghost use Rattle.std.specs.List.{list_any, AllByRecursion};
+ghost use Rattle.acl_binding.specs.declared.binding.Numbered.{Numbered as Entry};
+ghost use Rattle.acl_binding.specs.declared.words.Kind.TheVariants.{Topic};
+ghost use Rattle.acl_binding.specs.declared.words.Pattern.TheVariants.{Literal, Prefixed};
+ghost use Rattle.acl_binding.specs.Words.{pattern_number};
+ghost use Rattle.authorizer.specs.AnyTopic.{bars_write, is_star, is_barred, is_barred_by_name, is_unbarred, any_topic};
+ghost use Rattle.authorizer.specs.Index.{held_by};
+ghost use Rattle.authorizer.specs.Looking.{is_longer, IsNamed, IsTableOf};
+
+use crate::indexed::IndexedBook;
+use crate::names::{ANY_NAME, Names};
+use acl_binding::{Binding, Kind, Numbered, Operation, Pattern};
+use wire_types::{Shared, Text};
+
+/// One of these is a DENY of writing, or of all, for the caller.
+fn bar_write(entries: &[Shared<Numbered>], who: &Text, host: &Text) -> bool
+    ensures { result ≡ list_any (λ (e : Entry). bars_write who.now host.now e.binding) entries.now }
+{
+    entries.iter().any(|entry| {
+        let binding = &entry.value().binding;
+        binding.applies(who, host) && binding.denies(Operation::Write)
+    })
+}
+
+/// The binding is for each name.
+fn is_star(binding: &Binding) -> bool
+    ensures { result ≡ is_star binding.now }
+{
+    binding.pattern == Pattern::Literal && binding.name.as_str() == ANY_NAME
+}
+
+/// The binding is literal, and one of the same name is such a DENY.
+fn own_name_bars(names: &Names, binding: &Binding, who: &Text, host: &Text) -> bool
+    ensures { result ≡ ((pattern_number binding.now.pattern == pattern_number Literal) && list_any (λ (e : Entry). bars_write who.now host.now e.binding) (held_by names.now binding.now.name)) }
+{
+    binding.pattern == Pattern::Literal && bar_write(names.held(binding.name.as_str()), who, host)
+}
+
+/// A prefixed one whose name begins this one is such a DENY.
+fn beginnings_bar_write(names: &Names, name: &Text, who: &Text, host: &Text) -> bool
+    ensures { (es : List Entry) → AllByRecursion IsNamed es → IsTableOf names.now Topic Prefixed es → result ≡ list_any (λ (e : Entry). bars_write who.now host.now e.binding) (kept (is_longer Topic name.now 0) es) }
+{
+    let text = name.as_str();
+    let mut end = 0;
+    for c in text.chars() {
+        end += c.len_utf8();
+        if bar_write(names.held(&text[..end]), who, host) {
+            return true;
+        }
+    }
+    false
+}
+
+impl IndexedBook {
+    /// Some binding lets the caller write to topics, and no denial stands over it.
+    pub(crate) fn any_topic(&self, who: &Text, host: &Text) -> bool
+        ensures { result ≡ any_topic self.now.entries who.now host.now }
+    {
+        let topics = self.index().of(Kind::Topic);
+        topics.literal.any_unbarred(self, who, host)
+            || topics.prefixed.any_unbarred(self, who, host)
+    }
+
+    /// The binding lets the caller write, and no denial stands over it.
+    pub(crate) fn is_unbarred(&self, entry: &Numbered, who: &Text, host: &Text) -> bool
+        ensures { result ≡ is_unbarred self.now.entries who.now host.now entry.now }
+    {
+        let binding = &entry.binding;
+        binding.applies(who, host)
+            && binding.allows(Operation::Write)
+            && !self.is_barred(binding, who, host)
+    }
+
+    /// A denial stands over what the binding allows: one of `*`, or, unless that is the binding's own name, one of its
+    /// name or of a beginning.
+    fn is_barred(&self, binding: &Binding, who: &Text, host: &Text) -> bool
+        ensures { result ≡ is_barred self.now.entries who.now host.now binding.now }
+    {
+        let topics = self.index().of(Kind::Topic);
+        bar_write(topics.literal.held(ANY_NAME), who, host)
+            || !is_star(binding) && self.is_barred_by_name(binding, who, host)
+    }
+
+    /// A denial of the binding's own literal name, or of a beginning of its name.
+    fn is_barred_by_name(&self, binding: &Binding, who: &Text, host: &Text) -> bool
+        ensures { result ≡ is_barred_by_name self.now.entries who.now host.now binding.now }
+    {
+        let topics = self.index().of(Kind::Topic);
+        own_name_bars(&topics.literal, binding, who, host)
+            || beginnings_bar_write(&topics.prefixed, &binding.name, who, host)
+    }
+}
