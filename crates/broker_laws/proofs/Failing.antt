@@ -71,8 +71,8 @@ module _ (w : World) (pair : Pair) (away : TurnsAway w.coordinator pair) where
   endings_fail r reply same (Some refusal) told none = absurd (never_none refusal.question.kind (end_code r _ reply told ∙ none))
   endings_fail r reply same None told none =
       let repeated =
-          away.endings (form_of r) (ending_id r) (ending_outcome r)
-          (subst (λ (p : Pair). turn_code (end w.coordinator (form_of r) (ending_id r) p (ending_outcome r)) ≡ codes.None) same (end_code r _ reply told ∙ none)) in
+      away.endings (form_of r) (ending_id r) (ending_outcome r)
+      (subst (λ (p : Pair). turn_code (end w.coordinator (form_of r) (ending_id r) p (ending_outcome r)) ≡ codes.None) same (end_code r _ reply told ∙ none)) in
       let version = raising_version r repeated.raises in
       (version.0, version.1, subst (λ (f : EndForm). IsRepeated w.coordinator f (ending_id r) pair (ending_outcome r)) repeated.raises repeated)
 
