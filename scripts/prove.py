@@ -237,6 +237,7 @@ def prove(rt, names):
     """Proves and builds these crates and what they stand on, and returns the progress at the end."""
     rt.rtlib.guarded()  # the guard starts here, with the first process that it is to end
     crates = load_crates(rt, names)
+    check_layout(rt, crates)
     removed = set()
     while True:
         progress, left = Progress(len(crates), "functions"), lacking(crates)
@@ -254,6 +255,14 @@ def prove(rt, names):
             for name in stale:
                 print(f"kbroker: what is kept of {name} is made anew", file=sys.stderr)
                 shutil.rmtree(ROOT / "crates" / name / "out", ignore_errors=True)
+
+
+def check_layout(rt, crates):
+    """Ends where a crate isn't in the layout: `rt ci`, and so the gate, proves none that isn't."""
+    files = [it for crate in crates for it in rt.rtlib.files_of(crate.folder) if it.endswith((".rt", ".antt"))]
+    ran = subprocess.run([rt.rtlib.RATTLE, "fmt", "--check", *files], stdout=subprocess.DEVNULL, stderr=subprocess.PIPE)
+    if ran.returncode:
+        sys.exit(f"{ran.stderr.decode()}kbroker: run rt fmt in these crates' folders")
 
 
 def hold_alone():
