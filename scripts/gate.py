@@ -22,6 +22,7 @@ LOG = ROOT / "out/gate.log"
 TIMES = ROOT / "out/gate.json"
 SCRIPTS = (
     "answers.py",
+    "shown.py",
     "lines.py",
     "settings.py",
     "histories.py",
@@ -32,6 +33,8 @@ SCRIPTS = (
     "worn_epochs.py",
     "served.py",
     "soak.py",
+    "steered.py",
+    "lesson.py",
     "must_not_compile.py",
 )
 # rt gives a proof only the processors that no other one waits for, also where all the others could wait. So what all the

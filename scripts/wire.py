@@ -125,6 +125,9 @@ DEFAULTS = {
     "max_bytes": 1 << 20, "protocol_type": "consumer", "member": "", "require_stable": False,
 }
 
+# An answer that is no longer than this is printed in one line.
+LINE = 240
+
 NUMBERS = {"i8": ">b", "i16": ">h", "i32": ">i", "i64": ">q"}
 TOKEN = re.compile(r"\s*([\[\],?]|[a-z_0-9]+)")
 
@@ -455,6 +458,32 @@ def committed(partition, offset=0):
     return [(it.offset, it.value) for it in left if it.offset >= offset]
 
 
+def partitions_of(told):
+    """Each partition of a request's or an answer's topics, with its topic's name."""
+    for topic in told.get("topics") or ():
+        for partition in topic.get("partitions") or () if isinstance(topic, dict) else ():
+            if isinstance(partition, dict):
+                yield topic["topic"], partition
+
+
+def make_batches(fields):
+    """Makes a batch of each partition's records that are told by the arguments of `batch`, as {"values": ["one"]}."""
+    for _, partition in partitions_of(fields):
+        if isinstance(partition.get("records"), dict):
+            told = dict(partition["records"])
+            values = [value.encode() for value in told.pop("values")]
+            partition["records"] = batch(values, **told)
+
+
+def show_records(fields, answer):
+    """Puts the records that a consumer shows, with their offsets, in place of a fetch's bytes."""
+    asked = {(name, it.get("index")): it.get("offset", 0) for name, it in partitions_of(fields)}
+    for name, partition in partitions_of(answer):
+        if isinstance(partition.get("records"), bytes):
+            records = committed(partition, asked.get((name, partition["index"]), 0))
+            partition["records"] = [[offset, value and value.decode(errors="replace")] for offset, value in records]
+
+
 def main():
     if len(sys.argv) not in (5, 6) or sys.argv[4] not in APIS:
         sys.exit(f"usage: wire.py HOST:PORT USER PASSWORD API ['JSON']\nThe apis are {', '.join(APIS)}.")
@@ -464,8 +493,11 @@ def main():
         code = broker.login(user, password)
         if code:
             sys.exit(f"the login is answered {code}")
+        make_batches(fields)
         answer = broker.ask(api, **fields)
-    print(json.dumps(answer, indent=1, default=lambda data: data.hex()))
+    show_records(fields, answer)
+    line = json.dumps(answer, default=lambda data: data.hex())
+    print(line if len(line) <= LINE else json.dumps(answer, indent=1, default=lambda data: data.hex()))
 
 
 if __name__ == "__main__":

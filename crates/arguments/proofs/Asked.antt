@@ -22,11 +22,11 @@ use Rattle.clap.specs.declared.parser.matches.SubCommand.{SubCommand}
 use Rattle.std.specs.Box.{box_value}
 use Rattle.clap.proofs.OnLiterals.{clap_on_literals}
 use Rattle.arguments.specs.CommandLine.{command_line}
-use Rattle.arguments.specs.Asked.{AsksNothing, AsksToServe, IsAsked, begin_with}
+use Rattle.arguments.specs.Asked.{AsksNothing, AsksToServe, AsksToShow, IsAsked, begin_with}
 use Rattle.arguments.specs.Serving.{IsServedBy, NoneServes}
 use Rattle.arguments.specs.Job.{job_asked, job_named, job_of}
 use Rattle.arguments.specs.declared.job.Job.{Job}
-use Rattle.arguments.specs.declared.job.Job.TheVariants.{Replay, Check, Serve}
+use Rattle.arguments.specs.declared.job.Job.TheVariants.{Replay, Check, Serve, Show}
 use Rattle.arguments.specs.declared.serving.Serving.{Serving}
 use Rattle.arguments.proofs.Refused.{after_dashes, dashes, first_empty, leaf_words, not_empty, second_empty, start, word_refused}
 
@@ -38,6 +38,9 @@ check = codes "check"
 
 abbrev serve : Text
 serve = codes "serve"
+
+abbrev show : Text
+show = codes "show"
 
 -- ---- one level of a parse
 
@@ -66,7 +69,7 @@ stopped_walk c names w name before (x ∷ xs) =
 -- ---- what may follow the program's own name
 
 abbrev names : Names
-names = (replay, []) ∷ (check, []) ∷ (serve, []) ∷ (codes "help", []) ∷ []
+names = (replay, []) ∷ (check, []) ∷ (serve, []) ∷ (show, []) ∷ (codes "help", []) ∷ []
 
 abbrev fault_at : List Text → Kinds
 fault_at words = built_fault (built command_line) nothing_held words
@@ -125,21 +128,21 @@ passed_over word name rest other = go (bytes_eq name word) refl
         cc
     go false is = rw is refl
 
-other_refused : (word : Text) (rest : List Text) → bytes_eq word replay ≡ false → bytes_eq word check ≡ false → bytes_eq word serve ≡ false → bytes_eq word (codes "help") ≡ false → bytes_eq word dashes ≡ false → fault_at (word ∷ rest) ≡ [] → ⊥
+other_refused : (word : Text) (rest : List Text) → bytes_eq word replay ≡ false → bytes_eq word check ≡ false → bytes_eq word serve ≡ false → bytes_eq word show ≡ false → bytes_eq word (codes "help") ≡ false → bytes_eq word dashes ≡ false → fault_at (word ∷ rest) ≡ [] → ⊥
 unfolding command_line clap_on_literals
-other_refused word rest no_replay no_check no_serve no_help no_dashes e =
+other_refused word rest no_replay no_check no_serve no_show no_help no_dashes e =
     let a : App = built command_line in
     let words : List Text = word ∷ rest in
     let stop : Option (Text × List Text) = (walk a.top.rules names nothing_held words).stopped in
     let pass : walk_fault top names start words ≡ [] = words_pass a.top names words (is_some (entered a stop)) (entered_fault a stop) e in
-    let none : find (answers_to word) names ≡ None = passed_over word replay ((check, []) ∷ (serve, []) ∷ (codes "help", []) ∷ []) no_replay ∙ (passed_over word check ((serve, []) ∷ (codes "help", []) ∷ []) no_check ∙ (passed_over word serve ((codes "help", []) ∷ []) no_serve ∙ passed_over word (codes "help") [] no_help)) in
+    let none : find (answers_to word) names ≡ None = passed_over word replay ((check, []) ∷ (serve, []) ∷ (show, []) ∷ (codes "help", []) ∷ []) no_replay ∙ (passed_over word check ((serve, []) ∷ (show, []) ∷ (codes "help", []) ∷ []) no_check ∙ (passed_over word serve ((show, []) ∷ (codes "help", []) ∷ []) no_serve ∙ (passed_over word show ((codes "help", []) ∷ []) no_show ∙ passed_over word (codes "help") [] no_help))) in
     word_refused top word names (ap (option_map (λ (p : Text × List Text). p.0)) none) no_dashes
     (first_empty (turn_fault top names start word) (walk_fault top names (walked top.rules names start word) rest) pass)
 
 -- ---- the words that are taken
 
 abbrev Taken : List Text → Type 0
-Taken words = ((words ≡ replay ∷ []) ⊎ (words ≡ replay ∷ dashes ∷ [])) ⊎ (((words ≡ check ∷ []) ⊎ (words ≡ check ∷ dashes ∷ [])) ⊎ ((rest : List Text) × (words ≡ serve ∷ rest)))
+Taken words = ((words ≡ replay ∷ []) ⊎ (words ≡ replay ∷ dashes ∷ [])) ⊎ (((words ≡ check ∷ []) ⊎ (words ≡ check ∷ dashes ∷ [])) ⊎ (((rest : List Text) × (words ≡ serve ∷ rest)) ⊎ ((rest : List Text) × (words ≡ show ∷ rest))))
 
 begun : (word name : Text) (rest : List Text) → word ≡ name → (rest ≡ []) ⊎ (rest ≡ dashes ∷ []) → (word ∷ rest ≡ name ∷ []) ⊎ (word ∷ rest ≡ name ∷ dashes ∷ [])
 begun word name rest is (inl none) = inl (ap₂ (λ (w : Text) (l : List Text). w ∷ l) is none)
@@ -160,12 +163,15 @@ taken_words (word ∷ rest) e =
             let is = (bytes_eq-Decides word check).0 same in
             inr (inl (begun word check rest is (after_check rest (subst (starting rest) is e))))
         | inr no_check ↦ elim (cases_Bool (bytes_eq word serve)) [
-          | inl same ↦ inr (inr (rest, ap (λ (w : Text). w ∷ rest) ((bytes_eq-Decides word serve).0 same)))
-          | inr no_serve ↦ elim (cases_Bool (bytes_eq word (codes "help"))) [
-            | inl same ↦ absurd (help_refused rest (subst (starting rest) ((bytes_eq-Decides word (codes "help")).0 same) e))
-            | inr no_help ↦ elim (cases_Bool (bytes_eq word dashes)) [
-              | inl same ↦ absurd (dashes_refused rest (subst (starting rest) ((bytes_eq-Decides word dashes).0 same) e))
-              | inr no_dashes ↦ absurd (other_refused word rest no_replay no_check no_serve no_help no_dashes e)
+          | inl same ↦ inr (inr (inl (rest, ap (λ (w : Text). w ∷ rest) ((bytes_eq-Decides word serve).0 same))))
+          | inr no_serve ↦ elim (cases_Bool (bytes_eq word show)) [
+            | inl same ↦ inr (inr (inr (rest, ap (λ (w : Text). w ∷ rest) ((bytes_eq-Decides word show).0 same))))
+            | inr no_show ↦ elim (cases_Bool (bytes_eq word (codes "help"))) [
+              | inl same ↦ absurd (help_refused rest (subst (starting rest) ((bytes_eq-Decides word (codes "help")).0 same) e))
+              | inr no_help ↦ elim (cases_Bool (bytes_eq word dashes)) [
+                | inl same ↦ absurd (dashes_refused rest (subst (starting rest) ((bytes_eq-Decides word dashes).0 same) e))
+                | inr no_dashes ↦ absurd (other_refused word rest no_replay no_check no_serve no_show no_help no_dashes e)
+              ]
             ]
           ]
         ]
@@ -174,11 +180,13 @@ taken_words (word ∷ rest) e =
 
 -- ---- the job
 
-other_name : Some replay ≡ Some serve → ⊥
-other_name e = let clash : true ≡ false = ap (λ (o : Option Text). option_map_or (λ n. bytes_eq n replay) o false) e in cc
+within : {C : Type 0} (x y : C) → Some x ≡ Some y → x ≡ y
+within x y same = cc
 
-another_name : Some check ≡ Some serve → ⊥
-another_name e = let clash : true ≡ false = ap (λ (o : Option Text). option_map_or (λ n. bytes_eq n check) o false) e in cc
+apart : (name other : Text) → bytes_eq name other ≡ false → Some name ≡ Some other → ⊥
+apart name other differ e =
+    let clash : true ≡ false = sym ((bytes_eq-Decides name other).1 (within name other e)) ∙ differ in
+    cc
 
 -- the name of the subcommand that these words enter
 abbrev entered_name_of : List Text → Option Text
@@ -188,19 +196,23 @@ entered_name_of words = option_map (λ p. p.0) (entered (built command_line)
 abbrev entered_job : List Text → Option Job
 entered_job words = option_and_then job_named (entered_name_of words)
 
--- `serve` is entered by its name, whatever follows it
+-- `serve` is entered by its name, whatever follows it, and so is `show`
 serve_entered : (rest : List Text) → entered_name_of (serve ∷ rest) ≡ Some serve
 unfolding command_line clap_on_literals
 serve_entered rest = ap (λ (s : Option (Text × List Text)). option_map (λ p. p.0) (entered (built command_line) s)) (stopped_walk (built command_line).top.rules names start serve [] rest)
 
-serve_asks_none : (rest : List Text) → job_asked (serve ∷ rest) ≡ None
-serve_asks_none [] = refl
-serve_asks_none (last ∷ []) = go (bytes_eq last (codes "--"))
+show_entered : (rest : List Text) → entered_name_of (show ∷ rest) ≡ Some show
+unfolding command_line clap_on_literals
+show_entered rest = ap (λ (s : Option (Text × List Text)). option_map (λ p. p.0) (entered (built command_line) s)) (stopped_walk (built command_line).top.rules names start show [] rest)
+
+asks_none : (name : Text) (rest : List Text) → job_named name ≡ None → job_asked (name ∷ rest) ≡ None
+asks_none name [] none = none
+asks_none name (last ∷ []) none = go (bytes_eq last (codes "--"))
   where
-    go : (b : Bool) → cond b (job_named serve) None ≡ None
-    go true = refl
+    go : (b : Bool) → cond b (job_named name) None ≡ None
+    go true = none
     go false = refl
-serve_asks_none (last ∷ more ∷ rest) = refl
+asks_none name (last ∷ more ∷ rest) none = refl
 
 job_at : (words : List Text) → Taken words → entered_job words ≡ job_asked words
 unfolding command_line clap_on_literals
@@ -208,19 +220,31 @@ job_at words (inl (inl is)) = subst (λ (l : List Text). entered_job l ≡ job_a
 job_at words (inl (inr is)) = subst (λ (l : List Text). entered_job l ≡ job_asked l) (sym is) refl
 job_at words (inr (inl (inl is))) = subst (λ (l : List Text). entered_job l ≡ job_asked l) (sym is) refl
 job_at words (inr (inl (inr is))) = subst (λ (l : List Text). entered_job l ≡ job_asked l) (sym is) refl
-job_at words (inr (inr found)) = subst (λ (l : List Text). entered_job l ≡ job_asked l) (sym found.1) (ap (option_and_then job_named) (serve_entered found.0) ∙ sym (serve_asks_none found.0))
+job_at words (inr (inr (inl found))) = subst (λ (l : List Text). entered_job l ≡ job_asked l) (sym found.1) (ap (option_and_then job_named) (serve_entered found.0) ∙ sym (asks_none serve found.0 refl))
+job_at words (inr (inr (inr found))) = subst (λ (l : List Text). entered_job l ≡ job_asked l) (sym found.1) (ap (option_and_then job_named) (show_entered found.0) ∙ sym (asks_none show found.0 refl))
 
-abbrev enters_serve : List Text → Type 0
-enters_serve words = entered_name_of words ≡ Some serve → begin_with serve words ≡ true
+abbrev enters : Text → List Text → Type 0
+enters name words = entered_name_of words ≡ Some name → begin_with name words ≡ true
 
 -- only words that begin with `serve` enter it
-serve_begins : (words : List Text) → Taken words → enters_serve words
+serve_begins : (words : List Text) → Taken words → enters serve words
 unfolding command_line clap_on_literals
-serve_begins words (inl (inl is)) = subst enters_serve (sym is) (λ e. absurd (other_name e))
-serve_begins words (inl (inr is)) = subst enters_serve (sym is) (λ e. absurd (other_name e))
-serve_begins words (inr (inl (inl is))) = subst enters_serve (sym is) (λ e. absurd (another_name e))
-serve_begins words (inr (inl (inr is))) = subst enters_serve (sym is) (λ e. absurd (another_name e))
-serve_begins words (inr (inr found)) = subst enters_serve (sym found.1) (λ e. refl)
+serve_begins words (inl (inl is)) = subst (enters serve) (sym is) (λ e. absurd (apart replay serve refl e))
+serve_begins words (inl (inr is)) = subst (enters serve) (sym is) (λ e. absurd (apart replay serve refl e))
+serve_begins words (inr (inl (inl is))) = subst (enters serve) (sym is) (λ e. absurd (apart check serve refl e))
+serve_begins words (inr (inl (inr is))) = subst (enters serve) (sym is) (λ e. absurd (apart check serve refl e))
+serve_begins words (inr (inr (inl found))) = subst (enters serve) (sym found.1) (λ e. refl)
+serve_begins words (inr (inr (inr found))) = subst (enters serve) (sym found.1) (λ e. absurd (apart show serve refl (sym (show_entered found.0) ∙ e)))
+
+-- and only words that begin with `show` that
+show_begins : (words : List Text) → Taken words → enters show words
+unfolding command_line clap_on_literals
+show_begins words (inl (inl is)) = subst (enters show) (sym is) (λ e. absurd (apart replay show refl e))
+show_begins words (inl (inr is)) = subst (enters show) (sym is) (λ e. absurd (apart replay show refl e))
+show_begins words (inr (inl (inl is))) = subst (enters show) (sym is) (λ e. absurd (apart check show refl e))
+show_begins words (inr (inl (inr is))) = subst (enters show) (sym is) (λ e. absurd (apart check show refl e))
+show_begins words (inr (inr (inl found))) = subst (enters show) (sym found.1) (λ e. absurd (apart serve show refl (sym (serve_entered found.0) ∙ e)))
+show_begins words (inr (inr (inr found))) = subst (enters show) (sym found.1) (λ e. refl)
 
 pub line_is_simple : is_simple command_line ≡ true
 unfolding command_line clap_on_literals
@@ -280,34 +304,39 @@ module _ {Z : Type 0} where
   entered_name None = refl
   entered_name (Some b) = refl
 
--- where no step of a parse fails and it enters `serve`, the words begin with it
-pub serve_asked : (words : List Text) → fault_of command_line words ≡ [] → option_map (λ p. p.0) (subcommand_of command_line words) ≡ Some serve → begin_with serve (drop 1 words) ≡ true
-unfolding command_line
-serve_asked words e = serve_begins (drop 1 words) (taken_words (drop 1 words) e)
+-- a parse that found a subcommand with options had words that begin with its name
+module _ (name : Text) (begins : (words : List Text) → Taken words → enters name words) where
+  name_asked : (words : List Text) → fault_of command_line words ≡ [] → option_map (λ p. p.0) (subcommand_of command_line words) ≡ Some name → begin_with name (drop 1 words) ≡ true
+  unfolding command_line
+  name_asked words e = begins (drop 1 words) (taken_words (drop 1 words) e)
 
--- a parse that found `serve` had words that begin with it
+  name_found : (a : App) (words : List Text) (m : ArgMatches) → a ≡ command_line → HasMatchesOf a words m → (is_simple_and_free a ≡ true → fault_of a words ≡ [])
+      → subcommand_name_of m ≡ Some name → begin_with name (drop 1 words) ≡ true
+  name_found a words m is has passed named =
+      let name_of : Option (Text × List Row) → Option Text = option_map (λ p. p.0) in
+      let found : name_of (subcommand_rows_of m) ≡ name_of (subcommand_of command_line words) =
+      ap name_of ((has (ap is_simple is ∙ line_is_simple)).1 ∙ ap (λ (b : App). subcommand_of b words) is) in
+      let none : fault_of command_line words ≡ [] = sym (ap (λ (b : App). fault_of b words) is) ∙ passed (ap is_simple_and_free is ∙ line_is_free) in
+      name_asked words none (sym found ∙ (entered_name (out-ArgMatches m).subcommand ∙ named))
+
 pub serve_found : (a : App) (words : List Text) (m : ArgMatches) → a ≡ command_line → HasMatchesOf a words m → (is_simple_and_free a ≡ true → fault_of a words ≡ [])
     → subcommand_name_of m ≡ Some serve → begin_with serve (drop 1 words) ≡ true
-serve_found a words m is has passed named =
-    let name_of : Option (Text × List Row) → Option Text = option_map (λ p. p.0) in
-    let found : name_of (subcommand_rows_of m) ≡ name_of (subcommand_of command_line words) =
-    ap name_of ((has (ap is_simple is ∙ line_is_simple)).1 ∙ ap (λ (b : App). subcommand_of b words) is) in
-    let none : fault_of command_line words ≡ [] = sym (ap (λ (b : App). fault_of b words) is) ∙ passed (ap is_simple_and_free is ∙ line_is_free) in
-    serve_asked words none (sym found ∙ (entered_name (out-ArgMatches m).subcommand ∙ named))
+serve_found = name_found serve serve_begins
+
+pub show_found : (a : App) (words : List Text) (m : ArgMatches) → a ≡ command_line → HasMatchesOf a words m → (is_simple_and_free a ≡ true → fault_of a words ≡ [])
+    → subcommand_name_of m ≡ Some show → begin_with show (drop 1 words) ≡ true
+show_found = name_found show show_begins
 
 both_parts : {A B : Type 0} (o : Option (A × B)) (a : A) (b : B) → option_map (λ p. p.0) o ≡ Some a → option_map (λ p. p.1) o ≡ Some b → o ≡ Some (a, b)
 both_parts None a b e f = absurd (none-some a e)
 both_parts (Some p) a b e f = λ i. Some (within p.0 a e i, within p.1 b f i)
-  where
-    within : {C : Type 0} (x y : C) → Some x ≡ Some y → x ≡ y
-    within x y same = cc
 
--- the options of `serve` that a parse found are those that the words give it
-pub serve_read : (a : App) (words : List Text) (m : ArgMatches) (options : List Row) → a ≡ command_line → HasMatchesOf a words m
-    → subcommand_name_of m ≡ Some serve → option_map (λ p. p.1) (subcommand_rows (out-ArgMatches m).subcommand) ≡ Some options → subcommand_of command_line words ≡ Some (serve, options)
-serve_read a words m options is has named told =
+-- the options of a subcommand that a parse found are those that the words give it
+pub options_read : (name : Text) (a : App) (words : List Text) (m : ArgMatches) (options : List Row) → a ≡ command_line → HasMatchesOf a words m
+    → subcommand_name_of m ≡ Some name → option_map (λ p. p.1) (subcommand_rows (out-ArgMatches m).subcommand) ≡ Some options → subcommand_of command_line words ≡ Some (name, options)
+options_read name a words m options is has named told =
     sym ((has (ap is_simple is ∙ line_is_simple)).1 ∙ ap (λ (b : App). subcommand_of b words) is)
-    ∙ both_parts (subcommand_rows_of m) serve options (entered_name (out-ArgMatches m).subcommand ∙ named) told
+    ∙ both_parts (subcommand_rows_of m) name options (entered_name (out-ArgMatches m).subcommand ∙ named) told
 
 -- the job of the subcommand that a parse found is the one that the words ask for
 pub job_found : (a : App) (words : List Text) (m : ArgMatches) → a ≡ command_line → HasMatchesOf a words m → (is_simple_and_free a ≡ true → fault_of a words ≡ [])
@@ -341,47 +370,60 @@ job_refused a words error is fails = go (fault_of command_line words) refl
 
     go : (kinds : Kinds) → fault_of command_line words ≡ kinds → AsksNothing words ⊎ (kind_of error ≡ kind.OutOfMemory)
     go [] e = inr (only_memory (subst (λ (kinds : Kinds). HasKind kinds error) e has))
-    go (first ∷ rest) e = inl (record { job = no_job words first rest e; serving = λ none s asked. absurd (not_empty first rest (sym e ∙ none)) })
+    go (first ∷ rest) e = inl (record {
+      job = no_job words first rest e;
+      serving = λ none s asked. absurd (not_empty first rest (sym e ∙ none));
+      showing = λ none answers asked. absurd (not_empty first rest (sym e ∙ none));
+    })
 
--- words in whose parse no `serve` was found don't ask to serve
-pub no_serve : (a : App) (words : List Text) (m : ArgMatches) → a ≡ command_line → HasMatchesOf a words m → (subcommand_name_of m ≡ Some serve → ⊥) → (s : Serving) → AsksToServe words s → ⊥
-no_serve a words m is has none s asked =
+-- words in whose parse a subcommand was not found don't enter it
+not_entered : (name : Text) (a : App) (words : List Text) (m : ArgMatches) (options : List Row) → a ≡ command_line → HasMatchesOf a words m → (subcommand_name_of m ≡ Some name → ⊥)
+    → subcommand_of command_line words ≡ Some (name, options) → ⊥
+not_entered name a words m options is has none read =
     let name_of : Option (Text × List Row) → Option Text = option_map (λ p. p.0) in
     let found : name_of (subcommand_rows_of m) ≡ name_of (subcommand_of command_line words) =
     ap name_of ((has (ap is_simple is ∙ line_is_simple)).1 ∙ ap (λ (b : App). subcommand_of b words) is) in
-    none (sym (entered_name (out-ArgMatches m).subcommand) ∙ (found ∙ ap name_of asked.read))
+    none (sym (entered_name (out-ArgMatches m).subcommand) ∙ (found ∙ ap name_of read))
+
+pub no_serve : (a : App) (words : List Text) (m : ArgMatches) → a ≡ command_line → HasMatchesOf a words m → (subcommand_name_of m ≡ Some serve → ⊥) → (s : Serving) → AsksToServe words s → ⊥
+no_serve a words m is has none s asked = not_entered serve a words m asked.options is has none asked.read
+
+pub no_show : (a : App) (words : List Text) (m : ArgMatches) → a ≡ command_line → HasMatchesOf a words m → (subcommand_name_of m ≡ Some show → ⊥) → (answers : Option Text) → AsksToShow words answers → ⊥
+no_show a words m is has none answers asked = not_entered show a words m asked.options is has none asked.read
 
 -- nor do those whose options serve in no way
 pub no_serving : (a : App) (words : List Text) (m : ArgMatches) (options : List Row) → a ≡ command_line → HasMatchesOf a words m
     → subcommand_name_of m ≡ Some serve → option_map (λ p. p.1) (subcommand_rows (out-ArgMatches m).subcommand) ≡ Some options
     → NoneServes (λ id. first_of id options) → (s : Serving) → AsksToServe words s → ⊥
 no_serving a words m options is has named told none s asked =
-    let read : Some (serve, asked.options) ≡ Some (serve, options) = sym asked.read ∙ serve_read a words m options is has named told in
+    let read : Some (serve, asked.options) ≡ Some (serve, options) = sym asked.read ∙ options_read serve a words m options is has named told in
     let same : asked.options ≡ options = ap (λ (o : Option (Text × List Row)). option_map_or (λ p. p.1) o []) read in
     none s (subst (λ (rows : List Row). IsServedBy (λ id. first_of id rows) s) same asked.served) asked.within
 
 -- ---- what is asked
 
-never_named : (name : Text) (serving : Serving) → job_named name ≡ Some (Serve serving) → ⊥
-never_named name serving e = go (bytes_eq name replay) (bytes_eq name check) e
-  where
-    go : (is_replay is_check : Bool) → job_by is_replay is_check ≡ Some (Serve serving) → ⊥
-    go true is_check e = cc
-    go false true e = cc
-    go false false e = cc
+module _ (job : Job) (not_replay : Some Replay ≡ Some job → ⊥) (not_check : Some Check ≡ Some job → ⊥) where
+  never_named : (name : Text) → job_named name ≡ Some job → ⊥
+  never_named name e = go (bytes_eq name replay) (bytes_eq name check) e
+    where
+      go : (is_replay is_check : Bool) → job_by is_replay is_check ≡ Some job → ⊥
+      go true is_check e = not_replay e
+      go false true e = not_check e
+      go false false e = none-some job e
 
-never_serve : (words : List Text) (serving : Serving) → job_asked words ≡ Some (Serve serving) → ⊥
-never_serve [] serving e = cc
-never_serve (name ∷ []) serving e = never_named name serving e
-never_serve (name ∷ last ∷ []) serving e = go (bytes_eq last (codes "--")) e
-  where
-    go : (b : Bool) → cond b (job_named name) None ≡ Some (Serve serving) → ⊥
-    go true e = never_named name serving e
-    go false e = cc
-never_serve (name ∷ last ∷ more ∷ rest) serving e = cc
+  never_asked : (words : List Text) → job_asked words ≡ Some job → ⊥
+  never_asked [] e = none-some job e
+  never_asked (name ∷ []) e = never_named name e
+  never_asked (name ∷ last ∷ []) e = go (bytes_eq last (codes "--")) e
+    where
+      go : (b : Bool) → cond b (job_named name) None ≡ Some job → ⊥
+      go true e = never_named name e
+      go false e = none-some job e
+  never_asked (name ∷ last ∷ more ∷ rest) e = none-some job e
 
 -- a job that the words ask for is asked
 pub job_is_asked : (words : List Text) (job : Job) → job_of words ≡ Some job → IsAsked words job
 job_is_asked words Replay e = e
 job_is_asked words Check e = e
-job_is_asked words (Serve serving) e = absurd (never_serve (drop 1 words) serving e)
+job_is_asked words (Serve serving) e = absurd (never_asked (Serve serving) (λ e. cc) (λ e. cc) (drop 1 words) e)
+job_is_asked words (Show answers) e = absurd (never_asked (Show answers) (λ e. cc) (λ e. cc) (drop 1 words) e)

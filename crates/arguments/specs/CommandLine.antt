@@ -1,6 +1,7 @@
 -- What a parse reads of the command line that is understood.
 use Rattle.std.specs.Prelude.{ℕ, List, Bool, Some, true, false, codes}
 use Rattle.clap.specs.Walk.{Rule}
+use Rattle.clap.specs.declared.builder.action.ArgAction.TheVariants.{SetTrue}
 use Rattle.clap.specs.Simple.{App, Shape, new_app, new_rule, new_shape, on_top, with_rule, with_subcommand}
 
 -- with no word but its own name, the program answers with help; a subcommand is wanted
@@ -14,6 +15,14 @@ program = on_top wanting_a_job (new_app (codes "kbroker"))
 abbrev pub option_rule : List ℕ → Bool → Rule
 option_rule name must = record (new_rule name) { long = Some name; value_names = 1; required = must }
 
+-- a flag `--NAME`
+abbrev pub flag_rule : List ℕ → Rule
+flag_rule name = record (new_rule name) { long = Some name; action = Some SetTrue }
+
+-- two options more
+abbrev pub with_two_rules : App → Rule → Rule → App
+with_two_rules a first second = with_rule (with_rule a first) second
+
 -- three options more
 abbrev pub with_rules : App → Rule → Rule → Rule → App
 with_rules a first second third = with_rule (with_rule (with_rule a first) second) third
@@ -26,14 +35,25 @@ with_serve_numbers a = with_rules a (option_rule (codes "listen") true) (option_
 abbrev pub with_serve_switches : App → App
 with_serve_switches a = with_rules a (option_rule (codes "for") false) (option_rule (codes "idle") false) (option_rule (codes "audit") false)
 
+-- those of a broker that is steered
+abbrev pub with_serve_steering : App → App
+with_serve_steering a = with_two_rules a (option_rule (codes "settings") false) (flag_rule (codes "control"))
+
 -- the options of `serve`
 abbrev pub with_serve_options : App → App
-with_serve_options a = with_serve_switches (with_serve_numbers a)
+with_serve_options a = with_serve_steering (with_serve_switches (with_serve_numbers a))
 
 abbrev pub serve_shape : Shape
 serve_shape = (with_serve_options (new_app (codes "serve"))).top
 
+-- the subcommand `show` with its option
+abbrev pub show_app : App
+show_app = with_rule (new_app (codes "show")) (option_rule (codes "answers") false)
+
+abbrev pub show_shape : Shape
+show_shape = show_app.top
+
 -- the program with a subcommand for each job
 unfoldable pub command_line : App
 unfolding program
-command_line = with_subcommand (with_subcommand (with_subcommand program (new_shape (codes "replay"))) (new_shape (codes "check"))) serve_shape
+command_line = with_subcommand (with_subcommand (with_subcommand (with_subcommand program (new_shape (codes "replay"))) (new_shape (codes "check"))) serve_shape) show_shape

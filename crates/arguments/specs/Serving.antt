@@ -1,10 +1,15 @@
 -- How connections are served.
-use Rattle.std.specs.Prelude.{◌≡◌, ◌≤◌, ℕ, Bool, false, true, List, Option, Some, None, IfSome, codes}
+use Rattle.std.specs.Prelude.{◌≡◌, ◌≤◌, ℕ, Bool, false, true, List, Option, Some, None, IfSome, codes, is_some, option_map}
+use Rattle.std.specs.Str.{bytes_eq}
 use Rattle.std.specs.Str.Parse.{IsNumeral, digits_value, without_leading_plus}
 use Rattle.arguments.specs.declared.serving.Serving.{Serving}
 
 abbrev pub IsIn : ℕ → ℕ → Type 0
 IsIn most number = (1 ≤ number) × (number ≤ most)
+
+-- lines of standard input may steer a broker whose settings come from a file, and which tells refusals where it is asked
+abbrev pub MaySteer : Bool → Bool → Type 0
+MaySteer has_file audit = (has_file ≡ true) × (audit ≡ false)
 
 -- at most 64 connections at once, 1,000,000 in all, and times of at most 1,000,000 seconds
 pub record IsWithin (s : Serving) : Type 0 where
@@ -12,6 +17,7 @@ pub record IsWithin (s : Serving) : Type 0 where
   pub connections : IsIn 1000000 s.connections
   pub open_seconds : IfSome s.open_seconds (IsIn 1000000)
   pub idle_seconds : IfSome s.idle_seconds (IsIn 1000000)
+  pub steered : s.control ≡ true → MaySteer (is_some s.settings) s.audit
 
 -- a text writes a number in decimal digits, a plus before them or not
 abbrev pub Writes : List ℕ → ℕ → Type 0
@@ -32,6 +38,11 @@ abbrev pub TellsAudit : Option (List ℕ) → Bool → Type 0
 TellsAudit None told = told ≡ false
 TellsAudit (Some value) told = (value ≡ codes "-") × (told ≡ true)
 
+-- the flag is given; clap reads it as `true`
+abbrev pub is_given : Option (List ℕ) → Bool
+is_given None = false
+is_given (Some value) = bytes_eq value (codes "true")
+
 -- how the values of the options have it
 pub record IsServedBy (value_of : List ℕ → Option (List ℕ)) (s : Serving) : Type 0 where
   pub listen : value_of (codes "listen") ≡ Some s.listen.now
@@ -40,6 +51,8 @@ pub record IsServedBy (value_of : List ℕ → Option (List ℕ)) (s : Serving) 
   pub open_seconds : TellsSeconds (value_of (codes "for")) s.open_seconds
   pub idle_seconds : TellsSeconds (value_of (codes "idle")) s.idle_seconds
   pub audit : TellsAudit (value_of (codes "audit")) s.audit
+  pub settings : option_map (λ file. file.now) s.settings ≡ value_of (codes "settings")
+  pub control : s.control ≡ is_given (value_of (codes "control"))
 
 -- these values say of no way within the limits how connections are served
 abbrev pub NoneServes : (List ℕ → Option (List ℕ)) → Type 0

@@ -45,19 +45,57 @@ pub(crate) const CHECK_EXAMPLE: &str = "Example:
 
     kbroker check < settings.toml";
 
+pub(crate) const SHOW: &str = "Shows a script of requests, and their answers, in words";
+
+pub(crate) const SHOW_LONG: &str = "Shows a script of requests, and their answers, in words.
+
+Standard input holds what `replay` reads. Each request is shown by the names of the protocol's guide,
+with the records of its batches, and beside it its answer, which is made as `replay` makes it. With
+`--answers FILE` the answers are read from a file instead, which holds what an earlier `replay`
+printed. Where there are no settings, and so no line `---`, requests alone are shown.
+
+A frame that can't be read is told by its first fault, and by the byte at which that stands. A line
+that can't be read, a broker that takes no more events, and settings with a fault each end the run,
+as in `replay`.
+
+The exit status is 0 where each line was shown, 1 where the run ended before, and 2 for a command
+line that isn't understood.";
+
+pub(crate) const SHOW_EXAMPLE: &str = "Example:
+
+    kbroker show < examples/metadata.txt";
+
+pub(crate) const ANSWERS: &str =
+    "The file that holds what an earlier `replay` printed; the answers are made anew if it isn't given";
+
 pub(crate) const SERVE: &str = "Serves clients over TCP";
 
 pub(crate) const SERVE_LONG: &str = "Serves clients over TCP.
 
-Standard input holds the settings, from its first line to its last. Each client logs in by SASL PLAIN
-as one of their users. A connection has a worker of its own from its first byte to its last, so as
-many clients are served at once as there are workers, and the others wait until one of them leaves.
+Standard input holds the settings, from its first line to its last, or the file that `--settings`
+names. Each client logs in by SASL PLAIN as one of their users. A connection has a worker of its own
+from its first byte to its last, so as many clients are served at once as there are workers, and the
+others wait until one of them leaves.
 
 Standard output gets `listening on ADDRESS` as soon as clients can connect, and a last line once so
 many connections were served: `sessions S events E refusals R` where each answer that was given
 stands in the broker's trail, and `settle failed: FAULT` where that can't be shown. Where the address
-can't be listened on, it gets `listen failed`, and where the settings have a fault, `settings refused:
-FAULT`.
+can't be listened on, it gets `listen failed`, where the settings' file can't be opened, `open
+failed`, and where the settings have a fault, `settings refused: FAULT`.
+
+With `--control` there is no clock. Lines of standard input steer the broker, each answered on
+standard output once it is done:
+
+    tick N     the clock shows N milliseconds: `moment M`, `aborted ID` for each transaction whose
+               time was over, and `owed K`, the markers that are owed
+    mark       the first marker that is owed is written: `marker`, what it says and where, `owed K`
+    marks      all of them, a line for each, and at last `markers N`
+    audit      the refusals since the last time, a line for each, and at last `refusals N`
+    state      how things stand, a line for each thing, and at last `events N`
+    end        no more connections are taken, and those that are open are served to their end
+
+Another line is answered `unreadable`, and a step that is not taken `stop N`. The end of standard
+input is `end`.
 
 Standard error gets a line that begins with `kbroker: ` for each connection that ended otherwise than
 between two requests, and with `--audit -` the line of each refusal, as `replay` prints it.
@@ -86,3 +124,9 @@ pub(crate) const IDLE: &str =
 
 pub(crate) const AUDIT: &str =
     "Where each refusal is told as it happens: -, which is standard error";
+
+pub(crate) const SETTINGS: &str =
+    "The file that holds the settings; standard input if it isn't given";
+
+pub(crate) const CONTROL: &str =
+    "Lines of standard input steer the broker, in place of the clock; with --settings, and without --audit";

@@ -3,15 +3,15 @@
 ghost use Rattle.std.specs.Prelude.{◌≡◌, ◌⊎◌, IfErr, IfOk, None, Some, false, map, option_and_then};
 ghost use Rattle.clap.specs.Words.{app_of, kind_of, new_app, subcommand_name_of};
 ghost use Rattle.clap.specs.declared.builder.command.Command.TheViews.{out-Command as fields_of};
-ghost use Rattle.arguments.specs.CommandLine.{command_line, program};
+ghost use Rattle.arguments.specs.CommandLine.{command_line, program, show_app};
 ghost use Rattle.arguments.specs.Job.{job_named};
 ghost use Rattle.arguments.specs.Asked.{AsksNothing, IsAsked};
 
 use crate::help::{
-    CHECK, CHECK_EXAMPLE, CHECK_LONG, PROGRAM, REPLAY, REPLAY_EXAMPLE, REPLAY_LONG, SERVE,
-    SERVE_EXAMPLE, SERVE_LONG,
+    ANSWERS, CHECK, CHECK_EXAMPLE, CHECK_LONG, PROGRAM, REPLAY, REPLAY_EXAMPLE, REPLAY_LONG, SERVE,
+    SERVE_EXAMPLE, SERVE_LONG, SHOW, SHOW_EXAMPLE, SHOW_LONG,
 };
-use crate::serving::{Serving, serving_by, with_options};
+use crate::serving::{Serving, option, serving_by, with_options};
 use clap::error::ErrorKind;
 use clap::{ArgMatches, Command, Error};
 use std::alloc::{AllocError, Global};
@@ -25,6 +25,8 @@ pub enum Job<'a> {
     Check,
     /// Serves the connections of a listener.
     Serve(Serving<'a>),
+    /// Shows a script that is read from standard input, with the answers in this file, or made anew where there is none.
+    Show(Option<&'a str>),
 }
 
 /// A subcommand of this name, with what `--help` says of it.
@@ -42,6 +44,15 @@ fn described<'a>(
         .about(about)
         .long_about(long_about)
         .after_help(example)
+}
+
+/// The command that shows a script.
+fn show_command<'a>(alloc: Global) -> Result<Command<'a>, AllocError>
+    ensures app { IfOk result (λ made. app_of made ≡ show_app) }
+    ensures local { IfOk result (λ made. (fields_of made).has_globals ≡ false) }
+{
+    let show = described(alloc, "show", SHOW, SHOW_LONG, SHOW_EXAMPLE);
+    show.arg(option(alloc, "answers", "FILE", ANSWERS, false))
 }
 
 /// The program before it has subcommands.
@@ -65,7 +76,8 @@ fn command<'a>(alloc: Global) -> Result<Command<'a>, AllocError>
     bare_program(alloc)
         .subcommand(replay)?
         .subcommand(check)?
-        .subcommand(serve)
+        .subcommand(serve)?
+        .subcommand(show_command(alloc)?)
 }
 
 /// The job of the subcommand that was found in the words.
@@ -82,7 +94,7 @@ fn named_job<'a>(matches: &ArgMatches<'_>) -> Option<Job<'a>>
 }
 
 /// What the words ask for, of which the first is the program's own name: the job that the next one names. Behind `replay` and
-/// `check` nothing but `--` follows, behind `serve` its options. A refusal holds the text to print on standard error; help is
+/// `check` nothing but `--` follows, behind `serve` and `show` their options. A refusal holds the text to print on standard error; help is
 /// one.
 pub fn arguments<'a>(alloc: Global, words: &'a [&'a str]) -> Result<Job<'a>, Error>
     ensures job { IfOk result (λ job. IsAsked (map (λ word. word.now) words.entry.now) job) }
@@ -93,6 +105,9 @@ pub fn arguments<'a>(alloc: Global, words: &'a [&'a str]) -> Result<Job<'a>, Err
     let matches = command.try_get_matches_from_mut(words)?;
     if let Some(job) = named_job(&matches) {
         return Ok(job);
+    }
+    if let Some(options) = matches.subcommand_matches("show") {
+        return Ok(Job::Show(options.get_str("answers")));
     }
     let Some(options) = matches.subcommand_matches("serve") else {
         return Err(command.error(ErrorKind::InvalidSubcommand, "no such command")?);

@@ -1,15 +1,15 @@
 //! The options of `serve`.
 
-ghost use Rattle.std.specs.Prelude.{◌≡◌, ◌≤◌, IfErr, IfOk, IfSome, IfNone, None, Some, false, option_map};
+ghost use Rattle.std.specs.Prelude.{◌≡◌, ◌≤◌, IfErr, IfOk, IfSome, IfNone, None, Some, true, false, is_some, option_map};
 ghost use Rattle.clap.specs.Simple.{app_of};
 ghost use Rattle.clap.specs.Matches.{first_value, found_of};
 ghost use Rattle.clap.specs.Walk.{rule_of};
 ghost use Rattle.clap.specs.declared.builder.command.Command.TheViews.{out-Command as fields_of};
-ghost use Rattle.arguments.specs.CommandLine.{option_rule, with_rules, with_serve_numbers, with_serve_options, with_serve_switches};
-ghost use Rattle.arguments.specs.Serving.{IsIn, IsServedBy, IsWithin, NoneServes, Tells, TellsAudit, TellsSeconds, Writes};
+ghost use Rattle.arguments.specs.CommandLine.{flag_rule, option_rule, with_rules, with_two_rules, with_serve_numbers, with_serve_options, with_serve_steering, with_serve_switches};
+ghost use Rattle.arguments.specs.Serving.{IsIn, IsServedBy, IsWithin, MaySteer, NoneServes, Tells, TellsAudit, TellsSeconds, Writes, is_given};
 
-use crate::help::{AUDIT, CONNECTIONS, FOR, IDLE, LISTEN, WORKERS};
-use clap::{Arg, ArgMatches, Command};
+use crate::help::{AUDIT, CONNECTIONS, CONTROL, FOR, IDLE, LISTEN, SETTINGS, WORKERS};
+use clap::{Arg, ArgAction, ArgMatches, Command};
 use std::alloc::{AllocError, Global};
 
 /// How a listener's connections are served.
@@ -27,6 +27,10 @@ pub struct Serving<'a> {
     pub idle_seconds: Option<u64>,
     /// Whether each refusal is told on standard error.
     pub audit: bool,
+    /// The file that holds the settings, if standard input doesn't.
+    pub settings: Option<&'a str>,
+    /// Whether lines of standard input steer the broker, in place of the clock.
+    pub control: bool,
 }
 
 const MOST_WORKERS: u64 = 64;
@@ -46,6 +50,7 @@ pub(crate) enum Misused {
     For,
     Idle,
     Audit,
+    Control,
 }
 
 impl Misused {
@@ -58,12 +63,21 @@ impl Misused {
             Misused::For => "--for takes a number of seconds from 1 to 1000000",
             Misused::Idle => "--idle takes a number of seconds from 1 to 1000000",
             Misused::Audit => "--audit takes - alone, which is standard error",
+            Misused::Control => {
+                "--control takes standard input, so --settings names the settings' file; --audit doesn't go with it"
+            }
         }
     }
 }
 
 /// An option of this name, with a value.
-fn option<'a>(alloc: Global, name: &'a str, value: &'a str, help: &'a str, must: bool) -> Arg<'a>
+pub(crate) fn option<'a>(
+    alloc: Global,
+    name: &'a str,
+    value: &'a str,
+    help: &'a str,
+    must: bool,
+) -> Arg<'a>
     ensures rule { rule_of result ≡ option_rule name.entry.now must }
     ensures local { result.global ≡ false }
 {
@@ -72,6 +86,31 @@ fn option<'a>(alloc: Global, name: &'a str, value: &'a str, help: &'a str, must:
         .value_name(value)
         .help(help)
         .required(must)
+}
+
+/// A flag of this name.
+fn flag<'a>(alloc: Global, name: &'a str, help: &'a str) -> Arg<'a>
+    ensures rule { rule_of result ≡ flag_rule name.entry.now }
+    ensures local { result.global ≡ false }
+{
+    Arg::new(alloc, name)
+        .long(name)
+        .action(ArgAction::SetTrue)
+        .help(help)
+}
+
+/// The command with two options more, none of them global.
+fn with_two<'a>(
+    command: Command<'a>,
+    first: Arg<'a>,
+    second: Arg<'a>,
+) -> Result<Command<'a>, AllocError>
+    requires first { first.global ≡ false }
+    requires second { second.global ≡ false }
+    ensures app { IfOk result (λ made. app_of made ≡ with_two_rules (app_of command.entry) (rule_of first.entry) (rule_of second.entry)) }
+    ensures local { IfOk result (λ made. (fields_of made).has_globals ≡ (fields_of command.entry).has_globals) }
+{
+    command.arg(first)?.arg(second)
 }
 
 /// The command with three options more, none of them global.
@@ -112,6 +151,16 @@ fn with_switches<'a>(alloc: Global, command: Command<'a>) -> Result<Command<'a>,
     with_three(command, open, idle, audit)
 }
 
+/// The command with the options of a broker that is steered.
+fn with_steering<'a>(alloc: Global, command: Command<'a>) -> Result<Command<'a>, AllocError>
+    ensures app { IfOk result (λ made. app_of made ≡ with_serve_steering (app_of command.entry)) }
+    ensures local { IfOk result (λ made. (fields_of made).has_globals ≡ (fields_of command.entry).has_globals) }
+{
+    let settings = option(alloc, "settings", "FILE", SETTINGS, false);
+    let control = flag(alloc, "control", CONTROL);
+    with_two(command, settings, control)
+}
+
 /// The command with the options of `serve`.
 pub(crate) fn with_options<'a>(
     alloc: Global,
@@ -121,7 +170,8 @@ pub(crate) fn with_options<'a>(
     ensures local { IfOk result (λ made. (fields_of made).has_globals ≡ (fields_of command.entry).has_globals) }
 {
     let command = with_numbers(alloc, command)?;
-    with_switches(alloc, command)
+    let command = with_switches(alloc, command)?;
+    with_steering(alloc, command)
 }
 
 /// The number that a text writes, if it lies from 1 to a most.
@@ -175,6 +225,28 @@ fn audit_of(text: Option<&str>) -> Result<bool, Misused>
     }
 }
 
+/// Whether the flag is given, which clap reads as `true` or `false`.
+fn is_given(text: Option<&str>) -> bool
+    ensures { result ≡ is_given (option_map (λ t. t.now) text.entry) }
+{
+    text == Some("true")
+}
+
+/// Whether lines steer a broker, whose settings then come from a file, and which tells refusals where it is asked.
+fn control_of(text: Option<&str>, settings: Option<&str>, audit: bool) -> Result<bool, Misused>
+    ensures told { IfOk result (λ told. told ≡ is_given (option_map (λ t. t.now) text.entry)) }
+    ensures steered { IfOk result (λ told. told ≡ true → MaySteer (is_some settings.entry) audit) }
+    ensures none { IfErr result (λ _. (is_given (option_map (λ t. t.now) text.entry) ≡ true) × (MaySteer (is_some settings.entry) audit → ⊥)) }
+{
+    if !is_given(text) {
+        return Ok(false);
+    }
+    if settings.is_none() || audit {
+        return Err(Misused::Control);
+    }
+    Ok(true)
+}
+
 /// How connections are served, by these options.
 pub(crate) fn serving_by<'a>(options: &ArgMatches<'a>) -> Result<Serving<'a>, Misused>
     ensures within { IfOk result IsWithin }
@@ -197,6 +269,8 @@ pub(crate) fn serving_by<'a>(options: &ArgMatches<'a>) -> Result<Serving<'a>, Mi
     let open_seconds = seconds_of(options.get_str("for"), Misused::For)?;
     let idle_seconds = seconds_of(options.get_str("idle"), Misused::Idle)?;
     let audit = audit_of(options.get_str("audit"))?;
+    let settings = options.get_str("settings");
+    let control = control_of(options.get_str("control"), settings, audit)?;
     Ok(Serving {
         listen,
         workers,
@@ -204,5 +278,7 @@ pub(crate) fn serving_by<'a>(options: &ArgMatches<'a>) -> Result<Serving<'a>, Mi
         open_seconds,
         idle_seconds,
         audit,
+        settings,
+        control,
     })
 }

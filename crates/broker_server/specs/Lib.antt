@@ -1,3 +1,4 @@
 pub mod Lines
 pub mod News
+pub mod Said
 pub mod Serves

@@ -1,5 +1,6 @@
 //! Connections become jobs.
 
+use crate::control::Closing;
 use crate::server::ServeOptions;
 use crossbeam_channel::Sender;
 use session_pool::{Limits, Users};
@@ -18,30 +19,42 @@ pub(crate) type Connection = Job<TcpStream, TcpStream>;
 /// How long it takes until a listener is asked again that had no connection to give, or couldn't give it, in milliseconds.
 const TURN: u64 = 10;
 
-/// Connections are taken for so long, from a moment on.
-#[derive(Clone, Copy, Debug, PartialEq, Eq)]
-struct Opening {
+/// Connections are taken for so long, from a moment on, if there is an end to it, and until the broker is told to take no more.
+#[derive(Clone, Copy)]
+struct Opening<'x> {
     since: Instant,
-    time: Duration,
+    time: Option<Duration>,
+    closing: Option<&'x Closing>,
 }
 
-impl Opening {
+impl<'x> Opening<'x> {
     /// Begins now. From here on the listener doesn't wait for a connection.
     fn begin<R: time::Clock>(
         rt: &R,
         listener: &TcpListener,
-        time: Duration,
-    ) -> io::Result<Opening> {
+        time: Option<Duration>,
+        closing: Option<&'x Closing>,
+    ) -> io::Result<Opening<'x>> {
         listener.set_nonblocking(true)?;
         let since = Instant::now(rt)?;
-        Ok(Opening { since, time })
+        Ok(Opening {
+            since,
+            time,
+            closing,
+        })
     }
 
-    /// Whether its time has passed. That of a clock which can't be read has.
+    /// Whether no more are taken. The time of a clock which can't be read has passed.
     fn is_over<R: time::Clock>(&self, rt: &R) -> bool {
-        match self.since.elapsed(rt) {
-            Ok(passed) => self.time <= passed,
-            Err(_) => true,
+        if let Some(closing) = self.closing {
+            if closing.is_closed() {
+                return true;
+            }
+        }
+        match (self.time, self.since.elapsed(rt)) {
+            (None, _) => false,
+            (Some(time), Ok(passed)) => time <= passed,
+            (Some(_), Err(_)) => true,
         }
     }
 }
@@ -54,7 +67,7 @@ fn rest<R: time::Clock>(rt: &R) {
 fn next_connection<R: Wait + time::Clock>(
     rt: &R,
     listener: &TcpListener,
-    opening: Option<Opening>,
+    opening: Option<Opening<'_>>,
 ) -> Option<io::Result<(TcpStream, SocketAddr)>> {
     let Some(opening) = opening else {
         return Some(listener.accept());
@@ -101,7 +114,7 @@ fn accept_until<R: Wait + time::Clock>(
     rt: &R,
     alloc: Global,
     listener: &TcpListener,
-    opening: Option<Opening>,
+    opening: Option<Opening<'_>>,
     users: &Shared<Users>,
     options: ServeOptions,
     jobs: Sender<Connection>,
@@ -121,18 +134,20 @@ fn accept_until<R: Wait + time::Clock>(
     }
 }
 
-/// Makes jobs of a listener's connections, until so many were made or the time has passed for which they are taken.
+/// Makes jobs of a listener's connections, until so many were made, the time has passed for which they are taken, or the broker
+/// is told to take no more.
 pub(crate) fn accept_all<R: Wait + time::Clock>(
     rt: &R,
     alloc: Global,
     listener: &TcpListener,
     users: &Shared<Users>,
     options: ServeOptions,
+    closing: Option<&Closing>,
     jobs: Sender<Connection>,
 ) {
-    let opening = match options.open {
-        None => None,
-        Some(time) => match Opening::begin(rt, listener, time) {
+    let opening = match (options.open, closing) {
+        (None, None) => None,
+        (time, closing) => match Opening::begin(rt, listener, time, closing) {
             Ok(opening) => Some(opening),
             Err(_) => return,
         },

@@ -2,10 +2,15 @@
 #![tactic(auto)]
 
 mod accept;
+mod control;
+mod keeping;
 mod lines;
+mod said;
 mod sentences;
 mod server;
+mod state_lines;
 mod ticks;
 mod watch;
 
+pub use control::Steering;
 pub use server::{ServeOptions, serve};

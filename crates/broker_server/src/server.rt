@@ -6,16 +6,18 @@ ghost use Rattle.broker_server.specs.Serves.{IsLast, Serves};
 ghost use Rattle.request_handlers.specs.Seats.{most_seats};
 
 use crate::accept::accept_all;
+use crate::control::{Closing, Control, Steering};
+use crate::keeping::Keeping;
 use crate::lines::{Failure, failure_line, listening_line, settled_line};
 use crate::sentences::Sentences;
 use crate::ticks::Ticks;
 use crate::watch::Watch;
 use request_handlers::{Core, MOST_SEATS, Receipt, Seat};
-use session_pool::{LockedDesk, SessionEnd, Users};
-use session_workers::{PoolFault, serve_all};
+use session_pool::{Gate, LockedDesk, SessionEnd, Users, Witness};
+use session_workers::{Clocked, PoolFault, Steps, serve_all};
 use settlement::{SettleFault, Settled, settle};
 use std::alloc::{AllocError, Global};
-use std::io::Write;
+use std::io::{BufRead, Write};
 use std::marker::Brand;
 use std::net::{Net, TcpListener, TcpStream};
 use std::sync::Wait;
@@ -67,7 +69,8 @@ fn serve_accepted<
     'r,
     L: Ledger + Send + Sync,
     R: Net<Listener = TcpListener, Stream = TcpStream> + Threads + Wait + time::Clock + Sync,
-    E: Write + Drop + Send,
+    K: Steps + Witness + Drop,
+    G: Gate + Sync,
 >(
     rt: &'x R,
     alloc: Global,
@@ -75,8 +78,9 @@ fn serve_accepted<
     users: &'x Shared<Users>,
     listener: &'x TcpListener,
     options: ServeOptions,
-    clock: Ticks<'x, 'r, L, R, E>,
-    sentences: &'x Sentences<'r, R, E>,
+    closing: Option<&'x Closing>,
+    steps: K,
+    gate: &'x G,
 ) -> Result<Vec<SessionEnd<Seat<L>>>, PoolFault> {
     let (to, from) = crossbeam_channel::bounded(alloc, WAITING).map_err(|_| PoolFault::NoMemory)?;
     thread::scope(
@@ -84,14 +88,39 @@ fn serve_accepted<
         rt,
         move |scope| -> Result<Vec<SessionEnd<Seat<L>>>, PoolFault> {
             let accepting = scope.spawn(move || accept_all(
-                rt, alloc, listener, users, options, to,
+                rt, alloc, listener, users, options, closing, to,
             ));
             if accepting.is_err() {
                 return Err(PoolFault::NoThread);
             }
-            serve_all(rt, alloc, desk, from, options.workers, clock, sentences)
+            serve_all(rt, alloc, desk, from, options.workers, steps, gate)
         },
     )
+}
+
+/// What tells the keeper its steps: lines where they steer the broker, and else the clock.
+fn keeping_of<
+    'x,
+    'r,
+    L: Ledger,
+    R: Wait + time::Clock,
+    E: Write,
+    I: BufRead + Drop,
+    O: Write + Drop,
+>(
+    rt: &'r R,
+    alloc: Global,
+    desk: &'x LockedDesk<L, &'r R>,
+    sentences: &'x Sentences<'r, R, E>,
+    options: ServeOptions,
+    closing: &'x Closing,
+    steering: Option<Steering<I, O>>,
+) -> Keeping<'x, 'r, L, R, E, I, O> {
+    let Some(steering) = steering else {
+        let watch = Watch::new(alloc, desk, sentences, options.audit);
+        return Keeping::Clock(Clocked::new(Ticks::new(rt, watch)));
+    };
+    Keeping::Lines(Control::new(rt, alloc, desk, closing, steering))
 }
 
 /// Serves connections at a desk, and gives how many sessions there were and what the settled core did.
@@ -100,6 +129,8 @@ fn serve_at<
     L: Ledger + Send + Sync,
     R: Net<Listener = TcpListener, Stream = TcpStream> + Threads + Wait + time::Clock + Sync,
     E: Write + Drop + Send,
+    I: BufRead + Drop,
+    O: Write + Drop,
 >(
     rt: &'r R,
     alloc: Global,
@@ -108,15 +139,20 @@ fn serve_at<
     users: &Shared<Users>,
     listener: &TcpListener,
     options: ServeOptions,
+    steering: Option<Steering<I, O>>,
     sentences: &Sentences<'r, R, E>,
 ) -> Result<(usize, Settled), Failure>
     requires empty { core.trail ≡ [] }
     requires ledger { (blank.name ≡ L.name) × (blank.parts ≡ L.parts) × (blank.parts ≡ most_seats + 1) }
 {
     let desk: LockedDesk<L, &'r R> = LockedDesk::new(core, blank, rt);
-    let watch = Watch::new(alloc, &desk, sentences, options.audit);
-    let clock = Ticks::new(rt, watch);
-    let ends = serve_accepted(rt, alloc, &desk, users, listener, options, clock, sentences)?;
+    let closing = Closing::new();
+    let is_steered = steering.is_some();
+    let keeping = keeping_of(rt, alloc, &desk, sentences, options, &closing, steering);
+    let closing = if is_steered { Some(&closing) } else { None };
+    let ends = serve_accepted(
+        rt, alloc, &desk, users, listener, options, closing, keeping, sentences,
+    )?;
     let sessions = ends.len().saturating_sub(1);
     let receipts = receipts_of(alloc, ends).map_err(|_| SettleFault::NoMemory)?;
     let settled = settle(alloc, &desk.close(), receipts.as_slice())?;
@@ -128,6 +164,8 @@ fn serve_booked<
     'r,
     R: Net<Listener = TcpListener, Stream = TcpStream> + Threads + Wait + time::Clock + Sync,
     E: Write + Drop + Send,
+    I: BufRead + Drop,
+    O: Write + Drop,
 >(
     rt: &'r R,
     alloc: Global,
@@ -135,12 +173,13 @@ fn serve_booked<
     users: Users,
     listener: &TcpListener,
     options: ServeOptions,
+    steering: Option<Steering<I, O>>,
     sentences: &Sentences<'r, R, E>,
 ) -> Result<(usize, Settled), Failure>
     requires { core.trail ≡ [] }
 {
     let users = Shared::new(alloc, users).map_err(|_| PoolFault::NoMemory)?;
-    serve_at::<Brand, R, E>(
+    serve_at::<Brand, R, E, I, O>(
         rt,
         alloc,
         Blank::new(MOST_SEATS + 1),
@@ -148,6 +187,7 @@ fn serve_booked<
         &users,
         listener,
         options,
+        steering,
         sentences,
     )
 }
@@ -173,11 +213,14 @@ fn last_line(alloc: Global, outcome: Result<(usize, Settled), Failure>) -> Optio
 
 /// Prints where it listens, serves connections until so many were served or no more are taken, settles the books and prints
 /// how that went. Gives the exit status. To `errors` it says in a sentence why a session ended, where it didn't end between two
-/// requests, and the line of each refusal, where that is asked for.
+/// requests, and the line of each refusal, where that is asked for. Where lines steer it, there is no clock: a tick or a marker
+/// step comes only by a line, and connections are taken until the lines end or have it end.
 pub fn serve<
     R: Net<Listener = TcpListener, Stream = TcpStream> + Threads + Wait + time::Clock + Sync,
     W: Write,
     E: Write + Drop + Send,
+    I: BufRead + Drop,
+    O: Write + Drop,
 >(
     rt: &R,
     alloc: Global,
@@ -185,6 +228,7 @@ pub fn serve<
     users: Users,
     listener: &TcpListener,
     options: ServeOptions,
+    steering: Option<Steering<I, O>>,
     writer: &mut W,
     errors: E,
 ) -> u8
@@ -199,7 +243,9 @@ pub fn serve<
         Err(_) => return FAILED,
     }
     let sentences = Sentences::new(rt, alloc, errors);
-    let outcome = serve_booked(rt, alloc, core, users, listener, options, &sentences);
+    let outcome = serve_booked(
+        rt, alloc, core, users, listener, options, steering, &sentences,
+    );
     let Some((last, status)) = last_line(alloc, outcome) else {
         return FAILED;
     };

@@ -15,7 +15,7 @@ fn find_feed(text: &[u8]) -> Option<usize>
 }
 
 /// The first line, with its line feed, and what follows it.
-pub(crate) fn split_line(text: &[u8]) -> (&[u8], &[u8])
+pub fn split_line(text: &[u8]) -> (&[u8], &[u8])
     requires { 0 < length text.now }
     ensures lines { lines_of text.now ≡ result.0.now ∷ lines_of result.1.now }
     ensures text { text.now ≡ result.0.now ++ result.1.now }
@@ -28,7 +28,7 @@ pub(crate) fn split_line(text: &[u8]) -> (&[u8], &[u8])
 }
 
 /// The line without its line feed, which the last line of an input may lack.
-pub(crate) fn content(line: &[u8]) -> &[u8]
+pub fn content(line: &[u8]) -> &[u8]
     ensures { result.now ≡ strip_last 10 line.now }
 {
     match line.split_last() {
@@ -38,7 +38,7 @@ pub(crate) fn content(line: &[u8]) -> &[u8]
 }
 
 /// The settings' text, which ends before the first line `---`, and the script behind that line.
-pub(crate) fn split_input(input: &[u8]) -> (&[u8], &[u8])
+pub fn split_input(input: &[u8]) -> (&[u8], &[u8])
     ensures settings { result.0.now ≡ settings_part (lines_of input.now) }
     ensures script { lines_of result.1.now ≡ script_part (lines_of input.now) }
 {

@@ -19,14 +19,14 @@ const SIZE_FIELD: usize = 4;
 
 /// A frame without its size field, and who sends it.
 #[derive(Debug, Drop)]
-pub(crate) struct Sent {
-    pub(crate) caller: Caller,
-    pub(crate) frame: Bytes,
+pub struct Sent {
+    pub caller: Caller,
+    pub frame: Bytes,
 }
 
 /// What a line of a script asks for.
 #[derive(Debug, Drop)]
-pub(crate) enum Order {
+pub enum Order {
     /// A frame is to be answered.
     Ask(Sent),
     /// The front of the markers that are owed is to be written.
@@ -37,7 +37,7 @@ pub(crate) enum Order {
 
 /// Why a line of a script can't be read.
 #[derive(Clone, Copy, Debug, PartialEq, Eq, Error)]
-pub(crate) enum Unreadable {
+pub enum Unreadable {
     /// It is not UTF-8.
     #[error("the line is not UTF-8")]
     Text,
@@ -134,7 +134,7 @@ fn parse_sent(alloc: Global, text: &str) -> Result<Result<Sent, Unreadable>, All
 }
 
 /// The number that decimal digits write, without a sign.
-fn parse_number(digits: &str) -> Option<u64>
+pub fn parse_number(digits: &str) -> Option<u64>
     ensures { result ≡ number_of digits.now }
 {
     if digits.starts_with('+') {
@@ -182,10 +182,7 @@ fn text_of(bytes: &[u8]) -> Option<&str>
 }
 
 /// What a line without its line feed asks for, or why it can't be read.
-pub(crate) fn parse_order(
-    alloc: Global,
-    line: &[u8],
-) -> Result<Result<Order, Unreadable>, AllocError>
+pub fn parse_order(alloc: Global, line: &[u8]) -> Result<Result<Order, Unreadable>, AllocError>
     ensures { IfOk result (λ read. result_ok read ≡ order_of line.now) }
 {
     match text_of(line) {

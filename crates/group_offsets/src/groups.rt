@@ -53,6 +53,13 @@ impl Groups {
         }
     }
 
+    /// The groups in the order of their beginning: for whoever runs the broker, past all bindings.
+    pub fn as_slice(&self) -> &[Group]
+        ensures { result.now ≡ self.now }
+    {
+        self.groups.as_slice()
+    }
+
     /// Whether a new generation may begin in the group of this name.
     pub fn may_begin(&self, name: &Text) -> bool
         ensures { IsTrue result ↔ ((group_of self.now name.now).generation <ℤ pos 2147483647) }

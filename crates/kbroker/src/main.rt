@@ -1,24 +1,28 @@
 //! The broker's program.
 #![tactic(auto)]
 
+mod showing;
+
+use crate::showing::show_by;
 use arguments::{Job, Serving, arguments};
-use broker_server::{ServeOptions, serve};
+use broker_server::{ServeOptions, Steering, serve};
 use commands::{Opened, check_and_explain, open_and_explain, replay_and_explain};
 use session_pool::Users;
 use std::alloc::{AllocError, Global};
-use std::io::{Read, Write};
+use std::io::{BufRead, Input, Print, Read, Write};
 use std::net::{Net, TcpListener, TcpStream};
 use std::process::ExitCode;
+use std::rt::Files;
 use std::sync::Wait;
 use std::thread::Threads;
 use std::time::Duration;
-use std::{io, time};
+use std::{fs, io, time};
 
 /// The exit status of a command line that isn't understood.
 const MISUSED: u8 = 2;
 
-/// The exit status of a server that was never started.
-const FAILED: u8 = 1;
+/// The exit status of a server that was never started, and of a script that wasn't shown to its end.
+pub(crate) const FAILED: u8 = 1;
 
 /// The words of the command line as texts.
 fn texts<'a>(alloc: Global, words: &'a [String]) -> Result<Vec<&'a str>, AllocError> {
@@ -26,7 +30,7 @@ fn texts<'a>(alloc: Global, words: &'a [String]) -> Result<Vec<&'a str>, AllocEr
 }
 
 /// Says what went wrong. If that fails, nothing else does.
-fn explain<E: Write>(alloc: Global, errors: &mut E, what: &str, why: &str) {
+pub(crate) fn explain<E: Write>(alloc: Global, errors: &mut E, what: &str, why: &str) {
     if let Ok(text) = format!(in alloc; "kbroker: {what}: {why}\n") {
         let _ = errors.write_all(text.as_bytes());
     }
@@ -43,10 +47,26 @@ fn options_of(serving: Serving<'_>) -> ServeOptions {
     }
 }
 
-/// Serves the connections of a listener by the settings that are read.
+/// Says why there is no server, and gives the exit status.
+fn fail<W: Write, E: Write>(
+    alloc: Global,
+    writer: &mut W,
+    errors: &mut E,
+    line: &str,
+    what: &str,
+    why: &str,
+) -> u8 {
+    let _ = writer.write_all(line.as_bytes());
+    explain(alloc, errors, what, why);
+    FAILED
+}
+
+/// Serves the connections of a listener by the settings that are read, by the clock or as lines steer it.
 fn serve_connections<
     T: Net<Listener = TcpListener, Stream = TcpStream> + Threads + Wait + time::Clock + Sync,
     R: Read,
+    I: BufRead + Drop,
+    O: Write + Drop,
     W: Write,
     E: Write + Drop + Send,
 >(
@@ -54,6 +74,7 @@ fn serve_connections<
     alloc: Global,
     serving: Serving<'_>,
     reader: &mut R,
+    steering: Option<Steering<I, O>>,
     writer: &mut W,
     mut errors: E,
 ) -> u8 {
@@ -71,21 +92,65 @@ fn serve_connections<
         );
         return FAILED;
     };
-    let listener = match TcpListener::bind(rt, serving.listen) {
-        Ok(listener) => listener,
-        Err(_) => {
-            let _ = writer.write_all(b"listen failed\n".as_slice());
-            explain(
-                alloc,
-                &mut errors,
-                serving.listen,
-                "the address can't be listened on",
-            );
-            return FAILED;
-        }
+    let Ok(listener) = TcpListener::bind(rt, serving.listen) else {
+        return fail(
+            alloc,
+            writer,
+            &mut errors,
+            "listen failed\n",
+            serving.listen,
+            "the address can't be listened on",
+        );
     };
     let options = options_of(serving);
-    serve(rt, alloc, core, users, &listener, options, writer, errors)
+    serve(
+        rt, alloc, core, users, &listener, options, steering, writer, errors,
+    )
+}
+
+/// Serves connections by the settings in the file that is named, or else in standard input.
+fn serve_by<
+    T: Net<Listener = TcpListener, Stream = TcpStream>
+        + Threads
+        + Wait
+        + time::Clock
+        + Sync
+        + Input
+        + Print
+        + Files,
+    W: Write,
+    E: Write + Drop + Send,
+>(rt: &T, alloc: Global, serving: Serving<'_>, writer: &mut W, mut errors: E) -> u8 {
+    let steering = if serving.control {
+        Some(Steering {
+            lines: rt.reader(),
+            answers: io::writer(rt),
+        })
+    } else {
+        None
+    };
+    let Some(path) = serving.settings else {
+        return serve_connections(
+            rt,
+            alloc,
+            serving,
+            &mut rt.reader(),
+            steering,
+            writer,
+            errors,
+        );
+    };
+    let Ok(mut file) = fs::open(rt, path) else {
+        return fail(
+            alloc,
+            writer,
+            &mut errors,
+            "open failed\n",
+            path,
+            "the settings' file can't be opened",
+        );
+    };
+    serve_connections(rt, alloc, serving, &mut file, steering, writer, errors)
 }
 
 fn main(rt: HostRuntime) -> io::Result<ExitCode> {
@@ -105,9 +170,10 @@ fn main(rt: HostRuntime) -> io::Result<ExitCode> {
     let status = match job {
         Job::Replay => replay_and_explain(alloc, &mut reader, &mut writer, &mut errors),
         Job::Check => check_and_explain(alloc, &mut reader, &mut writer, &mut errors),
-        Job::Serve(serving) => {
-            serve_connections(&rt, alloc, serving, &mut reader, &mut writer, errors)
+        Job::Show(answers) => {
+            show_by(&rt, alloc, answers, &mut reader, &mut writer, &mut errors)
         }
+        Job::Serve(serving) => serve_by(&rt, alloc, serving, &mut writer, errors),
     };
     Ok(ExitCode::from(status))
 }

@@ -16,6 +16,7 @@ mod respond;
 mod session;
 mod users;
 mod why;
+mod witness;
 
 pub use desk::Desk;
 pub use gate::Gate;
@@ -25,3 +26,4 @@ pub use login::{Closed, Fresh, Known, LoginFault, Offered};
 pub use session::{Limits, SessionEnd, serve_session};
 pub use users::Users;
 pub use why::Why;
+pub use witness::Witness;

@@ -7,6 +7,7 @@ ghost use Rattle.request_handlers.specs.Core.{CoreValue};
 ghost use Rattle.request_handlers.specs.Seats.{fresh_seat, most_seats};
 
 use crate::desk::Desk;
+use crate::witness::Witness;
 use audit_trail::Event;
 use request_handlers::{Booked, Core, Receipt, Seat, Stop};
 use std::marker::Model;
@@ -46,6 +47,27 @@ impl<L: Ledger, R: Wait> LockedDesk<L, R> {
     {
         let booked = self.booked.lock(&self.rt);
         look(booked.core())
+    }
+
+    /// As `submit`, while someone looks.
+    pub fn submit_seen<W: Witness>(
+        &self,
+        seat: Seat<L>,
+        event: Event,
+        witness: &mut W,
+    ) -> (Seat<L>, Result<Receipt, Stop>)
+        requires { EventFits event }
+        ensures event { IfOk result.1 (λ r. r.event ≡ event) }
+        ensures count { OnOk result.1 (result.0.count ≡ seat.count + 1) }
+        ensures last { IfOk result.1 (λ r. result.0.last ≡ Some r) }
+        ensures err { OnErr result.1 (result.0 ≡ seat) }
+        ensures place { IfOk result.1 (λ r. seat.count ≤ r.place) }
+    {
+        let mut booked = self.booked.lock(&self.rt);
+        witness.before(booked.core());
+        let told = booked.step(seat, event);
+        witness.behind(booked.core());
+        told
     }
 }
 

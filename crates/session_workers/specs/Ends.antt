@@ -5,6 +5,8 @@ use Rattle.msg_admin.specs.declared.reply.Reply.TheVariants.{Marked, Ticked}
 use Rattle.audit_trail.specs.declared.event.Event.{Event}
 use Rattle.audit_trail.specs.declared.event.Event.TheVariants.{Ask, Mark, Tick}
 use Rattle.request_handlers.specs.Seats.{SeatValue}
+use Rattle.session_workers.specs.declared.steps.Step.{Step}
+use Rattle.session_workers.specs.declared.steps.Step.TheVariants as steps
 use Rattle.session_pool.specs.declared.session.SessionEnd.{SessionEnd}
 
 -- a seat that was fresh has risen by the number of the end's receipts
@@ -16,6 +18,11 @@ abbrev pub IsOfKeeper : Event → Type 0
 IsOfKeeper (Ask caller client request) = ⊥
 IsOfKeeper Mark = Unit {0}
 IsOfKeeper (Tick moment) = Unit {0}
+
+-- the event of a step
+abbrev pub step_event : Step → Event
+step_event (steps.Tick moment) = Tick moment
+step_event steps.Mark = Mark
 
 -- the keeper's end: its seat has risen as any, and each receipt is of a tick or a mark
 abbrev pub IsKept : SessionEnd SeatValue → Type 0

@@ -1,20 +1,17 @@
 //! The keeper, which submits ticks and marks.
 
 ghost use Rattle.std.specs.Prelude.{◌≡◌, ◌+◌, [], vec_len, All};
-ghost use Rattle.session_workers.specs.Ends.{IsKept, IsOfKeeper, markers_left};
+ghost use Rattle.session_workers.specs.Ends.{IsKept, IsOfKeeper, markers_left, step_event};
 
+use crate::steps::{Step, Steps};
 use audit_trail::Event;
 use msg_admin::Reply;
-use request_handlers::Receipt;
-use session_pool::{Desk, SessionEnd, Why};
+use request_handlers::{Receipt, Seat};
+use session_pool::{LockedDesk, SessionEnd, Why, Witness};
 use std::alloc::Global;
 use std::sync::Wait;
 use std::sync::atomic::{AtomicU64, Ordering};
-
-/// Tells the moments at which the core is to be told the time, in milliseconds. It is told whether all workers have ended.
-pub trait Clock {
-    fn next(&mut self, done: bool) -> Option<u64>;
-}
+use std::sync::ledger::Ledger;
 
 /// How many markers are still owed, as the keeper is told.
 fn markers_left(reply: &Reply) -> u64
@@ -26,22 +23,35 @@ fn markers_left(reply: &Reply) -> u64
     }
 }
 
-/// Hands an event to the desk, keeps its receipt, for which room is made first, and gives how many markers are still owed.
-fn submit<S, D: Desk<S>>(
-    desk: &D,
-    seat: S,
+/// The event of a step.
+fn event_of(step: Step) -> Event
+    ensures event { result ≡ step_event step }
+    ensures own { IsOfKeeper result }
+{
+    match step {
+        Step::Tick(moment) => Event::Tick(moment),
+        Step::Mark => Event::Mark,
+    }
+}
+
+/// Hands an event to the desk, while someone looks, keeps its receipt, for which room is made first, and gives how many markers
+/// are still owed.
+fn submit<L: Ledger, R: Wait, W: Witness>(
+    desk: &LockedDesk<L, R>,
+    seat: Seat<L>,
     event: Event,
+    witness: &mut W,
     receipts: &mut Vec<Receipt>,
-) -> (S, Result<u64, Why>)
+) -> (Seat<L>, Result<u64, Why>)
     requires own { IsOfKeeper event }
     requires kept { All (λ r. IsOfKeeper r.event) receipts.old.items }
-    ensures risen { (D.view result.0).count + vec_len receipts.old ≡ (D.view seat).count + vec_len receipts.new }
+    ensures risen { result.0.count + vec_len receipts.old ≡ seat.count + vec_len receipts.new }
     ensures kept { All (λ r. IsOfKeeper r.event) receipts.new.items }
 {
     if receipts.reserve(1).is_err() {
         return (seat, Err(Why::NoMemory));
     }
-    let (seat, answer) = desk.submit(seat, event);
+    let (seat, answer) = desk.submit_seen(seat, event, witness);
     match answer {
         Ok(receipt) => {
             let left = markers_left(receipt.reply());
@@ -52,65 +62,40 @@ fn submit<S, D: Desk<S>>(
     }
 }
 
-/// One tick, and then marks as long as some are owed.
-fn tick<S, D: Desk<S>, T: Wait>(
-    rt: &T,
-    desk: &D,
-    seat: S,
-    moment: u64,
-    receipts: &mut Vec<Receipt>,
-) -> (S, Result<(), Why>)
-    requires { All (λ r. IsOfKeeper r.event) receipts.old.items }
-    ensures risen { (D.view result.0).count + vec_len receipts.old ≡ (D.view seat).count + vec_len receipts.new }
-    ensures kept { All (λ r. IsOfKeeper r.event) receipts.new.items }
-{
-    let (back, answer) = submit(desk, seat, Event::Tick(moment), receipts);
-    let mut seat = back;
-    let mut left = match answer {
-        Ok(left) => left,
-        Err(why) => return (seat, Err(why)),
-    };
-    for _ in rt.forever() {
-        if left == 0 {
-            break;
-        }
-        let (back, answer) = submit(desk, seat, Event::Mark, receipts);
-        seat = back;
-        left = match answer {
-            Ok(left) => left,
-            Err(why) => return (seat, Err(why)),
-        };
+/// Why the keeper ends that doesn't go on behind a step.
+fn why_of(outcome: Result<u64, Why>) -> Why {
+    match outcome {
+        Ok(_) => Why::Closed,
+        Err(why) => why,
     }
-    (seat, Ok(()))
 }
 
-/// Submits a tick for each moment of the clock, and marks behind each as long as some are owed, until the clock gives none or
-/// the desk takes no more.
-pub(crate) fn keep<S, D: Desk<S>, C: Clock, T: Wait>(
+/// Submits the event of each step, one after the other, until there is none or what tells them has the keeper end.
+pub(crate) fn keep<L: Ledger, R: Wait, K: Steps + Witness, T: Wait>(
     rt: &T,
     alloc: Global,
-    desk: &D,
-    seat: S,
-    clock: &mut C,
+    desk: &LockedDesk<L, R>,
+    seat: Seat<L>,
+    steps: &mut K,
     running: &AtomicU64,
-) -> SessionEnd<S>
-    ensures risen { (D.view result.seat).count ≡ (D.view seat).count + vec_len result.receipts }
+) -> SessionEnd<Seat<L>>
+    ensures risen { result.seat.count ≡ seat.count + vec_len result.receipts }
     ensures kept { All (λ r. IsOfKeeper r.event) result.receipts.items }
 {
     let mut seat = seat;
     let mut receipts = Vec::new(alloc);
     for _ in rt.forever() {
         let done = running.load(Ordering::SeqCst) == 0;
-        let Some(moment) = clock.next(done) else {
+        let Some(step) = steps.next(done) else {
             break;
         };
-        let (back, outcome) = tick(rt, desk, seat, moment, &mut receipts);
+        let (back, outcome) = submit(desk, seat, event_of(step), steps, &mut receipts);
         seat = back;
-        if let Err(why) = outcome {
+        if !steps.came(outcome) {
             return SessionEnd {
                 receipts,
                 seat,
-                why,
+                why: why_of(outcome),
             };
         }
     }

@@ -5,10 +5,11 @@ ghost use Rattle.session_workers.specs.Ends.{HasRisen, IsKept, AreEnds};
 ghost use Rattle.session_workers.specs.Faults.{fault_name};
 
 use crate::job::{Done, Job, serve_job};
-use crate::keeper::{Clock, keep};
+use crate::keeper::keep;
+use crate::steps::Steps;
 use crossbeam_channel::Receiver;
 use request_handlers::Seat;
-use session_pool::{Gate, LockedDesk, SessionEnd};
+use session_pool::{Gate, LockedDesk, SessionEnd, Witness};
 use std::alloc::{AllocError, Global};
 use std::io::{Read, Write};
 use std::sync::Wait;
@@ -111,7 +112,7 @@ fn serve_lent<
     R: Wait + Sync,
     Rd: Read + Drop + Send,
     Wr: Write + Drop + Send,
-    C: Clock + Drop,
+    K: Steps + Witness + Drop,
     G: Gate + Sync,
     T: Threads + Wait + Sync,
 >(
@@ -121,7 +122,7 @@ fn serve_lent<
     jobs: &'x Receiver<Job<Rd, Wr>>,
     running: &'x AtomicU64,
     workers: usize,
-    clock: C,
+    steps: K,
     gate: &'x G,
 ) -> Result<Vec<SessionEnd<Seat<L>>>, PoolFault>
     ensures { IfOk result (λ ends. AreEnds ends.items) }
@@ -132,7 +133,7 @@ fn serve_lent<
         move |scope| -> Result<Vec<SessionEnd<Seat<L>>>, PoolFault>
             ensures { IfOk result (λ ends. AreEnds ends.items) }
         {
-            let mut clock = clock;
+            let mut steps = steps;
             let Some(seat) = desk.seat() else {
                 return Err(PoolFault::NoSeat);
             };
@@ -157,20 +158,20 @@ fn serve_lent<
             if handles.is_empty() {
                 return Err(PoolFault::NoThread);
             }
-            let kept = keep(rt, alloc, desk, seat, &mut clock, running);
+            let kept = keep(rt, alloc, desk, seat, &mut steps, running);
             join_all(rt, alloc, handles, kept)
         },
     )
 }
 
 /// Serves the jobs of the channel by so many worker threads, until the channel is closed and all of them are served, while the
-/// keeper runs on the calling thread. The keeper's end is the last. After a fault the ends are given up.
+/// keeper does its steps on the calling thread. The keeper's end is the last. After a fault the ends are given up.
 pub fn serve_all<
     L: Ledger + Send + Sync,
     R: Wait + Sync,
     Rd: Read + Drop + Send,
     Wr: Write + Drop + Send,
-    C: Clock + Drop,
+    K: Steps + Witness + Drop,
     G: Gate + Sync,
     T: Threads + Wait + Sync,
 >(
@@ -179,11 +180,11 @@ pub fn serve_all<
     desk: &LockedDesk<L, R>,
     jobs: Receiver<Job<Rd, Wr>>,
     workers: usize,
-    clock: C,
+    steps: K,
     gate: &G,
 ) -> Result<Vec<SessionEnd<Seat<L>>>, PoolFault>
     ensures { IfOk result (λ ends. AreEnds ends.items) }
 {
     let running = AtomicU64::new(0);
-    serve_lent(rt, alloc, desk, &jobs, &running, workers, clock, gate)
+    serve_lent(rt, alloc, desk, &jobs, &running, workers, steps, gate)
 }

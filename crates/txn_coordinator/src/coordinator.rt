@@ -1,6 +1,7 @@
 //! The coordinator: transactional ids, producer ids given out, and the markers that are owed.
 
 ghost use Rattle.std.specs.Prelude.{◌≡◌, ◌+◌, ◌<◌, ◌^◌, ◌++◌, ◌∷◌, [], IfOk, IfSome, OnOk, OnErr, Some, None, length};
+ghost use Rattle.std.specs.Option.{option_copied};
 ghost use Rattle.txn_coordinator.specs.Coordinator.{no_transactions, turned, turn_code, turn_answer, pair_answer, recorded, fresh, owner, given_by, given_free};
 ghost use Rattle.txn_coordinator.specs.InitProducerId.{init};
 ghost use Rattle.txn_coordinator.specs.Adding.{add_partitions, add_group, open_transaction};
@@ -14,6 +15,7 @@ ghost use Rattle.txn_coordinator.specs.Permission.{MayWrite};
 use crate::ending::EndForm;
 use crate::expiry::expiry_markers;
 use crate::init::{created, timeout_within};
+use crate::marker::OwedMarker;
 use crate::owed::Owed;
 use crate::pair::{Given, Pair, PairAnswer};
 use crate::records::Records;
@@ -252,6 +254,23 @@ impl Coordinator {
         self.owed.append(owed)?;
         self.records.expire(moment);
         Ok(())
+    }
+
+    /// The record of each transactional id, in the order of creation: for whoever runs the broker, past all bindings.
+    pub fn transactions(&self) -> &[Transaction]
+        ensures { result.now ≡ self.now.transactions }
+    {
+        self.records.as_slice()
+    }
+
+    /// The front marker, if one is owed. It takes no memory.
+    pub fn front(&self) -> Option<&OwedMarker>
+        ensures { option_copied result ≡ next_warrant self.now }
+    {
+        match self.owed.front() {
+            Some(marker) => Some(marker.value()),
+            None => None,
+        }
     }
 
     /// How many markers are owed. It takes no memory.

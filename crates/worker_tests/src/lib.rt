@@ -4,6 +4,8 @@
 #[cfg(test)]
 mod hold;
 #[cfg(test)]
+mod kept;
+#[cfg(test)]
 mod settled;
 #[cfg(test)]
 mod talk;

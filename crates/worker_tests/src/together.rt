@@ -10,7 +10,7 @@ use crossbeam_channel::Sender;
 use request_handlers::{MOST_SEATS, Receipt};
 use session_clients::bytes_of;
 use session_pool::{Limits, LockedDesk, Users, Why};
-use session_workers::{Clock, Job, serve_all};
+use session_workers::{Clock, Clocked, Job, serve_all};
 use settlement::settle;
 use std::alloc::Global;
 use std::io::Cursor;
@@ -150,8 +150,8 @@ fn run_at<L: Ledger + Send + Sync, R: Threads + Wait + time::Clock + Copy + Send
     )?;
     send(rt, alloc, &to, 2, &two, &users, &flags, false)?;
     drop(to);
-    let clock = Ticks { rt, moment: 0 };
-    let ends = serve_all(&rt, alloc, &desk, from, workers, clock, &gate)
+    let steps = Clocked::new(Ticks { rt, moment: 0 });
+    let ends = serve_all(&rt, alloc, &desk, from, workers, steps, &gate)
         .ok()
         .ok_or("served")?;
     let mut receipts: Vec<Vec<Receipt>> = Vec::new(alloc);

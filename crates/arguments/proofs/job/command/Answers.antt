@@ -14,4 +14,5 @@ returns c =
     ∙ ap₂ with_subcommand replay (ap (λ (a : App). a.top) c.described-check.ensures.app) in
     let serve : shape_of c.in_ok-serve.serve ≡ serve_shape = ap (λ (a : App). a.top) (c.in_ok-serve.ensures.app ∙ ap with_serve_options c.described-serve.ensures.app) in
     let local : (fields_of c.in_ok-serve.serve).has_globals ≡ false = c.in_ok-serve.ensures.local ∙ c.described-serve.ensures.local in
-    IfOk-weaker c.subcommand-3.result _ _ (λ made added. added.shape local ∙ ap₂ with_subcommand check serve) c.subcommand-3.ensures
+    let both : app_of c.in_ok-subcommand-3.field-0 ≡ with_subcommand (with_subcommand (with_subcommand program (new_shape (codes "replay"))) (new_shape (codes "check"))) serve_shape = c.in_ok-subcommand-3.ensures.shape local ∙ ap₂ with_subcommand check serve in
+    IfOk-weaker c.subcommand-4.result _ _ (λ made added. added.shape c.in_ok-show_command.ensures.local ∙ ap₂ with_subcommand both (ap (λ (a : App). a.top) c.in_ok-show_command.ensures.app)) c.subcommand-4.ensures

@@ -3,4 +3,4 @@ use Rattle.session_workers.specs.Ends.{IsOfKeeper}
 use Rattle.session_workers.proofs.keeper.keep.Given as goal
 
 abbrev pub invariant-loop : goal.invariant-loop
-invariant-loop g l = ((g.D.Desk.view l.seat).count ≡ (g.D.Desk.view l.fn.seat).count + vec_len l.receipts) × All (λ r. IsOfKeeper r.event) l.receipts.items
+invariant-loop g l = (l.seat.count ≡ l.fn.seat.count + vec_len l.receipts) × All (λ r. IsOfKeeper r.event) l.receipts.items

@@ -1,0 +1,99 @@
+//! The command that shows a script.
+
+use crate::{FAILED, explain};
+use show::{ShowFault, Shown, show_script};
+use std::alloc::Global;
+use std::fmt::Display;
+use std::fs;
+use std::io::{Read, Write};
+use std::rt::Files;
+use wire_types::{InputFault, read_input};
+
+/// The exit status where each line was shown.
+const SHOWN: u8 = 0;
+
+/// Why a file's text isn't there.
+enum Unread {
+    Unopened,
+    Fault(InputFault),
+}
+
+/// Reads the text of a file.
+fn read_file<T: Files>(rt: &T, alloc: Global, path: &str) -> Result<Vec<u8>, Unread> {
+    let Ok(mut file) = fs::open(rt, path) else {
+        return Err(Unread::Unopened);
+    };
+    read_input(alloc, &mut file).map_err(Unread::Fault)
+}
+
+/// Says why an input isn't there, and gives the exit status.
+fn give_up<E: Write>(alloc: Global, errors: &mut E, what: &str, fault: InputFault) -> u8 {
+    let why = match fault {
+        InputFault::Read => "it can't be read",
+        InputFault::TooLong => "it has more than 1,073,741,824 bytes",
+        InputFault::NoMemory => "there is not enough memory",
+    };
+    explain(alloc, errors, what, why);
+    FAILED
+}
+
+/// Says where and why a script was shown no further, and gives the exit status.
+fn end_at<E: Write, Y: Display + Drop>(alloc: Global, errors: &mut E, number: u64, why: Y) -> u8 {
+    if let (Ok(what), Ok(why)) = (
+        format!(in alloc; "line {number}"),
+        format!(in alloc; "{why}"),
+    ) {
+        explain(alloc, errors, what.as_str(), why.as_str());
+    }
+    FAILED
+}
+
+/// Says how showing ended, where it is not the script's end, and gives the exit status.
+fn end_of<E: Write>(alloc: Global, errors: &mut E, shown: Result<Shown, ShowFault>) -> u8 {
+    match shown {
+        Ok(Shown::Whole) => SHOWN,
+        Ok(Shown::Refused(fault)) => {
+            explain(alloc, errors, "settings", fault.name());
+            FAILED
+        }
+        Ok(Shown::Unreadable(number, why)) => end_at(alloc, errors, number, why),
+        Ok(Shown::Stopped(number, why)) => end_at(alloc, errors, number, why),
+        Err(ShowFault::NoMemory) => {
+            explain(alloc, errors, "show", "there is not enough memory");
+            FAILED
+        }
+        Err(ShowFault::Write) => {
+            explain(alloc, errors, "show", "the text can't be written");
+            FAILED
+        }
+    }
+}
+
+/// Shows the script that is read, with the answers in the file that is named, or else made anew. Gives the exit status.
+pub(crate) fn show_by<T: Files, R: Read, W: Write, E: Write>(
+    rt: &T,
+    alloc: Global,
+    answers: Option<&str>,
+    reader: &mut R,
+    writer: &mut W,
+    errors: &mut E,
+) -> u8 {
+    let input = match read_input(alloc, reader) {
+        Ok(input) => input,
+        Err(fault) => return give_up(alloc, errors, "standard input", fault),
+    };
+    let Some(path) = answers else {
+        let shown = show_script(alloc, input.as_slice(), None, writer);
+        return end_of(alloc, errors, shown);
+    };
+    let answers = match read_file(rt, alloc, path) {
+        Ok(answers) => answers,
+        Err(Unread::Unopened) => {
+            explain(alloc, errors, path, "the file can't be opened");
+            return FAILED;
+        }
+        Err(Unread::Fault(fault)) => return give_up(alloc, errors, path, fault),
+    };
+    let shown = show_script(alloc, input.as_slice(), Some(answers.as_slice()), writer);
+    end_of(alloc, errors, shown)
+}

@@ -1,6 +1,0 @@
-use Rattle.std.proofs.Common.{◌≡◌, ◌+◌, vec_len, All}
-use Rattle.session_workers.specs.Ends.{IsOfKeeper}
-use Rattle.session_workers.proofs.keeper.tick.Given as goal
-
-abbrev pub invariant-loop : goal.invariant-loop
-invariant-loop g l = ((g.D.Desk.view l.seat).count + vec_len l.fn.receipts ≡ (g.D.Desk.view l.fn.seat).count + vec_len l.receipts) × All (λ r. IsOfKeeper r.event) l.receipts.items

@@ -1,0 +1,70 @@
+//! Who tells the keeper what to do next.
+
+use request_handlers::Core;
+use session_pool::{Why, Witness};
+
+/// What the keeper does next.
+#[derive(Clone, Copy, Debug, PartialEq, Eq)]
+pub enum Step {
+    /// It tells the core a moment, in milliseconds.
+    Tick(u64),
+    /// It has the core write the first marker that is owed.
+    Mark,
+}
+
+/// Tells the keeper its steps, one after the other.
+pub trait Steps {
+    /// The next step; where there is none, the keeper ends. It is told whether all workers have ended.
+    fn next(&mut self, done: bool) -> Option<Step>;
+
+    /// Is told what came of the step: how many markers are still owed, or why it wasn't taken. Gives whether the keeper goes on.
+    fn came(&mut self, outcome: Result<u64, Why>) -> bool;
+}
+
+/// Tells the moments at which the core is to be told the time, in milliseconds. It is told whether all workers have ended.
+pub trait Clock {
+    fn next(&mut self, done: bool) -> Option<u64>;
+}
+
+/// Steps by a clock: a tick for each of its moments, and marks behind each as long as some are owed. The keeper ends where the
+/// clock gives no moment, or the desk takes no more.
+#[derive(Drop)]
+pub struct Clocked<C: Clock> {
+    clock: C,
+    left: u64,
+}
+
+impl<C: Clock> Clocked<C> {
+    pub fn new(clock: C) -> Clocked<C> {
+        Clocked { clock, left: 0 }
+    }
+}
+
+impl<C: Clock> Steps for Clocked<C> {
+    fn next(&mut self, done: bool) -> Option<Step> {
+        if self.left > 0 {
+            return Some(Step::Mark);
+        }
+        match self.clock.next(done) {
+            Some(moment) => Some(Step::Tick(moment)),
+            None => None,
+        }
+    }
+
+    fn came(&mut self, outcome: Result<u64, Why>) -> bool {
+        match outcome {
+            Ok(left) => {
+                self.left = left;
+                true
+            }
+            Err(_) => false,
+        }
+    }
+}
+
+/// A clock looks at no core.
+impl<C: Clock> Witness for Clocked<C> {
+    fn before(&mut self, _core: &Core) {}
+
+    fn behind(&mut self, _core: &Core) {}
+}

@@ -1,0 +1,141 @@
+//! The fields of the messages about access control.
+
+use crate::codes::{operation_name, pattern_type_name, permission_type_name, resource_type_name};
+use crate::sheet::{Fields, Sheet};
+use msg_acl::{
+    BindingEntry, CreateAclsReply, CreateAclsRequest, CreatedAcl, DeleteAclsReply,
+    DeleteAclsRequest, DeletedAcl, DeletedAcls, DescribeAclsReply, DescribeAclsRequest,
+    DescribedAcl, DescribedResource, FilterEntry,
+};
+use std::alloc::AllocError;
+
+fn push_resource_type(sheet: &mut Sheet, field: &str, kind: i8) -> Result<(), AllocError> {
+    sheet.push_coded(field, kind, resource_type_name(kind))
+}
+
+fn push_pattern_type(sheet: &mut Sheet, field: &str, pattern: i8) -> Result<(), AllocError> {
+    sheet.push_coded(field, pattern, pattern_type_name(pattern))
+}
+
+/// What is done, and whether that is denied or allowed.
+fn push_permission(sheet: &mut Sheet, operation: i8, permission: i8) -> Result<(), AllocError> {
+    sheet.push_coded("operation", operation, operation_name(operation))?;
+    sheet.push_coded(
+        "permission_type",
+        permission,
+        permission_type_name(permission),
+    )
+}
+
+impl Fields for FilterEntry {
+    fn push_fields(&self, sheet: &mut Sheet) -> Result<(), AllocError> {
+        push_resource_type(sheet, "resource_type_filter", self.kind)?;
+        sheet.push_nullable("resource_name_filter", &self.name)?;
+        push_pattern_type(sheet, "pattern_type_filter", self.pattern)?;
+        sheet.push_nullable("principal_filter", &self.principal)?;
+        sheet.push_nullable("host_filter", &self.host)?;
+        push_permission(sheet, self.operation, self.permission)
+    }
+}
+
+/// A binding, whose pattern's field has another name where it is created.
+fn push_binding(
+    sheet: &mut Sheet,
+    binding: &BindingEntry,
+    pattern_type: &str,
+) -> Result<(), AllocError> {
+    push_resource_type(sheet, "resource_type", binding.kind)?;
+    sheet.push_text("resource_name", &binding.name)?;
+    push_pattern_type(sheet, pattern_type, binding.pattern)?;
+    sheet.push_text("principal", &binding.principal)?;
+    sheet.push_text("host", &binding.host)?;
+    push_permission(sheet, binding.operation, binding.permission)
+}
+
+/// A binding that is to be created.
+impl Fields for BindingEntry {
+    fn push_fields(&self, sheet: &mut Sheet) -> Result<(), AllocError> {
+        push_binding(sheet, self, "resource_pattern_type")
+    }
+}
+
+impl Fields for DescribeAclsRequest {
+    fn push_fields(&self, sheet: &mut Sheet) -> Result<(), AllocError> {
+        self.filter.push_fields(sheet)
+    }
+}
+
+impl Fields for DescribedAcl {
+    fn push_fields(&self, sheet: &mut Sheet) -> Result<(), AllocError> {
+        sheet.push_text("principal", &self.principal)?;
+        sheet.push_text("host", &self.host)?;
+        push_permission(sheet, self.operation, self.permission)
+    }
+}
+
+impl Fields for DescribedResource {
+    fn push_fields(&self, sheet: &mut Sheet) -> Result<(), AllocError> {
+        push_resource_type(sheet, "resource_type", self.kind)?;
+        sheet.push_text("resource_name", &self.name)?;
+        push_pattern_type(sheet, "pattern_type", self.pattern)?;
+        sheet.push_list("acls", self.acls.as_slice())
+    }
+}
+
+impl Fields for DescribeAclsReply {
+    fn push_fields(&self, sheet: &mut Sheet) -> Result<(), AllocError> {
+        sheet.push("throttle_time_ms", self.throttle)?;
+        sheet.push_error("error_code", self.error)?;
+        sheet.push_nullable("error_message", &self.message)?;
+        sheet.push_list("resources", self.resources.as_slice())
+    }
+}
+
+impl Fields for CreateAclsRequest {
+    fn push_fields(&self, sheet: &mut Sheet) -> Result<(), AllocError> {
+        sheet.push_list("creations", self.creations.as_slice())
+    }
+}
+
+impl Fields for CreatedAcl {
+    fn push_fields(&self, sheet: &mut Sheet) -> Result<(), AllocError> {
+        sheet.push_error("error_code", self.error)?;
+        sheet.push_nullable("error_message", &self.message)
+    }
+}
+
+impl Fields for CreateAclsReply {
+    fn push_fields(&self, sheet: &mut Sheet) -> Result<(), AllocError> {
+        sheet.push("throttle_time_ms", self.throttle)?;
+        sheet.push_list("results", self.results.as_slice())
+    }
+}
+
+impl Fields for DeleteAclsRequest {
+    fn push_fields(&self, sheet: &mut Sheet) -> Result<(), AllocError> {
+        sheet.push_list("filters", self.filters.as_slice())
+    }
+}
+
+impl Fields for DeletedAcl {
+    fn push_fields(&self, sheet: &mut Sheet) -> Result<(), AllocError> {
+        sheet.push_error("error_code", self.error)?;
+        sheet.push_nullable("error_message", &self.message)?;
+        push_binding(sheet, &self.binding, "pattern_type")
+    }
+}
+
+impl Fields for DeletedAcls {
+    fn push_fields(&self, sheet: &mut Sheet) -> Result<(), AllocError> {
+        sheet.push_error("error_code", self.error)?;
+        sheet.push_nullable("error_message", &self.message)?;
+        sheet.push_list("matching_acls", self.matches.as_slice())
+    }
+}
+
+impl Fields for DeleteAclsReply {
+    fn push_fields(&self, sheet: &mut Sheet) -> Result<(), AllocError> {
+        sheet.push("throttle_time_ms", self.throttle)?;
+        sheet.push_list("filter_results", self.results.as_slice())
+    }
+}

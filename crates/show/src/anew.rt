@@ -1,0 +1,130 @@
+//! Answers that a core gives anew.
+
+ghost use Rattle.std.specs.Prelude.{◌≤◌, length};
+ghost use Rattle.api_dispatch.specs.Bounds.{EventFits};
+
+use crate::answer::{
+    Answers, push_closed, push_sent_reply, push_silence, push_stop, push_unread_answer,
+};
+use crate::sheet::Sheet;
+use audit_trail::{Event, line};
+use authorizer::Refusal;
+use commands::{Order, Sent};
+use msg_admin::{FRAME_LIMIT, Reply, read_request, write_reply};
+use request_handlers::{Core, Stop};
+use std::alloc::AllocError;
+use wire_types::{ReadFault, WriteFault};
+
+/// Appends the reply to a request, if it can be sent.
+fn push_request_reply(
+    sheet: &mut Sheet,
+    correlation: i32,
+    reply: &Reply,
+) -> Result<(), AllocError> {
+    match write_reply(sheet.alloc(), correlation, reply) {
+        Ok(response) => {
+            if response.is_empty() {
+                return push_silence(sheet);
+            }
+            push_sent_reply(sheet, correlation, correlation, reply)
+        }
+        Err(WriteFault::TooLong) => push_closed(sheet),
+        Err(WriteFault::NoMemory) => Err(AllocError),
+    }
+}
+
+/// Appends what was refused of an event.
+fn push_refusals(sheet: &mut Sheet, refusals: &[Refusal]) -> Result<(), AllocError> {
+    if refusals.is_empty() {
+        return Ok(());
+    }
+    sheet.begin("refused")?;
+    for refusal in refusals {
+        let line = line(sheet.alloc(), refusal)?;
+        sheet.push_line(line.as_str())?;
+    }
+    sheet.end();
+    Ok(())
+}
+
+/// What was refused of the event at a place of the trail.
+fn refusals_at(core: &Core, place: u64) -> &[Refusal] {
+    match core.trail().entry(place as usize) {
+        Some(entry) => entry.refusals.as_slice(),
+        None => &[],
+    }
+}
+
+/// Makes the step of an event. Only a request is answered.
+fn push_step(
+    core: &mut Core,
+    sheet: &mut Sheet,
+    correlation: Option<i32>,
+    event: Event,
+) -> Result<Option<Stop>, AllocError>
+    requires { EventFits event }
+{
+    match core.step(event) {
+        Ok(receipt) => {
+            if let Some(correlation) = correlation {
+                push_request_reply(sheet, correlation, receipt.reply())?;
+            }
+            push_refusals(sheet, refusals_at(core, receipt.place()))?;
+            Ok(None)
+        }
+        Err(Stop::NoMemory) => Err(AllocError),
+        Err(stop) => {
+            push_stop(sheet, stop)?;
+            Ok(Some(stop))
+        }
+    }
+}
+
+/// Answers a frame within the limit.
+fn push_request_step(
+    core: &mut Core,
+    sheet: &mut Sheet,
+    sent: Sent,
+) -> Result<Option<Stop>, AllocError>
+    requires { length sent.frame ≤ FRAME_LIMIT }
+{
+    let Sent { caller, frame } = sent;
+    match read_request(sheet.alloc(), &frame) {
+        Ok((header, request)) => {
+            let event = Event::Ask {
+                caller,
+                client: header.client,
+                request,
+            };
+            push_step(core, sheet, Some(header.correlation), event)
+        }
+        Err(ReadFault::Malformed(_)) => {
+            push_unread_answer(sheet, &frame)?;
+            Ok(None)
+        }
+        Err(ReadFault::NoMemory) => Err(AllocError),
+    }
+}
+
+/// Answers a frame.
+fn push_frame_step(
+    core: &mut Core,
+    sheet: &mut Sheet,
+    sent: Sent,
+) -> Result<Option<Stop>, AllocError> {
+    if sent.frame.len() > FRAME_LIMIT {
+        push_closed(sheet)?;
+        return Ok(None);
+    }
+    push_request_step(core, sheet, sent)
+}
+
+impl Answers for Core {
+    fn push_answer(&mut self, sheet: &mut Sheet, order: Order) -> Result<Option<Stop>, AllocError> {
+        match order {
+            Order::Ask(sent) => push_frame_step(self, sheet, sent),
+            Order::Mark => push_step(self, sheet, None, Event::Mark),
+            Order::Tick(moment) => push_step(self, sheet, None, Event::Tick(moment)),
+        }
+    }
+}

@@ -1,0 +1,200 @@
+//! The fields of the messages about topics and their data.
+
+use crate::codes::{acks_name, timestamp_name};
+use crate::records::push_records;
+use crate::sheet::{Fields, Sheet};
+use crate::topics::{TopicNames, push_topics};
+use msg_data::{
+    AbortedTransaction, BrokerInfo, FetchPartition, FetchReply, FetchRequest, FetchedRecords,
+    FoundOffset, Isolation, ListOffsetsReply, ListOffsetsRequest, MetadataReply, MetadataRequest,
+    PartitionInfo, ProduceReply, ProduceRequest, ProducedOffset, ProducedRecords, TopicInfo,
+    WantedOffset,
+};
+use std::alloc::AllocError;
+use wire_types::Text;
+
+impl Fields for ProducedRecords {
+    fn push_fields(&self, sheet: &mut Sheet) -> Result<(), AllocError> {
+        sheet.push("index", self.index)?;
+        match &self.records {
+            Some(records) => push_records(sheet, records),
+            None => sheet.push("records", "null"),
+        }
+    }
+}
+
+impl Fields for ProduceRequest {
+    fn push_fields(&self, sheet: &mut Sheet) -> Result<(), AllocError> {
+        let names = TopicNames {
+            list: "topic_data",
+            name: "name",
+            partitions: "partition_data",
+        };
+        sheet.push_nullable("transactional_id", &self.transactional_id)?;
+        sheet.push_coded("acks", self.acks, acks_name(self.acks))?;
+        sheet.push("timeout_ms", self.timeout)?;
+        push_topics(sheet, names, self.topics.as_slice())
+    }
+}
+
+impl Fields for ProducedOffset {
+    fn push_fields(&self, sheet: &mut Sheet) -> Result<(), AllocError> {
+        sheet.push("index", self.index)?;
+        sheet.push_error("error_code", self.error)?;
+        sheet.push("base_offset", self.base_offset)?;
+        sheet.push("log_append_time_ms", self.log_append_time)
+    }
+}
+
+impl Fields for ProduceReply {
+    fn push_fields(&self, sheet: &mut Sheet) -> Result<(), AllocError> {
+        let names = TopicNames {
+            list: "responses",
+            name: "name",
+            partitions: "partition_responses",
+        };
+        push_topics(sheet, names, self.topics.as_slice())?;
+        sheet.push("throttle_time_ms", self.throttle)
+    }
+}
+
+fn push_isolation(sheet: &mut Sheet, isolation: Isolation) -> Result<(), AllocError> {
+    match isolation {
+        Isolation::ReadUncommitted => sheet.push("isolation_level", "0 read_uncommitted"),
+        Isolation::ReadCommitted => sheet.push("isolation_level", "1 read_committed"),
+    }
+}
+
+impl Fields for FetchPartition {
+    fn push_fields(&self, sheet: &mut Sheet) -> Result<(), AllocError> {
+        sheet.push("partition", self.index)?;
+        sheet.push("fetch_offset", self.offset)?;
+        sheet.push("partition_max_bytes", self.max_bytes)
+    }
+}
+
+impl Fields for FetchRequest {
+    fn push_fields(&self, sheet: &mut Sheet) -> Result<(), AllocError> {
+        let names = TopicNames {
+            list: "topics",
+            name: "topic",
+            partitions: "partitions",
+        };
+        sheet.push("replica_id", self.replica)?;
+        sheet.push("max_wait_ms", self.max_wait)?;
+        sheet.push("min_bytes", self.min_bytes)?;
+        sheet.push("max_bytes", self.max_bytes)?;
+        push_isolation(sheet, self.isolation)?;
+        push_topics(sheet, names, self.topics.as_slice())
+    }
+}
+
+impl Fields for AbortedTransaction {
+    fn push_fields(&self, sheet: &mut Sheet) -> Result<(), AllocError> {
+        sheet.push("producer_id", self.producer)?;
+        sheet.push("first_offset", self.first_offset)
+    }
+}
+
+impl Fields for FetchedRecords {
+    fn push_fields(&self, sheet: &mut Sheet) -> Result<(), AllocError> {
+        sheet.push("partition_index", self.index)?;
+        sheet.push_error("error_code", self.error)?;
+        sheet.push("high_watermark", self.high_watermark)?;
+        sheet.push("last_stable_offset", self.last_stable_offset)?;
+        sheet.push_nullable_list("aborted_transactions", &self.aborted)?;
+        push_records(sheet, &self.records)
+    }
+}
+
+impl Fields for FetchReply {
+    fn push_fields(&self, sheet: &mut Sheet) -> Result<(), AllocError> {
+        let names = TopicNames {
+            list: "responses",
+            name: "topic",
+            partitions: "partitions",
+        };
+        sheet.push("throttle_time_ms", self.throttle)?;
+        push_topics(sheet, names, self.topics.as_slice())
+    }
+}
+
+impl Fields for WantedOffset {
+    fn push_fields(&self, sheet: &mut Sheet) -> Result<(), AllocError> {
+        sheet.push("partition_index", self.index)?;
+        sheet.push_coded("timestamp", self.timestamp, timestamp_name(self.timestamp))
+    }
+}
+
+impl Fields for ListOffsetsRequest {
+    fn push_fields(&self, sheet: &mut Sheet) -> Result<(), AllocError> {
+        sheet.push("replica_id", self.replica)?;
+        push_isolation(sheet, self.isolation)?;
+        push_topics(sheet, TopicNames::USUAL, self.topics.as_slice())
+    }
+}
+
+impl Fields for FoundOffset {
+    fn push_fields(&self, sheet: &mut Sheet) -> Result<(), AllocError> {
+        sheet.push("partition_index", self.index)?;
+        sheet.push_error("error_code", self.error)?;
+        sheet.push("timestamp", self.timestamp)?;
+        sheet.push("offset", self.offset)
+    }
+}
+
+impl Fields for ListOffsetsReply {
+    fn push_fields(&self, sheet: &mut Sheet) -> Result<(), AllocError> {
+        sheet.push("throttle_time_ms", self.throttle)?;
+        push_topics(sheet, TopicNames::USUAL, self.topics.as_slice())
+    }
+}
+
+/// The name of a topic that is asked for.
+impl Fields for Text {
+    fn push_fields(&self, sheet: &mut Sheet) -> Result<(), AllocError> {
+        sheet.push_text("name", self)
+    }
+}
+
+impl Fields for MetadataRequest {
+    fn push_fields(&self, sheet: &mut Sheet) -> Result<(), AllocError> {
+        sheet.push_nullable_list("topics", &self.topics)
+    }
+}
+
+impl Fields for BrokerInfo {
+    fn push_fields(&self, sheet: &mut Sheet) -> Result<(), AllocError> {
+        sheet.push("node_id", self.node)?;
+        sheet.push_text("host", &self.host)?;
+        sheet.push("port", self.port)?;
+        sheet.push_nullable("rack", &self.rack)
+    }
+}
+
+impl Fields for PartitionInfo {
+    fn push_fields(&self, sheet: &mut Sheet) -> Result<(), AllocError> {
+        sheet.push_error("error_code", self.error)?;
+        sheet.push("partition_index", self.index)?;
+        sheet.push("leader_id", self.leader)?;
+        sheet.push_numbers("replica_nodes", self.replicas.as_slice())?;
+        sheet.push_numbers("isr_nodes", self.in_sync.as_slice())
+    }
+}
+
+impl Fields for TopicInfo {
+    fn push_fields(&self, sheet: &mut Sheet) -> Result<(), AllocError> {
+        sheet.push_error("error_code", self.error)?;
+        sheet.push_text("name", &self.name)?;
+        sheet.push("is_internal", self.internal)?;
+        sheet.push_list("partitions", self.partitions.as_slice())
+    }
+}
+
+impl Fields for MetadataReply {
+    fn push_fields(&self, sheet: &mut Sheet) -> Result<(), AllocError> {
+        sheet.push_list("brokers", self.brokers.as_slice())?;
+        sheet.push("controller_id", self.controller)?;
+        sheet.push_list("topics", self.topics.as_slice())
+    }
+}

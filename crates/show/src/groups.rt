@@ -1,0 +1,166 @@
+//! The fields of the messages about groups and their offsets.
+
+use crate::sheet::{Fields, Sheet};
+use crate::topics::{TopicNames, push_numbered_topics, push_topics};
+use msg_group::{
+    CommittedOffset, FetchedOffset, HeartbeatReply, HeartbeatRequest, JoinGroupReply,
+    JoinGroupRequest, JoinedMember, LeaveGroupReply, LeaveGroupRequest, MemberAssignment,
+    OfferedProtocol, OffsetCommitReply, OffsetCommitRequest, OffsetFetchReply, OffsetFetchRequest,
+    OffsetToCommit, SyncGroupReply, SyncGroupRequest,
+};
+use std::alloc::AllocError;
+
+impl Fields for OfferedProtocol {
+    fn push_fields(&self, sheet: &mut Sheet) -> Result<(), AllocError> {
+        sheet.push_text("name", &self.name)?;
+        sheet.push_bytes("metadata", self.metadata.as_slice())
+    }
+}
+
+impl Fields for JoinGroupRequest {
+    fn push_fields(&self, sheet: &mut Sheet) -> Result<(), AllocError> {
+        sheet.push_text("group_id", &self.group)?;
+        sheet.push("session_timeout_ms", self.session_timeout)?;
+        sheet.push("rebalance_timeout_ms", self.rebalance_timeout)?;
+        sheet.push_text("member_id", &self.member)?;
+        sheet.push_text("protocol_type", &self.protocol_type)?;
+        sheet.push_list("protocols", self.protocols.as_slice())
+    }
+}
+
+impl Fields for JoinedMember {
+    fn push_fields(&self, sheet: &mut Sheet) -> Result<(), AllocError> {
+        sheet.push_text("member_id", &self.member)?;
+        sheet.push_bytes("metadata", self.metadata.as_slice())
+    }
+}
+
+impl Fields for JoinGroupReply {
+    fn push_fields(&self, sheet: &mut Sheet) -> Result<(), AllocError> {
+        sheet.push("throttle_time_ms", self.throttle)?;
+        sheet.push_error("error_code", self.error)?;
+        sheet.push("generation_id", self.generation)?;
+        sheet.push_text("protocol_name", &self.protocol)?;
+        sheet.push_text("leader", &self.leader)?;
+        sheet.push_text("member_id", &self.member)?;
+        sheet.push_list("members", self.members.as_slice())
+    }
+}
+
+impl Fields for MemberAssignment {
+    fn push_fields(&self, sheet: &mut Sheet) -> Result<(), AllocError> {
+        sheet.push_text("member_id", &self.member)?;
+        sheet.push_bytes("assignment", self.assignment.as_slice())
+    }
+}
+
+impl Fields for SyncGroupRequest {
+    fn push_fields(&self, sheet: &mut Sheet) -> Result<(), AllocError> {
+        sheet.push_text("group_id", &self.group)?;
+        sheet.push("generation_id", self.generation)?;
+        sheet.push_text("member_id", &self.member)?;
+        sheet.push_list("assignments", self.assignments.as_slice())
+    }
+}
+
+impl Fields for SyncGroupReply {
+    fn push_fields(&self, sheet: &mut Sheet) -> Result<(), AllocError> {
+        sheet.push("throttle_time_ms", self.throttle)?;
+        sheet.push_error("error_code", self.error)?;
+        sheet.push_bytes("assignment", self.assignment.as_slice())
+    }
+}
+
+impl Fields for HeartbeatRequest {
+    fn push_fields(&self, sheet: &mut Sheet) -> Result<(), AllocError> {
+        sheet.push_text("group_id", &self.group)?;
+        sheet.push("generation_id", self.generation)?;
+        sheet.push_text("member_id", &self.member)
+    }
+}
+
+impl Fields for HeartbeatReply {
+    fn push_fields(&self, sheet: &mut Sheet) -> Result<(), AllocError> {
+        sheet.push("throttle_time_ms", self.throttle)?;
+        sheet.push_error("error_code", self.error)
+    }
+}
+
+impl Fields for LeaveGroupRequest {
+    fn push_fields(&self, sheet: &mut Sheet) -> Result<(), AllocError> {
+        sheet.push_text("group_id", &self.group)?;
+        sheet.push_text("member_id", &self.member)
+    }
+}
+
+impl Fields for LeaveGroupReply {
+    fn push_fields(&self, sheet: &mut Sheet) -> Result<(), AllocError> {
+        sheet.push("throttle_time_ms", self.throttle)?;
+        sheet.push_error("error_code", self.error)
+    }
+}
+
+impl Fields for OffsetToCommit {
+    fn push_fields(&self, sheet: &mut Sheet) -> Result<(), AllocError> {
+        sheet.push("partition_index", self.index)?;
+        sheet.push("committed_offset", self.offset)?;
+        sheet.push_nullable("committed_metadata", &self.metadata)
+    }
+}
+
+impl Fields for OffsetCommitRequest {
+    fn push_fields(&self, sheet: &mut Sheet) -> Result<(), AllocError> {
+        sheet.push_text("group_id", &self.group)?;
+        sheet.push("generation_id_or_member_epoch", self.generation)?;
+        sheet.push_text("member_id", &self.member)?;
+        sheet.push("retention_time_ms", self.retention)?;
+        push_topics(sheet, TopicNames::USUAL, self.topics.as_slice())
+    }
+}
+
+impl Fields for CommittedOffset {
+    fn push_fields(&self, sheet: &mut Sheet) -> Result<(), AllocError> {
+        sheet.push("partition_index", self.index)?;
+        sheet.push_error("error_code", self.error)
+    }
+}
+
+impl Fields for OffsetCommitReply {
+    fn push_fields(&self, sheet: &mut Sheet) -> Result<(), AllocError> {
+        push_topics(sheet, TopicNames::USUAL, self.topics.as_slice())
+    }
+}
+
+impl Fields for OffsetFetchRequest {
+    fn push_fields(&self, sheet: &mut Sheet) -> Result<(), AllocError> {
+        let names = TopicNames {
+            list: "topics",
+            name: "name",
+            partitions: "partition_indexes",
+        };
+        sheet.push_text("group_id", &self.group)?;
+        match &self.topics {
+            Some(topics) => push_numbered_topics(sheet, names, topics.as_slice())?,
+            None => sheet.push(names.list, "null")?,
+        }
+        sheet.push("require_stable", self.require_stable)
+    }
+}
+
+impl Fields for FetchedOffset {
+    fn push_fields(&self, sheet: &mut Sheet) -> Result<(), AllocError> {
+        sheet.push("partition_index", self.index)?;
+        sheet.push("committed_offset", self.offset)?;
+        sheet.push("committed_leader_epoch", self.leader_epoch)?;
+        sheet.push_nullable("metadata", &self.metadata)?;
+        sheet.push_error("error_code", self.error)
+    }
+}
+
+impl Fields for OffsetFetchReply {
+    fn push_fields(&self, sheet: &mut Sheet) -> Result<(), AllocError> {
+        sheet.push("throttle_time_ms", self.throttle)?;
+        push_topics(sheet, TopicNames::USUAL, self.topics.as_slice())?;
+        sheet.push_error("error_code", self.error)
+    }
+}

@@ -1,0 +1,54 @@
+//! The fields of the messages before and at a login.
+
+use crate::names::key_name;
+use crate::sheet::{Fields, Sheet};
+use msg_login::{
+    ApiVersionsReply, SaslAuthenticateReply, SaslAuthenticateRequest, SaslHandshakeReply,
+    SaslHandshakeRequest, ServedVersions,
+};
+use std::alloc::AllocError;
+
+impl Fields for ServedVersions {
+    fn push_fields(&self, sheet: &mut Sheet) -> Result<(), AllocError> {
+        sheet.push_coded("api_key", self.key, key_name(self.key))?;
+        sheet.push("min_version", self.min)?;
+        sheet.push("max_version", self.max)
+    }
+}
+
+impl Fields for ApiVersionsReply {
+    fn push_fields(&self, sheet: &mut Sheet) -> Result<(), AllocError> {
+        sheet.push_error("error_code", self.error)?;
+        sheet.push_list("api_keys", self.apis.as_slice())
+    }
+}
+
+impl Fields for SaslHandshakeRequest {
+    fn push_fields(&self, sheet: &mut Sheet) -> Result<(), AllocError> {
+        sheet.push_text("mechanism", &self.mechanism)
+    }
+}
+
+impl Fields for SaslHandshakeReply {
+    fn push_fields(&self, sheet: &mut Sheet) -> Result<(), AllocError> {
+        sheet.push_error("error_code", self.error)?;
+        sheet.push_texts("mechanisms", self.mechanisms.as_slice())
+    }
+}
+
+/// Only the length of what is told to log in, since a password is in it.
+impl Fields for SaslAuthenticateRequest {
+    fn push_fields(&self, sheet: &mut Sheet) -> Result<(), AllocError> {
+        let count = self.auth.len();
+        let told = format!(in sheet.alloc(); "{count} bytes, which are not shown")?;
+        sheet.push("auth_bytes", told)
+    }
+}
+
+impl Fields for SaslAuthenticateReply {
+    fn push_fields(&self, sheet: &mut Sheet) -> Result<(), AllocError> {
+        sheet.push_error("error_code", self.error)?;
+        sheet.push_nullable("error_message", &self.message)?;
+        sheet.push_bytes("auth_bytes", self.auth.as_slice())
+    }
+}

@@ -1,0 +1,111 @@
+//! What a line of a script sends: a request, or bytes that are none.
+
+use crate::fault_place::fault_end;
+use crate::names::{api_name, key_name};
+use crate::request::push_request;
+use crate::sheet::Sheet;
+use acl_binding::Caller;
+use audit_trail::push_word;
+use bytes::Bytes;
+use commands::Sent;
+use msg_admin::{FRAME_LIMIT, Header, Request, read_request, unsupported_versions};
+use std::alloc::AllocError;
+use wire_types::{Cursor, Malformed, ReadFault};
+
+/// Begins with who sends something, with the escapes of an audit line, and what.
+fn push_heading(
+    sheet: &mut Sheet,
+    number: u64,
+    caller: &Caller,
+    what: &str,
+) -> Result<(), AllocError> {
+    let mut line = format!(in sheet.alloc(); "line {number}:")?;
+    push_word(&mut line, caller.who.as_str())?;
+    line.push_str(" at")?;
+    push_word(&mut line, caller.host.as_str())?;
+    line.push_str(" ")?;
+    line.push_str(what)?;
+    sheet.begin(line.as_str())
+}
+
+fn push_asked(
+    sheet: &mut Sheet,
+    number: u64,
+    caller: &Caller,
+    header: &Header,
+    request: &Request,
+) -> Result<(), AllocError> {
+    let name = api_name(request.api());
+    let version = header.version;
+    let what = format!(in sheet.alloc(); "asks {name} version {version}")?;
+    push_heading(sheet, number, caller, what.as_str())?;
+    push_request(sheet, header, request)
+}
+
+/// Where a fault stands in a frame, in words.
+fn fault_text(sheet: &Sheet, frame: &Bytes, fault: Malformed) -> Result<String, AllocError> {
+    let alloc = sheet.alloc();
+    let count = frame.len();
+    let byte = fault_end(alloc, frame)?;
+    match fault {
+        Malformed::Rest => {
+            format!(in alloc;
+                "sends {count} bytes that are no request: {fault} (behind byte {byte})"
+            )
+        }
+        _ => format!(in alloc; "sends {count} bytes that are no request: {fault} (at byte {byte})"),
+    }
+}
+
+/// The first fields of a header, as far as there are bytes for them.
+fn push_start(sheet: &mut Sheet, frame: &Bytes) -> Result<(), AllocError> {
+    let mut cursor = Cursor::over(frame);
+    if let Ok(key) = cursor.read_i16() {
+        sheet.push_coded("request_api_key", key, key_name(key))?;
+    }
+    if let Ok(version) = cursor.read_i16() {
+        sheet.push("request_api_version", version)?;
+    }
+    if let Ok(correlation) = cursor.read_i32() {
+        sheet.push("correlation_id", correlation)?;
+    }
+    Ok(())
+}
+
+/// A frame that can't be read as a request.
+fn push_unread(
+    sheet: &mut Sheet,
+    number: u64,
+    sent: &Sent,
+    fault: Malformed,
+) -> Result<(), AllocError> {
+    if unsupported_versions(&sent.frame).is_some() {
+        let what = "asks ApiVersions in a version that isn't served";
+        push_heading(sheet, number, &sent.caller, what)?;
+    } else {
+        let what = fault_text(sheet, &sent.frame, fault)?;
+        push_heading(sheet, number, &sent.caller, what.as_str())?;
+    }
+    push_start(sheet, &sent.frame)
+}
+
+/// A frame that is longer than one may be.
+fn push_too_long(sheet: &mut Sheet, number: u64, sent: &Sent) -> Result<(), AllocError> {
+    let count = sent.frame.len();
+    let what = format!(in sheet.alloc();
+        "sends {count} bytes, and a frame has at most {FRAME_LIMIT}"
+    )?;
+    push_heading(sheet, number, &sent.caller, what.as_str())
+}
+
+/// Begins with who sends a frame, and appends what is read from it.
+pub(crate) fn push_sent(sheet: &mut Sheet, number: u64, sent: &Sent) -> Result<(), AllocError> {
+    if sent.frame.len() > FRAME_LIMIT {
+        return push_too_long(sheet, number, sent);
+    }
+    match read_request(sheet.alloc(), &sent.frame) {
+        Ok((header, request)) => push_asked(sheet, number, &sent.caller, &header, &request),
+        Err(ReadFault::Malformed(fault)) => push_unread(sheet, number, sent, fault),
+        Err(ReadFault::NoMemory) => Err(AllocError),
+    }
+}
