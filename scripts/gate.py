@@ -29,6 +29,7 @@ SCRIPTS = (
     "refused_memory.py",
     "refused_runs.py",
     "refused_sessions.py",
+    "refused_lines.py",
     "spoilt.py",
     "worn_epochs.py",
     "served.py",

@@ -34,7 +34,7 @@ impl Closing {
         }
     }
 
-    fn close(&self) {
+    pub(crate) fn close(&self) {
         self.flag.store(1, Ordering::SeqCst);
     }
 

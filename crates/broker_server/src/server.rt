@@ -93,7 +93,12 @@ fn serve_accepted<
             if accepting.is_err() {
                 return Err(PoolFault::NoThread);
             }
-            serve_all(rt, alloc, desk, from, options.workers, steps, gate)
+            let ends = serve_all(rt, alloc, desk, from, options.workers, steps, gate);
+            // Without workers nobody reads the lines' end.
+            if let Some(closing) = closing {
+                closing.close();
+            }
+            ends
         },
     )
 }
