@@ -175,6 +175,7 @@ class Kbroker:
             it.write(f'node_id = 1\nhost = "{self.host}"\nport = {self.port}\n{self.settings}')
         words = ["serve", "--listen", self.address, "--workers", str(self.workers), "--settings", path, "--control"]
         pipes = {"stdin": subprocess.PIPE, "stdout": subprocess.PIPE, "encoding": "utf-8"}
+        pipes["errors"] = "surrogateescape"
         self.process = subprocess.Popen([self.program, *words], **pipes)
         return self.process.stdout.readline().rstrip("\n")
 

@@ -1,8 +1,13 @@
 #!/usr/bin/env python3
 """Shows each script of `examples/` and `tests/` in words, and compares what is shown with what scripts/wire.py reads of the
 same frames: each value, in the order of the wire. With the answers of an earlier run the same has to be shown, and without
-settings the same requests. What examples/fencing.txt is shown as stands beside it, to be read by a person."""
+settings the same requests. What examples/fencing.txt is shown as stands beside it, to be read by a person.
 
+Besides, each script of `tests/show/` is shown as the text beside it, which was written by hand, with the answers beside it
+if there are any, and says on standard error what stands beside it; what is told there of each api is read by scripts/wire.py
+too. And what can't be read or written ends with status 1."""
+
+import os
 import re
 import struct
 import subprocess
@@ -21,6 +26,8 @@ ESCAPE = re.compile(r"\\(u\{([0-9a-f]+)\}|.)")
 ESCAPED = {"n": "\n", "r": "\r", "t": "\t", "0": "\0"}
 NUMBER = re.compile(r"-?\d+")
 READABLE = ROOT / "examples/fencing.txt"
+BY_HAND = ROOT / "tests/show"
+EACH_API = "each_api.script"
 # By key and version: the api's name in wire.py.
 NAMES = {(key, version): name for name, (key, version, *_) in wire.APIS.items()}
 # Of these bytes the text tells something else: batches, and how long a password is.
@@ -176,6 +183,16 @@ def is_as_told(block, line, out):
     return told(reply) == (answered(api, out) if re.fullmatch("[0-9a-f]+", out) else [])
 
 
+def misread(blocks, lines, outs):
+    """How blocks are otherwise than scripts/wire.py reads lines and their answers, or None."""
+    if len(blocks) != len(lines):
+        return f"is shown as {len(blocks)} lines"
+    for number, (block, line, out) in enumerate(zip(blocks, lines, outs), 1):
+        if not is_as_told(block, line, out):
+            return f"is shown otherwise at line {number}"
+    return None
+
+
 def fault(script):
     """How a script is shown otherwise than it should be, or None."""
     text = script.read_bytes()
@@ -184,11 +201,8 @@ def fault(script):
     outs = [it for it in script.with_suffix(".out").read_text().splitlines() if not it.startswith(("denied ", "unmatched "))]
     whole = shown(text)
     blocks = blocks_of(whole)
-    if len(blocks) != len(lines):
-        return f"is shown as {len(blocks)} lines"
-    for number, (block, line, out) in enumerate(zip(blocks, lines, outs), 1):
-        if not is_as_told(block, line, out):
-            return f"is shown otherwise at line {number}"
+    if why := misread(blocks, lines, outs):
+        return why
     if shown(text, "--answers", script.with_suffix(".out")) != whole:
         return "is shown otherwise with its answers"
     alone = blocks_of(shown("".join(f"{it}\n" for it in lines).encode()))
@@ -197,15 +211,55 @@ def fault(script):
     return None
 
 
+def ended(*words, **streams):
+    """The status, the text and the errors of a run over READABLE, or over other streams."""
+    with READABLE.open("rb") as script:
+        streams = {"stdin": script, "stdout": subprocess.PIPE} | streams
+        ran = subprocess.run([PROGRAM, "show", *words], stderr=subprocess.PIPE, timeout=60, **streams)
+    return ran.returncode, (ran.stdout or b"").decode(), ran.stderr.decode()
+
+
+def by_hand(script):
+    """How a script is shown otherwise than written beside it, or None."""
+    answers, errors = script.with_suffix(".answers"), script.with_suffix(".errors")
+    words = ["--answers", answers] if answers.exists() else []
+    wanted = errors.read_text() if errors.exists() else ""
+    with script.open("rb") as lines:
+        status, text, said = ended(*words, stdin=lines)
+    if (status, said) != (int(bool(wanted)), wanted):
+        return f"ends with {status}: {said}"
+    if script.name == EACH_API:
+        lines, outs = script.read_text().splitlines()[1:], answers.read_text().splitlines()
+        if why := misread(blocks_of(text), lines, outs):
+            return why
+    return None if text == script.with_suffix(".show").read_text() else f"is shown as\n{text}"
+
+
+def unread_and_unwritten():
+    """What was said of what can't be read or written, where that isn't what should be."""
+    folder = os.open(ROOT, os.O_RDONLY)
+    with open("/dev/full", "wb") as full:
+        said = {
+            "show: the text can't be written": ended(stdout=full),
+            "standard input: it can't be read": ended(stdin=folder),
+            f"{ROOT}: it can't be read": ended("--answers", ROOT),
+            f"{ROOT}/none: the file can't be opened": ended("--answers", ROOT / "none"),
+        }
+    os.close(folder)
+    return [f"{why}: {it}" for why, it in said.items() if it != (1, "", f"kbroker: {why}\n")]
+
+
 def main():
     scripts = sorted(it for folder in ("examples", "tests") for it in (ROOT / folder).rglob("*.txt"))
     faults = {it.relative_to(ROOT): fault(it) for it in scripts}
     failed = [f"{name} {why}" for name, why in faults.items() if why]
     if shown(READABLE.read_bytes()) != READABLE.with_suffix(".show").read_text():
         failed.append(f"{READABLE.relative_to(ROOT)} is shown otherwise than beside it")
+    written = {it.name: by_hand(it) for it in sorted(BY_HAND.glob("*.script"))}
+    failed += [f"{name} {why}" for name, why in written.items() if why] + unread_and_unwritten()
     if failed:
         sys.exit("\n".join(["shown:", *failed]))
-    print(f"shown: {len(scripts)} scripts are shown as scripts/wire.py reads them")
+    print(f"shown: {len(scripts)} scripts are shown as scripts/wire.py reads them, {len(written)} as written by hand")
 
 
 if __name__ == "__main__":

@@ -183,7 +183,8 @@ class Steered(unittest.TestCase):
         self.assertIsNone(self.broker.state().groups["others"].member)
 
     def test_other_lines_change_nothing(self):
-        for line in ("", "tick", "tick -1", "tick 1.5", f"tick {1 << 64}", "mark 2", "MARK", "state\r", "\xff"):
+        """The last one is a byte that is no text."""
+        for line in ("", "tick", "tick -1", "tick 1.5", f"tick {1 << 64}", "mark 2", "MARK", "state\r", "\xff", "\udcff"):
             self.assertEqual(self.broker.say(line), "unreadable", line)
         self.assertEqual(self.broker.state().events, 0)
 

@@ -1,4 +1,3 @@
 pub mod Lines
 pub mod News
-pub mod Said
 pub mod Serves

@@ -1,7 +1,5 @@
 //! The keeper's steps, by lines of whoever steers the broker.
 
-use crate::said::{Said, parse_said};
-use crate::state_lines::{front_text, moment_text, open_ones, state_lines};
 use crate::watch::lines_since;
 use commands::stop_text;
 use request_handlers::{Core, Stop};
@@ -12,6 +10,7 @@ use std::io::{BufRead, Write};
 use std::sync::Wait;
 use std::sync::atomic::{AtomicU64, Ordering};
 use std::sync::ledger::Ledger;
+use steering_lines::{Said, front_text, moment_text, open_ones, parse_said, state_lines};
 use wire_types::write_whole;
 
 /// Lines that steer a broker, and where each is answered.

@@ -5,10 +5,8 @@ mod accept;
 mod control;
 mod keeping;
 mod lines;
-mod said;
 mod sentences;
 mod server;
-mod state_lines;
 mod ticks;
 mod watch;
 

@@ -1,29 +1,8 @@
-//! Bodies of the requests and replies of a login, as they travel.
+//! What is told at a login.
 
-use crate::bodies::comes_back;
-use msg_login::{
-    ApiVersionsReply, SaslAuthenticateReply, SaslAuthenticateRequest, SaslHandshakeReply,
-    SaslHandshakeRequest,
-};
+use msg_login::{SaslAuthenticateReply, SaslHandshakeReply};
 use std::test::Fail;
 use wire_types::ErrorCode;
-
-#[test]
-fn bodies_of_a_login(rt: HostRuntime) {
-    let alloc = rt.alloc();
-    // a handshake
-    assert!(rt; comes_back::<SaslHandshakeRequest>(alloc, b"\0\x05PLAIN"));
-    // the mechanisms
-    assert!(rt; comes_back::<SaslHandshakeReply>(alloc, b"\0\0\0\0\0\x01\0\x05PLAIN"));
-    // a password
-    assert!(rt; comes_back::<SaslAuthenticateRequest>(alloc, b"\0\0\0\x07\0ann\0pw"));
-    // a login
-    assert!(rt; comes_back::<SaslAuthenticateReply>(alloc, b"\0\0\xff\xff\0\0\0\0"));
-    // a login that is refused
-    assert!(rt; comes_back::<SaslAuthenticateReply>(alloc, b"\0\x3a\xff\xff\0\0\0\0"));
-    // the versions
-    assert!(rt; comes_back::<ApiVersionsReply>(alloc, b"\0\x23\0\0\0\x01\0\x12\0\0\0\0"));
-}
 
 #[test]
 fn what_is_told_at_a_login(rt: HostRuntime) -> Result<(), Fail> {

@@ -1,17 +1,9 @@
 //! What a line of a script is answered.
 
-use crate::names::api_name;
-use crate::reply::{push_reply, read_reply};
-use crate::sheet::Sheet;
-use bytes::Bytes;
 use commands::Order;
-use msg_admin::{Api, Reply, unsupported_versions, write_unsupported_versions};
+use message_words::{Sheet, push_no_answer};
 use request_handlers::Stop;
-use std::alloc::{AllocError, Global};
-use wire_types::{Cursor, Malformed, ReadFault};
-
-/// The bytes of a frame's size field.
-const SIZE_FIELD: usize = 4;
+use std::alloc::AllocError;
 
 /// Where the answers to a script's lines come from.
 pub(crate) trait Answers {
@@ -34,112 +26,8 @@ impl Answers for NoAnswers {
     }
 }
 
-/// Appends a field `answer` in place of the fields of one.
-pub(crate) fn push_no_answer(sheet: &mut Sheet, why: &str) -> Result<(), AllocError> {
-    sheet.push("answer", why)
-}
-
-pub(crate) fn push_silence(sheet: &mut Sheet) -> Result<(), AllocError> {
-    push_no_answer(sheet, "none, nothing is sent")
-}
-
-pub(crate) fn push_closed(sheet: &mut Sheet) -> Result<(), AllocError> {
-    push_no_answer(sheet, "none, the connection is closed")
-}
-
 /// Appends the stop that an order meets in place of an answer.
 pub(crate) fn push_stop(sheet: &mut Sheet, stop: Stop) -> Result<(), AllocError> {
     let why = format!(in sheet.alloc(); "none, the broker stops: {stop}")?;
     push_no_answer(sheet, why.as_str())
-}
-
-/// Appends the fields of a reply to a request of this correlation id, which its response carries again.
-pub(crate) fn push_sent_reply(
-    sheet: &mut Sheet,
-    asked: i32,
-    correlation: i32,
-    reply: &Reply,
-) -> Result<(), AllocError> {
-    sheet.begin("answer")?;
-    if correlation != asked {
-        sheet.push("correlation_id", correlation)?;
-    }
-    push_reply(sheet, reply)?;
-    sheet.end();
-    Ok(())
-}
-
-/// What is looked at of a frame to read its answer: the api, and the correlation id.
-fn asked_of(frame: &Bytes) -> Option<(Api, i32)> {
-    if let Some(correlation) = unsupported_versions(frame) {
-        return Some((Api::ApiVersions, correlation));
-    }
-    let mut cursor = Cursor::over(frame);
-    let key = cursor.read_i16().ok()?;
-    let version = cursor.read_i16().ok()?;
-    let api = Api::of(key, version)?;
-    Some((api, cursor.read_i32().ok()?))
-}
-
-/// The bytes behind a size field that counts them.
-fn behind_size(response: &Bytes) -> Result<Option<Bytes>, AllocError> {
-    let mut cursor = Cursor::over(response);
-    match cursor.read_u32() {
-        Ok(size) => {
-            if size as usize != cursor.len() {
-                return Ok(None);
-            }
-        }
-        Err(_) => return Ok(None),
-    }
-    Ok(Some(response.slice(SIZE_FIELD.min(response.len())..)?))
-}
-
-/// Why bytes are no response of an api, in words.
-fn unread_text(
-    alloc: Global,
-    api: Api,
-    count: usize,
-    fault: Malformed,
-) -> Result<String, AllocError> {
-    let name = api_name(api);
-    let version = api.version();
-    format!(in alloc; "{count} bytes that are no response of {name} version {version}: {fault}")
-}
-
-/// Appends the response to a frame, which is given with its size field.
-pub(crate) fn push_response(
-    sheet: &mut Sheet,
-    frame: &Bytes,
-    response: &Bytes,
-) -> Result<(), AllocError> {
-    let alloc = sheet.alloc();
-    let Some((api, asked)) = asked_of(frame) else {
-        return push_no_answer(sheet, "a response, though no api is asked that is served");
-    };
-    let Some(body) = behind_size(response)? else {
-        return push_no_answer(
-            sheet,
-            "a response whose first four bytes are not the number of bytes behind them",
-        );
-    };
-    match read_reply(alloc, api, &body) {
-        Ok((correlation, reply)) => push_sent_reply(sheet, asked, correlation, &reply),
-        Err(ReadFault::Malformed(fault)) => {
-            let why = unread_text(alloc, api, body.len(), fault)?;
-            push_no_answer(sheet, why.as_str())
-        }
-        Err(ReadFault::NoMemory) => Err(AllocError),
-    }
-}
-
-/// Appends what a frame is answered that is no request.
-pub(crate) fn push_unread_answer(sheet: &mut Sheet, frame: &Bytes) -> Result<(), AllocError> {
-    match unsupported_versions(frame) {
-        Some(correlation) => {
-            let response = write_unsupported_versions(sheet.alloc(), correlation)?;
-            push_response(sheet, frame, &response)
-        }
-        None => push_closed(sheet),
-    }
 }

@@ -3,9 +3,9 @@
 use crate::answer::{Answers, NoAnswers};
 use crate::outcome::{ShowFault, Shown};
 use crate::sent::push_sent;
-use crate::sheet::Sheet;
 use crate::told::Told;
 use commands::{Order, Unreadable, content, parse_order, split_input};
+use message_words::Sheet;
 use request_handlers::Core;
 use settings_text::{SettingsFault, document_of_text};
 use std::alloc::{AllocError, Global};

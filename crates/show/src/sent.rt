@@ -1,13 +1,10 @@
 //! What a line of a script sends: a request, or bytes that are none.
 
-use crate::fault_place::fault_end;
-use crate::names::{api_name, key_name};
-use crate::request::push_request;
-use crate::sheet::Sheet;
 use acl_binding::Caller;
 use audit_trail::push_word;
 use bytes::Bytes;
 use commands::Sent;
+use message_words::{Sheet, api_name, fault_end, key_name, push_request};
 use msg_admin::{FRAME_LIMIT, Header, Request, read_request, unsupported_versions};
 use std::alloc::AllocError;
 use wire_types::{Cursor, Malformed, ReadFault};

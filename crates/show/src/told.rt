@@ -1,10 +1,10 @@
 //! Answers that `replay` printed earlier.
 
-use crate::answer::{Answers, push_closed, push_no_answer, push_response, push_silence, push_stop};
-use crate::sheet::Sheet;
+use crate::answer::{Answers, push_stop};
 use bytes::Bytes;
 use commands::{Order, content, split_line, stop_text};
 use hex::FromHexError;
+use message_words::{Sheet, push_closed, push_no_answer, push_response, push_silence};
 use request_handlers::Stop;
 use std::alloc::{AllocError, Global};
 use std::str::from_utf8;

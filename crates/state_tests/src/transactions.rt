@@ -1,4 +1,4 @@
-//! EndTxn as version 5 has it, and a marker that is not written.
+//! A marker that is not written.
 
 ghost use Rattle.std.specs.Prelude.{◌≡◌, IfOk};
 ghost use Rattle.txn_coordinator.specs.Permission.{MayWrite};
@@ -48,20 +48,6 @@ fn pair(producer: i64, epoch: i16) -> Pair {
     Pair { producer, epoch }
 }
 
-fn fine(producer: i64, epoch: i16) -> PairAnswer {
-    PairAnswer {
-        code: ErrorCode::None,
-        pair: pair(producer, epoch),
-    }
-}
-
-fn refused(code: ErrorCode) -> PairAnswer {
-    PairAnswer {
-        code,
-        pair: Pair::NONE,
-    }
-}
-
 /// Partition 0 of topic `b`.
 fn partition(alloc: Global) -> Result<TopicPartition, AllocError> {
     Ok(TopicPartition {
@@ -95,23 +81,18 @@ fn add_partition(alloc: Global, scene: &mut Scene, pair: Pair) -> Result<ErrorCo
     Ok(code?)
 }
 
-fn end(
-    alloc: Global,
-    scene: &mut Scene,
-    form: EndForm,
-    pair: Pair,
-    outcome: Outcome,
-) -> Result<PairAnswer, Fail> {
+/// EndTxn that aborts.
+fn end(alloc: Global, scene: &mut Scene, pair: Pair) -> Result<PairAnswer, Fail> {
     let permit = permit(alloc, &scene.policy, &scene.id)?;
     let coordinator = &mut scene.coordinator;
     let (_spent, answer) = coordinator.end(
         alloc,
         &scene.policy,
         permit,
-        form,
+        EndForm::Plain,
         &scene.id,
         pair,
-        outcome,
+        Outcome::Abort,
     );
     Ok(answer?)
 }
@@ -133,40 +114,11 @@ fn a_warrant_given_back_stays(rt: HostRuntime) -> Result<(), Fail> {
     let mut scene = set_up(alloc)?;
     init(alloc, &mut scene)?;
     add_partition(alloc, &mut scene, pair(0, 0))?;
-    end(
-        alloc,
-        &mut scene,
-        EndForm::Plain,
-        pair(0, 0),
-        Outcome::Abort,
-    )?;
+    end(alloc, &mut scene, pair(0, 0))?;
     if let Some(warrant) = scene.coordinator.next_warrant()? {
         warrant.give_back();
     }
     let told = mark(&mut scene.coordinator)?;
     assert!(rt; told == Some((pair(0, 0), Outcome::Abort)));
-    Ok(())
-}
-
-/// Each ending of version 5 raises the epoch; a call that is sent again is answered as before.
-#[test]
-fn version_five_raises(rt: HostRuntime) -> Result<(), Fail> {
-    let alloc = rt.alloc();
-    let mut scene = set_up(alloc)?;
-    let first = pair(0, 0);
-    init(alloc, &mut scene)?;
-    add_partition(alloc, &mut scene, first)?;
-    for (answer, marks) in [
-        (fine(0, 1), false),
-        (refused(ErrorCode::ConcurrentTransactions), true),
-        (fine(0, 1), false),
-    ] {
-        let ended = end(alloc, &mut scene, EndForm::Raising, first, Outcome::Commit)?;
-        assert_eq!(rt; ended, answer);
-        if marks {
-            let told = mark(&mut scene.coordinator)?;
-            assert!(rt; told == Some((pair(0, 1), Outcome::Commit)));
-        }
-    }
     Ok(())
 }

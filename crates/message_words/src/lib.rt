@@ -1,0 +1,29 @@
+//! Requests, replies and frames in words: each field by its name in the Kafka protocol guide.
+//!
+//! Whatever has fields implements `Fields`, one file for each family of apis, and `Sheet` lays the fields out. What is laid
+//! out is under no contract.
+#![tactic(auto)]
+
+mod acls;
+mod codes;
+mod data;
+mod fault_place;
+mod groups;
+mod logins;
+mod names;
+mod records;
+mod reply;
+mod request;
+mod response;
+mod sheet;
+mod topics;
+mod transactions;
+
+pub use fault_place::fault_end;
+pub use names::{api_name, key_name};
+pub use reply::{push_reply, read_reply};
+pub use request::push_request;
+pub use response::{
+    push_closed, push_no_answer, push_response, push_sent_reply, push_silence, push_unread_answer,
+};
+pub use sheet::Sheet;
