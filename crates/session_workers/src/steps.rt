@@ -1,5 +1,8 @@
 //! Who tells the keeper what to do next.
 
+ghost use Rattle.std.specs.Prelude.{◌≡◌, ◌<◌, Some, IfOk, is_ok};
+ghost use Rattle.session_workers.specs.declared.steps.Step.TheVariants.{Mark};
+
 use request_handlers::Core;
 use session_pool::{Why, Witness};
 
@@ -38,10 +41,11 @@ impl<C: Clock> Clocked<C> {
     pub fn new(clock: C) -> Clocked<C> {
         Clocked { clock, left: 0 }
     }
-}
 
-impl<C: Clock> Steps for Clocked<C> {
-    fn next(&mut self, done: bool) -> Option<Step> {
+    /// The first marker that is owed; where none is, a tick of the clock's next moment.
+    fn step(&mut self, done: bool) -> Option<Step>
+        ensures { 0 < self.old.left → result ≡ Some Mark }
+    {
         if self.left > 0 {
             return Some(Step::Mark);
         }
@@ -51,7 +55,11 @@ impl<C: Clock> Steps for Clocked<C> {
         }
     }
 
-    fn came(&mut self, outcome: Result<u64, Why>) -> bool {
+    /// Notes how many markers are owed now.
+    fn note(&mut self, outcome: Result<u64, Why>) -> bool
+        ensures left { IfOk outcome (λ left. self.new.left ≡ left) }
+        ensures goes_on { result ≡ is_ok outcome }
+    {
         match outcome {
             Ok(left) => {
                 self.left = left;
@@ -59,6 +67,16 @@ impl<C: Clock> Steps for Clocked<C> {
             }
             Err(_) => false,
         }
+    }
+}
+
+impl<C: Clock> Steps for Clocked<C> {
+    fn next(&mut self, done: bool) -> Option<Step> {
+        self.step(done)
+    }
+
+    fn came(&mut self, outcome: Result<u64, Why>) -> bool {
+        self.note(outcome)
     }
 }
 
