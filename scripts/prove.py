@@ -180,17 +180,21 @@ def kept_busy(jobs):
     return 2 * jobs - 1
 
 
-def start_next(rt, left, running, memory, needs, below):
-    """Starts what is ready and has a processor and memory, in the order of what is left."""
+def start_next(rt, left, running, memory, needs, below, behind):
+    """Starts what is ready and has a processor and memory, in the order of what is left. Only what the longest chain
+    waits for gets more jobs than one: what those of another crate take would be missing there, once more is ready."""
     unmade = {*left, *(it.crate for it in running)}
     ready = [it for it in left if not unmade & below[it]]
     most = processors(rt) - (len(ready) + len(running) - 1)  # one for each of the others
+    longest = max((behind[it] for it in (*ready, *(it.crate for it in running))), default=0)
     for crate in ready:
         idle = processors(rt) - sum(kept_busy(it.jobs) for it in running)
         room, need = memory - sum(it.need for it in running), needs[crate]
         if idle < 1 or running and need > room:
             continue
         spare = min(MOST_JOBS, (min(idle, most) + 1) // 2, 1 + int((room / need - 1) / NEED_OF_JOB))
+        if behind[crate] < longest:
+            spare = 1
         lock = lock_of(crate)
         if lock is not None:
             left.remove(crate)
@@ -211,7 +215,7 @@ def prove_side_by_side(rt, left, progress):
     left = sorted(left, key=lambda it: -behind[it])
     try:
         while left or running:
-            start_next(rt, left, running, memory, needs, below)
+            start_next(rt, left, running, memory, needs, below, behind)
             progress.tell([it.crate.name for it in running] or ["waiting for another rt to end"])
             time.sleep(0.5)
             for step in [it for it in running if it.process.poll() is not None]:
