@@ -32,6 +32,7 @@ SCRIPTS = (
     "refused_lines.py",
     "spoilt.py",
     "worn_epochs.py",
+    "sessions.py",
     "served.py",
     "soak.py",
     "steered.py",

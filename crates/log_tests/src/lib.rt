@@ -1,5 +1,4 @@
-//! Tests of partitions' logs and their producers, which see what the logs' callers see: batches of another encoder,
-//! and all small logs beside a plain list.
+//! Tests of partitions' logs and their producers: all small logs beside a plain list, and what no script of `tests/` comes to.
 #![tactic(auto)]
 
 #[cfg(test)]

@@ -1,10 +1,8 @@
 //! Tests of the program's command over readers and writers that fail at one call after the other; and of what no script of
-//! `tests/` can show of a core and of settings, since no line prints it.
+//! `tests/` can show of settings, since no line prints it.
 #![tactic(auto)]
 
 #[cfg(test)]
 mod defaults;
 #[cfg(test)]
 mod devices;
-#[cfg(test)]
-mod left;

@@ -46,10 +46,6 @@ pub struct End {
     pub receipts: usize,
     /// What its seat counts.
     pub count: u64,
-    /// Where the seat's last receipt stands in the trail.
-    pub last: Option<u64>,
-    /// How many events the trail has.
-    pub events: usize,
 }
 
 /// Serves one session, of the number 7, at a desk of its own.
@@ -84,8 +80,6 @@ fn serve_on<L: Ledger, R: Wait + Drop, Rd: Read + Drop, Wr: Write, G: Gate>(
         why,
         receipts: receipts.len(),
         count: seat.count(),
-        last: seat.last().map(|receipt| receipt.place()),
-        events: desk.close().core().trail().len(),
     })
 }
 
@@ -132,27 +126,4 @@ pub fn bytes_of(alloc: Global, parts: &[&str]) -> Result<Vec<u8>, Fail> {
         bytes.extend_from_slice(decoded.as_slice())?;
     }
     Ok(bytes)
-}
-
-/// Whether a session over these frames ends so and writes these answers, with so many receipts.
-pub fn comes_to<R: Wait + Drop>(
-    rt: R,
-    alloc: Global,
-    asks: &[&str],
-    why: Why,
-    receipts: usize,
-    answers: &[&str],
-) -> Result<bool, Fail> {
-    let input = bytes_of(alloc, asks)?;
-    let mut written = Vec::new(alloc);
-    let end = serve(rt, alloc, input.as_slice(), &mut written, Limits::default())?;
-    let due = bytes_of(alloc, answers)?;
-    let told = End {
-        why,
-        receipts,
-        count: receipts as u64,
-        last: (receipts as u64).checked_sub(1),
-        events: receipts,
-    };
-    Ok(end == told && written == due)
 }

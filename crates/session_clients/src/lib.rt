@@ -5,6 +5,6 @@
 mod clients;
 
 pub use clients::{
-    End, HANDSHAKE, HANDSHAKE_TOLD, LOGIN, LOGIN_TOLD, METADATA, METADATA_TOLD, bytes_of, comes_to,
-    serve, serve_gated,
+    End, HANDSHAKE, HANDSHAKE_TOLD, LOGIN, LOGIN_TOLD, METADATA, METADATA_TOLD, bytes_of, serve,
+    serve_gated,
 };
