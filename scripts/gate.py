@@ -40,8 +40,10 @@ SCRIPTS = (
     "must_not_compile.py",
 )
 # rt gives a proof only the processors that no other one waits for, also where all the others could wait. So what all the
-# rest waits for comes by itself: the crate below all others, and behind what it stands on the core. Tests that nothing
-# stands on are left for the end, where they fill what the last proofs, which wait for each other, leave free.
+# rest waits for comes by itself: the crate below all others, with one that stands on none, and behind what it stands on the
+# core. Tests that nothing stands on are left for the end, where they fill what the last proofs, which wait for each other,
+# leave free.
+APART = "arguments"
 CORE = "request_handlers"
 # What is proved before the core though it doesn't stand on it.
 BESIDE = ("settings_text", "event_equality")
@@ -131,7 +133,7 @@ def copy_lines(source, shown, kept):
 def stages():
     """The crates over which `rt ci` is called, in turn; at last over all."""
     below = [it for it in crates_of([CORE, *BESIDE]) if it != CORE]
-    return [below[:1], below, [CORE], []]
+    return [[below[0], APART], below, [CORE], []]
 
 
 def run_rt(words, log, sampler):
