@@ -4,8 +4,6 @@
 #[cfg(test)]
 mod hold;
 #[cfg(test)]
-mod kept;
-#[cfg(test)]
 mod settled;
 #[cfg(test)]
 mod talk;
