@@ -8,4 +8,3 @@ pub mod Laws
 pub mod Names
 pub mod WireNumbers
 pub mod Creatable
-pub mod Entries

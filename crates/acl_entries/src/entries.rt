@@ -1,0 +1,96 @@
+//! The bindings and filters that stand in messages.
+
+ghost use Rattle.std.specs.Prelude.{◌≡◌, true, None, Some, IfSome, IfOk, OnErr};
+ghost use Rattle.acl_binding.specs.Creatable.{is_creatable};
+ghost use Rattle.acl_binding.specs.WireNumbers.{kind_at, operation_at, permission_at};
+ghost use Rattle.acl_entries.specs.Entries.{or_any, binding_of, filter_of};
+
+use acl_binding::{Binding, Filter, FilterPattern, Kind, Operation, Pattern, Permission};
+use msg_acl::{BindingEntry, FilterEntry};
+
+/// The number that stands for any word.
+const ANY_NUMBER: i8 = 1;
+
+/// The entry is no binding that may be created, or no filter.
+#[derive(Clone, Copy, Debug, PartialEq, Eq)]
+pub struct BadEntry;
+
+fn any_kind(number: i8) -> Option<Option<Kind>>
+    ensures { result ≡ or_any kind_at number }
+{
+    if number == ANY_NUMBER {
+        return Some(None);
+    }
+    Some(Some(Kind::of_number(number)?))
+}
+
+fn any_operation(number: i8) -> Option<Option<Operation>>
+    ensures { result ≡ or_any operation_at number }
+{
+    if number == ANY_NUMBER {
+        return Some(None);
+    }
+    Some(Some(Operation::of_number(number)?))
+}
+
+fn any_permission(number: i8) -> Option<Option<Permission>>
+    ensures { result ≡ or_any permission_at number }
+{
+    if number == ANY_NUMBER {
+        return Some(None);
+    }
+    Some(Some(Permission::of_number(number)?))
+}
+
+/// The binding that the entry is, if it is one.
+fn binding_of(entry: BindingEntry) -> Option<Binding>
+    ensures binding { result ≡ binding_of entry }
+    ensures creatable { IfSome result (λ b. is_creatable b ≡ true) }
+{
+    let binding = Binding {
+        kind: Kind::of_number(entry.kind)?,
+        pattern: Pattern::of_number(entry.pattern)?,
+        operation: Operation::of_number(entry.operation)?,
+        permission: Permission::of_number(entry.permission)?,
+        name: entry.name,
+        principal: entry.principal,
+        host: entry.host,
+    };
+    if binding.is_creatable() {
+        Some(binding)
+    } else {
+        None
+    }
+}
+
+/// The filter that the entry is, if it is one.
+fn filter_of(entry: FilterEntry) -> Option<Filter>
+    ensures { result ≡ filter_of entry }
+{
+    Some(Filter {
+        kind: any_kind(entry.kind)?,
+        pattern: FilterPattern::of_number(entry.pattern)?,
+        operation: any_operation(entry.operation)?,
+        permission: any_permission(entry.permission)?,
+        name: entry.name,
+        principal: entry.principal,
+        host: entry.host,
+    })
+}
+
+/// The binding that the entry is. It is refused where a word is unknown or the binding may not be created.
+pub fn check_binding(entry: BindingEntry) -> Result<Binding, BadEntry>
+    ensures ok { IfOk result (λ b. binding_of entry ≡ Some b) }
+    ensures creatable { IfOk result (λ b. is_creatable b ≡ true) }
+    ensures err { OnErr result (binding_of entry ≡ None) }
+{
+    binding_of(entry).ok_or(BadEntry)
+}
+
+/// The filter that the entry is. It is refused where a word is unknown.
+pub fn check_filter(entry: FilterEntry) -> Result<Filter, BadEntry>
+    ensures ok { IfOk result (λ f. filter_of entry ≡ Some f) }
+    ensures err { OnErr result (filter_of entry ≡ None) }
+{
+    filter_of(entry).ok_or(BadEntry)
+}
