@@ -23,10 +23,10 @@ use Rattle.audit_trail.specs.declared.event.Event.TheVariants.{Ask, Mark, Tick}
 use Rattle.walk.specs.Steps.{world_by, part_world, parts_world, topics_world}
 use Rattle.walk.proofs.Weaving.{woven}
 use Rattle.msg_txn.specs.declared.txn_offset_commit.OffsetToStage.{OffsetToStage}
-use Rattle.txn_coordinator.specs.declared.target.Target.{Target}
-use Rattle.txn_coordinator.specs.declared.target.Target.TheVariants as targets
-use Rattle.txn_coordinator.specs.declared.marker.OwedMarker.{OwedMarker}
-use Rattle.txn_coordinator.specs.Warrants.{next_warrant}
+use Rattle.transactions.specs.declared.target.Target.{Target}
+use Rattle.transactions.specs.declared.target.Target.TheVariants as targets
+use Rattle.transactions.specs.declared.marker.OwedMarker.{OwedMarker}
+use Rattle.transactions.specs.Warrants.{next_warrant}
 use Rattle.group_offsets.specs.declared.event.PartitionOffset.{PartitionOffset}
 use Rattle.group_offsets.specs.declared.event.OffsetEvent.TheVariants.{Put, Stage, Decide}
 use Rattle.group_offsets.specs.declared.group.Group.{Group}

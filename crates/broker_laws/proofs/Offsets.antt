@@ -12,8 +12,8 @@ use Rattle.msg_group.specs.declared.join_group.OfferedProtocol.{OfferedProtocol}
 use Rattle.msg_group.specs.declared.sync_group.SyncGroupRequest.{SyncGroupRequest}
 use Rattle.msg_group.specs.declared.heartbeat.HeartbeatRequest.{HeartbeatRequest}
 use Rattle.msg_group.specs.declared.leave_group.LeaveGroupRequest.{LeaveGroupRequest}
-use Rattle.txn_coordinator.specs.declared.target.Target.{Target}
-use Rattle.txn_coordinator.specs.declared.target.Target.TheVariants.{Partition, Group}
+use Rattle.transactions.specs.declared.target.Target.{Target}
+use Rattle.transactions.specs.declared.target.Target.TheVariants.{Partition, Group}
 use Rattle.group_offsets.specs.declared.event.OffsetEvent.{OffsetEvent}
 use Rattle.group_offsets.specs.declared.group.Group.{Group as GroupValue}
 use Rattle.group_offsets.specs.Turn.{Turn, Stays, Puts, group_after}

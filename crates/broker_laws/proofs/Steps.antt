@@ -20,12 +20,12 @@ use Rattle.walk.specs.Walk.{refusals}
 use Rattle.walk.specs.Woven.{has_any}
 use Rattle.walk.specs.Steps.{world_by, part_world, parts_world, topics_world}
 use Rattle.walk.proofs.Weaving.{woven}
-use Rattle.txn_coordinator.specs.declared.target.Target.{Target}
-use Rattle.txn_coordinator.specs.declared.target.Target.TheVariants.{Partition, Group}
-use Rattle.txn_coordinator.specs.declared.marker.OwedMarker.{OwedMarker}
-use Rattle.txn_coordinator.specs.Coordinator.{CoordinatorValue}
-use Rattle.txn_coordinator.specs.Expiry.{expire}
-use Rattle.txn_coordinator.specs.Warrants.{written_by}
+use Rattle.transactions.specs.declared.target.Target.{Target}
+use Rattle.transactions.specs.declared.target.Target.TheVariants.{Partition, Group}
+use Rattle.transactions.specs.declared.marker.OwedMarker.{OwedMarker}
+use Rattle.transactions.specs.Coordinator.{CoordinatorValue}
+use Rattle.transactions.specs.Expiry.{expire}
+use Rattle.transactions.specs.Warrants.{written_by}
 use Rattle.txn_laws.specs.Small.{Move, with_entry}
 use Rattle.txn_laws.specs.Small.Entry.{Marker}
 use Rattle.txn_laws.specs.Small.Move.{AddPartitions}

@@ -2,9 +2,9 @@
 -- a log, and of each offset and decision of a group, whose it is.
 use Rattle.std.specs.Prelude.{ℤ, pos, int_lt, List, [], map, Option, Some, None, if◌then◌else◌}
 use Rattle.record_batch.specs.Batch.{BatchData}
-use Rattle.txn_coordinator.specs.declared.pair.Pair.{Pair}
-use Rattle.txn_coordinator.specs.declared.target.Target.{Target}
-use Rattle.txn_coordinator.specs.declared.target.Target.TheVariants.{Partition, Group}
+use Rattle.transactions.specs.declared.pair.Pair.{Pair}
+use Rattle.transactions.specs.declared.target.Target.{Target}
+use Rattle.transactions.specs.declared.target.Target.TheVariants.{Partition, Group}
 use Rattle.record_batch.specs.declared.outcome.Outcome.{Outcome}
 use Rattle.group_offsets.specs.declared.event.OffsetEvent.{OffsetEvent}
 use Rattle.group_offsets.specs.declared.event.OffsetEvent.TheVariants.{Put, Stage, Decide}

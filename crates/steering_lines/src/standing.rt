@@ -6,7 +6,7 @@ use group_offsets::Group;
 use record_batch::Outcome;
 use request_handlers::Core;
 use std::alloc::{AllocError, Global};
-use txn_coordinator::{OwedMarker, Phase, Target, TopicPartition, Transaction};
+use transactions::{OwedMarker, Phase, Target, TopicPartition, Transaction};
 
 fn push_partition(
     alloc: Global,

@@ -17,9 +17,9 @@ use Rattle.msg_txn.specs.declared.txn_offset_commit.TxnOffsetCommitRequest.{TxnO
 use Rattle.msg_txn.specs.declared.txn_offset_commit.OffsetToStage.{OffsetToStage}
 use Rattle.walk.specs.Walk.{world_after}
 use Rattle.walk.specs.Alike.{AllTopics}
-use Rattle.txn_coordinator.specs.declared.target.Target.TheVariants as targets
-use Rattle.txn_coordinator.specs.declared.transaction.Transaction.{Transaction}
-use Rattle.txn_coordinator.specs.Holding.{holds_found}
+use Rattle.transactions.specs.declared.target.Target.TheVariants as targets
+use Rattle.transactions.specs.declared.transaction.Transaction.{Transaction}
+use Rattle.transactions.specs.Holding.{holds_found}
 use Rattle.group_offsets.specs.declared.group.Group.{Group}
 use Rattle.group_offsets.specs.Groups.{find_group, turned, join, sync, beat}
 use Rattle.group_offsets.specs.Laws.{Call, Call as calls, called}

@@ -15,10 +15,10 @@ use Rattle.msg_txn.specs.declared.txn_offset_commit.StagedOffset.{StagedOffset}
 use Rattle.msg_admin.specs.declared.reply.Reply.TheVariants as replies
 use Rattle.walk.specs.Rule.{PartRule}
 use Rattle.walk.specs.Walk.{world_after, answers, refusals}
-use Rattle.txn_coordinator.specs.declared.pair.Pair.{Pair}
-use Rattle.txn_coordinator.specs.declared.target.Target.TheVariants.{Group as group_target}
-use Rattle.txn_coordinator.specs.Coordinator.{CoordinatorValue}
-use Rattle.txn_coordinator.specs.Holding.{holds}
+use Rattle.transactions.specs.declared.pair.Pair.{Pair}
+use Rattle.transactions.specs.declared.target.Target.TheVariants.{Group as group_target}
+use Rattle.transactions.specs.Coordinator.{CoordinatorValue}
+use Rattle.transactions.specs.Holding.{holds}
 use Rattle.group_offsets.specs.declared.event.PartitionOffset.{PartitionOffset}
 use Rattle.group_offsets.specs.declared.group.Group.{Group}
 use Rattle.group_offsets.specs.Turn.{Turn, Stays, answered}

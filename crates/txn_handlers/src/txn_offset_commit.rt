@@ -22,7 +22,8 @@ use msg_admin::Reply;
 use msg_txn::{OffsetToStage, StagedOffset, TxnOffsetCommitReply, TxnOffsetCommitRequest};
 use partition_log::Log;
 use std::alloc::{AllocError, Global};
-use txn_coordinator::{Coordinator, Pair, Target};
+use transactions::{Pair, Target};
+use txn_coordinator::Coordinator;
 use walk::{Part, PartApi, Walked, refusal_code, walk};
 use wire_types::{ErrorCode, Text};
 
