@@ -3,7 +3,7 @@
 use Rattle.std.specs.Prelude.{ℕ, [], length, map}
 use Rattle.msg_admin.specs.declared.reply.Reply.TheVariants as replies
 use Rattle.transactions.specs.Expiry.{expire}
-use Rattle.group_offsets.specs.Group.{expired}
+use Rattle.offset_tables.specs.Group.{expired}
 use Rattle.broker_world.specs.World.{World}
 use Rattle.broker_world.specs.Outcome.{Outcome}
 use Rattle.broker_world.specs.Clock.{moment_after}

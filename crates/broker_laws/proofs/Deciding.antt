@@ -12,13 +12,13 @@ use Rattle.transactions.specs.declared.target.Target.TheVariants.{Partition, Gro
 use Rattle.record_batch.specs.declared.outcome.Outcome.{Outcome as Ending}
 use Rattle.record_batch.specs.declared.outcome.Outcome.TheVariants.{Commit, Abort}
 use Rattle.transactions.specs.declared.marker.OwedMarker.{OwedMarker}
-use Rattle.group_offsets.specs.declared.event.OffsetEvent.{OffsetEvent}
-use Rattle.group_offsets.specs.declared.event.OffsetEvent.TheVariants.{Put, Stage, Decide}
-use Rattle.group_offsets.specs.Offsets.{is_of, first_decision, offset_of}
-use Rattle.group_offsets.specs.Groups.{group_of}
-use Rattle.group_offsets.specs.Laws.{or_else, pending}
-use Rattle.group_offsets.proofs.Following.{committed_goes_on}
-use Rattle.group_offsets.proofs.Waiting.{pending_goes_on}
+use Rattle.offset_tables.specs.declared.event.OffsetEvent.{OffsetEvent}
+use Rattle.offset_tables.specs.declared.event.OffsetEvent.TheVariants.{Put, Stage, Decide}
+use Rattle.offset_tables.specs.Offsets.{is_of, first_decision, offset_of}
+use Rattle.offset_tables.specs.Groups.{group_of}
+use Rattle.offset_tables.specs.Laws.{or_else, pending}
+use Rattle.offset_tables.proofs.Following.{committed_goes_on}
+use Rattle.offset_tables.proofs.Waiting.{pending_goes_on}
 use Rattle.txn_laws.specs.Small.{Entry}
 use Rattle.txn_laws.specs.Small.Entry.{Data, Marker, Other}
 use Rattle.txn_laws.specs.Sound.{Each}

@@ -33,9 +33,9 @@ use Rattle.txn_laws.specs.Sound.{Each, HaveOwnIds}
 use Rattle.txn_laws.proofs.Base.{each_weaker, each_append}
 use Rattle.txn_laws.specs.Kept.{kept_entry, kept_marked, kept_moved_all}
 use Rattle.txn_laws.proofs.GroupsKeep.{kept_tick}
-use Rattle.group_offsets.specs.declared.event.OffsetEvent.TheVariants.{Decide}
-use Rattle.group_offsets.specs.declared.group.Group.{Group as GroupValue}
-use Rattle.group_offsets.specs.Group.{expired}
+use Rattle.offset_tables.specs.declared.event.OffsetEvent.TheVariants.{Decide}
+use Rattle.offset_tables.specs.declared.group.Group.{Group as GroupValue}
+use Rattle.offset_tables.specs.Group.{expired}
 use Rattle.broker_world.specs.Questions.{read_question}
 use Rattle.group_handlers.specs.Members.{joined, synced, heard, left}
 use Rattle.group_handlers.specs.FindCoordinator.{kind_of, find_questions}

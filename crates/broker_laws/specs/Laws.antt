@@ -47,13 +47,13 @@ use Rattle.transactions.specs.Adding.{add_partitions, add_group}
 use Rattle.transactions.specs.EndTxn.{is_kept, end}
 use Rattle.transactions.specs.Expiry.{is_due}
 use Rattle.transactions.specs.Warrants.{next_warrant}
-use Rattle.group_offsets.specs.declared.event.PartitionOffset.{PartitionOffset}
-use Rattle.group_offsets.specs.declared.event.OffsetEvent.{OffsetEvent}
-use Rattle.group_offsets.specs.declared.event.OffsetEvent.TheVariants.{Put, Stage, Decide}
-use Rattle.group_offsets.specs.declared.group.Group.{Group as GroupValue}
-use Rattle.group_offsets.specs.Offsets.{first_decision, offset_of}
-use Rattle.group_offsets.specs.Groups.{find_group, group_of}
-use Rattle.group_offsets.specs.Laws.{or_else, pending}
+use Rattle.offset_tables.specs.declared.event.PartitionOffset.{PartitionOffset}
+use Rattle.offset_tables.specs.declared.event.OffsetEvent.{OffsetEvent}
+use Rattle.offset_tables.specs.declared.event.OffsetEvent.TheVariants.{Put, Stage, Decide}
+use Rattle.offset_tables.specs.declared.group.Group.{Group as GroupValue}
+use Rattle.offset_tables.specs.Offsets.{first_decision, offset_of}
+use Rattle.offset_tables.specs.Groups.{find_group, group_of}
+use Rattle.offset_tables.specs.Laws.{or_else, pending}
 use Rattle.txn_laws.specs.Small.{first_world as first_small_world, moved_all}
 use Rattle.txn_laws.specs.Sound.{Each, IsOrdered}
 use Rattle.txn_laws.specs.Laws.{IsEnded, IsSilent, Refuses, up_to_last}

@@ -20,7 +20,7 @@ use Rattle.transactions.specs.declared.transaction.Phase.TheVariants.{Ongoing}
 use Rattle.transactions.specs.Words.{targets}
 use Rattle.transactions.specs.Coordinator.{recorded}
 use Rattle.transactions.specs.Expiry.{is_due}
-use Rattle.group_offsets.specs.Groups.{group_of}
+use Rattle.offset_tables.specs.Groups.{group_of}
 use Rattle.txn_laws.specs.Sound.{Each}
 use Rattle.txn_laws.specs.Laws.{IsEnded, up_to_last}
 use Rattle.txn_laws.specs.Kept.{kept_pair}

@@ -7,7 +7,7 @@ use Rattle.acl_binding.specs.Book.{BookValue}
 use Rattle.authorizer.specs.Asking.{Rules}
 use Rattle.record_batch.specs.Batch.{BatchData}
 use Rattle.transactions.specs.Coordinator.{CoordinatorValue}
-use Rattle.group_offsets.specs.declared.group.Group.{Group}
+use Rattle.offset_tables.specs.declared.group.Group.{Group}
 use Rattle.broker_world.specs.declared.node.Node.{Node}
 use Rattle.broker_world.specs.declared.slot.Slot.{Slot}
 

@@ -2,7 +2,7 @@
 
 use audit_trail::push_word;
 use broker_world::{Slot, State};
-use group_offsets::Group;
+use offset_tables::Group;
 use record_batch::Outcome;
 use request_handlers::Core;
 use std::alloc::{AllocError, Global};

@@ -13,8 +13,8 @@ use Rattle.transactions.specs.declared.target.Target.TheVariants.{Partition, Gro
 use Rattle.transactions.specs.declared.transaction.Transaction.{Transaction}
 use Rattle.transactions.specs.Coordinator.{recorded, has_id}
 use Rattle.transactions.specs.Warrants.{owes, completed, with_completed, after_marker, written_by}
-use Rattle.group_offsets.specs.Groups.{find_group}
-use Rattle.group_offsets.specs.Laws.{Call as calls}
+use Rattle.offset_tables.specs.Groups.{find_group}
+use Rattle.offset_tables.specs.Laws.{Call as calls}
 use Rattle.audit_trail.specs.declared.event.Event.TheVariants.{Mark}
 use Rattle.broker_world.specs.World.{World, TopicValue, LogValue, find_topic}
 use Rattle.broker_world.specs.Logs.{log_at, with_log, logs_with}

@@ -26,13 +26,13 @@ use Rattle.msg_admin.specs.declared.reply.Reply.TheVariants as replies
 use Rattle.walk.specs.Walk.{plain_topics}
 use Rattle.walk.specs.Alike.{AllParts, AllTopics, AreAlike}
 use Rattle.walk.proofs.Alikeness.{answer_alike}
-use Rattle.group_offsets.specs.declared.group.Group.{Group}
-use Rattle.group_offsets.specs.declared.member.Joined.{Joined}
+use Rattle.offset_tables.specs.declared.group.Group.{Group}
+use Rattle.offset_tables.specs.declared.member.Joined.{Joined}
 use Rattle.msg_group.specs.declared.join_group.OfferedProtocol.{OfferedProtocol}
-use Rattle.group_offsets.specs.Group as group
-use Rattle.group_offsets.specs.Groups.{group_of}
-use Rattle.group_offsets.specs.Turn.{Turn as GroupTurn, Stays as Stops, answered}
-use Rattle.group_offsets.specs.Joining.{session_timeout, chosen, entry_refusal, let_in, join_under, join_within}
+use Rattle.offset_tables.specs.Group as group
+use Rattle.offset_tables.specs.Groups.{group_of}
+use Rattle.offset_tables.specs.Turn.{Turn as GroupTurn, Stays as Stops, answered}
+use Rattle.offset_tables.specs.Joining.{session_timeout, chosen, entry_refusal, let_in, join_under, join_within}
 use Rattle.transactions.specs.declared.pair.Pair.{Pair}
 use Rattle.transactions.specs.declared.marker.OwedMarker.{OwedMarker}
 use Rattle.transactions.specs.declared.pair.PairAnswer.{PairAnswer}

@@ -19,10 +19,10 @@ use Rattle.transactions.specs.declared.pair.Pair.{Pair}
 use Rattle.transactions.specs.declared.target.Target.TheVariants.{Group as group_target}
 use Rattle.transactions.specs.Coordinator.{CoordinatorValue}
 use Rattle.transactions.specs.Holding.{holds}
-use Rattle.group_offsets.specs.declared.event.PartitionOffset.{PartitionOffset}
-use Rattle.group_offsets.specs.declared.group.Group.{Group}
-use Rattle.group_offsets.specs.Turn.{Turn, Stays, answered}
-use Rattle.group_offsets.specs.Groups.{turned, stage}
+use Rattle.offset_tables.specs.declared.event.PartitionOffset.{PartitionOffset}
+use Rattle.offset_tables.specs.declared.group.Group.{Group}
+use Rattle.offset_tables.specs.Turn.{Turn, Stays, answered}
+use Rattle.offset_tables.specs.Groups.{turned, stage}
 use Rattle.broker_world.specs.World.{World, TopicValue, LogValue, rules_of}
 use Rattle.broker_world.specs.Outcome.{Outcome}
 use Rattle.broker_world.specs.Logs.{log_at}
