@@ -47,10 +47,10 @@ use Rattle.txn_handlers.specs.EndTxn.{end_questions}
 use Rattle.txn_handlers.specs.InitProducerId.{init_questions}
 use Rattle.msg_txn.specs.declared.add_partitions.AddPartitionsToTxnRequest.{AddPartitionsToTxnRequest}
 use Rattle.msg_txn.specs.AddPartitions.{add_partitions_to_txn_request}
-use Rattle.txn_coordinator.specs.declared.marker.OwedMarker.{OwedMarker}
-use Rattle.txn_coordinator.specs.declared.target.Target.{Target}
-use Rattle.txn_coordinator.specs.declared.target.Target.TheVariants.{Partition, Group}
-use Rattle.txn_coordinator.specs.Warrants.{next_warrant}
+use Rattle.transactions.specs.declared.marker.OwedMarker.{OwedMarker}
+use Rattle.transactions.specs.declared.target.Target.{Target}
+use Rattle.transactions.specs.declared.target.Target.TheVariants.{Partition, Group}
+use Rattle.transactions.specs.Warrants.{next_warrant}
 use Rattle.txn_handlers.specs.AddOffsets.{add_offsets_questions}
 use Rattle.txn_handlers.specs.AddPartitions.{cut_rule, is_cut, cut_outcome, added_outcome}
 use Rattle.broker_world.specs.Markers.{marker_batch}

@@ -23,17 +23,17 @@ use Rattle.audit_trail.specs.declared.event.Event.TheVariants.{Ask, Mark, Tick}
 use Rattle.walk.specs.Steps.{world_by, part_world, parts_world, topics_world}
 use Rattle.walk.proofs.Weaving.{woven}
 use Rattle.msg_txn.specs.declared.txn_offset_commit.OffsetToStage.{OffsetToStage}
-use Rattle.txn_coordinator.specs.declared.target.Target.{Target}
-use Rattle.txn_coordinator.specs.declared.target.Target.TheVariants as targets
-use Rattle.txn_coordinator.specs.declared.marker.OwedMarker.{OwedMarker}
-use Rattle.txn_coordinator.specs.Warrants.{next_warrant}
-use Rattle.group_offsets.specs.declared.event.PartitionOffset.{PartitionOffset}
-use Rattle.group_offsets.specs.declared.event.OffsetEvent.TheVariants.{Put, Stage, Decide}
-use Rattle.group_offsets.specs.declared.group.Group.{Group}
-use Rattle.group_offsets.specs.Turn.{Turn, Stays, Puts}
-use Rattle.group_offsets.specs.Group.{is_empty, is_member, member_refusal, synced, sync_group, beaten, beat_group, leave_group, is_lapsed, left, expired, commit_refusal, with_event, noted, commit_group, stage_refusal, stage_group}
-use Rattle.group_offsets.specs.Joining.{session_timeout, chosen, entry_refusal, let_in, join_under, join_within, join_group}
-use Rattle.group_offsets.specs.Groups.{find_group, group_of, put, turned, join, sync, beat, leave, commit}
+use Rattle.transactions.specs.declared.target.Target.{Target}
+use Rattle.transactions.specs.declared.target.Target.TheVariants as targets
+use Rattle.transactions.specs.declared.marker.OwedMarker.{OwedMarker}
+use Rattle.transactions.specs.Warrants.{next_warrant}
+use Rattle.offset_tables.specs.declared.event.PartitionOffset.{PartitionOffset}
+use Rattle.offset_tables.specs.declared.event.OffsetEvent.TheVariants.{Put, Stage, Decide}
+use Rattle.offset_tables.specs.declared.group.Group.{Group}
+use Rattle.offset_tables.specs.Turn.{Turn, Stays, Puts}
+use Rattle.offset_tables.specs.Group.{is_empty, is_member, member_refusal, synced, sync_group, beaten, beat_group, leave_group, is_lapsed, left, expired, commit_refusal, with_event, noted, commit_group, stage_refusal, stage_group}
+use Rattle.offset_tables.specs.Joining.{session_timeout, chosen, entry_refusal, let_in, join_under, join_within, join_group}
+use Rattle.offset_tables.specs.Groups.{find_group, group_of, put, turned, join, sync, beat, leave, commit}
 use Rattle.broker_world.specs.World.{World, TopicValue, LogValue, rules_of}
 use Rattle.broker_world.specs.First.{first_world}
 use Rattle.broker_world.specs.Logs.{log_at}

@@ -2,8 +2,8 @@
 -- guide, session_timeout), and then transactions whose time is over are aborted (KIP-98, 'transaction.timeout.ms').
 use Rattle.std.specs.Prelude.{ℕ, [], length, map}
 use Rattle.msg_admin.specs.declared.reply.Reply.TheVariants as replies
-use Rattle.txn_coordinator.specs.Expiry.{expire}
-use Rattle.group_offsets.specs.Group.{expired}
+use Rattle.transactions.specs.Expiry.{expire}
+use Rattle.offset_tables.specs.Group.{expired}
 use Rattle.broker_world.specs.World.{World}
 use Rattle.broker_world.specs.Outcome.{Outcome}
 use Rattle.broker_world.specs.Clock.{moment_after}

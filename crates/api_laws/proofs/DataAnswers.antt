@@ -21,11 +21,11 @@ use Rattle.msg_data.specs.declared.produce.ProducedRecords.{ProducedRecords}
 use Rattle.broker_world.specs.World.{TopicValue, LogValue, find_topic}
 use Rattle.broker_world.specs.Logs.{log_in, log_of, log_at, logs_with, with_log, log_by, offset_by, appended_by}
 use Rattle.data_handlers.specs.Sent.{sent}
-use Rattle.txn_coordinator.specs.declared.pair.Given.{Given}
-use Rattle.txn_coordinator.specs.declared.pair.Given.TheVariants.{Never, Free, Owned}
-use Rattle.txn_coordinator.specs.declared.target.Target.{Target}
-use Rattle.txn_coordinator.specs.Holding.{holds}
-use Rattle.txn_coordinator.specs.Coordinator.{CoordinatorValue, owner, given_by}
+use Rattle.transactions.specs.declared.pair.Given.{Given}
+use Rattle.transactions.specs.declared.pair.Given.TheVariants.{Never, Free, Owned}
+use Rattle.transactions.specs.declared.target.Target.{Target}
+use Rattle.transactions.specs.Holding.{holds}
+use Rattle.transactions.specs.Coordinator.{CoordinatorValue, owner, given_by}
 use Rattle.data_handlers.specs.Judged.{partition_at, pair_of, held_code, are_acks, given_code, producer_code, passed_by, passed, batch_in, judged, topics_produced}
 use Rattle.broker_world.specs.Codes.{refused_by}
 use Rattle.data_handlers.specs.RoomLaws.{IsGoodBatch, judged_batch}

@@ -37,12 +37,12 @@ use Rattle.broker_world.specs.World.{World, TopicValue, LogValue, rules_of, find
 use Rattle.broker_world.specs.declared.node.Node.{Node}
 use Rattle.broker_world.specs.First.{magnitude}
 use Rattle.broker_world.specs.Logs.{log_after, log_of, log_at, logs_with, with_log, appended_by, appended}
-use Rattle.txn_coordinator.specs.declared.pair.Pair.{Pair}
-use Rattle.txn_coordinator.specs.declared.pair.Given.{Given}
-use Rattle.txn_coordinator.specs.declared.target.Target.{Target}
-use Rattle.txn_coordinator.specs.declared.transaction.Transaction.{Transaction}
-use Rattle.txn_coordinator.specs.Coordinator.{CoordinatorValue, recorded, owner, given_by}
-use Rattle.txn_coordinator.specs.Holding.{holds_found}
+use Rattle.transactions.specs.declared.pair.Pair.{Pair}
+use Rattle.transactions.specs.declared.pair.Given.{Given}
+use Rattle.transactions.specs.declared.target.Target.{Target}
+use Rattle.transactions.specs.declared.transaction.Transaction.{Transaction}
+use Rattle.transactions.specs.Coordinator.{CoordinatorValue, recorded, owner, given_by}
+use Rattle.transactions.specs.Holding.{holds_found}
 use Rattle.data_handlers.specs.Judged.{partition_at, pair_of, held_code, given_code, producer_code, passed_by, passed, batch_in, are_acks, judged, topics_produced}
 use Rattle.broker_world.specs.Codes.{refused_by}
 use Rattle.data_handlers.specs.Sent.{sent}

@@ -17,7 +17,7 @@ use Rattle.walk.proofs.Weaving.{woven}
 use Rattle.broker_world.specs.World.{TopicValue, LogValue, rules_of, find_topic}
 use Rattle.broker_world.specs.First.{magnitude}
 use Rattle.broker_world.specs.Logs.{log_after, log_in, log_of, log_at, logs_with, with_log, appended_by}
-use Rattle.txn_coordinator.specs.Coordinator.{CoordinatorValue}
+use Rattle.transactions.specs.Coordinator.{CoordinatorValue}
 use Rattle.data_handlers.specs.Judged.{partition_at, judged, topics_produced}
 use Rattle.data_handlers.specs.Produce.{produce_questions, produce_rule, producing}
 use Rattle.api_laws.specs.DataTenants.{IsAnother, ProduceKeepsOtherPartitions}

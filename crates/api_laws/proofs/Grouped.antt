@@ -33,14 +33,14 @@ use Rattle.walk.specs.Alike.{AllParts, AllTopics, AreAlike}
 use Rattle.walk.specs.Steps.{world_by, part_world, parts_world, topics_world}
 use Rattle.walk.proofs.Alikeness.{answer_alike}
 use Rattle.walk.proofs.Weaving.{woven}
-use Rattle.group_offsets.specs.declared.event.OffsetEvent.{OffsetEvent}
-use Rattle.group_offsets.specs.declared.group.Group.{Group}
-use Rattle.group_offsets.specs.Turn.{answered}
-use Rattle.group_offsets.specs.Group.{fresh_group, sync_group, beat_group, leave_group, commit_group}
-use Rattle.group_offsets.specs.Joining.{join_group}
-use Rattle.group_offsets.specs.Groups.{find_group, group_of, join, sync, beat}
-use Rattle.group_offsets.specs.Laws.{Call, Call as calls, called, all_called, concerns}
-use Rattle.group_offsets.proofs.Apart.{groups_are_apart}
+use Rattle.offset_tables.specs.declared.event.OffsetEvent.{OffsetEvent}
+use Rattle.offset_tables.specs.declared.group.Group.{Group}
+use Rattle.offset_tables.specs.Turn.{answered}
+use Rattle.offset_tables.specs.Group.{fresh_group, sync_group, beat_group, leave_group, commit_group}
+use Rattle.offset_tables.specs.Joining.{join_group}
+use Rattle.offset_tables.specs.Groups.{find_group, group_of, join, sync, beat}
+use Rattle.offset_tables.specs.Laws.{Call, Call as calls, called, all_called, concerns}
+use Rattle.offset_tables.proofs.Apart.{groups_are_apart}
 use Rattle.broker_world.specs.declared.node.Node.{Node}
 use Rattle.broker_world.specs.World.{World, TopicValue, LogValue, rules_of}
 use Rattle.broker_world.specs.Logs.{log_at}

@@ -7,20 +7,20 @@ use Rattle.std.proofs.lemmas.List.{length-map, map-append}
 use Rattle.std.specs.Str.{bytes_eq}
 use Rattle.std.proofs.lemmas.Slice.Eq.{bytes_eq-Decides}
 use Rattle.wire_types.specs.declared.error_code.ErrorCode.TheVariants as codes
-use Rattle.txn_coordinator.specs.declared.pair.Given.{Given}
-use Rattle.txn_coordinator.specs.declared.pair.Given.TheVariants.{Never, Free, Owned}
-use Rattle.txn_coordinator.specs.declared.pair.Pair.{Pair}
-use Rattle.txn_coordinator.specs.declared.target.TopicPartition.{TopicPartition}
-use Rattle.txn_coordinator.specs.declared.transaction.Transaction.{Transaction}
+use Rattle.transactions.specs.declared.pair.Given.{Given}
+use Rattle.transactions.specs.declared.pair.Given.TheVariants.{Never, Free, Owned}
+use Rattle.transactions.specs.declared.pair.Pair.{Pair}
+use Rattle.transactions.specs.declared.target.TopicPartition.{TopicPartition}
+use Rattle.transactions.specs.declared.transaction.Transaction.{Transaction}
 use Rattle.record_batch.specs.declared.outcome.Outcome.{Outcome}
-use Rattle.txn_coordinator.specs.declared.ending.EndForm.{EndForm}
-use Rattle.txn_coordinator.specs.declared.turn.Turn.{Turn}
-use Rattle.txn_coordinator.specs.declared.turn.Turn.TheVariants.{Stays, Puts}
-use Rattle.txn_coordinator.specs.Words.{is_empty}
-use Rattle.txn_coordinator.specs.Coordinator.{CoordinatorValue, has_id, recorded, put, owner, given_by, fresh, turn_answer, pair_answer}
-use Rattle.txn_coordinator.specs.InitProducerId.{timeout_within, init_for, init}
-use Rattle.txn_coordinator.specs.Adding.{open_found, grown, with_partitions, with_group, add_partitions, add_group}
-use Rattle.txn_coordinator.specs.EndTxn.{end_found, end}
+use Rattle.transactions.specs.declared.ending.EndForm.{EndForm}
+use Rattle.transactions.specs.declared.turn.Turn.{Turn}
+use Rattle.transactions.specs.declared.turn.Turn.TheVariants.{Stays, Puts}
+use Rattle.transactions.specs.Words.{is_empty}
+use Rattle.transactions.specs.Coordinator.{CoordinatorValue, has_id, recorded, put, owner, given_by, fresh, turn_answer, pair_answer}
+use Rattle.transactions.specs.InitProducerId.{timeout_within, init_for, init}
+use Rattle.transactions.specs.Adding.{open_found, grown, with_partitions, with_group, add_partitions, add_group}
+use Rattle.transactions.specs.EndTxn.{end_found, end}
 
 -- ---- a record that was put
 

@@ -26,7 +26,7 @@ use Rattle.walk.proofs.Weaving.{woven}
 use Rattle.broker_world.specs.World.{World, TopicValue, LogValue, rules_of, find_topic}
 use Rattle.broker_world.specs.First.{magnitude, empty_logs, first_topics, first_world}
 use Rattle.broker_world.specs.Logs.{log_in, log_of, log_at, logs_with, with_log, log_by, log_after, appended_by}
-use Rattle.txn_coordinator.specs.Coordinator.{CoordinatorValue}
+use Rattle.transactions.specs.Coordinator.{CoordinatorValue}
 use Rattle.data_handlers.specs.Judged.{partition_at, judged, topics_produced}
 use Rattle.data_handlers.specs.Produce.{produce_questions, produce_rule, producing}
 use Rattle.acl_handlers.specs.DescribeAcls.{describe_acls_questions}
@@ -36,10 +36,10 @@ use Rattle.txn_handlers.specs.InitProducerId.{init_questions}
 use Rattle.api_dispatch.specs.Step.{outcome, step, reached}
 use Rattle.api_laws.specs.ProducerLaws.{HoldsOnce}
 use Rattle.acl_handlers.proofs.BookBounds.{whole_topics}
-use Rattle.txn_coordinator.specs.declared.marker.OwedMarker.{OwedMarker}
-use Rattle.txn_coordinator.specs.declared.target.Target.{Target}
-use Rattle.txn_coordinator.specs.declared.target.Target.TheVariants.{Partition, Group}
-use Rattle.txn_coordinator.specs.Warrants.{next_warrant}
+use Rattle.transactions.specs.declared.marker.OwedMarker.{OwedMarker}
+use Rattle.transactions.specs.declared.target.Target.{Target}
+use Rattle.transactions.specs.declared.target.Target.TheVariants.{Partition, Group}
+use Rattle.transactions.specs.Warrants.{next_warrant}
 use Rattle.txn_handlers.specs.AddOffsets.{add_offsets_questions}
 use Rattle.broker_world.specs.Markers.{marker_batch, log_marked, marked_by}
 use Rattle.txn_handlers.specs.Marks.{marked_at, mark_by}

@@ -20,18 +20,18 @@ use Rattle.walk.specs.Alike.{AllParts, AllTopics, AreAlike}
 use Rattle.walk.specs.Steps.{world_by, part_world, parts_world, topics_world}
 use Rattle.walk.proofs.Alikeness.{answer_alike}
 use Rattle.walk.proofs.Weaving.{woven}
-use Rattle.txn_coordinator.specs.declared.pair.Pair.{Pair}
-use Rattle.txn_coordinator.specs.declared.target.Target.TheVariants as targets
-use Rattle.txn_coordinator.specs.declared.transaction.Transaction.{Transaction}
-use Rattle.txn_coordinator.specs.declared.turn.Turn.{Turn as CoordinatorTurn}
-use Rattle.txn_coordinator.specs.Coordinator.{turn_code}
-use Rattle.txn_coordinator.specs.Holding.{holds_found}
-use Rattle.group_offsets.specs.declared.event.PartitionOffset.{PartitionOffset}
-use Rattle.group_offsets.specs.declared.group.Group.{Group}
-use Rattle.group_offsets.specs.Turn.{answered}
-use Rattle.group_offsets.specs.Group.{stage_group}
-use Rattle.group_offsets.specs.Groups.{find_group, turned}
-use Rattle.group_offsets.specs.Laws.{Call as calls}
+use Rattle.transactions.specs.declared.pair.Pair.{Pair}
+use Rattle.transactions.specs.declared.target.Target.TheVariants as targets
+use Rattle.transactions.specs.declared.transaction.Transaction.{Transaction}
+use Rattle.transactions.specs.declared.turn.Turn.{Turn as CoordinatorTurn}
+use Rattle.transactions.specs.Coordinator.{turn_code}
+use Rattle.transactions.specs.Holding.{holds_found}
+use Rattle.offset_tables.specs.declared.event.PartitionOffset.{PartitionOffset}
+use Rattle.offset_tables.specs.declared.group.Group.{Group}
+use Rattle.offset_tables.specs.Turn.{answered}
+use Rattle.offset_tables.specs.Group.{stage_group}
+use Rattle.offset_tables.specs.Groups.{find_group, turned}
+use Rattle.offset_tables.specs.Laws.{Call as calls}
 use Rattle.broker_world.specs.World.{World, TopicValue, LogValue, rules_of}
 use Rattle.broker_world.specs.Logs.{log_at}
 use Rattle.broker_world.specs.Whole.{whole_by}

@@ -23,24 +23,24 @@ use Rattle.walk.specs.Walk.{plain_topics, answers, parts_refused, refusals}
 use Rattle.walk.specs.Woven.{has_any}
 use Rattle.walk.specs.Alike.{AllParts, AllTopics, AreAlike, AnswerAlike}
 use Rattle.walk.proofs.Alikeness.{answer_alike}
-use Rattle.txn_coordinator.specs.declared.pair.Pair.{Pair}
-use Rattle.txn_coordinator.specs.declared.target.TopicPartition.{TopicPartition}
-use Rattle.txn_coordinator.specs.declared.transaction.Phase.{Phase}
-use Rattle.txn_coordinator.specs.declared.transaction.Phase.TheVariants.{Empty, Ongoing, PrepareCommit, PrepareAbort, CompleteCommit, CompleteAbort}
-use Rattle.txn_coordinator.specs.declared.transaction.Transaction.{Transaction}
+use Rattle.transactions.specs.declared.pair.Pair.{Pair}
+use Rattle.transactions.specs.declared.target.TopicPartition.{TopicPartition}
+use Rattle.transactions.specs.declared.transaction.Phase.{Phase}
+use Rattle.transactions.specs.declared.transaction.Phase.TheVariants.{Empty, Ongoing, PrepareCommit, PrepareAbort, CompleteCommit, CompleteAbort}
+use Rattle.transactions.specs.declared.transaction.Transaction.{Transaction}
 use Rattle.record_batch.specs.declared.outcome.Outcome.{Outcome as Ending}
 use Rattle.record_batch.specs.declared.outcome.Outcome.TheVariants.{Commit, Abort}
-use Rattle.txn_coordinator.specs.declared.ending.EndForm.{EndForm}
-use Rattle.txn_coordinator.specs.declared.ending.EndForm.TheVariants.{Plain, Fencing, Raising}
-use Rattle.txn_coordinator.specs.declared.turn.Turn.{Turn}
-use Rattle.txn_coordinator.specs.declared.turn.Turn.TheVariants.{Stays, Puts}
-use Rattle.txn_coordinator.specs.Words.{is_empty}
-use Rattle.txn_coordinator.specs.Preparing.{pair_refusal}
-use Rattle.txn_coordinator.specs.Coordinator.{CoordinatorValue, recorded, fresh, turned, turn_code, turn_answer}
-use Rattle.txn_coordinator.specs.InitProducerId.{timeout_within, init_in, init_for, init}
-use Rattle.txn_coordinator.specs.Adding.{open_in, open_by, open_found, open_transaction, grown, with_partitions, with_group, add_partitions, add_group}
-use Rattle.txn_coordinator.specs.EndTxn.{other_epoch, end_ongoing, end_closed, end_in, is_again, end_again, end_by, end_found, end}
-use Rattle.txn_coordinator.proofs.Table.{recorded_id}
+use Rattle.transactions.specs.declared.ending.EndForm.{EndForm}
+use Rattle.transactions.specs.declared.ending.EndForm.TheVariants.{Plain, Fencing, Raising}
+use Rattle.transactions.specs.declared.turn.Turn.{Turn}
+use Rattle.transactions.specs.declared.turn.Turn.TheVariants.{Stays, Puts}
+use Rattle.transactions.specs.Words.{is_empty}
+use Rattle.transactions.specs.Preparing.{pair_refusal}
+use Rattle.transactions.specs.Coordinator.{CoordinatorValue, recorded, fresh, turned, turn_code, turn_answer}
+use Rattle.transactions.specs.InitProducerId.{timeout_within, init_in, init_for, init}
+use Rattle.transactions.specs.Adding.{open_in, open_by, open_found, open_transaction, grown, with_partitions, with_group, add_partitions, add_group}
+use Rattle.transactions.specs.EndTxn.{other_epoch, end_ongoing, end_closed, end_in, is_again, end_again, end_by, end_found, end}
+use Rattle.transactions.proofs.Table.{recorded_id}
 use Rattle.broker_world.specs.World.{World, LogValue, rules_of, find_topic}
 use Rattle.broker_world.specs.Outcome.{Outcome}
 use Rattle.broker_world.specs.Logs.{log_at}

@@ -14,7 +14,7 @@ use Rattle.msg_data.specs.declared.produce.ProducedOffset.{ProducedOffset}
 use Rattle.msg_data.specs.declared.fetch.FetchPartition.{FetchPartition}
 use Rattle.msg_data.specs.declared.fetch.FetchedRecords.{FetchedRecords}
 use Rattle.msg_data.specs.declared.list_offsets.WantedOffset.{WantedOffset}
-use Rattle.txn_coordinator.specs.Coordinator.{CoordinatorValue}
+use Rattle.transactions.specs.Coordinator.{CoordinatorValue}
 use Rattle.data_handlers.specs.declared.room.Room.{Room}
 use Rattle.broker_world.specs.World.{TopicValue, LogValue}
 use Rattle.broker_world.specs.Logs.{log_at}

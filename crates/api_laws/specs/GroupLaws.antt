@@ -12,7 +12,7 @@ use Rattle.msg_group.specs.declared.heartbeat.HeartbeatRequest.{HeartbeatRequest
 use Rattle.msg_group.specs.declared.leave_group.LeaveGroupRequest.{LeaveGroupRequest}
 use Rattle.msg_group.specs.declared.offset_commit.OffsetCommitRequest.{OffsetCommitRequest}
 use Rattle.msg_group.specs.declared.offset_fetch.OffsetFetchRequest.{OffsetFetchRequest}
-use Rattle.group_offsets.specs.Groups.{find_group}
+use Rattle.offset_tables.specs.Groups.{find_group}
 use Rattle.broker_world.specs.World.{World, TopicValue, rules_of}
 use Rattle.broker_world.specs.Outcome.{Outcome}
 use Rattle.broker_world.specs.Questions.{topic_refusal}

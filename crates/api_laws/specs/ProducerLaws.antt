@@ -13,8 +13,8 @@ use Rattle.producer_state.specs.Laws.{IsInSequence}
 use Rattle.msg_txn.specs.declared.init_producer_id.InitProducerIdRequest.{InitProducerIdRequest}
 use Rattle.msg_admin.specs.declared.reply.Reply.TheVariants as replies
 use Rattle.audit_trail.specs.declared.event.Event.{Event}
-use Rattle.txn_coordinator.specs.declared.pair.Given.TheVariants.{Never, Free}
-use Rattle.txn_coordinator.specs.Coordinator.{owner, given_by}
+use Rattle.transactions.specs.declared.pair.Given.TheVariants.{Never, Free}
+use Rattle.transactions.specs.Coordinator.{owner, given_by}
 use Rattle.broker_world.specs.World.{World, LogValue, rules_of}
 use Rattle.broker_world.specs.First.{first_world}
 use Rattle.broker_world.specs.Logs.{log_at}

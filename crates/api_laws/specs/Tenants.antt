@@ -9,8 +9,8 @@ use Rattle.acl_binding.specs.declared.question.Verdict.TheVariants.{Yes}
 use Rattle.acl_binding.specs.Verdict.{asked}
 use Rattle.authorizer.specs.Policy.{verdict}
 use Rattle.msg_data.specs.declared.metadata.MetadataRequest.{MetadataRequest}
-use Rattle.txn_coordinator.specs.Coordinator.{recorded}
-use Rattle.group_offsets.specs.Groups.{find_group}
+use Rattle.transactions.specs.Coordinator.{recorded}
+use Rattle.offset_tables.specs.Groups.{find_group}
 use Rattle.broker_world.specs.World.{World, rules_of, find_topic, topic_names}
 use Rattle.data_handlers.specs.Metadata.{describable, metadata_answer, metadata_refusals}
 

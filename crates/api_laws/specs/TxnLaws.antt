@@ -8,7 +8,7 @@ use Rattle.msg_txn.specs.declared.add_partitions.AddPartitionsToTxnRequest.{AddP
 use Rattle.msg_txn.specs.declared.end_txn.EndTxnRequest.{EndTxnRequest}
 use Rattle.walk.specs.Walk.{plain_topics, answers, refusals}
 use Rattle.walk.specs.Alike.{AllTopics}
-use Rattle.txn_coordinator.specs.Coordinator.{recorded, turned, turn_code}
+use Rattle.transactions.specs.Coordinator.{recorded, turned, turn_code}
 use Rattle.broker_world.specs.World.{World, rules_of}
 use Rattle.broker_world.specs.Outcome.{Outcome}
 use Rattle.broker_world.specs.Logs.{log_at}

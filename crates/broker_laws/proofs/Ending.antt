@@ -4,12 +4,12 @@ use Rattle.std.specs.Prelude.{◌||◌}
 use Rattle.std.specs.Str.{bytes_eq}
 use Rattle.audit_trail.specs.declared.event.Event.{Event}
 use Rattle.audit_trail.specs.declared.event.Event.TheVariants.{Ask, Mark, Tick}
-use Rattle.txn_coordinator.specs.declared.transaction.Transaction.{Transaction}
+use Rattle.transactions.specs.declared.transaction.Transaction.{Transaction}
 use Rattle.record_batch.specs.declared.outcome.Outcome.{Outcome as Ending}
-use Rattle.txn_coordinator.specs.declared.marker.OwedMarker.{OwedMarker}
-use Rattle.txn_coordinator.specs.Words.{prepared, complete}
-use Rattle.txn_coordinator.specs.Coordinator.{CoordinatorValue, recorded}
-use Rattle.txn_coordinator.specs.Warrants.{owes}
+use Rattle.transactions.specs.declared.marker.OwedMarker.{OwedMarker}
+use Rattle.transactions.specs.Words.{prepared, complete}
+use Rattle.transactions.specs.Coordinator.{CoordinatorValue, recorded}
+use Rattle.transactions.specs.Warrants.{owes}
 use Rattle.txn_laws.specs.Small.{World as SmallWorld, Move, marked, moved, moved_all, marks as small_marks}
 use Rattle.txn_laws.specs.Sound.{Each, IsSound, IsOwed}
 use Rattle.txn_laws.specs.Laws.{up_to_last}

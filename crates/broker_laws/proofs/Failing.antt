@@ -16,19 +16,19 @@ use Rattle.msg_txn.specs.declared.add_partitions.AddedPartition.{AddedPartition}
 use Rattle.msg_txn.specs.declared.end_txn.FlexibleEndTxn.{FlexibleEndTxn}
 use Rattle.msg_txn.specs.declared.end_txn.EndTxnRequest.{EndTxnRequest}
 use Rattle.msg_txn.specs.declared.end_txn.EndTxnRequest.TheVariants as versions
-use Rattle.txn_coordinator.specs.declared.ending.EndForm.{EndForm}
-use Rattle.txn_coordinator.specs.declared.ending.EndForm.TheVariants.{Plain, Fencing, Raising}
+use Rattle.transactions.specs.declared.ending.EndForm.{EndForm}
+use Rattle.transactions.specs.declared.ending.EndForm.TheVariants.{Plain, Fencing, Raising}
 use Rattle.msg_txn.specs.declared.end_txn.EndTxnReply.{EndTxnReply}
 use Rattle.msg_txn.specs.EndTxn.{error_of}
 use Rattle.msg_admin.specs.declared.reply.Reply.TheVariants as replies
 use Rattle.walk.specs.Walk.{plain_parts, plain_topics, answers}
 use Rattle.walk.proofs.Weaving.{woven}
-use Rattle.txn_coordinator.specs.declared.pair.Pair.{Pair}
-use Rattle.txn_coordinator.specs.declared.target.Target.{Target}
-use Rattle.txn_coordinator.specs.declared.target.TopicPartition.{TopicPartition}
-use Rattle.txn_coordinator.specs.Coordinator.{CoordinatorValue, turn_code}
-use Rattle.txn_coordinator.specs.Adding.{add_partitions, add_group}
-use Rattle.txn_coordinator.specs.EndTxn.{end}
+use Rattle.transactions.specs.declared.pair.Pair.{Pair}
+use Rattle.transactions.specs.declared.target.Target.{Target}
+use Rattle.transactions.specs.declared.target.TopicPartition.{TopicPartition}
+use Rattle.transactions.specs.Coordinator.{CoordinatorValue, turn_code}
+use Rattle.transactions.specs.Adding.{add_partitions, add_group}
+use Rattle.transactions.specs.EndTxn.{end}
 use Rattle.txn_laws.specs.Sound.{Each}
 use Rattle.broker_world.specs.World.{World, LogValue, rules_of}
 use Rattle.broker_world.specs.Logs.{log_at}

@@ -7,20 +7,20 @@ use Rattle.wire_types.specs.declared.error_code.ErrorCode.{ErrorCode}
 use Rattle.wire_types.specs.declared.error_code.ErrorCode.TheVariants as codes
 use Rattle.record_batch.specs.declared.header.BatchHeader.{BatchHeader}
 use Rattle.record_batch.specs.BatchHeader.{is_transactional}
-use Rattle.txn_coordinator.specs.declared.pair.Pair.{Pair}
-use Rattle.txn_coordinator.specs.declared.target.TopicPartition.{TopicPartition}
-use Rattle.txn_coordinator.specs.declared.target.Target.{Target}
-use Rattle.txn_coordinator.specs.declared.target.Target.TheVariants.{Partition, Group}
-use Rattle.txn_coordinator.specs.declared.transaction.Transaction.{Transaction}
+use Rattle.transactions.specs.declared.pair.Pair.{Pair}
+use Rattle.transactions.specs.declared.target.TopicPartition.{TopicPartition}
+use Rattle.transactions.specs.declared.target.Target.{Target}
+use Rattle.transactions.specs.declared.target.Target.TheVariants.{Partition, Group}
+use Rattle.transactions.specs.declared.transaction.Transaction.{Transaction}
 use Rattle.record_batch.specs.declared.outcome.Outcome.{Outcome as Ending}
-use Rattle.txn_coordinator.specs.declared.ending.EndForm.{EndForm}
-use Rattle.txn_coordinator.specs.declared.ending.EndForm.TheVariants.{Plain, Fencing, Raising}
-use Rattle.txn_coordinator.specs.declared.turn.Turn.TheVariants.{Stays}
-use Rattle.txn_coordinator.specs.Words.{last_epoch, is_empty, raised}
-use Rattle.txn_coordinator.specs.Preparing.{pair_refusal}
-use Rattle.txn_coordinator.specs.Coordinator.{CoordinatorValue, recorded, owner, given_by, fresh, turn_code}
-use Rattle.txn_coordinator.specs.Adding.{with_partitions, with_group, open_by, open_found, open_transaction, grown, add_partitions, add_group}
-use Rattle.txn_coordinator.specs.EndTxn.{other_epoch, is_kept, is_again, end_again, end_by, end_found, end}
+use Rattle.transactions.specs.declared.ending.EndForm.{EndForm}
+use Rattle.transactions.specs.declared.ending.EndForm.TheVariants.{Plain, Fencing, Raising}
+use Rattle.transactions.specs.declared.turn.Turn.TheVariants.{Stays}
+use Rattle.transactions.specs.Words.{last_epoch, is_empty, raised}
+use Rattle.transactions.specs.Preparing.{pair_refusal}
+use Rattle.transactions.specs.Coordinator.{CoordinatorValue, recorded, owner, given_by, fresh, turn_code}
+use Rattle.transactions.specs.Adding.{with_partitions, with_group, open_by, open_found, open_transaction, grown, add_partitions, add_group}
+use Rattle.transactions.specs.EndTxn.{other_epoch, is_kept, is_again, end_again, end_by, end_found, end}
 use Rattle.txn_laws.specs.Small.{World as SmallWorld, Move, moved_all}
 use Rattle.txn_laws.specs.Sound.{IsFenced, IsOrdered, IsSound}
 use Rattle.txn_laws.specs.Laws.{IsSilent, HasPair as HadPair, Refuses}

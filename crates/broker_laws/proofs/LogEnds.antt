@@ -12,13 +12,13 @@ use Rattle.producer_state.specs.Sequences.{is_data, has_producer_id}
 use Rattle.partition_log.specs.Log.{is_transactional_data, is_marker_of, is_commit, first_marker, ended, is_open, own_bases, least, is_committed}
 use Rattle.partition_log.proofs.Numbers.{lt_false}
 use Rattle.audit_trail.specs.declared.event.Event.{Event}
-use Rattle.txn_coordinator.specs.declared.pair.Pair.{Pair}
-use Rattle.txn_coordinator.specs.declared.target.TopicPartition.{TopicPartition}
-use Rattle.txn_coordinator.specs.declared.target.Target.{Target}
-use Rattle.txn_coordinator.specs.declared.target.Target.TheVariants.{Partition}
-use Rattle.txn_coordinator.specs.declared.marker.OwedMarker.{OwedMarker}
-use Rattle.txn_coordinator.specs.Words.{targets}
-use Rattle.txn_coordinator.specs.Coordinator.{CoordinatorValue, owner}
+use Rattle.transactions.specs.declared.pair.Pair.{Pair}
+use Rattle.transactions.specs.declared.target.TopicPartition.{TopicPartition}
+use Rattle.transactions.specs.declared.target.Target.{Target}
+use Rattle.transactions.specs.declared.target.Target.TheVariants.{Partition}
+use Rattle.transactions.specs.declared.marker.OwedMarker.{OwedMarker}
+use Rattle.transactions.specs.Words.{targets}
+use Rattle.transactions.specs.Coordinator.{CoordinatorValue, owner}
 use Rattle.txn_laws.specs.Small.{Entry}
 use Rattle.txn_laws.specs.Small.Entry.{Data, Marker, Other}
 use Rattle.txn_laws.specs.Sound.{Each, IsOwed}

@@ -20,10 +20,10 @@ use Rattle.audit_trail.specs.declared.event.Event.{Event}
 use Rattle.audit_trail.specs.declared.event.Event.TheVariants.{Ask, Mark, Tick}
 use Rattle.walk.specs.Steps.{topics_world}
 use Rattle.walk.proofs.Weaving.{woven}
-use Rattle.txn_coordinator.specs.declared.target.TopicPartition.{TopicPartition}
-use Rattle.txn_coordinator.specs.declared.target.Target.{Target}
-use Rattle.txn_coordinator.specs.declared.target.Target.TheVariants.{Partition, Group}
-use Rattle.txn_coordinator.specs.declared.marker.OwedMarker.{OwedMarker}
+use Rattle.transactions.specs.declared.target.TopicPartition.{TopicPartition}
+use Rattle.transactions.specs.declared.target.Target.{Target}
+use Rattle.transactions.specs.declared.target.Target.TheVariants.{Partition, Group}
+use Rattle.transactions.specs.declared.marker.OwedMarker.{OwedMarker}
 use Rattle.broker_world.specs.World.{World, TopicValue, LogValue, rules_of}
 use Rattle.broker_world.specs.First.{magnitude}
 use Rattle.broker_world.specs.Logs.{log_at, with_log, log_by, appended_by}

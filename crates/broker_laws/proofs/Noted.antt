@@ -16,14 +16,14 @@ use Rattle.msg_admin.specs.declared.reply.Reply.TheVariants as replies
 use Rattle.audit_trail.specs.declared.event.Event.TheVariants.{Ask}
 use Rattle.walk.specs.Steps.{topics_world, topics_answers}
 use Rattle.walk.proofs.Weaving.{woven}
-use Rattle.txn_coordinator.specs.declared.target.Target.TheVariants.{Group}
-use Rattle.group_offsets.specs.declared.event.PartitionOffset.{PartitionOffset}
-use Rattle.group_offsets.specs.declared.event.OffsetEvent.{OffsetEvent}
-use Rattle.group_offsets.specs.declared.event.OffsetEvent.TheVariants.{Put, Stage}
-use Rattle.group_offsets.specs.declared.group.Group.{Group as GroupValue}
-use Rattle.group_offsets.specs.Turn.{answered}
-use Rattle.group_offsets.specs.Group.{commit_refusal, stage_refusal, with_event, noted}
-use Rattle.group_offsets.specs.Groups.{group_of, put, turned}
+use Rattle.transactions.specs.declared.target.Target.TheVariants.{Group}
+use Rattle.offset_tables.specs.declared.event.PartitionOffset.{PartitionOffset}
+use Rattle.offset_tables.specs.declared.event.OffsetEvent.{OffsetEvent}
+use Rattle.offset_tables.specs.declared.event.OffsetEvent.TheVariants.{Put, Stage}
+use Rattle.offset_tables.specs.declared.group.Group.{Group as GroupValue}
+use Rattle.offset_tables.specs.Turn.{answered}
+use Rattle.offset_tables.specs.Group.{commit_refusal, stage_refusal, with_event, noted}
+use Rattle.offset_tables.specs.Groups.{group_of, put, turned}
 use Rattle.txn_laws.specs.Small.{World as SmallWorld, Move, appended, marks as small_marks}
 use Rattle.txn_laws.specs.Small.Entry.{Data}
 use Rattle.txn_laws.specs.Small.Move.{Store, Plain}

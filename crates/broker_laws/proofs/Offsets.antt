@@ -12,15 +12,15 @@ use Rattle.msg_group.specs.declared.join_group.OfferedProtocol.{OfferedProtocol}
 use Rattle.msg_group.specs.declared.sync_group.SyncGroupRequest.{SyncGroupRequest}
 use Rattle.msg_group.specs.declared.heartbeat.HeartbeatRequest.{HeartbeatRequest}
 use Rattle.msg_group.specs.declared.leave_group.LeaveGroupRequest.{LeaveGroupRequest}
-use Rattle.txn_coordinator.specs.declared.target.Target.{Target}
-use Rattle.txn_coordinator.specs.declared.target.Target.TheVariants.{Partition, Group}
-use Rattle.group_offsets.specs.declared.event.OffsetEvent.{OffsetEvent}
-use Rattle.group_offsets.specs.declared.group.Group.{Group as GroupValue}
-use Rattle.group_offsets.specs.Turn.{Turn, Stays, Puts, group_after}
-use Rattle.group_offsets.specs.Group.{fresh_group, is_empty, is_member, member_refusal, synced, beaten, left, is_lapsed, expired, with_event}
-use Rattle.group_offsets.specs.Joining.{session_timeout, chosen, entry_refusal, let_in, join_under, join_within}
-use Rattle.group_offsets.specs.Groups.{find_group, group_of, put, turned, join, sync, beat, leave}
-use Rattle.group_offsets.proofs.Apart.{name_of, find_put, find_expired}
+use Rattle.transactions.specs.declared.target.Target.{Target}
+use Rattle.transactions.specs.declared.target.Target.TheVariants.{Partition, Group}
+use Rattle.offset_tables.specs.declared.event.OffsetEvent.{OffsetEvent}
+use Rattle.offset_tables.specs.declared.group.Group.{Group as GroupValue}
+use Rattle.offset_tables.specs.Turn.{Turn, Stays, Puts, group_after}
+use Rattle.offset_tables.specs.Group.{fresh_group, is_empty, is_member, member_refusal, synced, beaten, left, is_lapsed, expired, with_event}
+use Rattle.offset_tables.specs.Joining.{session_timeout, chosen, entry_refusal, let_in, join_under, join_within}
+use Rattle.offset_tables.specs.Groups.{find_group, group_of, put, turned, join, sync, beat, leave}
+use Rattle.offset_tables.proofs.Apart.{name_of, find_put, find_expired}
 use Rattle.txn_laws.specs.Small.{with_entry}
 use Rattle.broker_world.specs.World.{TopicValue}
 use Rattle.broker_laws.specs.Entries.{event_entry, entries_at}

@@ -12,12 +12,12 @@ use Rattle.record_batch.specs.BatchHeader.{batch_header, is_transactional}
 use Rattle.record_batch.specs.Batch.{BatchData, has_producer}
 use Rattle.record_batch.specs.Faults.{first_fault, IsData}
 use Rattle.record_batch.proofs.Lawful.{faultless_is_batch}
-use Rattle.txn_coordinator.specs.declared.pair.Pair.{Pair}
-use Rattle.txn_coordinator.specs.declared.target.Target.{Target}
-use Rattle.txn_coordinator.specs.declared.transaction.Transaction.{Transaction}
-use Rattle.txn_coordinator.specs.Words.{has_target, is_ongoing}
-use Rattle.txn_coordinator.specs.Coordinator.{CoordinatorValue, recorded, owner, given_by}
-use Rattle.txn_coordinator.specs.Holding.{is_usable, holds_found, holds}
+use Rattle.transactions.specs.declared.pair.Pair.{Pair}
+use Rattle.transactions.specs.declared.target.Target.{Target}
+use Rattle.transactions.specs.declared.transaction.Transaction.{Transaction}
+use Rattle.transactions.specs.Words.{has_target, is_ongoing}
+use Rattle.transactions.specs.Coordinator.{CoordinatorValue, recorded, owner, given_by}
+use Rattle.transactions.specs.Holding.{is_usable, holds_found, holds}
 use Rattle.walk.specs.Codes.{permission_code}
 use Rattle.txn_laws.specs.Small.{is_no_error, is_free}
 use Rattle.data_handlers.specs.Sent.{sent_by, sent}

@@ -20,25 +20,25 @@ use Rattle.msg_admin.specs.declared.reply.Reply.TheVariants as replies
 use Rattle.msg_admin.specs.declared.request.Request.TheVariants.{InitProducerId}
 use Rattle.audit_trail.specs.declared.event.Event.TheVariants.{Ask, Tick}
 use Rattle.walk.specs.Codes.{permission_code, refusal_code}
-use Rattle.txn_coordinator.specs.declared.pair.Pair.{Pair}
-use Rattle.txn_coordinator.specs.declared.pair.PairAnswer.{PairAnswer}
-use Rattle.txn_coordinator.specs.declared.marker.OwedMarker.{OwedMarker}
-use Rattle.txn_coordinator.specs.declared.transaction.Phase.{Phase}
-use Rattle.txn_coordinator.specs.declared.transaction.Phase.TheVariants.{Empty, Ongoing, PrepareCommit, PrepareAbort, CompleteCommit, CompleteAbort}
-use Rattle.txn_coordinator.specs.declared.transaction.Transaction.{Transaction}
+use Rattle.transactions.specs.declared.pair.Pair.{Pair}
+use Rattle.transactions.specs.declared.pair.PairAnswer.{PairAnswer}
+use Rattle.transactions.specs.declared.marker.OwedMarker.{OwedMarker}
+use Rattle.transactions.specs.declared.transaction.Phase.{Phase}
+use Rattle.transactions.specs.declared.transaction.Phase.TheVariants.{Empty, Ongoing, PrepareCommit, PrepareAbort, CompleteCommit, CompleteAbort}
+use Rattle.transactions.specs.declared.transaction.Transaction.{Transaction}
 use Rattle.record_batch.specs.declared.outcome.Outcome.{Outcome as Ending}
 use Rattle.record_batch.specs.declared.outcome.Outcome.TheVariants.{Commit, Abort}
-use Rattle.txn_coordinator.specs.declared.ending.EndForm.{EndForm}
-use Rattle.txn_coordinator.specs.declared.ending.EndForm.TheVariants.{Plain, Fencing, Raising}
-use Rattle.txn_coordinator.specs.declared.turn.Turn.{Turn}
-use Rattle.txn_coordinator.specs.declared.turn.Turn.TheVariants.{Stays, Puts}
-use Rattle.txn_coordinator.specs.Words.{last_epoch, is_empty, raised, is_exhausted, pair_after, given_after, prepared}
-use Rattle.txn_coordinator.specs.Coordinator.{CoordinatorValue, recorded, put, owner, fresh, turned, turn_code}
-use Rattle.txn_coordinator.specs.Preparing.{markers, pair_refusal, fenced, fencing}
-use Rattle.txn_coordinator.specs.InitProducerId.{timeout_within, begun, init_in, init_for, init}
-use Rattle.txn_coordinator.specs.EndTxn.{other_epoch, renewed, end_ongoing, end_closed, end_in, is_kept, is_again, end_again, end_by, end_found, end}
-use Rattle.txn_coordinator.specs.Expiry.{is_due}
-use Rattle.txn_coordinator.proofs.Table.{recorded_id}
+use Rattle.transactions.specs.declared.ending.EndForm.{EndForm}
+use Rattle.transactions.specs.declared.ending.EndForm.TheVariants.{Plain, Fencing, Raising}
+use Rattle.transactions.specs.declared.turn.Turn.{Turn}
+use Rattle.transactions.specs.declared.turn.Turn.TheVariants.{Stays, Puts}
+use Rattle.transactions.specs.Words.{last_epoch, is_empty, raised, is_exhausted, pair_after, given_after, prepared}
+use Rattle.transactions.specs.Coordinator.{CoordinatorValue, recorded, put, owner, fresh, turned, turn_code}
+use Rattle.transactions.specs.Preparing.{markers, pair_refusal, fenced, fencing}
+use Rattle.transactions.specs.InitProducerId.{timeout_within, begun, init_in, init_for, init}
+use Rattle.transactions.specs.EndTxn.{other_epoch, renewed, end_ongoing, end_closed, end_in, is_kept, is_again, end_again, end_by, end_found, end}
+use Rattle.transactions.specs.Expiry.{is_due}
+use Rattle.transactions.proofs.Table.{recorded_id}
 use Rattle.txn_laws.proofs.Base.{is_same, put_at_test, owner_is, given_within}
 use Rattle.txn_laws.proofs.Calls.{ongoing_is}
 use Rattle.txn_laws.proofs.Targets.{same_number}

@@ -15,10 +15,10 @@ use Rattle.partition_log.specs.Log.{at_end}
 use Rattle.msg_data.specs.declared.produce.ProduceRequest.{ProduceRequest}
 use Rattle.msg_data.specs.declared.produce.ProducedRecords.{ProducedRecords}
 use Rattle.walk.specs.Steps.{topics_world}
-use Rattle.txn_coordinator.specs.declared.pair.Pair.{Pair}
-use Rattle.txn_coordinator.specs.declared.target.TopicPartition.{TopicPartition}
-use Rattle.txn_coordinator.specs.declared.target.Target.TheVariants.{Partition}
-use Rattle.txn_coordinator.specs.Coordinator.{owner, given_by}
+use Rattle.transactions.specs.declared.pair.Pair.{Pair}
+use Rattle.transactions.specs.declared.target.TopicPartition.{TopicPartition}
+use Rattle.transactions.specs.declared.target.Target.TheVariants.{Partition}
+use Rattle.transactions.specs.Coordinator.{owner, given_by}
 use Rattle.txn_laws.specs.Small.{World as SmallWorld, appended}
 use Rattle.txn_laws.specs.Small.Entry.{Data, Other}
 use Rattle.txn_laws.specs.Small.Move.{Send, Plain}

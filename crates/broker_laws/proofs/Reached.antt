@@ -19,11 +19,11 @@ use Rattle.msg_data.specs.declared.produce.ProducedRecords.{ProducedRecords}
 use Rattle.msg_admin.specs.declared.request.Request.TheVariants.{Produce, Fetch, ListOffsets, Metadata, OffsetCommit, OffsetFetch, FindCoordinator, JoinGroup, Heartbeat, LeaveGroup, SyncGroup, SaslHandshake, ApiVersions, InitProducerId, AddPartitionsToTxn, AddOffsetsToTxn, EndTxn, TxnOffsetCommit, DescribeAcls, CreateAcls, DeleteAcls, SaslAuthenticate}
 use Rattle.audit_trail.specs.declared.event.Event.{Event}
 use Rattle.audit_trail.specs.declared.event.Event.TheVariants.{Ask, Mark, Tick}
-use Rattle.txn_coordinator.specs.declared.pair.Pair.{Pair}
+use Rattle.transactions.specs.declared.pair.Pair.{Pair}
 use Rattle.record_batch.specs.declared.outcome.Outcome.{Outcome as Ending}
-use Rattle.txn_coordinator.specs.declared.target.Target.{Target}
-use Rattle.txn_coordinator.specs.declared.target.Target.TheVariants.{Partition, Group}
-use Rattle.txn_coordinator.specs.declared.transaction.Transaction.{Transaction}
+use Rattle.transactions.specs.declared.target.Target.{Target}
+use Rattle.transactions.specs.declared.target.Target.TheVariants.{Partition, Group}
+use Rattle.transactions.specs.declared.transaction.Transaction.{Transaction}
 use Rattle.txn_laws.specs.Small.{World as SmallWorld, Entry, Move, first_world as first_small_world, moved, moved_all, marks as small_marks}
 use Rattle.txn_laws.specs.Small.Move.{AddPartitions, Send, Plain}
 use Rattle.txn_laws.specs.Sound.{IsSound}

@@ -20,12 +20,12 @@ use Rattle.walk.specs.Walk.{refusals}
 use Rattle.walk.specs.Woven.{has_any}
 use Rattle.walk.specs.Steps.{world_by, part_world, parts_world, topics_world}
 use Rattle.walk.proofs.Weaving.{woven}
-use Rattle.txn_coordinator.specs.declared.target.Target.{Target}
-use Rattle.txn_coordinator.specs.declared.target.Target.TheVariants.{Partition, Group}
-use Rattle.txn_coordinator.specs.declared.marker.OwedMarker.{OwedMarker}
-use Rattle.txn_coordinator.specs.Coordinator.{CoordinatorValue}
-use Rattle.txn_coordinator.specs.Expiry.{expire}
-use Rattle.txn_coordinator.specs.Warrants.{written_by}
+use Rattle.transactions.specs.declared.target.Target.{Target}
+use Rattle.transactions.specs.declared.target.Target.TheVariants.{Partition, Group}
+use Rattle.transactions.specs.declared.marker.OwedMarker.{OwedMarker}
+use Rattle.transactions.specs.Coordinator.{CoordinatorValue}
+use Rattle.transactions.specs.Expiry.{expire}
+use Rattle.transactions.specs.Warrants.{written_by}
 use Rattle.txn_laws.specs.Small.{Move, with_entry}
 use Rattle.txn_laws.specs.Small.Entry.{Marker}
 use Rattle.txn_laws.specs.Small.Move.{AddPartitions}
@@ -33,9 +33,9 @@ use Rattle.txn_laws.specs.Sound.{Each, HaveOwnIds}
 use Rattle.txn_laws.proofs.Base.{each_weaker, each_append}
 use Rattle.txn_laws.specs.Kept.{kept_entry, kept_marked, kept_moved_all}
 use Rattle.txn_laws.proofs.GroupsKeep.{kept_tick}
-use Rattle.group_offsets.specs.declared.event.OffsetEvent.TheVariants.{Decide}
-use Rattle.group_offsets.specs.declared.group.Group.{Group as GroupValue}
-use Rattle.group_offsets.specs.Group.{expired}
+use Rattle.offset_tables.specs.declared.event.OffsetEvent.TheVariants.{Decide}
+use Rattle.offset_tables.specs.declared.group.Group.{Group as GroupValue}
+use Rattle.offset_tables.specs.Group.{expired}
 use Rattle.broker_world.specs.Questions.{read_question}
 use Rattle.group_handlers.specs.Members.{joined, synced, heard, left}
 use Rattle.group_handlers.specs.FindCoordinator.{kind_of, find_questions}

@@ -3,28 +3,28 @@ use Rattle.std.proofs.Common.{◌≡◌, ℕ, ℤ, List, [], ◌∷◌, ◌++◌
 use Rattle.std.specs.List.{flat_map}
 use Rattle.wire_types.specs.declared.error_code.ErrorCode.{ErrorCode}
 use Rattle.wire_types.specs.declared.error_code.ErrorCode.TheVariants as codes
-use Rattle.txn_coordinator.specs.declared.pair.Pair.{Pair}
-use Rattle.txn_coordinator.specs.declared.target.TopicPartition.{TopicPartition}
-use Rattle.txn_coordinator.specs.declared.target.Target.{Target}
-use Rattle.txn_coordinator.specs.declared.target.Target.TheVariants.{Partition, Group}
-use Rattle.txn_coordinator.specs.declared.transaction.Phase.{Phase}
-use Rattle.txn_coordinator.specs.declared.transaction.Phase.TheVariants.{Empty, Ongoing, PrepareCommit, PrepareAbort, CompleteCommit, CompleteAbort}
-use Rattle.txn_coordinator.specs.declared.transaction.Transaction.{Transaction}
+use Rattle.transactions.specs.declared.pair.Pair.{Pair}
+use Rattle.transactions.specs.declared.target.TopicPartition.{TopicPartition}
+use Rattle.transactions.specs.declared.target.Target.{Target}
+use Rattle.transactions.specs.declared.target.Target.TheVariants.{Partition, Group}
+use Rattle.transactions.specs.declared.transaction.Phase.{Phase}
+use Rattle.transactions.specs.declared.transaction.Phase.TheVariants.{Empty, Ongoing, PrepareCommit, PrepareAbort, CompleteCommit, CompleteAbort}
+use Rattle.transactions.specs.declared.transaction.Transaction.{Transaction}
 use Rattle.record_batch.specs.declared.outcome.Outcome.{Outcome}
 use Rattle.record_batch.specs.declared.outcome.Outcome.TheVariants.{Commit, Abort}
-use Rattle.txn_coordinator.specs.declared.marker.OwedMarker.{OwedMarker}
-use Rattle.txn_coordinator.specs.declared.ending.EndForm.{EndForm}
-use Rattle.txn_coordinator.specs.declared.ending.EndForm.TheVariants.{Plain, Fencing, Raising}
-use Rattle.txn_coordinator.specs.declared.turn.Turn.{Turn}
-use Rattle.txn_coordinator.specs.declared.turn.Turn.TheVariants.{Stays, Puts}
-use Rattle.txn_coordinator.specs.Words.{is_empty, has_partition, raised, targets}
-use Rattle.txn_coordinator.specs.Coordinator.{CoordinatorValue, has_id, recorded, put, fresh, turned}
-use Rattle.txn_coordinator.specs.Preparing.{marker_for, markers, fenced, fence_markers, pair_refusal}
-use Rattle.txn_coordinator.specs.InitProducerId.{timeout_within, init_in, init_for, init}
-use Rattle.txn_coordinator.specs.Adding.{partition_added, partitions_added, with_partitions, group_added, with_group, open_in, open_by, open_found, open_transaction, grown, add_partitions, add_group}
-use Rattle.txn_coordinator.specs.EndTxn.{other_epoch, end_ongoing, end_closed, end_in, is_again, end_again, end_by, end_found, end}
-use Rattle.txn_coordinator.specs.Expiry.{is_due, expired, expiry_markers, expire}
-use Rattle.txn_coordinator.specs.Warrants.{owes, completed, with_completed, written_by}
+use Rattle.transactions.specs.declared.marker.OwedMarker.{OwedMarker}
+use Rattle.transactions.specs.declared.ending.EndForm.{EndForm}
+use Rattle.transactions.specs.declared.ending.EndForm.TheVariants.{Plain, Fencing, Raising}
+use Rattle.transactions.specs.declared.turn.Turn.{Turn}
+use Rattle.transactions.specs.declared.turn.Turn.TheVariants.{Stays, Puts}
+use Rattle.transactions.specs.Words.{is_empty, has_partition, raised, targets}
+use Rattle.transactions.specs.Coordinator.{CoordinatorValue, has_id, recorded, put, fresh, turned}
+use Rattle.transactions.specs.Preparing.{marker_for, markers, fenced, fence_markers, pair_refusal}
+use Rattle.transactions.specs.InitProducerId.{timeout_within, init_in, init_for, init}
+use Rattle.transactions.specs.Adding.{partition_added, partitions_added, with_partitions, group_added, with_group, open_in, open_by, open_found, open_transaction, grown, add_partitions, add_group}
+use Rattle.transactions.specs.EndTxn.{other_epoch, end_ongoing, end_closed, end_in, is_again, end_again, end_by, end_found, end}
+use Rattle.transactions.specs.Expiry.{is_due, expired, expiry_markers, expire}
+use Rattle.transactions.specs.Warrants.{owes, completed, with_completed, written_by}
 use Rattle.txn_laws.specs.Sound.{Each}
 use Rattle.txn_laws.proofs.Base.{each_append}
 use Rattle.broker_world.specs.World.{TopicValue}

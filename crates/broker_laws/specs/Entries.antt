@@ -2,14 +2,14 @@
 -- a log, and of each offset and decision of a group, whose it is.
 use Rattle.std.specs.Prelude.{ℤ, pos, int_lt, List, [], map, Option, Some, None, if◌then◌else◌}
 use Rattle.record_batch.specs.Batch.{BatchData}
-use Rattle.txn_coordinator.specs.declared.pair.Pair.{Pair}
-use Rattle.txn_coordinator.specs.declared.target.Target.{Target}
-use Rattle.txn_coordinator.specs.declared.target.Target.TheVariants.{Partition, Group}
+use Rattle.transactions.specs.declared.pair.Pair.{Pair}
+use Rattle.transactions.specs.declared.target.Target.{Target}
+use Rattle.transactions.specs.declared.target.Target.TheVariants.{Partition, Group}
 use Rattle.record_batch.specs.declared.outcome.Outcome.{Outcome}
-use Rattle.group_offsets.specs.declared.event.OffsetEvent.{OffsetEvent}
-use Rattle.group_offsets.specs.declared.event.OffsetEvent.TheVariants.{Put, Stage, Decide}
-use Rattle.group_offsets.specs.declared.group.Group.{Group as GroupValue}
-use Rattle.group_offsets.specs.Groups.{group_of}
+use Rattle.offset_tables.specs.declared.event.OffsetEvent.{OffsetEvent}
+use Rattle.offset_tables.specs.declared.event.OffsetEvent.TheVariants.{Put, Stage, Decide}
+use Rattle.offset_tables.specs.declared.group.Group.{Group as GroupValue}
+use Rattle.offset_tables.specs.Groups.{group_of}
 use Rattle.txn_laws.specs.Small.{Entry, World as SmallWorld}
 use Rattle.txn_laws.specs.Small.Entry.{Data, Marker, Other}
 use Rattle.broker_world.specs.World.{World, TopicValue, LogValue}

@@ -28,32 +28,32 @@ use Rattle.msg_admin.specs.declared.request.Request.TheVariants.{OffsetCommit, I
 use Rattle.msg_admin.specs.declared.reply.Reply.TheVariants as replies
 use Rattle.audit_trail.specs.declared.event.Event.{Event}
 use Rattle.audit_trail.specs.declared.event.Event.TheVariants.{Ask, Mark, Tick}
-use Rattle.txn_coordinator.specs.declared.pair.Pair.{Pair}
-use Rattle.txn_coordinator.specs.declared.target.TopicPartition.{TopicPartition}
-use Rattle.txn_coordinator.specs.declared.target.Target.{Target}
-use Rattle.txn_coordinator.specs.declared.target.Target.TheVariants.{Partition, Group}
-use Rattle.txn_coordinator.specs.declared.transaction.Transaction.{Transaction}
-use Rattle.txn_coordinator.specs.declared.transaction.Phase.TheVariants.{Ongoing}
+use Rattle.transactions.specs.declared.pair.Pair.{Pair}
+use Rattle.transactions.specs.declared.target.TopicPartition.{TopicPartition}
+use Rattle.transactions.specs.declared.target.Target.{Target}
+use Rattle.transactions.specs.declared.target.Target.TheVariants.{Partition, Group}
+use Rattle.transactions.specs.declared.transaction.Transaction.{Transaction}
+use Rattle.transactions.specs.declared.transaction.Phase.TheVariants.{Ongoing}
 use Rattle.record_batch.specs.declared.outcome.Outcome.{Outcome as Ending}
 use Rattle.record_batch.specs.declared.outcome.Outcome.TheVariants.{Commit, Abort}
-use Rattle.txn_coordinator.specs.declared.marker.OwedMarker.{OwedMarker}
-use Rattle.txn_coordinator.specs.declared.turn.Turn.TheVariants.{Stays}
-use Rattle.txn_coordinator.specs.declared.ending.EndForm.{EndForm}
-use Rattle.txn_coordinator.specs.declared.ending.EndForm.TheVariants.{Raising}
-use Rattle.txn_coordinator.specs.Words.{raised, pair_after, prepared, complete, targets}
-use Rattle.txn_coordinator.specs.Coordinator.{CoordinatorValue, recorded, fresh, turn_code}
-use Rattle.txn_coordinator.specs.Preparing.{markers}
-use Rattle.txn_coordinator.specs.Adding.{add_partitions, add_group}
-use Rattle.txn_coordinator.specs.EndTxn.{is_kept, end}
-use Rattle.txn_coordinator.specs.Expiry.{is_due}
-use Rattle.txn_coordinator.specs.Warrants.{next_warrant}
-use Rattle.group_offsets.specs.declared.event.PartitionOffset.{PartitionOffset}
-use Rattle.group_offsets.specs.declared.event.OffsetEvent.{OffsetEvent}
-use Rattle.group_offsets.specs.declared.event.OffsetEvent.TheVariants.{Put, Stage, Decide}
-use Rattle.group_offsets.specs.declared.group.Group.{Group as GroupValue}
-use Rattle.group_offsets.specs.Offsets.{first_decision, offset_of}
-use Rattle.group_offsets.specs.Groups.{find_group, group_of}
-use Rattle.group_offsets.specs.Laws.{or_else, pending}
+use Rattle.transactions.specs.declared.marker.OwedMarker.{OwedMarker}
+use Rattle.transactions.specs.declared.turn.Turn.TheVariants.{Stays}
+use Rattle.transactions.specs.declared.ending.EndForm.{EndForm}
+use Rattle.transactions.specs.declared.ending.EndForm.TheVariants.{Raising}
+use Rattle.transactions.specs.Words.{raised, pair_after, prepared, complete, targets}
+use Rattle.transactions.specs.Coordinator.{CoordinatorValue, recorded, fresh, turn_code}
+use Rattle.transactions.specs.Preparing.{markers}
+use Rattle.transactions.specs.Adding.{add_partitions, add_group}
+use Rattle.transactions.specs.EndTxn.{is_kept, end}
+use Rattle.transactions.specs.Expiry.{is_due}
+use Rattle.transactions.specs.Warrants.{next_warrant}
+use Rattle.offset_tables.specs.declared.event.PartitionOffset.{PartitionOffset}
+use Rattle.offset_tables.specs.declared.event.OffsetEvent.{OffsetEvent}
+use Rattle.offset_tables.specs.declared.event.OffsetEvent.TheVariants.{Put, Stage, Decide}
+use Rattle.offset_tables.specs.declared.group.Group.{Group as GroupValue}
+use Rattle.offset_tables.specs.Offsets.{first_decision, offset_of}
+use Rattle.offset_tables.specs.Groups.{find_group, group_of}
+use Rattle.offset_tables.specs.Laws.{or_else, pending}
 use Rattle.txn_laws.specs.Small.{first_world as first_small_world, moved_all}
 use Rattle.txn_laws.specs.Sound.{Each, IsOrdered}
 use Rattle.txn_laws.specs.Laws.{IsEnded, IsSilent, Refuses, up_to_last}

@@ -5,12 +5,12 @@ use Rattle.record_batch.specs.declared.outcome.Outcome.{Outcome as Ending}
 use Rattle.record_batch.specs.Batch.{BatchData}
 use Rattle.partition_log.specs.Log.{is_commit, ended, is_open, open_at, is_committed}
 use Rattle.audit_trail.specs.declared.event.Event.{Event}
-use Rattle.txn_coordinator.specs.declared.target.TopicPartition.{TopicPartition}
-use Rattle.txn_coordinator.specs.declared.target.Target.TheVariants.{Partition}
-use Rattle.txn_coordinator.specs.declared.transaction.Transaction.{Transaction}
-use Rattle.txn_coordinator.specs.declared.marker.OwedMarker.{OwedMarker}
-use Rattle.txn_coordinator.specs.Words.{prepared}
-use Rattle.txn_coordinator.specs.Coordinator.{recorded}
+use Rattle.transactions.specs.declared.target.TopicPartition.{TopicPartition}
+use Rattle.transactions.specs.declared.target.Target.TheVariants.{Partition}
+use Rattle.transactions.specs.declared.transaction.Transaction.{Transaction}
+use Rattle.transactions.specs.declared.marker.OwedMarker.{OwedMarker}
+use Rattle.transactions.specs.Words.{prepared}
+use Rattle.transactions.specs.Coordinator.{recorded}
 use Rattle.txn_laws.specs.Sound.{Each}
 use Rattle.txn_laws.specs.Laws.{up_to_last}
 use Rattle.broker_world.specs.World.{World, LogValue}

@@ -28,12 +28,12 @@ use Rattle.audit_trail.specs.declared.event.Event.{Event}
 use Rattle.audit_trail.specs.declared.event.Event.TheVariants as events
 use Rattle.walk.specs.Rule.{PartRule, refusal_of}
 use Rattle.walk.specs.Steps.{part_world, parts_world}
-use Rattle.txn_coordinator.specs.declared.pair.Pair.{Pair}
-use Rattle.txn_coordinator.specs.declared.target.Target.{Target}
-use Rattle.txn_coordinator.specs.declared.target.Target.TheVariants.{Group}
-use Rattle.group_offsets.specs.declared.group.Group.{Group as GroupValue}
-use Rattle.group_offsets.specs.Turn.{Turn, Stays, Puts}
-use Rattle.group_offsets.specs.Groups.{commit}
+use Rattle.transactions.specs.declared.pair.Pair.{Pair}
+use Rattle.transactions.specs.declared.target.Target.{Target}
+use Rattle.transactions.specs.declared.target.Target.TheVariants.{Group}
+use Rattle.offset_tables.specs.declared.group.Group.{Group as GroupValue}
+use Rattle.offset_tables.specs.Turn.{Turn, Stays, Puts}
+use Rattle.offset_tables.specs.Groups.{commit}
 use Rattle.txn_laws.specs.Small.{Move, Move as moves}
 use Rattle.txn_laws.specs.Laws.{expiries}
 use Rattle.broker_world.specs.World.{World, TopicValue, LogValue, rules_of}

@@ -1,11 +1,11 @@
 -- What transactions take in exists: so each marker that is owed has a log or a group to be written to.
 use Rattle.std.specs.Prelude.{◌≡◌, Bool, true, List, is_some}
-use Rattle.txn_coordinator.specs.declared.target.Target.{Target}
-use Rattle.txn_coordinator.specs.declared.target.Target.TheVariants.{Partition, Group}
-use Rattle.txn_coordinator.specs.declared.transaction.Transaction.{Transaction}
-use Rattle.txn_coordinator.specs.declared.marker.OwedMarker.{OwedMarker}
-use Rattle.txn_coordinator.specs.Words.{targets}
-use Rattle.txn_coordinator.specs.Coordinator.{CoordinatorValue}
+use Rattle.transactions.specs.declared.target.Target.{Target}
+use Rattle.transactions.specs.declared.target.Target.TheVariants.{Partition, Group}
+use Rattle.transactions.specs.declared.transaction.Transaction.{Transaction}
+use Rattle.transactions.specs.declared.marker.OwedMarker.{OwedMarker}
+use Rattle.transactions.specs.Words.{targets}
+use Rattle.transactions.specs.Coordinator.{CoordinatorValue}
 use Rattle.txn_laws.specs.Sound.{Each}
 use Rattle.broker_world.specs.World.{World, TopicValue}
 use Rattle.broker_world.specs.Logs.{log_at}

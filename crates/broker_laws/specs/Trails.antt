@@ -15,12 +15,12 @@ use Rattle.audit_trail.specs.declared.event.Event.{Event}
 use Rattle.audit_trail.specs.declared.event.Event.TheVariants.{Ask, Mark, Tick}
 use Rattle.audit_trail.specs.declared.trail.Entry.{Entry}
 use Rattle.request_handlers.specs.Receipt.{ReceiptValue}
-use Rattle.txn_coordinator.specs.declared.transaction.Transaction.{Transaction}
-use Rattle.txn_coordinator.specs.declared.transaction.Phase.TheVariants.{Ongoing}
-use Rattle.txn_coordinator.specs.Words.{targets}
-use Rattle.txn_coordinator.specs.Coordinator.{recorded}
-use Rattle.txn_coordinator.specs.Expiry.{is_due}
-use Rattle.group_offsets.specs.Groups.{group_of}
+use Rattle.transactions.specs.declared.transaction.Transaction.{Transaction}
+use Rattle.transactions.specs.declared.transaction.Phase.TheVariants.{Ongoing}
+use Rattle.transactions.specs.Words.{targets}
+use Rattle.transactions.specs.Coordinator.{recorded}
+use Rattle.transactions.specs.Expiry.{is_due}
+use Rattle.offset_tables.specs.Groups.{group_of}
 use Rattle.txn_laws.specs.Sound.{Each}
 use Rattle.txn_laws.specs.Laws.{IsEnded, up_to_last}
 use Rattle.txn_laws.specs.Kept.{kept_pair}

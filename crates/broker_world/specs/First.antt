@@ -4,7 +4,7 @@ use Rattle.acl_binding.specs.declared.binding.Binding.{Binding}
 use Rattle.acl_binding.specs.Book.{BookValue, empty_book, added}
 use Rattle.settings.specs.declared.settings.Settings.{Settings}
 use Rattle.settings.specs.declared.settings.TopicSetting.{TopicSetting}
-use Rattle.txn_coordinator.specs.Coordinator.{no_transactions}
+use Rattle.transactions.specs.Coordinator.{no_transactions}
 use Rattle.broker_world.specs.declared.node.Node.{Node}
 use Rattle.broker_world.specs.World.{World, TopicValue, LogValue}
 

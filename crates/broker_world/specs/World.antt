@@ -6,8 +6,8 @@ use Rattle.std.specs.Str.{bytes_eq}
 use Rattle.acl_binding.specs.Book.{BookValue}
 use Rattle.authorizer.specs.Asking.{Rules}
 use Rattle.record_batch.specs.Batch.{BatchData}
-use Rattle.txn_coordinator.specs.Coordinator.{CoordinatorValue}
-use Rattle.group_offsets.specs.declared.group.Group.{Group}
+use Rattle.transactions.specs.Coordinator.{CoordinatorValue}
+use Rattle.offset_tables.specs.declared.group.Group.{Group}
 use Rattle.broker_world.specs.declared.node.Node.{Node}
 use Rattle.broker_world.specs.declared.slot.Slot.{Slot}
 

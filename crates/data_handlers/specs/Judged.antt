@@ -8,13 +8,13 @@ use Rattle.record_batch.specs.declared.fault.BatchFault.{BatchFault}
 use Rattle.record_batch.specs.BatchHeader.{is_transactional}
 use Rattle.record_batch.specs.Batch.{BatchData}
 use Rattle.record_batch.specs.Fault.{code_of}
-use Rattle.txn_coordinator.specs.declared.pair.Pair.{Pair}
-use Rattle.txn_coordinator.specs.declared.pair.Given.{Given}
-use Rattle.txn_coordinator.specs.declared.pair.Given.TheVariants.{Never, Free, Owned}
-use Rattle.txn_coordinator.specs.declared.target.Target.{Target}
-use Rattle.txn_coordinator.specs.declared.target.Target.TheVariants.{Partition}
-use Rattle.txn_coordinator.specs.Coordinator.{CoordinatorValue, owner, given_by}
-use Rattle.txn_coordinator.specs.Holding.{holds}
+use Rattle.transactions.specs.declared.pair.Pair.{Pair}
+use Rattle.transactions.specs.declared.pair.Given.{Given}
+use Rattle.transactions.specs.declared.pair.Given.TheVariants.{Never, Free, Owned}
+use Rattle.transactions.specs.declared.target.Target.{Target}
+use Rattle.transactions.specs.declared.target.Target.TheVariants.{Partition}
+use Rattle.transactions.specs.Coordinator.{CoordinatorValue, owner, given_by}
+use Rattle.transactions.specs.Holding.{holds}
 use Rattle.broker_world.specs.World.{TopicValue}
 use Rattle.broker_world.specs.Logs.{appended}
 use Rattle.data_handlers.specs.Sent.{sent}

@@ -20,7 +20,8 @@ use msg_data::{ProduceReply, ProduceRequest, ProducedOffset, ProducedRecords};
 use partition_log::Log;
 use record_batch::{Batch, BatchFault, BatchHeader};
 use std::alloc::{AllocError, Global};
-use txn_coordinator::{Coordinator, Given, Pair, Target, TopicPartition};
+use transactions::{Given, Pair, Target, TopicPartition};
+use txn_coordinator::Coordinator;
 use walk::{Part, PartApi, refusal_code, walk};
 use wire_types::{ErrorCode, Items, Text, Topic};
 

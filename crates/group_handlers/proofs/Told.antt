@@ -1,6 +1,6 @@
 -- Partition by partition: what is told of one, and then of those behind it.
 use Rattle.std.proofs.Common.{◌≡◌, ℕ, pos, suc, ◌+◌, ◌-◌, ◌<◌, List, ◌++◌, Bool, ap, arith}
-use Rattle.group_offsets.specs.declared.event.OffsetEvent.{OffsetEvent}
+use Rattle.offset_tables.specs.declared.event.OffsetEvent.{OffsetEvent}
 use Rattle.group_handlers.specs.OffsetFetch.{told_at, told_from}
 
 -- what is told of a partition, and then of those behind it

@@ -13,9 +13,9 @@ use Rattle.msg_group.specs.declared.heartbeat.HeartbeatReply.{HeartbeatReply}
 use Rattle.msg_group.specs.declared.leave_group.LeaveGroupRequest.{LeaveGroupRequest}
 use Rattle.msg_group.specs.declared.leave_group.LeaveGroupReply.{LeaveGroupReply}
 use Rattle.msg_admin.specs.declared.reply.Reply.TheVariants as replies
-use Rattle.group_offsets.specs.declared.member.Joined.{Joined}
-use Rattle.group_offsets.specs.Turn.{answered}
-use Rattle.group_offsets.specs.Groups.{turned, join, sync, beat, leave}
+use Rattle.offset_tables.specs.declared.member.Joined.{Joined}
+use Rattle.offset_tables.specs.Turn.{answered}
+use Rattle.offset_tables.specs.Groups.{turned, join, sync, beat, leave}
 use Rattle.broker_world.specs.World.{World}
 use Rattle.broker_world.specs.Outcome.{Outcome}
 use Rattle.broker_world.specs.Whole.{Served, whole}

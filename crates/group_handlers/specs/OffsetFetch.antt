@@ -20,10 +20,10 @@ use Rattle.msg_admin.specs.declared.reply.Reply.TheVariants as replies
 use Rattle.walk.specs.Rule.{PartRule}
 use Rattle.walk.specs.Walk.{answers, refusals}
 use Rattle.walk.specs.Codes.{refusal_code}
-use Rattle.group_offsets.specs.declared.event.PartitionOffset.{PartitionOffset}
-use Rattle.group_offsets.specs.declared.event.OffsetEvent.{OffsetEvent}
-use Rattle.group_offsets.specs.Groups.{group_of}
-use Rattle.group_offsets.specs.Offsets.{fetched, is_told}
+use Rattle.offset_tables.specs.declared.event.PartitionOffset.{PartitionOffset}
+use Rattle.offset_tables.specs.declared.event.OffsetEvent.{OffsetEvent}
+use Rattle.offset_tables.specs.Groups.{group_of}
+use Rattle.offset_tables.specs.Offsets.{fetched, is_told}
 use Rattle.broker_world.specs.World.{World, TopicValue, rules_of}
 use Rattle.broker_world.specs.Outcome.{Outcome}
 use Rattle.broker_world.specs.Questions.{topic_part, topic_refusal}

@@ -2,7 +2,7 @@
 
 ghost use Rattle.std.specs.Prelude.{◌≡◌, ◌<ℤ◌, ◌∷◌, [], pos, IfOk, OnOk};
 ghost use Rattle.authorizer.specs.Asking.{part_paid};
-ghost use Rattle.group_offsets.specs.Groups.{group_of};
+ghost use Rattle.offset_tables.specs.Groups.{group_of};
 ghost use Rattle.broker_world.specs.World.{rules_of};
 ghost use Rattle.broker_world.specs.Questions.{read_question};
 ghost use Rattle.broker_world.specs.Codes.{code_in};
@@ -12,12 +12,12 @@ use acl_binding::{Caller, Kind, Operation, Question};
 use authorizer::{Paid, ask_one};
 use broker_world::{Outcome, State, code_in, read_question, refused_whole, served_whole};
 use bytes::Bytes;
-use group_offsets::Joined;
 use msg_admin::Reply;
 use msg_group::{
     HeartbeatReply, HeartbeatRequest, JoinGroupReply, JoinGroupRequest, JoinedMember,
     LeaveGroupReply, LeaveGroupRequest, OfferedProtocol, SyncGroupReply, SyncGroupRequest,
 };
+use offset_tables::Joined;
 use std::alloc::{AllocError, Global};
 use walk::refusal_code;
 use wire_types::{ErrorCode, Items, Text};

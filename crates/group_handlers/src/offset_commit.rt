@@ -3,7 +3,7 @@
 ghost use Rattle.std.specs.Prelude.{◌≡◌, [], IfOk, OnOk};
 ghost use Rattle.std.specs.Option.{option_copied};
 ghost use Rattle.acl_binding.specs.declared.words.Operation.TheVariants as operations;
-ghost use Rattle.group_offsets.specs.Groups.{MayUse};
+ghost use Rattle.group_offsets.specs.Permission.{MayUse};
 ghost use Rattle.authorizer.specs.Tally.{counted};
 ghost use Rattle.walk.specs.Walk.{asked_in};
 ghost use Rattle.broker_world.specs.World.{rules_of};
@@ -12,9 +12,10 @@ ghost use Rattle.group_handlers.specs.OffsetCommit.{committing_rule, offset_of, 
 use acl_binding::{Caller, Kind, Operation};
 use authorizer::{Paid, Permit, Policy, Spent, TwoPermits, ask_two};
 use broker_world::{Outcome, State, Topics, code_in, read_question, served_in_parts};
-use group_offsets::{Groups, PartitionOffset};
+use group_offsets::Groups;
 use msg_admin::Reply;
 use msg_group::{CommittedOffset, OffsetCommitReply, OffsetCommitRequest, OffsetToCommit};
+use offset_tables::PartitionOffset;
 use partition_log::Log;
 use std::alloc::{AllocError, Global};
 use walk::{Part, PartApi, refusal_code, walk};

@@ -8,14 +8,14 @@ ghost use Rattle.broker_world.specs.World.{TopicValue};
 ghost use Rattle.broker_world.specs.World.{rules_of};
 ghost use Rattle.broker_world.specs.Questions.{topic_part, topic_refusal};
 ghost use Rattle.group_handlers.specs.OffsetFetch.{group_question, fetched_code, fetched_at, fetched_offset, fetch_reply, told_at, told_from, told_as, told_topic, told_topics, parts_asked, fetch_parts, fetched_outcome, offset_fetch_outcome};
-ghost use Rattle.group_offsets.specs.Offsets.{fetched};
+ghost use Rattle.offset_tables.specs.Offsets.{fetched};
 
 use acl_binding::{Caller, Kind, Operation, Question};
 use authorizer::{Paid, Policy, Tally, ask_one};
 use broker_world::{Outcome, Slot, State, refused_whole};
-use group_offsets::{Offsets, PartitionOffset};
 use msg_admin::Reply;
 use msg_group::{FetchedOffset, OffsetFetchReply, OffsetFetchRequest};
+use offset_tables::{Offsets, PartitionOffset};
 use std::alloc::{AllocError, Global};
 use walk::{Part, PartApi, refusal_code, walk};
 use wire_types::{ErrorCode, Items, Text, Topic};

@@ -2,18 +2,16 @@
 
 ghost use Rattle.std.specs.Prelude.{◌≡◌, ◌↔◌, IsTrue, ◌<◌, ◌<ℤ◌, pos, [], ◌∷◌, ◌++◌, if◌then◌else◌, is_ok, map, length, IfOk, IfSome, OnOk, OnErr, None};
 ghost use Rattle.acl_binding.specs.declared.words.Operation.TheVariants as operations;
-ghost use Rattle.group_offsets.specs.Turn.{answered};
-ghost use Rattle.group_offsets.specs.Group.{expired};
-ghost use Rattle.group_offsets.specs.Groups.{MayUse, group_of, turned, join, sync, beat, leave, commit, stage, decide, nobody, place_of};
+ghost use Rattle.offset_tables.specs.Turn.{answered};
+ghost use Rattle.offset_tables.specs.Group.{expired};
+ghost use Rattle.offset_tables.specs.Groups.{group_of, turned, join, sync, beat, leave, commit, stage, decide, nobody, place_of};
+ghost use Rattle.group_offsets.specs.Permission.{MayUse};
 
-use crate::event::{OffsetEvent, PartitionOffset};
-use crate::group::Group;
-use crate::member::Joined;
-use crate::offsets::Offsets;
 use authorizer::{Permit, Policy, Spent};
 use bytes::Bytes;
 use indexmap::IndexSet;
 use msg_group::{HeartbeatRequest, JoinGroupRequest, LeaveGroupRequest, SyncGroupRequest};
+use offset_tables::{Group, Joined, Offsets, PartitionOffset};
 use record_batch::Outcome;
 use std::alloc::{AllocError, Global};
 use std::marker::Model;
@@ -30,11 +28,11 @@ pub struct Groups {
 
 impl Model for Groups {
     ghost use Rattle.std.specs.Prelude.{List};
-    ghost use Rattle.group_offsets.specs.declared.group.Group.{Group};
+    ghost use Rattle.offset_tables.specs.declared.group.Group.{Group};
 
     ghost Value = { List Group };
 
-    ghost use Rattle.group_offsets.specs.Named.{AreNamed};
+    ghost use Rattle.offset_tables.specs.Named.{AreNamed};
 
     ghost view = { λ g. g.groups.items };
 

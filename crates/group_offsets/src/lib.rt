@@ -4,23 +4,6 @@
 //! each lends the policy and spends a permit for its group, whatever it answers.
 #![tactic(auto)]
 
-mod event;
-mod group;
 mod groups;
-mod joining;
-mod laws;
-mod member;
-mod offsets;
-mod partition;
-mod row;
-mod staged;
-mod table;
 
-pub use event::{OffsetEvent, PartitionOffset};
-pub use group::Group;
 pub use groups::Groups;
-pub use laws::{
-    answers_are_apart, committed_goes_on, groups_are_apart, pending_goes_on, staged_is_pending,
-};
-pub use member::{Joined, Member};
-pub use offsets::Offsets;

@@ -1,14 +1,15 @@
 //! Drawn histories of three groups, in which three producers commit and stage offsets of three partitions.
 
 ghost use Rattle.std.specs.Prelude.{◌≡◌, IfOk};
-ghost use Rattle.group_offsets.specs.Groups.{MayUse};
+ghost use Rattle.group_offsets.specs.Permission.{MayUse};
 
 mod plain;
 
 use crate::histories::plain::{Entry, What, committed, is_staged};
 use acl_binding::{Caller, Kind, Operation};
 use authorizer::{Permit, Policy, ask_one};
-use group_offsets::{Groups, Offsets, PartitionOffset};
+use group_offsets::Groups;
+use offset_tables::{Offsets, PartitionOffset};
 use record_batch::Outcome;
 use std::alloc::{AllocError, Global};
 use std::test::Fail;

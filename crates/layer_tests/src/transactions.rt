@@ -8,7 +8,8 @@ use authorizer::{Permit, Policy, ask_one};
 use record_batch::Outcome;
 use std::alloc::{AllocError, Global};
 use std::test::Fail;
-use txn_coordinator::{Coordinator, EndForm, OwedMarker, Pair, PairAnswer, TopicPartition};
+use transactions::{EndForm, OwedMarker, Pair, PairAnswer, TopicPartition};
+use txn_coordinator::Coordinator;
 use wire_types::{ErrorCode, Items, Text};
 
 /// A coordinator with one transactional id, which the super user `User:root` may write.

@@ -20,8 +20,8 @@ use Rattle.msg_admin.specs.declared.reply.Reply.TheVariants as replies
 use Rattle.msg_login.specs.SaslHandshake.{handshake_reply}
 use Rattle.msg_login.specs.SaslAuthenticate.{authenticate_reply}
 use Rattle.msg_admin.specs.Versions.{versions_reply}
-use Rattle.group_offsets.specs.declared.event.OffsetEvent.{OffsetEvent}
-use Rattle.txn_coordinator.specs.Coordinator.{turned, turn_code}
+use Rattle.offset_tables.specs.declared.event.OffsetEvent.{OffsetEvent}
+use Rattle.transactions.specs.Coordinator.{turned, turn_code}
 use Rattle.walk.specs.Rule.{PartRule}
 use Rattle.walk.specs.Walk.{plain_parts_world, plain_parts, plain_world, plain_topics, world_after, answers, refusals}
 use Rattle.walk.specs.Woven.{has_any}

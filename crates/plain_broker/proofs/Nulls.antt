@@ -14,7 +14,7 @@ use Rattle.msg_group.specs.declared.offset_fetch.OffsetFetchRequest.{OffsetFetch
 use Rattle.msg_group.specs.declared.offset_fetch.FetchedOffset.{FetchedOffset}
 use Rattle.msg_admin.specs.declared.request.Request.TheVariants.{Metadata, OffsetFetch}
 use Rattle.msg_admin.specs.declared.reply.Reply.TheVariants as replies
-use Rattle.group_offsets.specs.declared.event.OffsetEvent.{OffsetEvent}
+use Rattle.offset_tables.specs.declared.event.OffsetEvent.{OffsetEvent}
 use Rattle.walk.specs.Codes.{refusal_code}
 use Rattle.walk.specs.Weave.{weave}
 use Rattle.broker_world.specs.World.{World, TopicValue, rules_of, find_topic, topic_names}

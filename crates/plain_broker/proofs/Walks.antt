@@ -16,7 +16,7 @@ use Rattle.msg_txn.specs.declared.txn_offset_commit.TxnOffsetCommitRequest.{TxnO
 use Rattle.msg_txn.specs.declared.txn_offset_commit.StagedOffset.{StagedOffset}
 use Rattle.msg_admin.specs.declared.request.Request.TheVariants.{Produce, Fetch, ListOffsets, OffsetCommit, TxnOffsetCommit}
 use Rattle.msg_admin.specs.declared.reply.Reply.TheVariants as replies
-use Rattle.group_offsets.specs.declared.group.Group.{Group}
+use Rattle.offset_tables.specs.declared.group.Group.{Group}
 use Rattle.broker_world.specs.World.{World, TopicValue, rules_of}
 use Rattle.broker_world.specs.Questions.{topic_part}
 use Rattle.data_handlers.specs.Produce.{produce_questions, produced_error, producing, produce_reply}

@@ -2,11 +2,11 @@
 
 use audit_trail::push_word;
 use broker_world::{Slot, State};
-use group_offsets::Group;
+use offset_tables::Group;
 use record_batch::Outcome;
 use request_handlers::Core;
 use std::alloc::{AllocError, Global};
-use txn_coordinator::{OwedMarker, Phase, Target, TopicPartition, Transaction};
+use transactions::{OwedMarker, Phase, Target, TopicPartition, Transaction};
 
 fn push_partition(
     alloc: Global,

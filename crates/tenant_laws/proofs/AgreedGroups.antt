@@ -17,13 +17,13 @@ use Rattle.msg_txn.specs.declared.txn_offset_commit.TxnOffsetCommitRequest.{TxnO
 use Rattle.msg_txn.specs.declared.txn_offset_commit.OffsetToStage.{OffsetToStage}
 use Rattle.walk.specs.Walk.{world_after}
 use Rattle.walk.specs.Alike.{AllTopics}
-use Rattle.txn_coordinator.specs.declared.target.Target.TheVariants as targets
-use Rattle.txn_coordinator.specs.declared.transaction.Transaction.{Transaction}
-use Rattle.txn_coordinator.specs.Holding.{holds_found}
-use Rattle.group_offsets.specs.declared.group.Group.{Group}
-use Rattle.group_offsets.specs.Groups.{find_group, turned, join, sync, beat}
-use Rattle.group_offsets.specs.Laws.{Call, Call as calls, called}
-use Rattle.group_offsets.proofs.Apart.{groups_are_apart}
+use Rattle.transactions.specs.declared.target.Target.TheVariants as targets
+use Rattle.transactions.specs.declared.transaction.Transaction.{Transaction}
+use Rattle.transactions.specs.Holding.{holds_found}
+use Rattle.offset_tables.specs.declared.group.Group.{Group}
+use Rattle.offset_tables.specs.Groups.{find_group, turned, join, sync, beat}
+use Rattle.offset_tables.specs.Laws.{Call, Call as calls, called}
+use Rattle.offset_tables.proofs.Apart.{groups_are_apart}
 use Rattle.broker_world.specs.World.{World, LogValue, rules_of}
 use Rattle.broker_world.specs.Logs.{log_at}
 use Rattle.broker_world.specs.Codes.{refused_by}

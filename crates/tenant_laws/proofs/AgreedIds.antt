@@ -19,13 +19,13 @@ use Rattle.msg_txn.specs.declared.end_txn.EndTxnRequest.{EndTxnRequest}
 use Rattle.walk.specs.Walk.{parts_refused, refusals}
 use Rattle.walk.specs.Woven.{has_any}
 use Rattle.walk.specs.Alike.{AllParts, AllTopics}
-use Rattle.txn_coordinator.specs.declared.target.TopicPartition.{TopicPartition}
-use Rattle.txn_coordinator.specs.declared.transaction.Transaction.{Transaction}
-use Rattle.txn_coordinator.specs.declared.turn.Turn.{Turn}
-use Rattle.txn_coordinator.specs.declared.turn.Turn.TheVariants.{Stays, Puts}
-use Rattle.txn_coordinator.specs.Coordinator.{CoordinatorValue, has_id, recorded, turned}
-use Rattle.txn_coordinator.specs.InitProducerId.{init}
-use Rattle.txn_coordinator.specs.Adding.{add_partitions}
+use Rattle.transactions.specs.declared.target.TopicPartition.{TopicPartition}
+use Rattle.transactions.specs.declared.transaction.Transaction.{Transaction}
+use Rattle.transactions.specs.declared.turn.Turn.{Turn}
+use Rattle.transactions.specs.declared.turn.Turn.TheVariants.{Stays, Puts}
+use Rattle.transactions.specs.Coordinator.{CoordinatorValue, has_id, recorded, turned}
+use Rattle.transactions.specs.InitProducerId.{init}
+use Rattle.transactions.specs.Adding.{add_partitions}
 use Rattle.broker_world.specs.declared.node.Node.{Node}
 use Rattle.broker_world.specs.World.{World, LogValue, rules_of}
 use Rattle.broker_world.specs.Logs.{log_at}

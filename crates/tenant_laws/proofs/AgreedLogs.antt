@@ -20,12 +20,12 @@ use Rattle.msg_data.specs.declared.produce.ProduceRequest.{ProduceRequest}
 use Rattle.msg_data.specs.declared.produce.ProducedRecords.{ProducedRecords}
 use Rattle.walk.specs.Walk.{world_after}
 use Rattle.walk.specs.Alike.{AllTopics}
-use Rattle.txn_coordinator.specs.declared.pair.Pair.{Pair}
-use Rattle.txn_coordinator.specs.declared.pair.Given.{Given}
-use Rattle.txn_coordinator.specs.declared.target.Target.{Target}
-use Rattle.txn_coordinator.specs.declared.transaction.Transaction.{Transaction}
-use Rattle.txn_coordinator.specs.Coordinator.{CoordinatorValue, recorded, owner, given_by}
-use Rattle.txn_coordinator.specs.Holding.{holds_found}
+use Rattle.transactions.specs.declared.pair.Pair.{Pair}
+use Rattle.transactions.specs.declared.pair.Given.{Given}
+use Rattle.transactions.specs.declared.target.Target.{Target}
+use Rattle.transactions.specs.declared.transaction.Transaction.{Transaction}
+use Rattle.transactions.specs.Coordinator.{CoordinatorValue, recorded, owner, given_by}
+use Rattle.transactions.specs.Holding.{holds_found}
 use Rattle.broker_world.specs.declared.node.Node.{Node}
 use Rattle.broker_world.specs.World.{World, TopicValue, LogValue, rules_of, find_topic}
 use Rattle.broker_world.specs.First.{magnitude}

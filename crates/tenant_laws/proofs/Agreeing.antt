@@ -15,9 +15,9 @@ use Rattle.walk.specs.Walk.{world_after}
 use Rattle.walk.specs.Steps.{world_by, part_world, parts_world, topics_world}
 use Rattle.walk.specs.Alike.{AllParts, AllTopics}
 use Rattle.walk.proofs.Weaving.{woven}
-use Rattle.txn_coordinator.specs.Coordinator.{CoordinatorValue, recorded}
-use Rattle.group_offsets.specs.declared.group.Group.{Group as GroupValue}
-use Rattle.group_offsets.specs.Groups.{find_group}
+use Rattle.transactions.specs.Coordinator.{CoordinatorValue, recorded}
+use Rattle.offset_tables.specs.declared.group.Group.{Group as GroupValue}
+use Rattle.offset_tables.specs.Groups.{find_group}
 use Rattle.broker_world.specs.World.{World, TopicValue, rules_of, find_topic}
 use Rattle.broker_world.specs.Whole.{Served, whole_by}
 use Rattle.api_laws.specs.Tenants.{SameBase, SameOn}

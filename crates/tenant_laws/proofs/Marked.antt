@@ -7,14 +7,14 @@ use Rattle.std.proofs.lemmas.Slice.Eq.{bytes_eq-Decides}
 use Rattle.acl_binding.specs.declared.words.Kind.{Kind}
 use Rattle.acl_binding.specs.declared.words.Kind.TheVariants as kinds
 use Rattle.record_batch.specs.Batch.{BatchData}
-use Rattle.txn_coordinator.specs.declared.marker.OwedMarker.{OwedMarker}
-use Rattle.txn_coordinator.specs.declared.target.Target.{Target}
-use Rattle.txn_coordinator.specs.declared.target.Target.TheVariants.{Partition, Group}
-use Rattle.txn_coordinator.specs.declared.transaction.Transaction.{Transaction}
-use Rattle.txn_coordinator.specs.Coordinator.{recorded, has_id}
-use Rattle.txn_coordinator.specs.Warrants.{owes, completed, with_completed, after_marker, written_by}
-use Rattle.group_offsets.specs.Groups.{find_group}
-use Rattle.group_offsets.specs.Laws.{Call as calls}
+use Rattle.transactions.specs.declared.marker.OwedMarker.{OwedMarker}
+use Rattle.transactions.specs.declared.target.Target.{Target}
+use Rattle.transactions.specs.declared.target.Target.TheVariants.{Partition, Group}
+use Rattle.transactions.specs.declared.transaction.Transaction.{Transaction}
+use Rattle.transactions.specs.Coordinator.{recorded, has_id}
+use Rattle.transactions.specs.Warrants.{owes, completed, with_completed, after_marker, written_by}
+use Rattle.offset_tables.specs.Groups.{find_group}
+use Rattle.offset_tables.specs.Laws.{Call as calls}
 use Rattle.audit_trail.specs.declared.event.Event.TheVariants.{Mark}
 use Rattle.broker_world.specs.World.{World, TopicValue, LogValue, find_topic}
 use Rattle.broker_world.specs.Logs.{log_at, with_log, logs_with}

@@ -26,29 +26,29 @@ use Rattle.msg_admin.specs.declared.reply.Reply.TheVariants as replies
 use Rattle.walk.specs.Walk.{plain_topics}
 use Rattle.walk.specs.Alike.{AllParts, AllTopics, AreAlike}
 use Rattle.walk.proofs.Alikeness.{answer_alike}
-use Rattle.group_offsets.specs.declared.group.Group.{Group}
-use Rattle.group_offsets.specs.declared.member.Joined.{Joined}
+use Rattle.offset_tables.specs.declared.group.Group.{Group}
+use Rattle.offset_tables.specs.declared.member.Joined.{Joined}
 use Rattle.msg_group.specs.declared.join_group.OfferedProtocol.{OfferedProtocol}
-use Rattle.group_offsets.specs.Group as group
-use Rattle.group_offsets.specs.Groups.{group_of}
-use Rattle.group_offsets.specs.Turn.{Turn as GroupTurn, Stays as Stops, answered}
-use Rattle.group_offsets.specs.Joining.{session_timeout, chosen, entry_refusal, let_in, join_under, join_within}
-use Rattle.txn_coordinator.specs.declared.pair.Pair.{Pair}
-use Rattle.txn_coordinator.specs.declared.marker.OwedMarker.{OwedMarker}
-use Rattle.txn_coordinator.specs.declared.pair.PairAnswer.{PairAnswer}
-use Rattle.txn_coordinator.specs.declared.target.Target.{Target}
-use Rattle.txn_coordinator.specs.declared.target.TopicPartition.{TopicPartition}
-use Rattle.txn_coordinator.specs.declared.turn.Turn.{Turn}
-use Rattle.txn_coordinator.specs.declared.turn.Turn.TheVariants.{Stays, Puts}
-use Rattle.txn_coordinator.specs.declared.transaction.Transaction.{Transaction}
-use Rattle.txn_coordinator.specs.declared.transaction.Phase.{Phase}
-use Rattle.txn_coordinator.specs.declared.transaction.Phase.TheVariants.{Empty, Ongoing, PrepareCommit, PrepareAbort, CompleteCommit, CompleteAbort}
-use Rattle.txn_coordinator.specs.Words.{is_empty}
-use Rattle.txn_coordinator.specs.Preparing.{pair_refusal}
-use Rattle.txn_coordinator.specs.Coordinator.{CoordinatorValue, recorded, owner, given_by, fresh, turn_code, turn_answer}
-use Rattle.txn_coordinator.specs.InitProducerId.{init, init_for, timeout_within}
-use Rattle.txn_coordinator.specs.Adding.{open_in, open_by, open_found, grown, with_partitions, with_group, add_partitions}
-use Rattle.txn_coordinator.specs.EndTxn.{end_found}
+use Rattle.offset_tables.specs.Group as group
+use Rattle.offset_tables.specs.Groups.{group_of}
+use Rattle.offset_tables.specs.Turn.{Turn as GroupTurn, Stays as Stops, answered}
+use Rattle.offset_tables.specs.Joining.{session_timeout, chosen, entry_refusal, let_in, join_under, join_within}
+use Rattle.transactions.specs.declared.pair.Pair.{Pair}
+use Rattle.transactions.specs.declared.marker.OwedMarker.{OwedMarker}
+use Rattle.transactions.specs.declared.pair.PairAnswer.{PairAnswer}
+use Rattle.transactions.specs.declared.target.Target.{Target}
+use Rattle.transactions.specs.declared.target.TopicPartition.{TopicPartition}
+use Rattle.transactions.specs.declared.turn.Turn.{Turn}
+use Rattle.transactions.specs.declared.turn.Turn.TheVariants.{Stays, Puts}
+use Rattle.transactions.specs.declared.transaction.Transaction.{Transaction}
+use Rattle.transactions.specs.declared.transaction.Phase.{Phase}
+use Rattle.transactions.specs.declared.transaction.Phase.TheVariants.{Empty, Ongoing, PrepareCommit, PrepareAbort, CompleteCommit, CompleteAbort}
+use Rattle.transactions.specs.Words.{is_empty}
+use Rattle.transactions.specs.Preparing.{pair_refusal}
+use Rattle.transactions.specs.Coordinator.{CoordinatorValue, recorded, owner, given_by, fresh, turn_code, turn_answer}
+use Rattle.transactions.specs.InitProducerId.{init, init_for, timeout_within}
+use Rattle.transactions.specs.Adding.{open_in, open_by, open_found, grown, with_partitions, with_group, add_partitions}
+use Rattle.transactions.specs.EndTxn.{end_found}
 use Rattle.broker_world.specs.World.{World, TopicValue, rules_of}
 use Rattle.broker_world.specs.First.{magnitude}
 use Rattle.broker_world.specs.Whole.{Served, whole_by}

@@ -13,8 +13,8 @@ use Rattle.msg_data.specs.declared.produce.ProduceRequest.{ProduceRequest}
 use Rattle.msg_admin.specs.declared.request.Request.{Request}
 use Rattle.msg_admin.specs.declared.request.Request.TheVariants.{Produce, Fetch, ListOffsets, Metadata, OffsetCommit, OffsetFetch, FindCoordinator, JoinGroup, Heartbeat, LeaveGroup, SyncGroup, SaslHandshake, ApiVersions, InitProducerId, AddPartitionsToTxn, AddOffsetsToTxn, EndTxn, TxnOffsetCommit, DescribeAcls, CreateAcls, DeleteAcls, SaslAuthenticate}
 use Rattle.msg_admin.specs.declared.reply.Reply.{Reply}
-use Rattle.txn_coordinator.specs.Coordinator.{CoordinatorValue}
-use Rattle.group_offsets.specs.declared.group.Group.{Group}
+use Rattle.transactions.specs.Coordinator.{CoordinatorValue}
+use Rattle.offset_tables.specs.declared.group.Group.{Group}
 use Rattle.walk.specs.Alike.{AllParts, AllTopics}
 use Rattle.broker_world.specs.World.{World, TopicValue, LogValue, rules_of, topic_names}
 use Rattle.broker_world.specs.First.{magnitude}

@@ -12,7 +12,7 @@ use Rattle.wire_types.specs.declared.error_code.ErrorCode.TheVariants as codes
 use Rattle.wire_types.specs.declared.topic.Topic.{Topic}
 use Rattle.msg_data.specs.declared.metadata.TopicInfo.{TopicInfo}
 use Rattle.msg_group.specs.declared.offset_fetch.FetchedOffset.{FetchedOffset}
-use Rattle.group_offsets.specs.declared.event.OffsetEvent.{OffsetEvent}
+use Rattle.offset_tables.specs.declared.event.OffsetEvent.{OffsetEvent}
 use Rattle.broker_world.specs.World.{TopicValue, find_topic, topic_names}
 use Rattle.data_handlers.specs.Metadata.{topic_error, partitions_from, topic_found, describable}
 use Rattle.broker_world.specs.Questions.{topic_refusal}

@@ -11,9 +11,9 @@ use Rattle.wire_types.specs.declared.topic.Topic.{Topic}
 use Rattle.msg_group.specs.declared.offset_fetch.FetchedOffset.{FetchedOffset}
 use Rattle.walk.specs.Alike.{AllParts, AllTopics}
 use Rattle.walk.specs.Woven.{has_any}
-use Rattle.group_offsets.specs.declared.event.PartitionOffset.{PartitionOffset}
-use Rattle.group_offsets.specs.declared.event.OffsetEvent.{OffsetEvent}
-use Rattle.group_offsets.specs.Offsets.{fetched, is_told}
+use Rattle.offset_tables.specs.declared.event.PartitionOffset.{PartitionOffset}
+use Rattle.offset_tables.specs.declared.event.OffsetEvent.{OffsetEvent}
+use Rattle.offset_tables.specs.Offsets.{fetched, is_told}
 use Rattle.broker_world.specs.World.{TopicValue, rules_of}
 use Rattle.broker_world.specs.Questions.{topic_refusal}
 use Rattle.group_handlers.specs.OffsetFetch.{fetched_offset}

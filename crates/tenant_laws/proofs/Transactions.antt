@@ -20,11 +20,11 @@ use Rattle.msg_admin.specs.declared.reply.Reply.{Reply}
 use Rattle.walk.specs.Walk.{parts_refused, refusals}
 use Rattle.walk.specs.Woven.{has_any}
 use Rattle.walk.specs.Alike.{AllParts, AllTopics}
-use Rattle.txn_coordinator.specs.declared.marker.OwedMarker.{OwedMarker}
-use Rattle.txn_coordinator.specs.Coordinator.{recorded}
-use Rattle.txn_coordinator.specs.InitProducerId.{init}
-use Rattle.group_offsets.specs.declared.group.Group.{Group as GroupValue}
-use Rattle.group_offsets.specs.Groups.{find_group}
+use Rattle.transactions.specs.declared.marker.OwedMarker.{OwedMarker}
+use Rattle.transactions.specs.Coordinator.{recorded}
+use Rattle.transactions.specs.InitProducerId.{init}
+use Rattle.offset_tables.specs.declared.group.Group.{Group as GroupValue}
+use Rattle.offset_tables.specs.Groups.{find_group}
 use Rattle.broker_world.specs.World.{World, TopicValue, rules_of, find_topic}
 use Rattle.broker_world.specs.Whole.{Served, whole_by}
 use Rattle.txn_handlers.specs.InitProducerId.{init_questions, coordinator_for, initialized, init_producer_id_outcome}

@@ -6,13 +6,13 @@ use Rattle.acl_binding.specs.declared.words.Kind.{Kind}
 use Rattle.acl_binding.specs.declared.words.Kind.TheVariants.{Topic, Group, Cluster, TransactionalId}
 use Rattle.audit_trail.specs.declared.event.Event.{Event}
 use Rattle.audit_trail.specs.declared.event.Event.TheVariants.{Ask, Mark, Tick}
-use Rattle.txn_coordinator.specs.declared.transaction.Transaction.{Transaction}
-use Rattle.txn_coordinator.specs.Coordinator.{recorded}
-use Rattle.txn_coordinator.specs.Preparing.{fenced}
-use Rattle.txn_coordinator.specs.Expiry.{is_due, expired}
-use Rattle.group_offsets.specs.Group.{expired as group_expired}
-use Rattle.group_offsets.specs.Groups.{find_group}
-use Rattle.group_offsets.proofs.Apart.{find_expired}
+use Rattle.transactions.specs.declared.transaction.Transaction.{Transaction}
+use Rattle.transactions.specs.Coordinator.{recorded}
+use Rattle.transactions.specs.Preparing.{fenced}
+use Rattle.transactions.specs.Expiry.{is_due, expired}
+use Rattle.offset_tables.specs.Group.{expired as group_expired}
+use Rattle.offset_tables.specs.Groups.{find_group}
+use Rattle.offset_tables.proofs.Apart.{find_expired}
 use Rattle.broker_world.specs.World.{World}
 use Rattle.broker_world.specs.Clock.{moment_after}
 use Rattle.api_dispatch.specs.Step.{step}

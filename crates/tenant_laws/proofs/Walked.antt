@@ -12,7 +12,7 @@ use Rattle.msg_data.specs.declared.produce.ProduceRequest.{ProduceRequest}
 use Rattle.msg_data.specs.declared.produce.ProducedRecords.{ProducedRecords}
 use Rattle.msg_group.specs.declared.offset_commit.OffsetCommitRequest.{OffsetCommitRequest}
 use Rattle.msg_txn.specs.declared.txn_offset_commit.TxnOffsetCommitRequest.{TxnOffsetCommitRequest}
-use Rattle.group_offsets.specs.Groups.{find_group}
+use Rattle.offset_tables.specs.Groups.{find_group}
 use Rattle.broker_world.specs.World.{World, TopicValue, LogValue, rules_of, find_topic}
 use Rattle.broker_world.specs.First.{magnitude}
 use Rattle.broker_world.specs.Logs.{log_at, log_after, appended_by}

@@ -13,7 +13,7 @@ use Rattle.authorizer.specs.Asking.{part_refusal}
 use Rattle.msg_admin.specs.declared.request.Request.{Request}
 use Rattle.audit_trail.specs.declared.event.Event.{Event}
 use Rattle.audit_trail.specs.declared.event.Event.TheVariants.{Ask, Mark, Tick}
-use Rattle.txn_coordinator.specs.declared.marker.OwedMarker.{OwedMarker}
+use Rattle.transactions.specs.declared.marker.OwedMarker.{OwedMarker}
 use Rattle.broker_world.specs.World.{World, rules_of, topic_names}
 use Rattle.api_dispatch.specs.Step.{step, reply_to, refusals_of, reached}
 use Rattle.request_handlers.specs.Core.{CoreValue, entry_of, receipt_of}

@@ -11,8 +11,8 @@ use Rattle.msg_group.specs.declared.offset_fetch.FetchedOffset.{FetchedOffset}
 use Rattle.msg_admin.specs.declared.request.Request.TheVariants.{OffsetFetch}
 use Rattle.audit_trail.specs.declared.event.Event.TheVariants.{Ask}
 use Rattle.walk.specs.Alike.{AllTopics}
-use Rattle.group_offsets.specs.declared.event.OffsetEvent.{OffsetEvent}
-use Rattle.group_offsets.specs.Offsets.{offset_of, is_staged, fetched}
+use Rattle.offset_tables.specs.declared.event.OffsetEvent.{OffsetEvent}
+use Rattle.offset_tables.specs.Offsets.{offset_of, is_staged, fetched}
 use Rattle.broker_world.specs.World.{World, TopicValue, rules_of}
 use Rattle.group_handlers.specs.OffsetFetch.{group_question, fetch_reply, offsets_of}
 use Rattle.group_handlers.specs.OffsetFetch.{fetched_offset}

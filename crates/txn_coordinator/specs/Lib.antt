@@ -1,13 +1,1 @@
-pub mod Words
-pub mod Coordinator
-pub mod Preparing
-pub mod InitProducerId
-pub mod Adding
-pub mod EndTxn
-pub mod Expiry
-pub mod Holding
-pub mod Warrants
-pub mod Bounds
 pub mod Permission
-pub mod Kept
-pub mod Laws

@@ -2,31 +2,25 @@
 
 ghost use Rattle.std.specs.Prelude.{◌≡◌, ◌+◌, ◌<◌, ◌^◌, ◌++◌, ◌∷◌, [], IfOk, IfSome, OnOk, OnErr, Some, None, length};
 ghost use Rattle.std.specs.Option.{option_copied};
-ghost use Rattle.txn_coordinator.specs.Coordinator.{no_transactions, turned, turn_code, turn_answer, pair_answer, recorded, fresh, owner, given_by, given_free};
-ghost use Rattle.txn_coordinator.specs.InitProducerId.{init};
-ghost use Rattle.txn_coordinator.specs.Adding.{add_partitions, add_group, open_transaction};
-ghost use Rattle.txn_coordinator.specs.EndTxn.{end};
-ghost use Rattle.txn_coordinator.specs.Expiry.{expire};
-ghost use Rattle.txn_coordinator.specs.Holding.{holds, is_usable};
-ghost use Rattle.txn_coordinator.specs.Warrants.{next_warrant, written};
-ghost use Rattle.txn_coordinator.specs.Bounds.{IsInRange, IsTurnInRange};
+ghost use Rattle.transactions.specs.Coordinator.{no_transactions, turned, turn_code, turn_answer, pair_answer, recorded, fresh, owner, given_by, given_free};
+ghost use Rattle.transactions.specs.InitProducerId.{init};
+ghost use Rattle.transactions.specs.Adding.{add_partitions, add_group, open_transaction};
+ghost use Rattle.transactions.specs.EndTxn.{end};
+ghost use Rattle.transactions.specs.Expiry.{expire};
+ghost use Rattle.transactions.specs.Holding.{holds, is_usable};
+ghost use Rattle.transactions.specs.Warrants.{next_warrant, written};
+ghost use Rattle.transactions.specs.Bounds.{IsInRange, IsTurnInRange};
 ghost use Rattle.txn_coordinator.specs.Permission.{MayWrite};
 
-use crate::ending::EndForm;
-use crate::expiry::expiry_markers;
-use crate::init::{created, timeout_within};
-use crate::marker::OwedMarker;
-use crate::owed::Owed;
-use crate::pair::{Given, Pair, PairAnswer};
-use crate::records::Records;
-use crate::target::{Target, TopicPartition};
-use crate::transaction::{LAST_EPOCH, Transaction};
-use crate::turn::Turn;
 use crate::warrant::Warrant;
 use authorizer::{Permit, Policy, Spent};
 use record_batch::Outcome;
 use std::alloc::{AllocError, Global};
 use std::marker::Model;
+use transactions::{
+    EndForm, Given, LAST_EPOCH, Owed, OwedMarker, Pair, PairAnswer, Records, Target,
+    TopicPartition, Transaction, Turn, created, expiry_markers, timeout_within,
+};
 use wire_types::{ErrorCode, Text};
 
 /// What is kept of transactional ids, of producer ids and of markers that are owed.
@@ -38,8 +32,8 @@ pub struct Coordinator {
 }
 
 impl Model for Coordinator {
-    ghost use Rattle.txn_coordinator.specs.Coordinator.{CoordinatorValue};
-    ghost use Rattle.txn_coordinator.specs.Bounds.{AreInRange};
+    ghost use Rattle.transactions.specs.Coordinator.{CoordinatorValue};
+    ghost use Rattle.transactions.specs.Bounds.{AreInRange};
 
     ghost Value = { CoordinatorValue };
 

@@ -5,28 +5,8 @@
 //! permit to write it, and spends it whatever it answers.
 #![tactic(auto)]
 
-mod adding;
 mod coordinator;
-mod counts;
-mod ending;
-mod expiry;
-mod init;
-mod laws;
-mod marker;
-mod owed;
-mod pair;
-mod records;
-mod target;
-mod transaction;
-mod turn;
 mod warrant;
 
 pub use coordinator::Coordinator;
-pub use ending::EndForm;
-pub use laws::calls_keep_ranges;
-pub use marker::OwedMarker;
-pub use pair::{Given, Pair, PairAnswer};
-pub use target::{Target, TopicPartition};
-pub use transaction::{Phase, Transaction};
-pub use turn::Turn;
 pub use warrant::Warrant;

@@ -2,8 +2,8 @@
 
 ghost use Rattle.std.specs.Prelude.{◌≡◌};
 
-use crate::marker::OwedMarker;
 use std::marker::Model;
+use transactions::OwedMarker;
 use wire_types::Shared;
 
 /// The front marker, to be written once. Neither `Clone` nor `Drop`: `Coordinator::written` spends it, or it is given
@@ -13,7 +13,7 @@ pub struct Warrant {
 }
 
 impl Model for Warrant {
-    ghost use Rattle.txn_coordinator.specs.declared.marker.OwedMarker.{OwedMarker};
+    ghost use Rattle.transactions.specs.declared.marker.OwedMarker.{OwedMarker};
 
     ghost Value = { OwedMarker };
 

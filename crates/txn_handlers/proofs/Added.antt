@@ -13,9 +13,9 @@ use Rattle.msg_txn.specs.declared.add_partitions.AddedPartition.{AddedPartition}
 use Rattle.walk.specs.Walk.{plain_parts_world, plain_parts, plain_topics, parts_refused, refusals}
 use Rattle.walk.specs.Woven.{has_any, has_part}
 use Rattle.walk.proofs.Granted.{first_granted as first_is_granted}
-use Rattle.txn_coordinator.specs.declared.target.TopicPartition.{TopicPartition}
-use Rattle.txn_coordinator.specs.Coordinator.{turned}
-use Rattle.txn_coordinator.specs.Adding.{add_partitions}
+use Rattle.transactions.specs.declared.target.TopicPartition.{TopicPartition}
+use Rattle.transactions.specs.Coordinator.{turned}
+use Rattle.transactions.specs.Adding.{add_partitions}
 use Rattle.broker_world.specs.World.{World, TopicValue, rules_of}
 use Rattle.broker_world.specs.Questions.{id_question}
 use Rattle.txn_handlers.specs.AddPartitions.{added_partition, cut_rule, told_rule, told_for, added_outcome, partitions_in, partitions_of}

@@ -2,10 +2,10 @@
 use Rattle.std.proofs.Common.{◌≡◌, Bool, true, false, cond, List, Option, Some, None, refl}
 use Rattle.acl_binding.specs.declared.question.Caller.{Caller}
 use Rattle.msg_txn.specs.declared.add_partitions.AddPartitionsToTxnRequest.{AddPartitionsToTxnRequest}
-use Rattle.txn_coordinator.specs.Coordinator.{CoordinatorValue}
-use Rattle.txn_coordinator.specs.declared.marker.OwedMarker.{OwedMarker}
-use Rattle.txn_coordinator.specs.Warrants.{next_warrant}
-use Rattle.group_offsets.specs.declared.group.Group.{Group}
+use Rattle.transactions.specs.Coordinator.{CoordinatorValue}
+use Rattle.transactions.specs.declared.marker.OwedMarker.{OwedMarker}
+use Rattle.transactions.specs.Warrants.{next_warrant}
+use Rattle.offset_tables.specs.declared.group.Group.{Group}
 use Rattle.broker_world.specs.World.{World, TopicValue, rules_of}
 use Rattle.txn_handlers.specs.AddPartitions.{is_cut, cut_outcome, added_outcome, add_partitions_outcome}
 use Rattle.txn_handlers.specs.Marks.{mark_by, mark_outcome}

@@ -15,8 +15,8 @@ use Rattle.msg_txn.specs.declared.txn_offset_commit.OffsetToStage.{OffsetToStage
 use Rattle.msg_txn.specs.declared.txn_offset_commit.StagedOffset.{StagedOffset}
 use Rattle.walk.specs.Walk.{world_after, answers}
 use Rattle.walk.specs.Steps.{world_by, part_world}
-use Rattle.group_offsets.specs.declared.group.Group.{Group}
-use Rattle.group_offsets.specs.Groups.{turned}
+use Rattle.offset_tables.specs.declared.group.Group.{Group}
+use Rattle.offset_tables.specs.Groups.{turned}
 use Rattle.broker_world.specs.World.{World, TopicValue, rules_of}
 use Rattle.broker_world.specs.Questions.{read_question}
 use Rattle.broker_world.specs.Questions.{id_question}

@@ -19,10 +19,10 @@ use Rattle.msg_admin.specs.declared.reply.Reply.TheVariants as replies
 use Rattle.walk.specs.Rule.{PartRule}
 use Rattle.walk.specs.Walk.{plain_topics, answers, refusals, asked_in}
 use Rattle.walk.specs.Woven.{has_any}
-use Rattle.txn_coordinator.specs.declared.target.TopicPartition.{TopicPartition}
-use Rattle.txn_coordinator.specs.declared.turn.Turn.{Turn}
-use Rattle.txn_coordinator.specs.Coordinator.{CoordinatorValue, turned, turn_code}
-use Rattle.txn_coordinator.specs.Adding.{add_partitions}
+use Rattle.transactions.specs.declared.target.TopicPartition.{TopicPartition}
+use Rattle.transactions.specs.declared.turn.Turn.{Turn}
+use Rattle.transactions.specs.Coordinator.{CoordinatorValue, turned, turn_code}
+use Rattle.transactions.specs.Adding.{add_partitions}
 use Rattle.broker_world.specs.World.{World, TopicValue, LogValue, rules_of}
 use Rattle.broker_world.specs.Outcome.{Outcome}
 use Rattle.broker_world.specs.Logs.{log_at}

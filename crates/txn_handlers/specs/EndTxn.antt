@@ -11,14 +11,14 @@ use Rattle.msg_txn.specs.EndTxn.{asked}
 use Rattle.msg_admin.specs.declared.reply.Reply.TheVariants as replies
 use Rattle.record_batch.specs.declared.outcome.Outcome.{Outcome as Ending}
 use Rattle.record_batch.specs.declared.outcome.Outcome.TheVariants.{Commit, Abort}
-use Rattle.txn_coordinator.specs.declared.ending.EndForm.{EndForm}
-use Rattle.txn_coordinator.specs.declared.ending.EndForm.TheVariants.{Plain, Fencing, Raising}
-use Rattle.txn_coordinator.specs.declared.pair.Pair.{Pair}
-use Rattle.txn_coordinator.specs.declared.pair.PairAnswer.{PairAnswer}
-use Rattle.txn_coordinator.specs.declared.turn.Turn.{Turn}
-use Rattle.txn_coordinator.specs.Words.{no_pair}
-use Rattle.txn_coordinator.specs.Coordinator.{CoordinatorValue, turned, turn_answer}
-use Rattle.txn_coordinator.specs.EndTxn.{end}
+use Rattle.transactions.specs.declared.ending.EndForm.{EndForm}
+use Rattle.transactions.specs.declared.ending.EndForm.TheVariants.{Plain, Fencing, Raising}
+use Rattle.transactions.specs.declared.pair.Pair.{Pair}
+use Rattle.transactions.specs.declared.pair.PairAnswer.{PairAnswer}
+use Rattle.transactions.specs.declared.turn.Turn.{Turn}
+use Rattle.transactions.specs.Words.{no_pair}
+use Rattle.transactions.specs.Coordinator.{CoordinatorValue, turned, turn_answer}
+use Rattle.transactions.specs.EndTxn.{end}
 use Rattle.broker_world.specs.World.{World}
 use Rattle.broker_world.specs.Outcome.{Outcome}
 use Rattle.broker_world.specs.Whole.{Served, whole}

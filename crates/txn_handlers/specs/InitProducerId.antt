@@ -16,9 +16,9 @@ use Rattle.authorizer.specs.AnyTopic.{any_topic}
 use Rattle.authorizer.specs.Asking.{Rules, question_refusal}
 use Rattle.authorizer.specs.Policy.{PolicyValue, PermitValue, IsGood}
 use Rattle.txn_coordinator.specs.Permission.{MayWrite}
-use Rattle.txn_coordinator.specs.declared.pair.PairAnswer.{PairAnswer}
-use Rattle.txn_coordinator.specs.Coordinator.{CoordinatorValue, fresh, given_free, turned, turn_answer}
-use Rattle.txn_coordinator.specs.InitProducerId.{init}
+use Rattle.transactions.specs.declared.pair.PairAnswer.{PairAnswer}
+use Rattle.transactions.specs.Coordinator.{CoordinatorValue, fresh, given_free, turned, turn_answer}
+use Rattle.transactions.specs.InitProducerId.{init}
 use Rattle.broker_world.specs.World.{World, rules_of}
 use Rattle.broker_world.specs.Outcome.{Outcome}
 use Rattle.broker_world.specs.Whole.{Served, whole}

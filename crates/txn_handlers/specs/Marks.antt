@@ -3,12 +3,12 @@
 use Rattle.std.specs.Prelude.{List, [], length, Option, Some, None}
 use Rattle.record_batch.specs.Batch.{BatchData}
 use Rattle.msg_admin.specs.declared.reply.Reply.TheVariants as replies
-use Rattle.txn_coordinator.specs.declared.marker.OwedMarker.{OwedMarker}
-use Rattle.txn_coordinator.specs.declared.target.Target.{Target}
-use Rattle.txn_coordinator.specs.declared.target.Target.TheVariants.{Partition, Group}
-use Rattle.txn_coordinator.specs.Warrants.{next_warrant, written}
-use Rattle.group_offsets.specs.declared.group.Group.{Group as GroupValue}
-use Rattle.group_offsets.specs.Groups.{turned, decide}
+use Rattle.transactions.specs.declared.marker.OwedMarker.{OwedMarker}
+use Rattle.transactions.specs.declared.target.Target.{Target}
+use Rattle.transactions.specs.declared.target.Target.TheVariants.{Partition, Group}
+use Rattle.transactions.specs.Warrants.{next_warrant, written}
+use Rattle.offset_tables.specs.declared.group.Group.{Group as GroupValue}
+use Rattle.offset_tables.specs.Groups.{turned, decide}
 use Rattle.broker_world.specs.World.{World, TopicValue}
 use Rattle.broker_world.specs.Outcome.{Outcome}
 use Rattle.broker_world.specs.Markers.{marker_batch, topics_marked}

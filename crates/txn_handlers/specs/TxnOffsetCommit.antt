@@ -15,14 +15,14 @@ use Rattle.msg_txn.specs.declared.txn_offset_commit.StagedOffset.{StagedOffset}
 use Rattle.msg_admin.specs.declared.reply.Reply.TheVariants as replies
 use Rattle.walk.specs.Rule.{PartRule}
 use Rattle.walk.specs.Walk.{world_after, answers, refusals}
-use Rattle.txn_coordinator.specs.declared.pair.Pair.{Pair}
-use Rattle.txn_coordinator.specs.declared.target.Target.TheVariants.{Group as group_target}
-use Rattle.txn_coordinator.specs.Coordinator.{CoordinatorValue}
-use Rattle.txn_coordinator.specs.Holding.{holds}
-use Rattle.group_offsets.specs.declared.event.PartitionOffset.{PartitionOffset}
-use Rattle.group_offsets.specs.declared.group.Group.{Group}
-use Rattle.group_offsets.specs.Turn.{Turn, Stays, answered}
-use Rattle.group_offsets.specs.Groups.{turned, stage}
+use Rattle.transactions.specs.declared.pair.Pair.{Pair}
+use Rattle.transactions.specs.declared.target.Target.TheVariants.{Group as group_target}
+use Rattle.transactions.specs.Coordinator.{CoordinatorValue}
+use Rattle.transactions.specs.Holding.{holds}
+use Rattle.offset_tables.specs.declared.event.PartitionOffset.{PartitionOffset}
+use Rattle.offset_tables.specs.declared.group.Group.{Group}
+use Rattle.offset_tables.specs.Turn.{Turn, Stays, answered}
+use Rattle.offset_tables.specs.Groups.{turned, stage}
 use Rattle.broker_world.specs.World.{World, TopicValue, LogValue, rules_of}
 use Rattle.broker_world.specs.Outcome.{Outcome}
 use Rattle.broker_world.specs.Logs.{log_at}

@@ -4,7 +4,7 @@ ghost use Rattle.std.specs.Prelude.{◌≡◌, IfOk, OnOk};
 ghost use Rattle.authorizer.specs.Asking.{part_paid};
 ghost use Rattle.broker_world.specs.World.{rules_of};
 ghost use Rattle.txn_coordinator.specs.Permission.{MayWrite as MayWriteId};
-ghost use Rattle.txn_coordinator.specs.Coordinator.{turned, turn_code};
+ghost use Rattle.transactions.specs.Coordinator.{turned, turn_code};
 ghost use Rattle.txn_handlers.specs.AddOffsets.{add_offsets_questions, add_offsets_reply, add_offsets_turn, add_offsets_outcome};
 
 use acl_binding::Caller;
@@ -13,7 +13,8 @@ use broker_world::{Outcome, State, id_question, read_question, refused_whole, se
 use msg_admin::Reply;
 use msg_txn::{AddOffsetsToTxnReply, AddOffsetsToTxnRequest};
 use std::alloc::{AllocError, Global};
-use txn_coordinator::{Coordinator, Pair};
+use transactions::Pair;
+use txn_coordinator::Coordinator;
 use walk::refusal_code;
 use wire_types::ErrorCode;
 

@@ -6,7 +6,7 @@ ghost use Rattle.authorizer.specs.Asking.{policy_rules, question_refusal};
 ghost use Rattle.authorizer.specs.Policy.{IsGranted};
 ghost use Rattle.authorizer.specs.Tally.{counted};
 ghost use Rattle.walk.specs.Walk.{plain_topics, answers, refusals, asked_in};
-ghost use Rattle.txn_coordinator.specs.Coordinator.{turn_code};
+ghost use Rattle.transactions.specs.Coordinator.{turn_code};
 ghost use Rattle.broker_world.specs.World.{rules_of};
 ghost use Rattle.txn_handlers.specs.AddPartitions.{added_partition, cut_code, is_missing_in, is_missing, cut_rule, told_rule, told_for, added_parts, partitions_in, partitions_of, add_turn, add_reply, added_outcome, add_partitions_outcome};
 
@@ -17,7 +17,7 @@ use msg_admin::Reply;
 use msg_txn::{AddPartitionsToTxnReply, AddPartitionsToTxnRequest, AddedPartition};
 use partition_log::Log;
 use std::alloc::{AllocError, Global};
-use txn_coordinator::{Pair, TopicPartition};
+use transactions::{Pair, TopicPartition};
 use walk::{Part, PartApi, Walked, has_part, refusal_code, walk_cut, walk_granted};
 use wire_types::{ErrorCode, Items, Text, Topic};
 

@@ -4,7 +4,7 @@ ghost use Rattle.std.specs.Prelude.{◌≡◌, IfOk, OnOk};
 ghost use Rattle.authorizer.specs.Asking.{part_paid};
 ghost use Rattle.broker_world.specs.World.{rules_of};
 ghost use Rattle.txn_coordinator.specs.Permission.{MayWrite as MayWriteId};
-ghost use Rattle.txn_coordinator.specs.Coordinator.{turned, turn_answer};
+ghost use Rattle.transactions.specs.Coordinator.{turned, turn_answer};
 ghost use Rattle.txn_handlers.specs.EndTxn.{form_of, ending_id, ending, end_questions, end_reply, end_turn, end_txn_outcome};
 
 use acl_binding::Caller;
@@ -14,7 +14,8 @@ use msg_admin::Reply;
 use msg_txn::{EndTxnReply, EndTxnRequest, Ended, EndedWithPair, FlexibleEnded};
 use record_batch::Outcome as Ending;
 use std::alloc::{AllocError, Global};
-use txn_coordinator::{Coordinator, EndForm, Pair, PairAnswer};
+use transactions::{EndForm, Pair, PairAnswer};
+use txn_coordinator::Coordinator;
 use walk::refusal_code;
 
 fn ending(committed: bool) -> Ending

@@ -12,7 +12,8 @@ use broker_world::{Outcome, State, asks_cluster, refused_whole, served_whole};
 use msg_admin::Reply;
 use msg_txn::{InitProducerIdReply, InitProducerIdRequest};
 use std::alloc::{AllocError, Global};
-use txn_coordinator::{Coordinator, PairAnswer};
+use transactions::PairAnswer;
+use txn_coordinator::Coordinator;
 use walk::refusal_code;
 use wire_types::{ErrorCode, Text};
 

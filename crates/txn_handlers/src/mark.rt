@@ -11,7 +11,7 @@ use broker_world::{Moment, Outcome, State, Topics, served_whole};
 use group_offsets::Groups;
 use msg_admin::Reply;
 use std::alloc::{AllocError, Global};
-use txn_coordinator::{OwedMarker, Target};
+use transactions::{OwedMarker, Target};
 
 /// Writes a marker where it is owed: to a partition's log, or as a decision to a group.
 fn write_marker(

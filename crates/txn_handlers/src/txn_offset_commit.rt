@@ -3,8 +3,9 @@
 ghost use Rattle.std.specs.Prelude.{◌≡◌, [], IfOk, OnOk};
 ghost use Rattle.std.specs.Option.{option_copied};
 ghost use Rattle.acl_binding.specs.declared.words.Operation.TheVariants as operations;
-ghost use Rattle.group_offsets.specs.Groups.{MayUse, turned};
-ghost use Rattle.group_offsets.specs.Turn.{answered};
+ghost use Rattle.offset_tables.specs.Groups.{turned};
+ghost use Rattle.group_offsets.specs.Permission.{MayUse};
+ghost use Rattle.offset_tables.specs.Turn.{answered};
 ghost use Rattle.broker_world.specs.Codes.{code_in};
 ghost use Rattle.authorizer.specs.Asking.{policy_rules};
 ghost use Rattle.authorizer.specs.Tally.{counted};
@@ -17,12 +18,14 @@ use authorizer::{Paid, Permit, Policy, Spent, ThreePermits, ask_three};
 use broker_world::{
     Outcome, State, Topics, code_in, id_question, read_question, refused_by, served_in_parts,
 };
-use group_offsets::{Groups, PartitionOffset};
+use group_offsets::Groups;
 use msg_admin::Reply;
 use msg_txn::{OffsetToStage, StagedOffset, TxnOffsetCommitReply, TxnOffsetCommitRequest};
+use offset_tables::PartitionOffset;
 use partition_log::Log;
 use std::alloc::{AllocError, Global};
-use txn_coordinator::{Coordinator, Pair, Target};
+use transactions::{Pair, Target};
+use txn_coordinator::Coordinator;
 use walk::{Part, PartApi, Walked, refusal_code, walk};
 use wire_types::{ErrorCode, Text};
 

@@ -2,20 +2,20 @@
 use Rattle.std.proofs.Common.{◌≡◌, ℕ, zero, suc, ◌+◌, ◌<◌, ◌≤◌, List, [], ◌∷◌, ◌++◌, length, Some, None, Bool, true, false, cond, refl, sym, subst, ap, ◌∙◌, inl, inr, ◌⊎◌, append-nil, append_assoc, arith}
 use Rattle.std.specs.Prelude.{slice_get, ◌||◌}
 use Rattle.std.specs.Str.{bytes_eq}
-use Rattle.txn_coordinator.specs.declared.transaction.Transaction.{Transaction}
-use Rattle.txn_coordinator.specs.declared.transaction.Phase.TheVariants.{Ongoing}
+use Rattle.transactions.specs.declared.transaction.Transaction.{Transaction}
+use Rattle.transactions.specs.declared.transaction.Phase.TheVariants.{Ongoing}
 use Rattle.record_batch.specs.declared.outcome.Outcome.{Outcome}
 use Rattle.record_batch.specs.declared.outcome.Outcome.TheVariants.{Commit, Abort}
-use Rattle.txn_coordinator.specs.declared.marker.OwedMarker.{OwedMarker}
-use Rattle.txn_coordinator.specs.declared.turn.Turn.{Turn}
-use Rattle.txn_coordinator.specs.declared.turn.Turn.TheVariants.{Stays, Puts}
-use Rattle.txn_coordinator.specs.Words.{prepared}
-use Rattle.txn_coordinator.specs.Coordinator.{CoordinatorValue, recorded, owner, turned}
-use Rattle.txn_coordinator.specs.InitProducerId.{init}
-use Rattle.txn_coordinator.specs.Adding.{add_partitions, add_group}
-use Rattle.txn_coordinator.specs.EndTxn.{end}
-use Rattle.txn_coordinator.specs.Holding.{holds}
-use Rattle.txn_coordinator.specs.Warrants.{owes}
+use Rattle.transactions.specs.declared.marker.OwedMarker.{OwedMarker}
+use Rattle.transactions.specs.declared.turn.Turn.{Turn}
+use Rattle.transactions.specs.declared.turn.Turn.TheVariants.{Stays, Puts}
+use Rattle.transactions.specs.Words.{prepared}
+use Rattle.transactions.specs.Coordinator.{CoordinatorValue, recorded, owner, turned}
+use Rattle.transactions.specs.InitProducerId.{init}
+use Rattle.transactions.specs.Adding.{add_partitions, add_group}
+use Rattle.transactions.specs.EndTxn.{end}
+use Rattle.transactions.specs.Holding.{holds}
+use Rattle.transactions.specs.Warrants.{owes}
 use Rattle.txn_laws.specs.Small.{World, Entry, Move, is_same_target, expire_turn, is_no_error, is_free, marked, moved, moved_all, mark_count, marks}
 use Rattle.txn_laws.specs.Small.Entry.{Data, Marker, Other}
 use Rattle.txn_laws.specs.Small.Move.{Init, Give, AddPartitions, AddGroup, End, Expire, Moment, Store, Send, Plain, Mark}

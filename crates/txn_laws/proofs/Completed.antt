@@ -2,19 +2,19 @@
 use Rattle.std.proofs.Common.{◌≡◌, ℕ, ◌+◌, ◌<◌, ◌≤◌, List, [], ◌∷◌, ◌++◌, Option, Some, None, Bool, true, false, cond, refl, sym, subst, ap, ◌∙◌, inl, inr, ◌⊎◌, arith}
 use Rattle.std.specs.Prelude.{◌||◌}
 use Rattle.std.specs.Str.{bytes_eq}
-use Rattle.txn_coordinator.specs.declared.transaction.Transaction.{Transaction}
+use Rattle.transactions.specs.declared.transaction.Transaction.{Transaction}
 use Rattle.record_batch.specs.declared.outcome.Outcome.{Outcome}
-use Rattle.txn_coordinator.specs.declared.marker.OwedMarker.{OwedMarker}
-use Rattle.txn_coordinator.specs.declared.turn.Turn.{Turn}
-use Rattle.txn_coordinator.specs.declared.turn.Turn.TheVariants.{Stays, Puts}
-use Rattle.txn_coordinator.specs.Words.{prepared, complete}
-use Rattle.txn_coordinator.specs.Coordinator.{CoordinatorValue, has_id, recorded, put, owner}
-use Rattle.txn_coordinator.specs.InitProducerId.{init}
-use Rattle.txn_coordinator.specs.Adding.{add_partitions, add_group}
-use Rattle.txn_coordinator.specs.EndTxn.{end}
-use Rattle.txn_coordinator.specs.Holding.{holds}
-use Rattle.txn_coordinator.specs.Warrants.{owes, completed, with_completed}
-use Rattle.txn_coordinator.proofs.Table.{recorded_id}
+use Rattle.transactions.specs.declared.marker.OwedMarker.{OwedMarker}
+use Rattle.transactions.specs.declared.turn.Turn.{Turn}
+use Rattle.transactions.specs.declared.turn.Turn.TheVariants.{Stays, Puts}
+use Rattle.transactions.specs.Words.{prepared, complete}
+use Rattle.transactions.specs.Coordinator.{CoordinatorValue, has_id, recorded, put, owner}
+use Rattle.transactions.specs.InitProducerId.{init}
+use Rattle.transactions.specs.Adding.{add_partitions, add_group}
+use Rattle.transactions.specs.EndTxn.{end}
+use Rattle.transactions.specs.Holding.{holds}
+use Rattle.transactions.specs.Warrants.{owes, completed, with_completed}
+use Rattle.transactions.proofs.Table.{recorded_id}
 use Rattle.txn_laws.specs.Small.{World, Move, expire_turn, is_no_error, is_free, with_turn, marked, moved, mark_count, marks}
 use Rattle.txn_laws.specs.Small.Entry.{Data}
 use Rattle.txn_laws.specs.Small.Move.{Init, Give, AddPartitions, AddGroup, End, Expire, Moment, Store, Send, Plain, Mark}

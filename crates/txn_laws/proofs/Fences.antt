@@ -1,12 +1,12 @@
 -- A pair that was left writes nothing more.
 use Rattle.std.proofs.Common.{◌≡◌, ℕ, List, [], ◌∷◌, ◌++◌, Some, None, sym, ap, ◌∙◌, inl, inr, append-nil, append_assoc, arith, Bool, true, false, refl}
 use Rattle.std.proofs.lemmas.Int.{ints}
-use Rattle.txn_coordinator.specs.declared.pair.Pair.{Pair}
-use Rattle.txn_coordinator.specs.declared.target.Target.{Target}
-use Rattle.txn_coordinator.specs.declared.transaction.Transaction.{Transaction}
-use Rattle.txn_coordinator.specs.Words.{raised}
-use Rattle.txn_coordinator.specs.Coordinator.{recorded, owner}
-use Rattle.txn_coordinator.specs.Holding.{holds}
+use Rattle.transactions.specs.declared.pair.Pair.{Pair}
+use Rattle.transactions.specs.declared.target.Target.{Target}
+use Rattle.transactions.specs.declared.transaction.Transaction.{Transaction}
+use Rattle.transactions.specs.Words.{raised}
+use Rattle.transactions.specs.Coordinator.{recorded, owner}
+use Rattle.transactions.specs.Holding.{holds}
 use Rattle.txn_laws.specs.Small.{World, Entry, Move, is_no_error, is_free, moved, moved_all, mark_count}
 use Rattle.txn_laws.specs.Small.Entry.{Data, Marker, Other}
 use Rattle.txn_laws.specs.Sound.{IsSound, IsFenced}

@@ -7,22 +7,22 @@ use Rattle.std.specs.Str.{bytes_eq}
 use Rattle.std.proofs.lemmas.Int.{ints}
 use Rattle.wire_types.specs.declared.error_code.ErrorCode.{ErrorCode}
 use Rattle.wire_types.specs.declared.error_code.ErrorCode.TheVariants as codes
-use Rattle.txn_coordinator.specs.declared.pair.Pair.{Pair}
-use Rattle.txn_coordinator.specs.declared.target.Target.{Target}
-use Rattle.txn_coordinator.specs.declared.transaction.Transaction.{Transaction}
-use Rattle.txn_coordinator.specs.declared.transaction.Phase.TheVariants.{Ongoing}
+use Rattle.transactions.specs.declared.pair.Pair.{Pair}
+use Rattle.transactions.specs.declared.target.Target.{Target}
+use Rattle.transactions.specs.declared.transaction.Transaction.{Transaction}
+use Rattle.transactions.specs.declared.transaction.Phase.TheVariants.{Ongoing}
 use Rattle.record_batch.specs.declared.outcome.Outcome.{Outcome}
-use Rattle.txn_coordinator.specs.declared.marker.OwedMarker.{OwedMarker}
-use Rattle.txn_coordinator.specs.declared.turn.Turn.{Turn}
-use Rattle.txn_coordinator.specs.declared.turn.Turn.TheVariants.{Stays, Puts}
-use Rattle.txn_coordinator.specs.Words.{is_ongoing, has_target, complete, prepared}
-use Rattle.txn_coordinator.specs.Coordinator.{CoordinatorValue, recorded, put, owner, given_free, turned}
-use Rattle.txn_coordinator.specs.InitProducerId.{init}
-use Rattle.txn_coordinator.specs.Adding.{add_partitions, add_group}
-use Rattle.txn_coordinator.specs.EndTxn.{end}
-use Rattle.txn_coordinator.specs.Holding.{is_usable, holds_found, holds}
-use Rattle.txn_coordinator.specs.Warrants.{owes, completed, with_completed, written_by}
-use Rattle.txn_coordinator.proofs.Table.{recorded_id}
+use Rattle.transactions.specs.declared.marker.OwedMarker.{OwedMarker}
+use Rattle.transactions.specs.declared.turn.Turn.{Turn}
+use Rattle.transactions.specs.declared.turn.Turn.TheVariants.{Stays, Puts}
+use Rattle.transactions.specs.Words.{is_ongoing, has_target, complete, prepared}
+use Rattle.transactions.specs.Coordinator.{CoordinatorValue, recorded, put, owner, given_free, turned}
+use Rattle.transactions.specs.InitProducerId.{init}
+use Rattle.transactions.specs.Adding.{add_partitions, add_group}
+use Rattle.transactions.specs.EndTxn.{end}
+use Rattle.transactions.specs.Holding.{is_usable, holds_found, holds}
+use Rattle.transactions.specs.Warrants.{owes, completed, with_completed, written_by}
+use Rattle.transactions.proofs.Table.{recorded_id}
 use Rattle.txn_laws.specs.Small.{World, Entry, Move, first_world, is_same_target, appended, expire_turn, is_no_error, is_free, marked, moved, moved_all}
 use Rattle.txn_laws.specs.Small.Entry.{Data, Marker, Other}
 use Rattle.txn_laws.specs.Small.Move.{Init, Give, AddPartitions, AddGroup, End, Expire, Moment, Store, Send, Plain, Mark}

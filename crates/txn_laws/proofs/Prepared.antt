@@ -1,23 +1,23 @@
 -- A transaction that is prepared is owed its outcome at each of its targets, and gets it.
 use Rattle.std.proofs.Common.{◌≡◌, ℕ, ℤ, ◌<◌, ◌≤◌, List, [], ◌∷◌, ◌++◌, length, map, Option, Some, None, Bool, true, false, cond, refl, sym, subst, ap, ◌∙◌, append-nil, append_assoc, arith}
 use Rattle.wire_types.specs.declared.error_code.ErrorCode.{ErrorCode}
-use Rattle.txn_coordinator.specs.declared.pair.Pair.{Pair}
-use Rattle.txn_coordinator.specs.declared.target.Target.{Target}
-use Rattle.txn_coordinator.specs.declared.transaction.Transaction.{Transaction}
-use Rattle.txn_coordinator.specs.declared.transaction.Phase.TheVariants.{Ongoing}
+use Rattle.transactions.specs.declared.pair.Pair.{Pair}
+use Rattle.transactions.specs.declared.target.Target.{Target}
+use Rattle.transactions.specs.declared.transaction.Transaction.{Transaction}
+use Rattle.transactions.specs.declared.transaction.Phase.TheVariants.{Ongoing}
 use Rattle.record_batch.specs.declared.outcome.Outcome.{Outcome}
-use Rattle.txn_coordinator.specs.declared.marker.OwedMarker.{OwedMarker}
-use Rattle.txn_coordinator.specs.declared.turn.Turn.{Turn}
-use Rattle.txn_coordinator.specs.declared.turn.Turn.TheVariants.{Stays, Puts}
-use Rattle.txn_coordinator.specs.Words.{prepared, targets}
-use Rattle.txn_coordinator.specs.Coordinator.{CoordinatorValue, has_id, recorded, put, owner, turned}
-use Rattle.txn_coordinator.specs.Preparing.{marker_for, markers}
-use Rattle.txn_coordinator.specs.InitProducerId.{init}
-use Rattle.txn_coordinator.specs.Adding.{add_partitions, add_group}
-use Rattle.txn_coordinator.specs.EndTxn.{end}
-use Rattle.txn_coordinator.specs.Holding.{holds}
-use Rattle.txn_coordinator.specs.Warrants.{owes, completed, with_completed}
-use Rattle.txn_coordinator.proofs.Table.{recorded_id}
+use Rattle.transactions.specs.declared.marker.OwedMarker.{OwedMarker}
+use Rattle.transactions.specs.declared.turn.Turn.{Turn}
+use Rattle.transactions.specs.declared.turn.Turn.TheVariants.{Stays, Puts}
+use Rattle.transactions.specs.Words.{prepared, targets}
+use Rattle.transactions.specs.Coordinator.{CoordinatorValue, has_id, recorded, put, owner, turned}
+use Rattle.transactions.specs.Preparing.{marker_for, markers}
+use Rattle.transactions.specs.InitProducerId.{init}
+use Rattle.transactions.specs.Adding.{add_partitions, add_group}
+use Rattle.transactions.specs.EndTxn.{end}
+use Rattle.transactions.specs.Holding.{holds}
+use Rattle.transactions.specs.Warrants.{owes, completed, with_completed}
+use Rattle.transactions.proofs.Table.{recorded_id}
 use Rattle.txn_laws.specs.Small.{World, Entry, Move, expire_turn, is_no_error, is_free, with_turn, marked, moved, moved_all, marks}
 use Rattle.txn_laws.specs.Small.Entry.{Data}
 use Rattle.txn_laws.specs.Small.Move.{Init, Give, AddPartitions, AddGroup, End, Expire, Moment, Store, Send, Plain, Mark}

@@ -1,16 +1,16 @@
 -- A small history of moves whose worlds are known: the id `t` with producer 0.
 use Rattle.std.proofs.Common.{◌≡◌, ℕ, ℤ, pos, List, [], ◌∷◌, Option, Some, refl}
 use Rattle.std.specs.Option.{option_map}
-use Rattle.txn_coordinator.specs.declared.pair.Pair.{Pair}
-use Rattle.txn_coordinator.specs.declared.target.TopicPartition.{TopicPartition}
-use Rattle.txn_coordinator.specs.declared.target.Target.{Target}
-use Rattle.txn_coordinator.specs.declared.target.Target.TheVariants.{Partition, Group}
-use Rattle.txn_coordinator.specs.declared.transaction.Transaction.{Transaction}
-use Rattle.txn_coordinator.specs.declared.transaction.Phase.{Phase}
-use Rattle.txn_coordinator.specs.declared.transaction.Phase.TheVariants.{Ongoing, PrepareCommit, PrepareAbort, CompleteCommit}
+use Rattle.transactions.specs.declared.pair.Pair.{Pair}
+use Rattle.transactions.specs.declared.target.TopicPartition.{TopicPartition}
+use Rattle.transactions.specs.declared.target.Target.{Target}
+use Rattle.transactions.specs.declared.target.Target.TheVariants.{Partition, Group}
+use Rattle.transactions.specs.declared.transaction.Transaction.{Transaction}
+use Rattle.transactions.specs.declared.transaction.Phase.{Phase}
+use Rattle.transactions.specs.declared.transaction.Phase.TheVariants.{Ongoing, PrepareCommit, PrepareAbort, CompleteCommit}
 use Rattle.record_batch.specs.declared.outcome.Outcome.TheVariants.{Commit, Abort}
-use Rattle.txn_coordinator.specs.declared.ending.EndForm.TheVariants as forms
-use Rattle.txn_coordinator.specs.Coordinator.{recorded}
+use Rattle.transactions.specs.declared.ending.EndForm.TheVariants as forms
+use Rattle.transactions.specs.Coordinator.{recorded}
 use Rattle.txn_laws.specs.Small.{World, Move, first_world, moved_all}
 use Rattle.txn_laws.specs.Small.Entry.{Data, Marker, Other}
 use Rattle.txn_laws.specs.Small.Move.{Init, Give, AddPartitions, AddGroup, End, Expire, Moment, Store, Send, Plain, Mark}

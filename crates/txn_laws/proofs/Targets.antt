@@ -4,16 +4,16 @@ use Rattle.std.specs.Prelude.{◌||◌, ◌&&◌, ◌≤ℤ◌}
 use Rattle.std.specs.Ordering.{int_eq}
 use Rattle.std.specs.Str.{bytes_eq}
 use Rattle.std.proofs.lemmas.Bool.Decides.{Decides-int_eq}
-use Rattle.txn_coordinator.specs.declared.pair.Pair.{Pair}
-use Rattle.txn_coordinator.specs.declared.target.TopicPartition.{TopicPartition}
-use Rattle.txn_coordinator.specs.declared.target.Target.{Target}
-use Rattle.txn_coordinator.specs.declared.target.Target.TheVariants.{Partition, Group}
-use Rattle.txn_coordinator.specs.declared.transaction.Transaction.{Transaction}
+use Rattle.transactions.specs.declared.pair.Pair.{Pair}
+use Rattle.transactions.specs.declared.target.TopicPartition.{TopicPartition}
+use Rattle.transactions.specs.declared.target.Target.{Target}
+use Rattle.transactions.specs.declared.target.Target.TheVariants.{Partition, Group}
+use Rattle.transactions.specs.declared.transaction.Transaction.{Transaction}
 use Rattle.record_batch.specs.declared.outcome.Outcome.{Outcome}
-use Rattle.txn_coordinator.specs.Words.{is_same_partition, has_partition, has_group, prepared, targets}
-use Rattle.txn_coordinator.specs.Adding.{partition_added, partitions_added, group_added}
-use Rattle.txn_coordinator.specs.Preparing.{marker_for, markers}
-use Rattle.txn_coordinator.specs.Warrants.{owes}
+use Rattle.transactions.specs.Words.{is_same_partition, has_partition, has_group, prepared, targets}
+use Rattle.transactions.specs.Adding.{partition_added, partitions_added, group_added}
+use Rattle.transactions.specs.Preparing.{marker_for, markers}
+use Rattle.transactions.specs.Warrants.{owes}
 use Rattle.txn_laws.specs.Small.{is_same_target}
 use Rattle.txn_laws.specs.Sound.{Each, AreDistinct, AreApart, IsApart}
 use Rattle.txn_laws.proofs.Base.{each_map, same_is, is_same, given_to}

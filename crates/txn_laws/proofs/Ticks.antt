@@ -3,19 +3,19 @@ use Rattle.std.proofs.Common.{◌≡◌, ℕ, List, [], ◌∷◌, ◌++◌, map
 use Rattle.std.specs.Str.{bytes_eq}
 use Rattle.std.specs.List.{flat_map}
 use Rattle.wire_types.specs.declared.error_code.ErrorCode.TheVariants as codes
-use Rattle.txn_coordinator.specs.declared.transaction.Transaction.{Transaction}
-use Rattle.txn_coordinator.specs.declared.marker.OwedMarker.{OwedMarker}
-use Rattle.txn_coordinator.specs.declared.turn.Turn.TheVariants.{Stays}
-use Rattle.txn_coordinator.specs.Coordinator.{has_id, recorded, put, turned}
+use Rattle.transactions.specs.declared.transaction.Transaction.{Transaction}
+use Rattle.transactions.specs.declared.marker.OwedMarker.{OwedMarker}
+use Rattle.transactions.specs.declared.turn.Turn.TheVariants.{Stays}
+use Rattle.transactions.specs.Coordinator.{has_id, recorded, put, turned}
 use Rattle.record_batch.specs.declared.outcome.Outcome.TheVariants.{Abort}
-use Rattle.txn_coordinator.specs.Words.{raised, targets}
-use Rattle.txn_coordinator.specs.Preparing.{fenced, fence_markers, fencing}
-use Rattle.txn_coordinator.specs.Expiry.{is_due, expired, expiry_markers}
+use Rattle.transactions.specs.Words.{raised, targets}
+use Rattle.transactions.specs.Preparing.{fenced, fence_markers, fencing}
+use Rattle.transactions.specs.Expiry.{is_due, expired, expiry_markers}
 use Rattle.txn_laws.specs.Small.{World, expire_turn, moved, moved_all, marks}
 use Rattle.txn_laws.specs.Small.Move.{Expire, Moment}
 use Rattle.txn_laws.specs.Sound.{Each, HaveOwnIds, IsSound}
 use Rattle.txn_laws.specs.Laws.{InSound, up_to_last, IdsLaw, expiries, ticked, ExpiryLaw, TickLaw}
-use Rattle.txn_coordinator.proofs.Table.{recorded_id}
+use Rattle.transactions.proofs.Table.{recorded_id}
 use Rattle.txn_laws.proofs.Moves.{moves_sound}
 use Rattle.txn_laws.proofs.Prepared.{each_done}
 use Rattle.txn_laws.proofs.Base.{same_is, is_same}

@@ -3,17 +3,17 @@ use Rattle.std.proofs.Common.{◌≡◌, ℕ, ℤ, pos, List, [], ◌∷◌, ◌
 use Rattle.std.specs.Prelude.{◌≤ℤ◌, ◌<ℤ◌}
 use Rattle.std.proofs.lemmas.Int.{ints}
 use Rattle.wire_types.specs.declared.error_code.ErrorCode.{ErrorCode}
-use Rattle.txn_coordinator.specs.declared.pair.Pair.{Pair}
-use Rattle.txn_coordinator.specs.declared.transaction.Transaction.{Transaction}
+use Rattle.transactions.specs.declared.pair.Pair.{Pair}
+use Rattle.transactions.specs.declared.transaction.Transaction.{Transaction}
 use Rattle.record_batch.specs.declared.outcome.Outcome.{Outcome}
-use Rattle.txn_coordinator.specs.declared.marker.OwedMarker.{OwedMarker}
-use Rattle.txn_coordinator.specs.declared.turn.Turn.{Turn}
-use Rattle.txn_coordinator.specs.declared.turn.Turn.TheVariants.{Stays, Puts}
-use Rattle.txn_coordinator.specs.Words.{prepared, targets}
-use Rattle.txn_coordinator.specs.Coordinator.{CoordinatorValue, has_id, recorded, put, owner}
-use Rattle.txn_coordinator.specs.Preparing.{markers}
-use Rattle.txn_coordinator.specs.declared.transaction.Phase.TheVariants.{Ongoing}
-use Rattle.txn_coordinator.specs.Warrants.{owes}
+use Rattle.transactions.specs.declared.marker.OwedMarker.{OwedMarker}
+use Rattle.transactions.specs.declared.turn.Turn.{Turn}
+use Rattle.transactions.specs.declared.turn.Turn.TheVariants.{Stays, Puts}
+use Rattle.transactions.specs.Words.{prepared, targets}
+use Rattle.transactions.specs.Coordinator.{CoordinatorValue, has_id, recorded, put, owner}
+use Rattle.transactions.specs.Preparing.{markers}
+use Rattle.transactions.specs.declared.transaction.Phase.TheVariants.{Ongoing}
+use Rattle.transactions.specs.Warrants.{owes}
 use Rattle.txn_laws.specs.Small.{World, Entry, with_turn}
 use Rattle.txn_laws.specs.Small.Entry.{Data, Marker, Other}
 use Rattle.txn_laws.specs.Sound.{Each, AreDistinct, AreApart, IsApart, IsFenced, IsOwed, IsBacked, IsSound}

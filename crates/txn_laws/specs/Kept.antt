@@ -1,13 +1,13 @@
 -- What a broker keeps of the small world: all of a log, and of what a group holds no epochs.
 use Rattle.std.specs.Prelude.{◌≡◌, pos, if◌then◌else◌, List, [], ◌∷◌, map}
-use Rattle.txn_coordinator.specs.declared.pair.Pair.{Pair}
-use Rattle.txn_coordinator.specs.declared.target.Target.{Target}
-use Rattle.txn_coordinator.specs.declared.target.Target.TheVariants.{Partition, Group}
+use Rattle.transactions.specs.declared.pair.Pair.{Pair}
+use Rattle.transactions.specs.declared.target.Target.{Target}
+use Rattle.transactions.specs.declared.target.Target.TheVariants.{Partition, Group}
 use Rattle.record_batch.specs.declared.outcome.Outcome.{Outcome}
-use Rattle.txn_coordinator.specs.declared.marker.OwedMarker.{OwedMarker}
-use Rattle.txn_coordinator.specs.Coordinator.{owner}
-use Rattle.txn_coordinator.specs.Holding.{holds}
-use Rattle.txn_coordinator.specs.Warrants.{written_by}
+use Rattle.transactions.specs.declared.marker.OwedMarker.{OwedMarker}
+use Rattle.transactions.specs.Coordinator.{owner}
+use Rattle.transactions.specs.Holding.{holds}
+use Rattle.transactions.specs.Warrants.{written_by}
 use Rattle.txn_laws.specs.Small.{World, Entry, Move, first_world, with_entry, appended, is_no_error, is_free, moved, moved_all}
 use Rattle.txn_laws.specs.Small.Entry.{Data, Marker, Other}
 use Rattle.txn_laws.specs.Small.Move.{Store, Send, Mark}

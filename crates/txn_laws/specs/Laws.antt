@@ -1,19 +1,19 @@
 -- What holds over whole lists of moves: each transaction that is prepared is completed, and what is fenced stays out
 -- (KIP-98, 'Transaction Coordinator', 'Fencing').
 use Rattle.std.specs.Prelude.{◌≡◌, ℕ, ◌+◌, ℤ, ◌<◌, ◌≤◌, if◌then◌else◌, true, false, List, [], ◌∷◌, ◌++◌, slice_get, Some}
-use Rattle.txn_coordinator.specs.declared.pair.Pair.{Pair}
-use Rattle.txn_coordinator.specs.declared.target.Target.{Target}
-use Rattle.txn_coordinator.specs.declared.transaction.Transaction.{Transaction}
-use Rattle.txn_coordinator.specs.declared.transaction.Phase.TheVariants.{Ongoing}
+use Rattle.transactions.specs.declared.pair.Pair.{Pair}
+use Rattle.transactions.specs.declared.target.Target.{Target}
+use Rattle.transactions.specs.declared.transaction.Transaction.{Transaction}
+use Rattle.transactions.specs.declared.transaction.Phase.TheVariants.{Ongoing}
 use Rattle.record_batch.specs.declared.outcome.Outcome.{Outcome}
 use Rattle.record_batch.specs.declared.outcome.Outcome.TheVariants.{Abort}
-use Rattle.txn_coordinator.specs.declared.marker.OwedMarker.{OwedMarker}
-use Rattle.txn_coordinator.specs.Words.{prepared, complete, targets}
-use Rattle.txn_coordinator.specs.Coordinator.{recorded, owner}
-use Rattle.txn_coordinator.specs.Preparing.{markers}
-use Rattle.txn_coordinator.specs.Expiry.{is_due, expire}
-use Rattle.txn_coordinator.specs.Holding.{holds}
-use Rattle.txn_coordinator.specs.Warrants.{owes}
+use Rattle.transactions.specs.declared.marker.OwedMarker.{OwedMarker}
+use Rattle.transactions.specs.Words.{prepared, complete, targets}
+use Rattle.transactions.specs.Coordinator.{recorded, owner}
+use Rattle.transactions.specs.Preparing.{markers}
+use Rattle.transactions.specs.Expiry.{is_due, expire}
+use Rattle.transactions.specs.Holding.{holds}
+use Rattle.transactions.specs.Warrants.{owes}
 use Rattle.txn_laws.specs.Small.{World, Entry, Move, first_world, is_no_error, is_free, moved, moved_all, marks}
 use Rattle.txn_laws.specs.Small.Entry.{Data, Marker, Other}
 use Rattle.txn_laws.specs.Small.Move.{Expire, Moment}

@@ -1,5 +1,5 @@
 use Rattle.std.proofs.Common.{◌≡◌, ◌++◌, map, take, drop}
-use Rattle.group_offsets.specs.Group.{expired}
+use Rattle.offset_tables.specs.Group.{expired}
 use Rattle.group_offsets.proofs.groups.expire_all.Given as goal
 
 abbrev pub invariant-loop-group : goal.invariant-loop-group

@@ -2,9 +2,9 @@ use Rattle.std.proofs.Common.{◌≡◌, List, true, false, None, sym, ap, subst
 use Rattle.acl_binding.specs.declared.question.Question.{Question}
 use Rattle.authorizer.specs.Asking.{policy_rules, question_refusal}
 use Rattle.walk.specs.Woven.{has_part}
-use Rattle.txn_coordinator.specs.declared.target.TopicPartition.{TopicPartition}
-use Rattle.txn_coordinator.specs.Coordinator.{turn_code}
-use Rattle.txn_coordinator.specs.Adding.{add_partitions}
+use Rattle.transactions.specs.declared.target.TopicPartition.{TopicPartition}
+use Rattle.transactions.specs.Coordinator.{turn_code}
+use Rattle.transactions.specs.Adding.{add_partitions}
 use Rattle.broker_world.specs.World.{World, rules_of}
 use Rattle.broker_world.specs.Questions.{id_question}
 use Rattle.txn_handlers.proofs.Added.{no_part, nothing_added, id_granted}

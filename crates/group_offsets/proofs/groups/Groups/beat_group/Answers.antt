@@ -1,9 +1,9 @@
 use Rattle.std.proofs.Common.{◌≡◌, Some, None, ◌∙◌, rules}
-use Rattle.group_offsets.specs.declared.group.Group.{Group}
-use Rattle.group_offsets.specs.Group.{beat_group}
-use Rattle.group_offsets.specs.Groups.{place_of}
-use Rattle.group_offsets.proofs.Places.{turned_at, answered_at, refused_fresh, refusal_fresh, beat_fresh}
-use Rattle.group_offsets.proofs.Named.{are_named_set}
+use Rattle.offset_tables.specs.declared.group.Group.{Group}
+use Rattle.offset_tables.specs.Group.{beat_group}
+use Rattle.offset_tables.specs.Groups.{place_of}
+use Rattle.offset_tables.proofs.Places.{turned_at, answered_at, refused_fresh, refusal_fresh, beat_fresh}
+use Rattle.offset_tables.proofs.Named.{are_named_set}
 use Rattle.group_offsets.proofs.groups.Groups.beat_group.Goals as goal
 
 pub returns-in-Some-clause-groups : goal.returns-in-Some-clause-groups

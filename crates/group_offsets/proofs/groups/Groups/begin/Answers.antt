@@ -1,7 +1,7 @@
 use Rattle.std.proofs.Common.{◌≡◌, None, rules}
 use Rattle.std.specs.String.{string_bytes}
-use Rattle.group_offsets.specs.Groups.{place_of}
-use Rattle.group_offsets.proofs.Named.{are_named_push}
+use Rattle.offset_tables.specs.Groups.{place_of}
+use Rattle.offset_tables.proofs.Named.{are_named_push}
 use Rattle.group_offsets.proofs.groups.Groups.begin.Goals as goal
 
 pub invariant_of-self-2 : goal.invariant_of-self-2

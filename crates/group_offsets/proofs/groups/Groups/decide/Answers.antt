@@ -1,13 +1,13 @@
 use Rattle.std.proofs.Common.{◌≡◌, Some, None, ap, ◌∙◌, w64, rules}
 use Rattle.std.proofs.lemmas.Int.{to_z-of_z}
 use Rattle.std.proofs.lemmas.Result.{on_ok_weaker}
-use Rattle.group_offsets.specs.declared.group.Group.{Group}
-use Rattle.group_offsets.specs.Turn.{Puts}
-use Rattle.group_offsets.specs.declared.event.OffsetEvent.TheVariants.{Decide}
-use Rattle.group_offsets.specs.Group.{with_event}
-use Rattle.group_offsets.specs.Groups.{place_of}
-use Rattle.group_offsets.proofs.Places.{turned_at, kept_fresh}
-use Rattle.group_offsets.proofs.Named.{are_named_set}
+use Rattle.offset_tables.specs.declared.group.Group.{Group}
+use Rattle.offset_tables.specs.Turn.{Puts}
+use Rattle.offset_tables.specs.declared.event.OffsetEvent.TheVariants.{Decide}
+use Rattle.offset_tables.specs.Group.{with_event}
+use Rattle.offset_tables.specs.Groups.{place_of}
+use Rattle.offset_tables.proofs.Places.{turned_at, kept_fresh}
+use Rattle.offset_tables.proofs.Named.{are_named_set}
 use Rattle.group_offsets.proofs.groups.Groups.decide.Goals as goal
 
 pub returns-in-Some-clause-ok : goal.returns-in-Some-clause-ok

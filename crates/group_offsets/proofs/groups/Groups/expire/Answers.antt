@@ -1,8 +1,8 @@
 use Rattle.std.proofs.Common.{◌≡◌, ◌++◌, length, map, take, drop, ap, ◌∙◌, arith}
 use Rattle.std.proofs.lemmas.Grind.{common_steps}
 use Rattle.std.proofs.lemmas.List.{length-map}
-use Rattle.group_offsets.specs.Group.{expired}
-use Rattle.group_offsets.proofs.Named.{are_named_expired}
+use Rattle.offset_tables.specs.Group.{expired}
+use Rattle.offset_tables.proofs.Named.{are_named_expired}
 use Rattle.group_offsets.proofs.groups.Groups.expire.Goals as goal
 
 pub invariant_of-self : goal.invariant_of-self

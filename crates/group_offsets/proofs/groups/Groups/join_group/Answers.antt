@@ -3,12 +3,12 @@ use Rattle.std.specs.Prelude.{Result, is_ok}
 use Rattle.std.proofs.lemmas.Result.{on_ok_weaker, IfOk-weaker}
 use Rattle.wire_types.specs.declared.error_code.ErrorCode.{ErrorCode}
 use Rattle.std.proofs.Common.{◌<ℤ◌, pos}
-use Rattle.group_offsets.specs.declared.group.Group.{Group}
-use Rattle.group_offsets.specs.Joining.{join_group}
-use Rattle.group_offsets.specs.declared.member.Joined.{Joined}
-use Rattle.group_offsets.specs.Groups.{place_of, group_of}
-use Rattle.group_offsets.proofs.Places.{group_at, turned_at, answered_at, kept_fresh, answered_fresh}
-use Rattle.group_offsets.proofs.Named.{are_named_set}
+use Rattle.offset_tables.specs.declared.group.Group.{Group}
+use Rattle.offset_tables.specs.Joining.{join_group}
+use Rattle.offset_tables.specs.declared.member.Joined.{Joined}
+use Rattle.offset_tables.specs.Groups.{place_of, group_of}
+use Rattle.offset_tables.proofs.Places.{group_at, turned_at, answered_at, kept_fresh, answered_fresh}
+use Rattle.offset_tables.proofs.Named.{are_named_set}
 use Rattle.group_offsets.proofs.groups.Groups.join_group.Goals as goal
 
 pub join-requires : goal.join-requires

@@ -1,8 +1,8 @@
 use Rattle.std.proofs.Common.{◌≡◌, ◌<ℤ◌, pos, true, Some, None, sym, subst, rules}
 use Rattle.std.specs.Prelude.{◌↔◌, IsTrue}
-use Rattle.group_offsets.specs.declared.group.Group.{Group}
-use Rattle.group_offsets.specs.Groups.{place_of}
-use Rattle.group_offsets.proofs.Places.{group_at, fresh_at}
+use Rattle.offset_tables.specs.declared.group.Group.{Group}
+use Rattle.offset_tables.specs.Groups.{place_of}
+use Rattle.offset_tables.proofs.Places.{group_at, fresh_at}
 use Rattle.group_offsets.proofs.groups.Groups.may_begin.Goals as goal
 
 pub returns-in-Some : goal.returns-in-Some

@@ -5,7 +5,7 @@ use Rattle.std.specs.String.{string_bytes}
 use Rattle.std.specs.declared.string.String.{String}
 use Rattle.std.specs.declared.alloc.Global.{Global}
 use Rattle.std.proofs.lemmas.Option.{IfSome_then}
-use Rattle.group_offsets.proofs.Named.{place_named, named_length}
+use Rattle.offset_tables.proofs.Named.{place_named, named_length}
 use Rattle.group_offsets.proofs.groups.Groups.place_of.Goals as goal
 
 pub returns-clause-place : goal.returns-clause-place

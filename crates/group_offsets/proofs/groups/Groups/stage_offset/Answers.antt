@@ -3,11 +3,11 @@ use Rattle.std.specs.Prelude.{Result, is_ok}
 use Rattle.std.proofs.lemmas.Int.{to_z-of_z}
 use Rattle.std.proofs.lemmas.Result.{on_ok_weaker, on_err_weaker, IfOk-weaker}
 use Rattle.wire_types.specs.declared.error_code.ErrorCode.{ErrorCode}
-use Rattle.group_offsets.specs.declared.group.Group.{Group}
-use Rattle.group_offsets.specs.Group.{stage_group}
-use Rattle.group_offsets.specs.Groups.{place_of}
-use Rattle.group_offsets.proofs.Places.{turned_at, answered_at, kept_fresh, answered_fresh, unchanged_at}
-use Rattle.group_offsets.proofs.Named.{are_named_set}
+use Rattle.offset_tables.specs.declared.group.Group.{Group}
+use Rattle.offset_tables.specs.Group.{stage_group}
+use Rattle.offset_tables.specs.Groups.{place_of}
+use Rattle.offset_tables.proofs.Places.{turned_at, answered_at, kept_fresh, answered_fresh, unchanged_at}
+use Rattle.offset_tables.proofs.Named.{are_named_set}
 use Rattle.group_offsets.proofs.groups.Groups.stage_offset.Goals as goal
 
 pub returns-in-Some-clause-groups : goal.returns-in-Some-clause-groups

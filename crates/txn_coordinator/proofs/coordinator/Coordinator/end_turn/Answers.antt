@@ -1,7 +1,7 @@
 use Rattle.std.proofs.Common.{◌≡◌, Some, length, subst, rules}
-use Rattle.txn_coordinator.specs.Coordinator.{recorded}
-use Rattle.txn_coordinator.specs.Bounds.{IsCoordinator}
-use Rattle.txn_coordinator.proofs.Ranges.{range_found, ended_kept}
+use Rattle.transactions.specs.Coordinator.{recorded}
+use Rattle.transactions.specs.Bounds.{IsCoordinator}
+use Rattle.transactions.proofs.Ranges.{range_found, ended_kept}
 use Rattle.txn_coordinator.proofs.coordinator.Coordinator.end_turn.Goals as goal
 
 pub returns-in-Some-clause-in_range : goal.returns-in-Some-clause-in_range

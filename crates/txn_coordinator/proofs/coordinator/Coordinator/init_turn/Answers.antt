@@ -1,7 +1,7 @@
 use Rattle.std.proofs.Common.{◌≡◌, Some, length, subst, rules}
-use Rattle.txn_coordinator.specs.Coordinator.{recorded}
-use Rattle.txn_coordinator.specs.Bounds.{IsInRange, IsCoordinator}
-use Rattle.txn_coordinator.proofs.Ranges.{range_found, inited_kept}
+use Rattle.transactions.specs.Coordinator.{recorded}
+use Rattle.transactions.specs.Bounds.{IsInRange, IsCoordinator}
+use Rattle.transactions.proofs.Ranges.{range_found, inited_kept}
 use Rattle.txn_coordinator.proofs.coordinator.Coordinator.init_turn.Goals as goal
 
 pub inited-requires : goal.inited-requires

@@ -1,8 +1,8 @@
 use Rattle.std.proofs.Common.{◌≡◌, length, sym, subst, rules}
 use Rattle.std.specs.Prelude.{IfOk}
-use Rattle.txn_coordinator.specs.Adding.{open_transaction}
-use Rattle.txn_coordinator.specs.Bounds.{IsInRange, IsCoordinator}
-use Rattle.txn_coordinator.proofs.Ranges.{open_range}
+use Rattle.transactions.specs.Adding.{open_transaction}
+use Rattle.transactions.specs.Bounds.{IsInRange, IsCoordinator}
+use Rattle.transactions.proofs.Ranges.{open_range}
 use Rattle.txn_coordinator.proofs.coordinator.Coordinator.open_transaction.Goals as goal
 
 pub returns-in_ok-copied-in-None-clause-in_range : goal.returns-in_ok-copied-in-None-clause-in_range

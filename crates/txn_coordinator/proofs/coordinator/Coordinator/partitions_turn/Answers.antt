@@ -1,5 +1,5 @@
 use Rattle.std.proofs.Common.{length, rules}
-use Rattle.txn_coordinator.proofs.Ranges.{grown_put}
+use Rattle.transactions.proofs.Ranges.{grown_put}
 use Rattle.txn_coordinator.proofs.coordinator.Coordinator.partitions_turn.Goals as goal
 
 pub returns-in_ok-with_partitions-in-Ok-clause-in_range : goal.returns-in_ok-with_partitions-in-Ok-clause-in_range

@@ -1,8 +1,8 @@
 use Rattle.std.proofs.Common.{◌≡◌, ◌+◌, ◌++◌, ℕ, List, Option, length, sym, subst, ap, ◌∙◌, rules}
-use Rattle.txn_coordinator.specs.declared.transaction.Transaction.{Transaction}
-use Rattle.txn_coordinator.specs.Coordinator.{CoordinatorValue, put}
-use Rattle.txn_coordinator.specs.Bounds.{IsInRange}
-use Rattle.txn_coordinator.proofs.Ranges.{taken_parts}
+use Rattle.transactions.specs.declared.transaction.Transaction.{Transaction}
+use Rattle.transactions.specs.Coordinator.{CoordinatorValue, put}
+use Rattle.transactions.specs.Bounds.{IsInRange}
+use Rattle.transactions.proofs.Ranges.{taken_parts}
 use Rattle.txn_coordinator.proofs.coordinator.Coordinator.take.Goals as goal
 
 pub invariant_of-self-in-Puts : goal.invariant_of-self-in-Puts

@@ -1,0 +1,228 @@
+-- The rows of a table by their places, and what a call on one row makes of all.
+use Rattle.std.proofs.Common.{◌≡◌, ℕ, ℤ, zero, suc, ◌<◌, List, [], ◌∷◌, ◌++◌, length, get_or, set, Option, Some, None, Bool, true, false, cond, refl, sym, subst, ap, ◌∙◌, arith}
+use Rattle.std.specs.Prelude.{◌&&◌, ◌||◌, slice_get, nat_eq, is_some}
+use Rattle.std.specs.Ordering.{int_eq}
+use Rattle.std.specs.Option.{option_and_then, option_map_or}
+use Rattle.std.specs.List.{list_any}
+use Rattle.std.specs.Map.{lookup}
+use Rattle.std.proofs.lemmas.Bool.{true≢false}
+use Rattle.std.proofs.lemmas.Bool.Decides.{Decides-int_eq, Decides-eqb}
+use Rattle.std.proofs.lemmas.List.{length-set}
+use Rattle.std.proofs.lemmas.List.Folds.{list_any-append, list_any_at}
+use Rattle.std.proofs.lemmas.Option.{slice_get-get_or}
+use Rattle.indexmap.specs.IndexSet.{IndexSet}
+use Rattle.record_batch.specs.declared.outcome.Outcome.{Outcome}
+use Rattle.record_batch.specs.declared.outcome.Outcome.TheVariants.{Abort, Commit}
+use Rattle.offset_tables.specs.declared.partition.Partition.{Partition}
+use Rattle.offset_tables.specs.declared.row.Row.{Row}
+use Rattle.offset_tables.specs.Kept.{waits, committed_at, waiting_at, has_row, IsTableOf, IsSameRow, decided, IsDecided, AreDecided}
+
+-- ---- numbers
+
+pub same_number : (a b : ℤ) → int_eq a b ≡ true → a ≡ b
+same_number a b h = (Decides-int_eq a b).0 h
+
+pub number_same : (a : ℤ) → int_eq a a ≡ true
+number_same a = (Decides-int_eq a a).1 refl
+
+pub same_place : (a b : ℕ) → nat_eq a b ≡ true → a ≡ b
+same_place a b h = (Decides-eqb a b).0 h
+
+-- ---- one item of a list
+
+pub set_here : {A : Type 0} (xs : List A) (at : ℕ) (y : A) → at < length xs → slice_get (set xs at y) at ≡ Some y
+set_here [] at y h = absurd (omega arith)
+set_here (x ∷ xs) zero y h = refl
+set_here (x ∷ xs) (suc at) y h = set_here xs at y (omega arith)
+
+set_other : {A : Type 0} (xs : List A) (at n : ℕ) (y : A) → (n ≡ at → ⊥) → slice_get (set xs at y) n ≡ slice_get xs n
+set_other [] at n y h = refl
+set_other (x ∷ xs) zero zero y h = absurd (h refl)
+set_other (x ∷ xs) zero (suc n) y h = refl
+set_other (x ∷ xs) (suc at) zero y h = refl
+set_other (x ∷ xs) (suc at) (suc n) y h = set_other xs at n y (λ e. h (ap suc e))
+
+pub set_seen : {A : Type 0} (xs : List A) (at n : ℕ) (y : A) → at < length xs → slice_get (set xs at y) n ≡ cond (nat_eq n at) (Some y) (slice_get xs n)
+set_seen {A} xs at n y h = by_test (nat_eq n at) refl where
+  by_test : (b : Bool) → nat_eq n at ≡ b → slice_get (set xs at y) n ≡ cond b (Some y) (slice_get xs n)
+  by_test true e = ap (slice_get (set xs at y)) (same_place n at e) ∙ set_here xs at y h
+  by_test false e = set_other xs at n y (λ same. true≢false (sym ((Decides-eqb n at).1 same) ∙ e))
+
+-- what is read of an item, where one is replaced
+pub read_set : {A B : Type 0} (f : A → Option B) (xs : List A) (at n : ℕ) (y : A) → at < length xs → option_and_then f (slice_get (set xs at y) n) ≡ cond (nat_eq n at) (f y) (option_and_then f (slice_get xs n))
+read_set f xs at n y h = ap (option_and_then f) (set_seen xs at n y h) ∙ by_test (nat_eq n at) where
+  by_test : (b : Bool) → option_and_then f (cond b (Some y) (slice_get xs n)) ≡ cond b (f y) (option_and_then f (slice_get xs n))
+  by_test true = refl
+  by_test false = refl
+
+-- and where one of which nothing is read stands behind all others
+pub read_push : {A B : Type 0} (f : A → Option B) (xs : List A) (y : A) → f y ≡ None → (n : ℕ) → option_and_then f (slice_get (xs ++ y ∷ []) n) ≡ option_and_then f (slice_get xs n)
+read_push f [] y h zero = h
+read_push f [] y h (suc n) = refl
+read_push f (x ∷ xs) y h zero = refl
+read_push f (x ∷ xs) y h (suc n) = read_push f xs y h n
+
+-- the item that stood there
+pub read_here : {A : Type 0} (xs : List A) (at : ℕ) (x : A) → at < length xs → x ≡ get_or xs at x → slice_get xs at ≡ Some x
+read_here xs at x h is = slice_get-get_or xs at x h ∙ ap (λ y. Some y) (sym is)
+
+-- ---- rows that are the same but for their room
+
+pub record SameRows (old new : List Row) : Type 0 where
+  pub each : length new ≡ length old
+  pub committed : (n : ℕ) → committed_at new n ≡ committed_at old n
+  pub waiting : (p : ℤ) (n : ℕ) → waiting_at new p n ≡ waiting_at old p n
+
+-- what is read of the row at a place where it reads the same
+kept_at : {B : Type 0} (f : Row → Option B) (rows : List Row) (at : ℕ) (r new : Row) → at < length rows → r ≡ get_or rows at r → f new ≡ f r → (n : ℕ)
+    → option_and_then f (slice_get (set rows at new) n) ≡ option_and_then f (slice_get rows n)
+kept_at f rows at r new h is same n = read_set f rows at n new h ∙ by_test (nat_eq n at) refl where
+  by_test : (b : Bool) → nat_eq n at ≡ b → cond b (f new) (option_and_then f (slice_get rows n)) ≡ option_and_then f (slice_get rows n)
+  by_test true e = same ∙ sym (ap (λ (m : ℕ). option_and_then f (slice_get rows m)) (same_place n at e) ∙ ap (option_and_then f) (read_here rows at r h is))
+  by_test false e = refl
+
+pub same_set : (rows : List Row) (at : ℕ) (r new : Row) → at < length rows → r ≡ get_or rows at r → IsSameRow r new → SameRows rows (set rows at new)
+same_set rows at r new h is same = record {
+  each = length-set rows at new;
+  committed = kept_at (λ (x : Row). x.committed) rows at r new h is same.committed;
+  waiting = λ p. kept_at (λ (x : Row). waits x p) rows at r new h is (ap (lookup (int_eq p)) same.waiting);
+}
+
+-- ---- a decision
+
+pub decided_none : (outcome : Outcome) (committed : Option ℕ) → decided outcome None committed ≡ committed
+decided_none Commit committed = refl
+decided_none Abort committed = refl
+
+pub decided_nothing : (producer : ℤ) (outcome : Outcome) (rows : List Row) → AreDecided [] producer outcome rows rows
+decided_nothing producer outcome rows = record { each = refl; committed = λ n. refl; waiting = λ p n. refl }
+
+-- one row more
+pub decided_more : (places : List ℕ) (producer : ℤ) (outcome : Outcome) (old mid : List Row) (at : ℕ) (r new : Row) → at < length mid → r ≡ get_or mid at r
+    → IsDecided r new producer outcome → AreDecided places producer outcome old mid → AreDecided (places ++ at ∷ []) producer outcome old (set mid at new)
+decided_more places producer outcome old mid at r new h is made so = record { each = length-set mid at new ∙ so.each; committed = committed; waiting = waiting } where
+  there : slice_get mid at ≡ Some r
+  there = read_here mid at r h is
+
+  among : (n : ℕ) → list_any (nat_eq n) (places ++ at ∷ []) ≡ (list_any (nat_eq n) places || (nat_eq n at || false))
+  among n = list_any-append (nat_eq n) places (at ∷ [])
+
+  committed : (n : ℕ) → committed_at (set mid at new) n ≡ cond (list_any (nat_eq n) (places ++ at ∷ [])) (decided outcome (waiting_at old producer n) (committed_at old n)) (committed_at old n)
+  committed n =
+      read_set (λ (x : Row). x.committed) mid at n new h
+      ∙ by_test (nat_eq n at) (list_any (nat_eq n) places) refl (so.committed n) (so.waiting producer n)
+      ∙ ap (λ (b : Bool). cond b (decided outcome (waiting_at old producer n) (committed_at old n)) (committed_at old n)) (sym (among n)) where
+        by_place : (a : Bool) → committed_at mid n ≡ cond a (decided outcome (waiting_at old producer n) (committed_at old n)) (committed_at old n)
+            → waiting_at mid producer n ≡ cond (a && int_eq producer producer) None (waiting_at old producer n)
+            → decided outcome (waiting_at mid producer n) (committed_at mid n) ≡ decided outcome (waiting_at old producer n) (committed_at old n)
+        by_place true c w =
+            ap (λ (x : Option ℕ). decided outcome x (committed_at mid n)) (w ∙ ap (λ (o : Bool). cond o None (waiting_at old producer n)) (number_same producer))
+            ∙ decided_none outcome (committed_at mid n) ∙ c
+        by_place false c w = ap (λ (x : Option ℕ). decided outcome x (committed_at mid n)) w ∙ ap (decided outcome (waiting_at old producer n)) c
+
+        here : n ≡ at → new.committed ≡ decided outcome (waiting_at mid producer n) (committed_at mid n)
+        here e =
+            made.committed
+            ∙ ap (λ (x : Option ℕ). decided outcome x r.committed) (sym (ap (option_and_then (λ (x : Row). waits x producer)) (ap (slice_get mid) e ∙ there)))
+            ∙ ap (decided outcome (waiting_at mid producer n)) (sym (ap (option_and_then (λ (x : Row). x.committed)) (ap (slice_get mid) e ∙ there)))
+
+        or_true : (a : Bool) → (a || (true || false)) ≡ true
+        or_true true = refl
+        or_true false = refl
+
+        or_false : (a : Bool) → (a || (false || false)) ≡ a
+        or_false true = refl
+        or_false false = refl
+
+        by_test : (b a : Bool) → nat_eq n at ≡ b → committed_at mid n ≡ cond a (decided outcome (waiting_at old producer n) (committed_at old n)) (committed_at old n)
+            → waiting_at mid producer n ≡ cond (a && int_eq producer producer) None (waiting_at old producer n)
+            → cond b new.committed (committed_at mid n) ≡ cond (a || (b || false)) (decided outcome (waiting_at old producer n) (committed_at old n)) (committed_at old n)
+        by_test true a e c w = here (same_place n at e) ∙ by_place a c w ∙ ap (λ (t : Bool). cond t (decided outcome (waiting_at old producer n) (committed_at old n)) (committed_at old n)) (sym (or_true a))
+        by_test false a e c w = c ∙ ap (λ (t : Bool). cond t (decided outcome (waiting_at old producer n) (committed_at old n)) (committed_at old n)) (sym (or_false a))
+
+  waiting : (p : ℤ) (n : ℕ) → waiting_at (set mid at new) p n ≡ cond (list_any (nat_eq n) (places ++ at ∷ []) && int_eq producer p) None (waiting_at old p n)
+  waiting p n =
+      read_set (λ (x : Row). waits x p) mid at n new h
+      ∙ by_test (nat_eq n at) refl
+      ∙ ap (λ (b : Bool). cond (b && int_eq producer p) None (waiting_at old p n)) (sym (among n)) where
+        all : (a o : Bool) (w : Option ℕ) → cond o None (cond (a && o) None w) ≡ cond ((a || (true || false)) && o) None w
+        all true true w = refl
+        all true false w = refl
+        all false true w = refl
+        all false false w = refl
+
+        none : (a o : Bool) (w : Option ℕ) → cond (a && o) None w ≡ cond ((a || (false || false)) && o) None w
+        none true o w = refl
+        none false o w = refl
+
+        here : n ≡ at → waits r p ≡ waiting_at mid p n
+        here e = sym (ap (option_and_then (λ (x : Row). waits x p)) (ap (slice_get mid) e ∙ there))
+
+        by_test : (b : Bool) → nat_eq n at ≡ b → cond b (waits new p) (waiting_at mid p n) ≡ cond ((list_any (nat_eq n) places || (b || false)) && int_eq producer p) None (waiting_at old p n)
+        by_test true e = made.waiting p ∙ ap (cond (int_eq producer p) None) (here (same_place n at e) ∙ so.waiting p n) ∙ all (list_any (nat_eq n) places) (int_eq producer p) (waiting_at old p n)
+        by_test false e = so.waiting p n ∙ none (list_any (nat_eq n) places) (int_eq producer p) (waiting_at old p n)
+
+-- a producer's rows are all in which it waits, so that it is decided in every row
+pub record AllDecided (producer : ℤ) (outcome : Outcome) (old new : List Row) : Type 0 where
+  pub each : length new ≡ length old
+  pub committed : (n : ℕ) → committed_at new n ≡ decided outcome (waiting_at old producer n) (committed_at old n)
+  pub waiting : (p : ℤ) (n : ℕ) → waiting_at new p n ≡ cond (int_eq producer p) None (waiting_at old p n)
+
+pub all_decided : (places : List ℕ) (producer : ℤ) (outcome : Outcome) (old new : List Row) → AreDecided places producer outcome old new
+    → ((n : ℕ) → list_any (nat_eq n) places ≡ is_some (waiting_at old producer n)) → AllDecided producer outcome old new
+all_decided places producer outcome old new so exact = record { each = so.each; committed = committed; waiting = waiting } where
+  committed : (n : ℕ) → committed_at new n ≡ decided outcome (waiting_at old producer n) (committed_at old n)
+  committed n = so.committed n ∙ ap (λ (b : Bool). cond b (decided outcome (waiting_at old producer n) (committed_at old n)) (committed_at old n)) (exact n) ∙ by_wait (waiting_at old producer n) where
+    by_wait : (w : Option ℕ) → cond (is_some w) (decided outcome w (committed_at old n)) (committed_at old n) ≡ decided outcome w (committed_at old n)
+    by_wait (Some k) = refl
+    by_wait None = sym (decided_none outcome (committed_at old n))
+
+  waiting : (p : ℤ) (n : ℕ) → waiting_at new p n ≡ cond (int_eq producer p) None (waiting_at old p n)
+  waiting p n = so.waiting p n ∙ ap (λ (b : Bool). cond (b && int_eq producer p) None (waiting_at old p n)) (exact n) ∙ by_own (int_eq producer p) refl where
+    by_wait : (w : Option ℕ) → cond (is_some w && true) None w ≡ None
+    by_wait (Some k) = refl
+    by_wait None = refl
+
+    false_and : (b : Bool) → (b && false) ≡ false
+    false_and true = refl
+    false_and false = refl
+
+    by_own : (o : Bool) → int_eq producer p ≡ o → cond (is_some (waiting_at old producer n) && o) None (waiting_at old p n) ≡ cond o None (waiting_at old p n)
+    by_own true e = ap (λ (q : ℤ). cond (is_some (waiting_at old q n) && true) None (waiting_at old p n)) (same_number producer p e) ∙ by_wait (waiting_at old p n)
+    by_own false e = ap (λ (b : Bool). cond b None (waiting_at old p n)) (false_and (is_some (waiting_at old producer n)))
+
+-- the producer has no rows then
+pub decide_table : {S : Type 0} (keys : List Partition) (rows new : List Row) (staged less : List (ℤ × IndexSet ℕ S)) (producer : ℤ) (outcome : Outcome)
+    → ((p : ℤ) → lookup (int_eq p) less ≡ cond (int_eq producer p) None (lookup (int_eq p) staged)) → AllDecided producer outcome rows new
+    → IsTableOf keys rows staged → IsTableOf keys new less
+decide_table {S} keys rows new staged less producer outcome taken so t = record { each = so.each ∙ t.each; exact = exact } where
+  exact : (p : ℤ) (n : ℕ) → has_row less p n ≡ is_some (waiting_at new p n)
+  exact p n = ap (λ (o : Option (IndexSet ℕ S)). option_map_or (λ (s : IndexSet ℕ S). list_any (nat_eq n) s.keys) o false) (taken p) ∙ by_own (int_eq producer p) ∙ ap is_some (sym (so.waiting p n)) where
+    by_own : (o : Bool) → option_map_or (λ (s : IndexSet ℕ S). list_any (nat_eq n) s.keys) (cond o None (lookup (int_eq p) staged)) false ≡ is_some (cond o None (waiting_at rows p n))
+    by_own true = refl
+    by_own false = t.exact p n
+
+-- where nothing is found of a producer, it waits in no row
+pub nothing_waits : {S : Type 0} (keys : List Partition) (rows : List Row) (staged : List (ℤ × IndexSet ℕ S)) (producer : ℤ) → lookup (int_eq producer) staged ≡ None → IsTableOf keys rows staged
+    → (n : ℕ) → list_any (nat_eq n) [] ≡ is_some (waiting_at rows producer n)
+nothing_waits {S} keys rows staged producer none t n = sym (ap (λ (o : Option (IndexSet ℕ S)). option_map_or (λ (s : IndexSet ℕ S). list_any (nat_eq n) s.keys) o false) none) ∙ t.exact producer n
+
+pub something_waits : {S : Type 0} (keys : List Partition) (rows : List Row) (staged : List (ℤ × IndexSet ℕ S)) (producer : ℤ) (s : IndexSet ℕ S) → lookup (int_eq producer) staged ≡ Some s → IsTableOf keys rows staged
+    → (n : ℕ) → list_any (nat_eq n) s.keys ≡ is_some (waiting_at rows producer n)
+something_waits {S} keys rows staged producer s found t n = sym (ap (λ (o : Option (IndexSet ℕ S)). option_map_or (λ (x : IndexSet ℕ S). list_any (nat_eq n) x.keys) o false) found) ∙ t.exact producer n
+
+-- no row in which a producer waits is behind all others
+waiting_within : (rows : List Row) (producer : ℤ) (n : ℕ) → is_some (waiting_at rows producer n) ≡ true → n < length rows
+waiting_within [] producer n h = absurd (let clash : false ≡ true = h in cc)
+waiting_within (r ∷ rows) producer zero h = omega arith
+waiting_within (r ∷ rows) producer (suc n) h = let within = waiting_within rows producer n h in omega arith
+
+pub all_within : {S : Type 0} (keys : List Partition) (rows : List Row) (staged : List (ℤ × IndexSet ℕ S)) (producer : ℤ) (s : IndexSet ℕ S) → lookup (int_eq producer) staged ≡ Some s → IsTableOf keys rows staged
+    → (k d : ℕ) → k < length s.keys → get_or s.keys k d < length rows
+all_within keys rows staged producer s found t k d h =
+    waiting_within rows producer (get_or s.keys k d)
+    (sym (something_waits keys rows staged producer s found t (get_or s.keys k d)) ∙ list_any_at (nat_eq (get_or s.keys k d)) s.keys k d h ((Decides-eqb (get_or s.keys k d) (get_or s.keys k d)).1 refl))
+
+-- a table whose rows are spelled in another way
+pub table_spelled : {S : Type 0} (keys : List Partition) (rows spelled : List Row) (staged : List (ℤ × IndexSet ℕ S)) → spelled ≡ rows → IsTableOf keys rows staged → IsTableOf keys spelled staged
+table_spelled keys rows spelled staged same t = subst (λ (l : List Row). IsTableOf keys l staged) (sym same) t

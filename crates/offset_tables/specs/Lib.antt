@@ -1,0 +1,9 @@
+pub mod Offsets
+pub mod Turn
+pub mod Group
+pub mod Joining
+pub mod Groups
+pub mod Named
+pub mod Partitions
+pub mod Laws
+pub mod Kept

@@ -1,0 +1,279 @@
+-- Each call keeps producer ids and epochs in their ranges.
+use Rattle.std.proofs.Common.{◌≡◌, ℕ, ℤ, pos, ◌+◌, List, [], ◌∷◌, ◌++◌, length, map, Option, Some, None, Result, Ok, Err, Bool, true, false, cond, refl, sym, subst, ap, ◌∙◌, arith}
+use Rattle.std.specs.Prelude.{◌&&◌, ◌<ℤ◌, int_le, int_lt, IfOk}
+use Rattle.std.specs.Ordering.{int_eq}
+use Rattle.std.proofs.lemmas.Int.{ints}
+use Rattle.std.proofs.lemmas.List.{length-append}
+use Rattle.std.proofs.lemmas.Bool.Decides.{Decides-int_eq}
+use Rattle.wire_types.specs.declared.error_code.ErrorCode.{ErrorCode}
+use Rattle.wire_types.specs.declared.error_code.ErrorCode.TheVariants as codes
+use Rattle.transactions.specs.declared.pair.Pair.{Pair}
+use Rattle.transactions.specs.declared.target.TopicPartition.{TopicPartition}
+use Rattle.transactions.specs.declared.transaction.Transaction.{Transaction}
+use Rattle.transactions.specs.declared.transaction.Phase.{Phase}
+use Rattle.transactions.specs.declared.transaction.Phase.TheVariants.{Empty, Ongoing, PrepareCommit, PrepareAbort, CompleteCommit, CompleteAbort}
+use Rattle.record_batch.specs.declared.outcome.Outcome.{Outcome}
+use Rattle.record_batch.specs.declared.outcome.Outcome.TheVariants.{Commit, Abort}
+use Rattle.transactions.specs.declared.marker.OwedMarker.{OwedMarker}
+use Rattle.transactions.specs.declared.ending.EndForm.{EndForm}
+use Rattle.transactions.specs.declared.ending.EndForm.TheVariants as forms
+use Rattle.transactions.specs.declared.turn.Turn.{Turn}
+use Rattle.transactions.specs.declared.turn.Turn.TheVariants.{Stays, Puts}
+use Rattle.transactions.specs.Words.{last_epoch, is_empty, raised, is_exhausted, pair_after, given_after, is_ongoing, prepared, complete}
+use Rattle.transactions.specs.Coordinator.{CoordinatorValue, has_id, recorded, put, turned}
+use Rattle.transactions.specs.Preparing.{markers, fenced, pair_refusal}
+use Rattle.transactions.specs.InitProducerId.{timeout_within, begun, init_in, init_for, init}
+use Rattle.transactions.specs.Adding.{with_partitions, with_group, open_in, open_by, open_found, open_transaction, grown, add_partitions, add_group}
+use Rattle.transactions.specs.EndTxn.{other_epoch, renewed, end_ongoing, end_closed, end_in, is_again, end_again, end_by, end_found, end}
+use Rattle.transactions.specs.Expiry.{is_due, expired}
+use Rattle.transactions.specs.Warrants.{owes, with_completed, written_by, written}
+use Rattle.transactions.specs.Bounds.{IsPairInRange, AllCanRaise, IsInRange, AreInRange, IsCoordinator, IsTurnInRange}
+
+-- ---- lists of records
+
+pub range_found : (n : ℕ) (ts : List Transaction) (id : List ℕ) (t : Transaction) → AreInRange n ts → recorded ts id ≡ Some t → IsInRange n t
+range_found n [] id t s h = absurd (let clash : None ≡ Some t = h in cc)
+range_found n (x ∷ xs) id t s h = by_same (range_found n xs id t s.1) (has_id id x) h where
+  by_same : (recorded xs id ≡ Some t → IsInRange n t) → (b : Bool) → cond b (Some x) (recorded xs id) ≡ Some t → IsInRange n t
+  by_same rest true h = let e : x ≡ t = cc in subst (IsInRange n) e s.0
+  by_same rest false h = rest h
+
+pair_more : (n k : ℕ) (p : Pair) → IsPairInRange n p → IsPairInRange (n + k) p
+pair_more n k p r = record { from_zero = r.from_zero; given_out = let low = r.given_out in omega (arith, ints); epoch_from_zero = r.epoch_from_zero; epoch_to_last = r.epoch_to_last }
+
+pub range_more : (n k : ℕ) (t : Transaction) → IsInRange n t → IsInRange (n + k) t
+range_more n k t r = record { pair = pair_more n k t.pair r.pair; can_raise = r.can_raise }
+
+pub ranges_more : (n k : ℕ) (ts : List Transaction) → AreInRange n ts → AreInRange (n + k) ts
+ranges_more n k [] s = tt
+ranges_more n k (t ∷ ts) s = (range_more n k t s.0, ranges_more n k ts s.1)
+
+pub range_put : (n : ℕ) (ts : List Transaction) (r : Transaction) → AreInRange n ts → IsInRange n r → AreInRange n (put ts r)
+range_put n [] r s h = (h, tt)
+range_put n (t ∷ ts) r s h = by_same (range_put n ts r s.1 h) (has_id r.id t) where
+  by_same : AreInRange n (put ts r) → (b : Bool) → AreInRange n (cond b (r ∷ ts) (t ∷ put ts r))
+  by_same rest true = (h, s.1)
+  by_same rest false = (s.0, rest)
+
+pub all_can_raise : (n : ℕ) (ts : List Transaction) → AreInRange n ts → AllCanRaise ts
+all_can_raise n [] s = tt
+all_can_raise n (t ∷ ts) s = (s.0.can_raise, all_can_raise n ts s.1)
+
+-- a producer id more is given out
+pub given_range : (given more : List (Option (List ℕ))) (ts : List Transaction) → AreInRange (length given) ts → AreInRange (length (given ++ more)) ts
+given_range given more ts s = subst (λ (n : ℕ). AreInRange n ts) (sym (length-append given more)) (ranges_more (length given) (length more) ts s)
+
+pub taken : (c : CoordinatorValue) (turn : Turn) → IsCoordinator c → IsTurnInRange (length c.given) turn → IsCoordinator (turned c turn)
+taken c (Stays code) s h = s
+taken c (Puts code t more owed) s h =
+    subst (λ (n : ℕ). AreInRange n (put c.transactions t)) (sym (length-append c.given more))
+    (range_put (length c.given + length more) c.transactions t (ranges_more (length c.given) (length more) c.transactions s) h)
+
+-- a record is put, and more producer ids are given out
+pub taken_parts : (given more new : List (Option (List ℕ))) (ts us : List Transaction) (t : Transaction) → new ≡ given ++ more → us ≡ put ts t → AreInRange (length given) ts → IsInRange (length given + length more) t → AreInRange (length new) us
+taken_parts given more new ts us t new_is us_is s h =
+    subst (λ (all : List (Option (List ℕ))). AreInRange (length all) us) (sym new_is)
+    (subst (AreInRange (length (given ++ more))) (sym us_is)
+    (subst (λ (n : ℕ). AreInRange n (put ts t)) (sym (length-append given more))
+    (range_put (length given + length more) ts t (ranges_more (length given) (length more) ts s) h)))
+
+-- ---- pairs
+
+pair_raised : (n : ℕ) (p : Pair) → IsPairInRange n p → p.epoch <ℤ last_epoch → IsPairInRange n (raised p)
+pair_raised n p r low = let above = r.epoch_from_zero in record { from_zero = r.from_zero; given_out = r.given_out; epoch_from_zero = omega (arith, ints); epoch_to_last = omega (arith, ints) }
+
+still_low : (e : ℤ) → int_le (pos 32766) e ≡ false → e <ℤ last_epoch
+still_low e h = grind (arith, ints)
+
+pub pair_followed : (n : ℕ) (p : Pair) (id : List ℕ) → IsPairInRange n p → IsPairInRange (n + length (given_after p id)) (pair_after p (pos n))
+pair_followed n p id r = by_test (is_exhausted p) refl where
+  by_test : (b : Bool) → is_exhausted p ≡ b → IsPairInRange (n + length (cond b (Some id ∷ []) [])) (cond b (record { producer = pos n; epoch = pos 0 }) (raised p))
+  by_test true h = record { from_zero = omega (arith, ints); given_out = omega (arith, ints); epoch_from_zero = omega (arith, ints); epoch_to_last = omega (arith, ints) }
+  by_test false h = pair_more n 0 (raised p) (pair_raised n p r (still_low p.epoch h))
+
+low_is : (e : ℤ) → int_lt e last_epoch ≡ true → e <ℤ last_epoch
+low_is e h = grind (arith, ints)
+
+-- a call that comes with the id's pair comes with an epoch that can be raised
+pub pair_below : (code : ErrorCode) (t : Transaction) (p : Pair) → pair_refusal code t p ≡ None → t.pair.epoch <ℤ last_epoch
+pair_below code t p h = by_producer (int_eq t.pair.producer p.producer) h where
+  by_both : (a b : Bool) → int_eq t.pair.epoch p.epoch ≡ a → int_lt p.epoch last_epoch ≡ b → cond (a && b) None (Some code) ≡ None → t.pair.epoch <ℤ last_epoch
+  by_both true true ha hb k = subst (λ (e : ℤ). e <ℤ last_epoch) (sym ((Decides-int_eq t.pair.epoch p.epoch).0 ha)) (low_is p.epoch hb)
+  by_both true false ha hb k = absurd (let clash : Some code ≡ None = k in cc)
+  by_both false b ha hb k = absurd (let clash : Some code ≡ None = k in cc)
+
+  by_producer : (b : Bool) → cond b (cond (int_eq t.pair.epoch p.epoch && int_lt p.epoch last_epoch) None (Some code)) (Some codes.InvalidProducerIdMapping) ≡ None → t.pair.epoch <ℤ last_epoch
+  by_producer true k = by_both (int_eq t.pair.epoch p.epoch) (int_lt p.epoch last_epoch) refl refl k
+  by_producer false k = absurd (let clash : Some codes.InvalidProducerIdMapping ≡ None = k in cc)
+
+or_stays : (n : ℕ) (b : Bool) (code : ErrorCode) (turn : Turn) → IsTurnInRange n turn → IsTurnInRange n (cond b (Stays code) turn)
+or_stays n true code turn h = tt
+or_stays n false code turn h = h
+
+-- ---- InitProducerId
+
+begun_range : (n : ℕ) (t : Transaction) (timeout : ℕ) → IsInRange n t → IsTurnInRange n (begun t (pos n) timeout)
+begun_range n t timeout s = record { pair = pair_followed n t.pair t.id s.pair; can_raise = λ e. absurd (let clash : Empty ≡ Ongoing = e in cc) }
+
+pub fenced_range : (n : ℕ) (t : Transaction) → IsInRange n t → t.phase ≡ Ongoing → IsInRange n (fenced t)
+fenced_range n t s e = record { pair = pair_raised n t.pair s.pair (s.can_raise e); can_raise = λ h. absurd (let clash : PrepareAbort ≡ Ongoing = h in cc) }
+
+pub init_in_range : (phase : Phase) (n : ℕ) (t : Transaction) (timeout : ℕ) → IsInRange n t → t.phase ≡ phase → IsTurnInRange n (init_in phase t (pos n) timeout)
+init_in_range Empty n t timeout s e = begun_range n t timeout s
+init_in_range CompleteCommit n t timeout s e = begun_range n t timeout s
+init_in_range CompleteAbort n t timeout s e = begun_range n t timeout s
+init_in_range Ongoing n t timeout s e = range_more n 0 (fenced t) (fenced_range n t s e)
+init_in_range PrepareCommit n t timeout s e = tt
+init_in_range PrepareAbort n t timeout s e = tt
+
+-- the same for a result, with the next producer id in another spelling
+pub inited_kept : {E : Type 0} (n : ℕ) (t : Transaction) (timeout : ℕ) {k : ℤ} (r : Result Turn E) → IfOk r (λ turn. turn ≡ init_in t.phase t k timeout) → k ≡ pos n → IsInRange n t → IfOk r (IsTurnInRange n)
+inited_kept n t timeout (Ok turn) e same s = subst (IsTurnInRange n) (sym (e ∙ ap (λ (next : ℤ). init_in t.phase t next timeout) same)) (init_in_range t.phase n t timeout s refl)
+inited_kept n t timeout (Err error) e same s = tt
+
+init_for_range : (o : Option ℕ) (f : Option Transaction) (n : ℕ) (ts : List Transaction) (id : List ℕ) → AreInRange n ts → recorded ts id ≡ f → IsTurnInRange n (init_for o f id (pos n))
+init_for_range None f n ts id s e = tt
+init_for_range (Some timeout) None n ts id s e = record {
+  pair = record { from_zero = omega (arith, ints); given_out = omega (arith, ints); epoch_from_zero = omega (arith, ints); epoch_to_last = omega (arith, ints) };
+  can_raise = λ h. absurd (let clash : Empty ≡ Ongoing = h in cc);
+}
+init_for_range (Some timeout) (Some t) n ts id s e = init_in_range t.phase n t timeout (range_found n ts id t s e) refl
+
+pub init_range : (c : CoordinatorValue) (id : List ℕ) (timeout greatest : ℤ) → IsCoordinator c → IsTurnInRange (length c.given) (init c id timeout greatest)
+init_range c id timeout greatest s = or_stays (length c.given) (is_empty id) codes.InvalidRequest _ (init_for_range (timeout_within timeout greatest) (recorded c.transactions id) (length c.given) c.transactions id s refl)
+
+-- ---- adding
+
+open_in_range : (phase : Phase) (n : ℕ) (t : Transaction) (moment : ℕ) → IsInRange n t → t.pair.epoch <ℤ last_epoch → IfOk (open_in phase t moment) (IsInRange n)
+open_in_range Ongoing n t moment s low = record { pair = s.pair; can_raise = λ _. low }
+open_in_range Empty n t moment s low = record { pair = s.pair; can_raise = λ _. low }
+open_in_range CompleteCommit n t moment s low = record { pair = s.pair; can_raise = λ _. low }
+open_in_range CompleteAbort n t moment s low = record { pair = s.pair; can_raise = λ _. low }
+open_in_range PrepareCommit n t moment s low = tt
+open_in_range PrepareAbort n t moment s low = tt
+
+open_found_range : (f : Option Transaction) (n : ℕ) (ts : List Transaction) (id : List ℕ) (p : Pair) (moment : ℕ) → AreInRange n ts → recorded ts id ≡ f → IfOk (open_found f p moment) (IsInRange n)
+open_found_range None n ts id p moment s e = tt
+open_found_range (Some t) n ts id p moment s e = by_code (pair_refusal codes.InvalidProducerEpoch t p) refl where
+  by_code : (o : Option ErrorCode) → pair_refusal codes.InvalidProducerEpoch t p ≡ o → IfOk (open_by o t moment) (IsInRange n)
+  by_code None h = open_in_range t.phase n t moment (range_found n ts id t s e) (pair_below codes.InvalidProducerEpoch t p h)
+  by_code (Some code) h = tt
+
+pub open_range : (c : CoordinatorValue) (id : List ℕ) (p : Pair) (moment : ℕ) → IsCoordinator c → IfOk (open_transaction c id p moment) (IsInRange (length c.given))
+open_range c id p moment s = by_empty (is_empty id) where
+  by_empty : (b : Bool) → IfOk (cond b (Err codes.InvalidRequest) (open_found (recorded c.transactions id) p moment)) (IsInRange (length c.given))
+  by_empty true = tt
+  by_empty false = open_found_range (recorded c.transactions id) (length c.given) c.transactions id p moment s refl
+
+grown_range : (n : ℕ) (grow : Transaction → Transaction) → ((t : Transaction) → IsInRange n t → IsInRange n (grow t)) → (o : Result Transaction ErrorCode) → IfOk o (IsInRange n) → IsTurnInRange n (grown grow o)
+grown_range n grow keeps (Ok t) h = range_more n 0 (grow t) (keeps t h)
+grown_range n grow keeps (Err code) h = tt
+
+pub partitions_range : (c : CoordinatorValue) (id : List ℕ) (p : Pair) (moment : ℕ) (ps : List TopicPartition) → IsCoordinator c → IsTurnInRange (length c.given) (add_partitions c id p moment ps)
+partitions_range c id p moment [] s = tt
+partitions_range c id p moment (q ∷ ps) s = grown_range (length c.given) (with_partitions (q ∷ ps)) (λ t h. record { pair = h.pair; can_raise = h.can_raise }) _ (open_range c id p moment s)
+
+pub group_range : (c : CoordinatorValue) (id : List ℕ) (p : Pair) (moment : ℕ) (g : List ℕ) → IsCoordinator c → IsTurnInRange (length c.given) (add_group c id p moment g)
+group_range c id p moment g s = grown_range (length c.given) (with_group g) (λ t h. record { pair = h.pair; can_raise = h.can_raise }) _ (open_range c id p moment s)
+
+-- a record that only grows
+pub grown_put : (n : ℕ) (t u : Transaction) (turn : Turn) → IsInRange n t → u.pair ≡ t.pair → u.phase ≡ t.phase → turn ≡ Puts codes.None u [] [] → IsTurnInRange n turn
+grown_put n t u turn s pair_is phase_is is = subst (IsTurnInRange n) (sym is) (range_more n 0 u (record {
+  pair = subst (IsPairInRange n) (sym pair_is) s.pair;
+  can_raise = λ e. subst (λ (p : Pair). p.epoch <ℤ last_epoch) (sym pair_is) (s.can_raise (sym phase_is ∙ e));
+}))
+
+-- ---- ending
+
+not_open : (o : Outcome) → prepared o ≡ Ongoing → ⊥
+not_open Commit h = cc
+not_open Abort h = cc
+
+renewed_range : (n : ℕ) (t : Transaction) (phase : Phase) (owed : List OwedMarker) → IsInRange n t → (phase ≡ Ongoing → ⊥) → IsTurnInRange n (renewed t (pos n) phase owed)
+renewed_range n t phase owed s closed = record { pair = pair_followed n t.pair t.id s.pair; can_raise = λ e. absurd (closed e) }
+
+plain_range : (n : ℕ) (t : Transaction) (o : Outcome) → IsInRange n t → IsInRange n (record t { phase = prepared o })
+plain_range n t o s = record { pair = s.pair; can_raise = λ e. absurd (not_open o e) }
+
+ongoing_range : (form : EndForm) (n : ℕ) (t : Transaction) (o : Outcome) → IsInRange n t → IsTurnInRange n (end_ongoing form t (pos n) o)
+ongoing_range forms.Plain n t o s = range_more n 0 (record t { phase = prepared o }) (plain_range n t o s)
+ongoing_range forms.Fencing n t o s = range_more n 0 (record t { phase = prepared o }) (plain_range n t o s)
+ongoing_range forms.Raising n t o s = renewed_range n t (prepared o) (markers t (raised t.pair) o) s (not_open o)
+
+closed_range : (form : EndForm) (n : ℕ) (t : Transaction) (o : Outcome) (code : ErrorCode) → IsInRange n t → IsTurnInRange n (end_closed form t (pos n) o code)
+closed_range forms.Plain n t o code s = tt
+closed_range forms.Fencing n t o code s = tt
+closed_range forms.Raising n t Commit code s = tt
+closed_range forms.Raising n t Abort code s = renewed_range n t CompleteAbort [] s (λ h. let clash : CompleteAbort ≡ Ongoing = h in cc)
+
+pub end_in_range : (phase : Phase) (form : EndForm) (n : ℕ) (t : Transaction) (o : Outcome) → IsInRange n t → IsTurnInRange n (end_in phase form t (pos n) o)
+end_in_range Ongoing form n t o s = ongoing_range form n t o s
+end_in_range PrepareCommit form n t Commit s = tt
+end_in_range PrepareCommit form n t Abort s = tt
+end_in_range PrepareAbort form n t Commit s = tt
+end_in_range PrepareAbort form n t Abort s = tt
+end_in_range Empty form n t o s = closed_range form n t o codes.InvalidTxnState s
+end_in_range CompleteCommit form n t Commit s = closed_range form n t Commit codes.None s
+end_in_range CompleteCommit form n t Abort s = closed_range form n t Abort codes.InvalidTxnState s
+end_in_range CompleteAbort form n t Commit s = closed_range form n t Commit codes.InvalidTxnState s
+end_in_range CompleteAbort form n t Abort s = closed_range form n t Abort codes.None s
+
+ended_range : (form : EndForm) (n : ℕ) (t : Transaction) (p : Pair) (o : Outcome) → IsInRange n t → IsTurnInRange n (end_found (Some t) form (pos n) p o)
+ended_range form n t p o s = or_stays n (is_again form t p) (end_again t.phase o) _ (by_code (pair_refusal (other_epoch form) t p)) where
+  by_code : (refusal : Option ErrorCode) → IsTurnInRange n (end_by refusal form t (pos n) o)
+  by_code None = end_in_range t.phase form n t o s
+  by_code (Some code) = tt
+
+end_found_range : (f : Option Transaction) (form : EndForm) (n : ℕ) (ts : List Transaction) (id : List ℕ) (p : Pair) (o : Outcome) → AreInRange n ts → recorded ts id ≡ f → IsTurnInRange n (end_found f form (pos n) p o)
+end_found_range None form n ts id p o s e = tt
+end_found_range (Some t) form n ts id p o s e = ended_range form n t p o (range_found n ts id t s e)
+
+-- the same for a result, with the next producer id in another spelling
+pub ended_kept : {E : Type 0} (n : ℕ) (t : Transaction) (form : EndForm) (p : Pair) (o : Outcome) {k : ℤ} (r : Result Turn E) → IfOk r (λ turn. turn ≡ end_found (Some t) form k p o) → k ≡ pos n → IsInRange n t → IfOk r (IsTurnInRange n)
+ended_kept n t form p o (Ok turn) e same s = subst (IsTurnInRange n) (sym (e ∙ ap (λ (next : ℤ). end_found (Some t) form next p o) same)) (ended_range form n t p o s)
+ended_kept n t form p o (Err error) e same s = tt
+
+pub end_range : (c : CoordinatorValue) (form : EndForm) (id : List ℕ) (p : Pair) (o : Outcome) → IsCoordinator c → IsTurnInRange (length c.given) (end c form id p o)
+end_range c form id p o s = or_stays (length c.given) (is_empty id) codes.InvalidRequest _ (end_found_range (recorded c.transactions id) form (length c.given) c.transactions id p o s refl)
+
+-- ---- markers
+
+not_open_then : (o : Outcome) → complete o ≡ Ongoing → ⊥
+not_open_then Commit h = cc
+not_open_then Abort h = cc
+
+completed_by : (f : Option Transaction) (n : ℕ) (ts : List Transaction) (id : List ℕ) (o : Outcome) → AreInRange n ts → recorded ts id ≡ f → AreInRange n (with_completed o f ts)
+completed_by None n ts id o s e = s
+completed_by (Some t) n ts id o s e = range_put n ts _ s (record { pair = (range_found n ts id t s e).pair; can_raise = λ h. absurd (not_open_then o h) })
+
+pub completed_range : (n : ℕ) (ts : List Transaction) (id : List ℕ) (o : Outcome) → AreInRange n ts → AreInRange n (with_completed o (recorded ts id) ts)
+completed_range n ts id o s = completed_by (recorded ts id) n ts id o s refl
+
+pub written_range : (c : CoordinatorValue) → IsCoordinator c → IsCoordinator (written c)
+written_range c s = by_front c.warrants where
+  by_front : (owed : List OwedMarker) → IsCoordinator (written_by c owed)
+  by_front [] = s
+  by_front (m ∷ rest) = by_owes (owes rest m.id) where
+    by_owes : (b : Bool) → AreInRange (length c.given) (cond b c.transactions (with_completed m.outcome (recorded c.transactions m.id) c.transactions))
+    by_owes true = s
+    by_owes false = completed_range (length c.given) c.transactions m.id m.outcome s
+
+-- ---- expiry
+
+ongoing_is : (phase : Phase) (late : Bool) → (is_ongoing phase && late) ≡ true → phase ≡ Ongoing
+ongoing_is Ongoing late h = refl
+ongoing_is Empty late h = cc
+ongoing_is PrepareCommit late h = cc
+ongoing_is PrepareAbort late h = cc
+ongoing_is CompleteCommit late h = cc
+ongoing_is CompleteAbort late h = cc
+
+expired_one_range : (n moment : ℕ) (t : Transaction) → IsInRange n t → IsInRange n (expired moment t)
+expired_one_range n moment t s = by_due (is_due moment t) refl where
+  by_due : (b : Bool) → is_due moment t ≡ b → IsInRange n (cond b (fenced t) t)
+  by_due true h = fenced_range n t s (ongoing_is t.phase _ h)
+  by_due false h = s
+
+pub expired_range : (n moment : ℕ) (ts : List Transaction) → AreInRange n ts → AreInRange n (map (expired moment) ts)
+expired_range n moment [] s = tt
+expired_range n moment (t ∷ ts) s = (expired_one_range n moment t s.0, expired_range n moment ts s.1)

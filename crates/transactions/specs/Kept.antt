@@ -1,0 +1,36 @@
+-- What the coordinator keeps beside its plain lists.
+use Rattle.std.specs.Prelude.{◌≡◌, ℕ, Bool, List, map, is_some, unwrap_or}
+use Rattle.std.specs.List.{count_by}
+use Rattle.std.specs.HashMap.{HashMap, get_by_text}
+use Rattle.std.specs.Str.{bytes_eq}
+use Rattle.std.specs.declared.string.String.{String}
+use Rattle.std.specs.declared.alloc.Global.{Global}
+use Rattle.transactions.specs.declared.transaction.Transaction.{Transaction}
+use Rattle.transactions.specs.declared.marker.OwedMarker.{OwedMarker}
+
+-- ---- the place of each transactional id
+
+-- the ids, in the order of their records
+abbrev pub ids : List Transaction → List (List ℕ)
+ids ts = map (λ (t : Transaction). t.id) ts
+
+-- the records, and how many more there is room for
+pub record RecordsValue : Type 0 where
+  pub list : List Transaction
+  pub room : ℕ
+
+-- ---- how many markers each id owes
+
+abbrev pub owed_of : List OwedMarker → List ℕ → ℕ
+owed_of owed id = count_by (λ (m : OwedMarker). bytes_eq m.id id) owed
+
+-- whether a table has the id, and what it counts of it: nothing where it hasn't
+abbrev pub has_count : {S : Type 0} → HashMap (String Global) ℕ S → List ℕ → Bool
+has_count counts id = is_some (get_by_text counts id)
+
+abbrev pub count_of : {S : Type 0} → HashMap (String Global) ℕ S → List ℕ → ℕ
+count_of counts id = unwrap_or (get_by_text counts id) 0
+
+-- a table counts the markers of each id
+abbrev pub AreCounts : {S : Type 0} → HashMap (String Global) ℕ S → List OwedMarker → Type 0
+AreCounts counts owed = (id : List ℕ) → count_of counts id ≡ owed_of owed id

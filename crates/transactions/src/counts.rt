@@ -1,0 +1,78 @@
+//! How many markers each transactional id owes.
+
+ghost use Rattle.std.specs.Prelude.{◌≡◌, ◌+◌, ◌^◌, ◌<◌, ℕ, List, true, nat_lt, if◌then◌else◌, OnOk};
+ghost use Rattle.std.specs.Str.{bytes_eq};
+ghost use Rattle.transactions.specs.Warrants.{owes};
+ghost use Rattle.transactions.specs.Kept.{count_of, has_count, owed_of};
+
+use crate::marker::OwedMarker;
+use indexmap::IndexMap;
+use std::alloc::AllocError;
+use wire_types::{Shared, Text};
+
+/// Whether the id owes any.
+pub(crate) fn owes_any(counts: &IndexMap<String, usize>, id: &Text) -> bool
+    ensures { result ≡ nat_lt 0 (count_of counts.now id.now) }
+{
+    match counts.get(id.as_str()) {
+        Some(count) => *count > 0,
+        None => false,
+    }
+}
+
+/// Enters the ids of these markers that aren't there yet, none of which owes any. Raising them takes no memory then.
+pub(crate) fn enter_all(
+    counts: &mut IndexMap<String, usize>,
+    owed: &[Shared<OwedMarker>],
+) -> Result<(), AllocError>
+    ensures same { (id : List ℕ) → count_of counts.new id ≡ count_of counts.old id }
+    ensures entered { OnOk result ((id : List ℕ) → owes owed.now id ≡ true → has_count counts.new id ≡ true) }
+{
+    for marker in owed {
+        enter(counts, &marker.value().id)?;
+    }
+    Ok(())
+}
+
+fn enter(counts: &mut IndexMap<String, usize>, id: &Text) -> Result<(), AllocError>
+    ensures same { (other : List ℕ) → count_of counts.new other ≡ count_of counts.old other }
+    ensures kept { (other : List ℕ) → has_count counts.old other ≡ true → has_count counts.new other ≡ true }
+    ensures entered { OnOk result (has_count counts.new id.now ≡ true) }
+{
+    if !counts.contains_key(id.as_str()) {
+        counts.insert(String::from(id.clone()?), 0)?;
+    }
+    Ok(())
+}
+
+/// One more for each of these markers, whose ids were entered. It takes no memory.
+pub(crate) fn raise_all(counts: &mut IndexMap<String, usize>, owed: &[Shared<OwedMarker>])
+    requires entered { (id : List ℕ) → owes owed.now id ≡ true → has_count counts.old id ≡ true }
+    requires fits { (id : List ℕ) → count_of counts.old id + owed_of owed.now id < 2 ^ 64 }
+    ensures { (id : List ℕ) → count_of counts.new id ≡ count_of counts.old id + owed_of owed.now id }
+{
+    for marker in owed {
+        raise(counts, &marker.value().id);
+    }
+}
+
+fn raise(counts: &mut IndexMap<String, usize>, id: &Text)
+    requires entered { has_count counts.old id.now ≡ true }
+    requires fits { count_of counts.old id.now + 1 < 2 ^ 64 }
+    ensures raised { (other : List ℕ) → count_of counts.new other ≡ count_of counts.old other + (if bytes_eq id.now other then 1 else 0) }
+    ensures kept { (other : List ℕ) → has_count counts.old other ≡ true → has_count counts.new other ≡ true }
+{
+    if let Some(count) = counts.get_mut(id.as_str()) {
+        *count += 1;
+    }
+}
+
+/// One less for the id, which owes one. It takes no memory.
+pub(crate) fn lower(counts: &mut IndexMap<String, usize>, id: &Text)
+    requires { 0 < count_of counts.old id.now }
+    ensures { (other : List ℕ) → count_of counts.old other ≡ count_of counts.new other + (if bytes_eq id.now other then 1 else 0) }
+{
+    if let Some(count) = counts.get_mut(id.as_str()) {
+        *count -= 1;
+    }
+}

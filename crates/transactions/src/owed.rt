@@ -1,0 +1,88 @@
+//! The markers that are owed.
+
+ghost use Rattle.std.specs.Prelude.{◌≡◌, ◌<◌, [], ◌∷◌, ◌++◌, OnOk, OnErr, length, slice_get};
+ghost use Rattle.std.specs.Option.{option_copied};
+ghost use Rattle.transactions.specs.Warrants.{owes};
+
+use crate::counts::{enter_all, lower, owes_any, raise_all};
+use crate::marker::OwedMarker;
+use indexmap::IndexMap;
+use std::alloc::{AllocError, Global};
+use std::collections::VecDeque;
+use std::marker::Model;
+use wire_types::{Items, Shared, Text};
+
+/// The markers that are owed, the front one first, and how many each transactional id owes; seen as the list of markers.
+#[derive(Drop)]
+pub struct Owed {
+    queue: VecDeque<Shared<OwedMarker>>,
+    counts: IndexMap<String, usize>,
+}
+
+impl Model for Owed {
+    ghost use Rattle.std.specs.Prelude.{List};
+    ghost use Rattle.transactions.specs.declared.marker.OwedMarker.{OwedMarker as Marker};
+    ghost use Rattle.transactions.specs.Kept.{AreCounts};
+
+    ghost Value = { List Marker };
+
+    ghost view = { λ o. o.queue.items };
+
+    ghost invariant = { λ o. AreCounts o.counts o.queue.items };
+}
+
+impl Owed {
+    /// Nothing is owed. It takes no memory.
+    pub fn new(alloc: Global) -> Owed
+        ensures { result ≡ [] }
+    {
+        Owed {
+            queue: VecDeque::new(alloc),
+            counts: IndexMap::new(alloc),
+        }
+    }
+
+    /// How many they are.
+    pub fn len(&self) -> usize
+        ensures { result ≡ length self.now }
+    {
+        self.queue.len()
+    }
+
+    /// The front marker.
+    pub fn front(&self) -> Option<&Shared<OwedMarker>>
+        ensures { option_copied result ≡ slice_get self.now 0 }
+    {
+        self.queue.front()
+    }
+
+    /// Whether the id owes a marker. It takes no memory.
+    pub fn owes(&self, id: &Text) -> bool
+        ensures { result ≡ owes self.now id.now }
+    {
+        owes_any(&self.counts, id)
+    }
+
+    /// These are owed too, behind the others. All that needs memory comes first.
+    pub fn append(&mut self, more: Items<Shared<OwedMarker>>) -> Result<(), AllocError>
+        ensures ok { OnOk result (self.new ≡ self.old ++ more) }
+        ensures err { OnErr result (self.new ≡ self.old) }
+    {
+        self.queue.reserve(more.len())?;
+        enter_all(&mut self.counts, more.as_slice())?;
+        raise_all(&mut self.counts, more.as_slice());
+        let mut more = VecDeque::from_vec(Vec::from(more));
+        self.queue.append(&mut more).unwrap();
+        Ok(())
+    }
+
+    /// Takes the front marker off. It takes no memory.
+    pub fn pop(&mut self) -> Shared<OwedMarker>
+        requires { 0 < length self.old }
+        ensures { self.old ≡ result ∷ self.new }
+    {
+        let front = self.queue.pop_front().unwrap();
+        lower(&mut self.counts, &front.value().id);
+        front
+    }
+}
