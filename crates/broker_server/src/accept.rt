@@ -1,7 +1,7 @@
 //! Connections become jobs.
 
-use crate::control::Closing;
 use crate::server::ServeOptions;
+use broker_keeping::Closing;
 use crossbeam_channel::Sender;
 use session_pool::{Limits, Users};
 use session_workers::Job;

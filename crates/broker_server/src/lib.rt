@@ -2,13 +2,7 @@
 #![tactic(auto)]
 
 mod accept;
-mod control;
-mod keeping;
 mod lines;
-mod sentences;
 mod server;
-mod ticks;
-mod watch;
 
-pub use control::Steering;
 pub use server::{ServeOptions, serve};

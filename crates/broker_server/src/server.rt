@@ -6,15 +6,12 @@ ghost use Rattle.broker_server.specs.Serves.{IsLast, Serves};
 ghost use Rattle.request_handlers.specs.Seats.{most_seats};
 
 use crate::accept::accept_all;
-use crate::control::{Closing, Control, Steering};
-use crate::keeping::Keeping;
 use crate::lines::{Failure, failure_line, listening_line, settled_line};
-use crate::sentences::Sentences;
-use crate::ticks::Ticks;
-use crate::watch::Watch;
+use broker_keeping::{Closing, Control, Keeping, Sentences, Steering, Ticks, Watch};
+use keeper_steps::{Clocked, Steps};
 use request_handlers::{Core, MOST_SEATS, Receipt, Seat};
 use session_pool::{Gate, LockedDesk, SessionEnd, Users, Witness};
-use session_workers::{Clocked, PoolFault, Steps, serve_all};
+use session_workers::{PoolFault, serve_all};
 use settlement::{SettleFault, Settled, settle};
 use std::alloc::{AllocError, Global};
 use std::io::{BufRead, Write};

@@ -5,7 +5,8 @@ mod showing;
 
 use crate::showing::show_by;
 use arguments::{Job, Serving, arguments};
-use broker_server::{ServeOptions, Steering, serve};
+use broker_keeping::Steering;
+use broker_server::{ServeOptions, serve};
 use commands::{Opened, check_and_explain, open_and_explain, replay_and_explain};
 use session_pool::Users;
 use std::alloc::{AllocError, Global};

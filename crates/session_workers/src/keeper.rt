@@ -3,8 +3,8 @@
 ghost use Rattle.std.specs.Prelude.{◌≡◌, ◌+◌, [], vec_len, All};
 ghost use Rattle.session_workers.specs.Ends.{IsKept, IsOfKeeper, markers_left, step_event};
 
-use crate::steps::{Step, Steps};
 use audit_trail::Event;
+use keeper_steps::{Step, Steps};
 use msg_admin::Reply;
 use request_handlers::{Receipt, Seat};
 use session_pool::{LockedDesk, SessionEnd, Why, Witness};

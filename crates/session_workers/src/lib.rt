@@ -1,15 +1,13 @@
 //! Worker threads that serve sessions, and the keeper that tells the core the time and has it write the markers it owes.
 //!
 //! `serve_all` starts the workers, each of which takes one job after the other from a channel and serves it at a locked desk,
-//! and keeps on the calling thread until all of them have ended. What the keeper does next it is told by its `Steps`: by a
-//! clock (`Clocked`), or by whoever steers the broker.
+//! and keeps on the calling thread until all of them have ended. What the keeper does next it is told by its
+//! `keeper_steps::Steps`.
 #![tactic(auto)]
 
 mod job;
 mod keeper;
-mod steps;
 mod workers;
 
 pub use job::Job;
-pub use steps::{Clock, Clocked, Step, Steps};
 pub use workers::{PoolFault, serve_all};

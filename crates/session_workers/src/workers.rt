@@ -6,8 +6,8 @@ ghost use Rattle.session_workers.specs.Faults.{fault_name};
 
 use crate::job::{Done, Job, serve_job};
 use crate::keeper::keep;
-use crate::steps::Steps;
 use crossbeam_channel::Receiver;
+use keeper_steps::Steps;
 use request_handlers::Seat;
 use session_pool::{Gate, LockedDesk, SessionEnd, Witness};
 use std::alloc::{AllocError, Global};

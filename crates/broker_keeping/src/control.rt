@@ -2,9 +2,9 @@
 
 use crate::watch::lines_since;
 use commands::stop_text;
+use keeper_steps::{Step, Steps};
 use request_handlers::{Core, Stop};
 use session_pool::{LockedDesk, Why, Witness};
-use session_workers::{Step, Steps};
 use std::alloc::{AllocError, Global};
 use std::io::{BufRead, Write};
 use std::sync::Wait;
@@ -22,22 +22,24 @@ pub struct Steering<I, O> {
 
 /// Whether no more connections are to be taken.
 #[derive(Drop)]
-pub(crate) struct Closing {
+pub struct Closing {
     flag: AtomicU64,
 }
 
 impl Closing {
-    pub(crate) fn new() -> Closing {
+    /// At first they are to be taken.
+    pub fn new() -> Closing {
         Closing {
             flag: AtomicU64::new(0),
         }
     }
 
-    pub(crate) fn close(&self) {
+    /// From here on no more are.
+    pub fn close(&self) {
         self.flag.store(1, Ordering::SeqCst);
     }
 
-    pub(crate) fn is_closed(&self) -> bool {
+    pub fn is_closed(&self) -> bool {
         self.flag.load(Ordering::SeqCst) != 0
     }
 }
@@ -64,7 +66,7 @@ enum Turn {
 
 /// Reads lines, and answers each once its step is done. Nothing happens between two lines but what clients ask.
 #[derive(Drop)]
-pub(crate) struct Control<'d, 'r, L: Ledger, R: Wait, I: BufRead, O: Write> {
+pub struct Control<'d, 'r, L: Ledger, R: Wait, I: BufRead, O: Write> {
     rt: &'r R,
     alloc: Global,
     desk: &'d LockedDesk<L, &'r R>,
@@ -118,7 +120,8 @@ fn stop_line(why: Why) -> &'static str {
 }
 
 impl<'d, 'r, L: Ledger, R: Wait, I: BufRead, O: Write> Control<'d, 'r, L, R, I, O> {
-    pub(crate) fn new(
+    /// Before the first line.
+    pub fn new(
         rt: &'r R,
         alloc: Global,
         desk: &'d LockedDesk<L, &'r R>,

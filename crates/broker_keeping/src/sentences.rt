@@ -9,14 +9,15 @@ use wire_types::{Text, write_whole};
 /// Says what an operator is told. Of each session that ends by other than Closed that is a line of its own. If it can't be said,
 /// nothing else fails.
 #[derive(Drop)]
-pub(crate) struct Sentences<'r, R: Wait, E: Write> {
+pub struct Sentences<'r, R: Wait, E: Write> {
     rt: &'r R,
     alloc: Global,
     errors: Mutex<E>,
 }
 
 impl<'r, R: Wait, E: Write> Sentences<'r, R, E> {
-    pub(crate) fn new(rt: &'r R, alloc: Global, errors: E) -> Sentences<'r, R, E> {
+    /// Says it to a writer, one saying at a time.
+    pub fn new(rt: &'r R, alloc: Global, errors: E) -> Sentences<'r, R, E> {
         Sentences {
             rt,
             alloc,
@@ -25,7 +26,7 @@ impl<'r, R: Wait, E: Write> Sentences<'r, R, E> {
     }
 
     /// Writes whole lines.
-    pub(crate) fn say(&self, lines: &str) {
+    pub fn say(&self, lines: &str) {
         let mut errors = self.errors.lock(self.rt);
         let _ = write_whole(&mut *errors, lines.as_bytes());
     }

@@ -2,17 +2,20 @@
 
 use crate::control::Control;
 use crate::ticks::Ticks;
+use keeper_steps::{Clocked, Step, Steps};
 use request_handlers::Core;
 use session_pool::{Why, Witness};
-use session_workers::{Clocked, Step, Steps};
 use std::io::{BufRead, Write};
 use std::sync::Wait;
 use std::sync::ledger::Ledger;
 use std::time;
 
+/// What tells the keeper its steps.
 #[derive(Drop)]
-pub(crate) enum Keeping<'d, 'r, L: Ledger, R: Wait + time::Clock, E: Write, I: BufRead, O: Write> {
+pub enum Keeping<'d, 'r, L: Ledger, R: Wait + time::Clock, E: Write, I: BufRead, O: Write> {
+    /// The clock, which looks at what is new in the trail.
     Clock(Clocked<Ticks<'d, 'r, L, R, E>>),
+    /// The lines of whoever steers the broker.
     Lines(Control<'d, 'r, L, R, I, O>),
 }
 

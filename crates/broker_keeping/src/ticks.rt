@@ -1,7 +1,7 @@
 //! The keeper's clock.
 
 use crate::watch::Watch;
-use session_workers::Clock;
+use keeper_steps::Clock;
 use std::io::Write;
 use std::sync::Wait;
 use std::sync::ledger::Ledger;
@@ -17,14 +17,15 @@ const REST: u64 = 5;
 /// Gives the milliseconds since its start about ten times a second, until all workers have ended. Where a transaction may have
 /// ended, it gives them at once, since the keeper writes the markers that are owed behind a tick.
 #[derive(Drop)]
-pub(crate) struct Ticks<'d, 'r, L: Ledger, R: Wait + time::Clock, E: Write> {
+pub struct Ticks<'d, 'r, L: Ledger, R: Wait + time::Clock, E: Write> {
     rt: &'r R,
     watch: Watch<'d, 'r, L, R, E>,
     start: Option<Instant>,
 }
 
 impl<'d, 'r, L: Ledger, R: Wait + time::Clock, E: Write> Ticks<'d, 'r, L, R, E> {
-    pub(crate) fn new(rt: &'r R, watch: Watch<'d, 'r, L, R, E>) -> Ticks<'d, 'r, L, R, E> {
+    /// It starts now.
+    pub fn new(rt: &'r R, watch: Watch<'d, 'r, L, R, E>) -> Ticks<'d, 'r, L, R, E> {
         Ticks {
             rt,
             watch,

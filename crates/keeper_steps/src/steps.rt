@@ -1,7 +1,7 @@
 //! Who tells the keeper what to do next.
 
 ghost use Rattle.std.specs.Prelude.{◌≡◌, ◌<◌, Some, IfOk, is_ok};
-ghost use Rattle.session_workers.specs.declared.steps.Step.TheVariants.{Mark};
+ghost use Rattle.keeper_steps.specs.declared.steps.Step.TheVariants.{Mark};
 
 use request_handlers::Core;
 use session_pool::{Why, Witness};

@@ -1,0 +1,14 @@
+//! What tells the keeper of a served broker its steps, by the clock or by lines that steer it, and what is said to an operator.
+#![tactic(auto)]
+
+mod control;
+mod keeping;
+mod sentences;
+mod ticks;
+mod watch;
+
+pub use control::{Closing, Control, Steering};
+pub use keeping::Keeping;
+pub use sentences::Sentences;
+pub use ticks::Ticks;
+pub use watch::Watch;
