@@ -1,7 +1,6 @@
 //! The keeper's steps, by lines of whoever steers the broker.
 
 use crate::watch::lines_since;
-use commands::stop_text;
 use keeper_steps::{Step, Steps};
 use request_handlers::{Core, Stop};
 use session_pool::{LockedDesk, Why, Witness};
@@ -114,8 +113,8 @@ fn refused_since(
 /// The line of a step that wasn't taken.
 fn stop_line(why: Why) -> &'static str {
     match why {
-        Why::Stopped(stop) => stop_text(stop),
-        _ => stop_text(Stop::NoMemory),
+        Why::Stopped(stop) => stop.line(),
+        _ => Stop::NoMemory.line(),
     }
 }
 
@@ -152,7 +151,7 @@ impl<'d, 'r, L: Ledger, R: Wait, I: BufRead, O: Write> Control<'d, 'r, L, R, I, 
     fn say_or_stop(&mut self, lines: Result<String, AllocError>) {
         match lines {
             Ok(lines) => self.say(lines.as_str()),
-            Err(_) => self.say(stop_text(Stop::NoMemory)),
+            Err(_) => self.say(Stop::NoMemory.line()),
         }
     }
 
@@ -192,7 +191,7 @@ impl<'d, 'r, L: Ledger, R: Wait, I: BufRead, O: Write> Control<'d, 'r, L, R, I, 
                 self.refused = refused;
                 self.say(text.as_str());
             }
-            Err(_) => self.say(stop_text(Stop::NoMemory)),
+            Err(_) => self.say(Stop::NoMemory.line()),
         }
     }
 

@@ -7,7 +7,7 @@ use Rattle.std.proofs.KnownBytes.{Appends-nil, Appends-trans}
 use Rattle.wire_types.specs.Device.{Wrote}
 use Rattle.settings.specs.declared.settings.Settings.{Settings as SettingsValue}
 use Rattle.audit_trail.specs.declared.event.Event.{Event}
-use Rattle.commands.specs.Lines.{lines_of}
+use Rattle.script_lines.specs.Lines.{lines_of}
 use Rattle.commands.specs.Replay.{Answer, Turn, goes, ends, line_turn, after, after_turn, script_answer}
 use Rattle.commands.specs.declared.cause.Early.{Early}
 use Rattle.commands.specs.declared.cause.Early.TheVariants.{Settings, Write}

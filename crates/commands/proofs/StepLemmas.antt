@@ -10,7 +10,8 @@ use Rattle.request_handlers.specs.Core.{CoreValue, IsReady, trail_limit, events_
 use Rattle.request_handlers.specs.Headline.{behind, entry_told, IsTaken}
 use Rattle.request_handlers.proofs.Histories.{events_push}
 use Rattle.plain_broker.specs.Events.{told}
-use Rattle.commands.specs.Replay.{goes, step_turn, event_text, reply_line, audit_lines, refusals_in, refusals_at, IsUp}
+use Rattle.audit_trail.specs.Line.{audit_lines}
+use Rattle.commands.specs.Replay.{goes, step_turn, event_text, reply_line, refusals_in, refusals_at, IsUp}
 
 last_kept : {A : Type 0} (xs : List A) (x : A) → slice_get (xs ++ x ∷ []) (length xs) ≡ Some x
 last_kept [] x = refl

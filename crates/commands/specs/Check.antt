@@ -5,7 +5,8 @@ use Rattle.settings_text.specs.declared.fault.SettingsFault.{SettingsFault}
 use Rattle.settings_text.specs.Document.{document_of_text}
 use Rattle.commands.specs.declared.command.Command.{Command}
 use Rattle.commands.specs.declared.command.Command.TheVariants.{Replay, Check}
-use Rattle.commands.specs.Replay.{Answer, feed, refused_answer, input_answer, within_limit}
+use Rattle.audit_trail.specs.Line.{feed}
+use Rattle.commands.specs.Replay.{Answer, refused_answer, input_answer, within_limit}
 
 abbrev pub settings_ok : List ℕ
 settings_ok = codes "settings ok" ++ feed

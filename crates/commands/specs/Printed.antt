@@ -5,7 +5,8 @@ use Rattle.request_handlers.specs.declared.stop.Stop.TheVariants.{NoMemory}
 use Rattle.settings_text.specs.declared.fault.SettingsFault.TheVariants as faults
 use Rattle.commands.specs.declared.cause.Early.{Early}
 use Rattle.commands.specs.declared.cause.Early.TheVariants.{Settings, Script}
-use Rattle.commands.specs.Replay.{Answer, stop_line, refused}
+use Rattle.request_handlers.specs.Stop.{stop_line}
+use Rattle.commands.specs.Replay.{Answer, refused}
 
 -- nothing was written where memory was refused at the settings
 abbrev pub IsUnwritten : Early → List ℕ → Type 0

@@ -1,7 +1,6 @@
 -- What `replay` answers to its input.
 use Rattle.std.specs.Prelude.{◌≡◌, ℕ, ℤ, pos, false, ◌+◌, nat_lt, if◌then◌else◌, List, [], ◌∷◌, ◌++◌, codes, decimal, length, slice_get, Option, Some, None, Result, Ok, Err}
 use Rattle.std.specs.Io.BufRead.{strip_last}
-use Rattle.std.specs.List.{flat_map}
 use Rattle.hex.specs.Hex.{encode_lower}
 use Rattle.wire_types.specs.declared.device.TheConstants.{INPUT_LIMIT}
 use Rattle.wire_types.specs.declared.fault.Malformed.{Malformed}
@@ -16,9 +15,9 @@ use Rattle.msg_admin.specs.Versions.{unsupported_at, unsupported_response}
 use Rattle.audit_trail.specs.declared.event.Event.{Event}
 use Rattle.audit_trail.specs.declared.event.Event.TheVariants as events
 use Rattle.audit_trail.specs.declared.trail.Entry.{Entry}
-use Rattle.audit_trail.specs.Line.{line_of}
-use Rattle.request_handlers.specs.declared.stop.Stop.{Stop}
-use Rattle.request_handlers.specs.declared.stop.Stop.TheVariants.{NoMemory, TrailFull, Down}
+use Rattle.audit_trail.specs.Line.{feed, audit_lines}
+use Rattle.request_handlers.specs.declared.stop.Stop.TheVariants.{TrailFull}
+use Rattle.request_handlers.specs.Stop.{stop_line}
 use Rattle.request_handlers.specs.Core.{CoreValue, trail_limit, events_of}
 use Rattle.request_handlers.specs.Headline.{behind}
 use Rattle.settings.specs.declared.settings.Settings.{Settings}
@@ -27,11 +26,11 @@ use Rattle.plain_broker.specs.Events.{told}
 use Rattle.settings_text.specs.declared.document.Document.{Document}
 use Rattle.settings_text.specs.declared.fault.SettingsFault.{SettingsFault}
 use Rattle.settings_text.specs.Document.{document_of_text, fault_name}
-use Rattle.commands.specs.Lines.{lines_of, settings_part, script_part}
-use Rattle.commands.specs.declared.order.Sent.{Sent}
-use Rattle.commands.specs.declared.order.Order.{Order}
-use Rattle.commands.specs.declared.order.Order.TheVariants.{Ask, Mark, Tick}
-use Rattle.commands.specs.Order.{order_of}
+use Rattle.script_lines.specs.Lines.{lines_of, settings_part, script_part}
+use Rattle.script_lines.specs.declared.order.Sent.{Sent}
+use Rattle.script_lines.specs.declared.order.Order.{Order}
+use Rattle.script_lines.specs.declared.order.Order.TheVariants.{Ask, Mark, Tick}
+use Rattle.script_lines.specs.Order.{order_of}
 use Rattle.commands.specs.declared.turn.Turn as code
 use Rattle.commands.specs.declared.turn.Turn.TheVariants.{Goes, Ends}
 use Rattle.std.specs.String.{string_bytes}
@@ -47,10 +46,6 @@ after text a = record { text = text ++ a.text; status = a.status }
 
 -- ---- what one line prints
 
--- the line feed
-abbrev pub feed : List ℕ
-feed = 10 ∷ []
-
 -- a frame in lower hexadecimal digits, or `-` where nothing is sent
 abbrev pub frame_line : List ℕ → List ℕ
 frame_line [] = codes "-" ++ feed
@@ -63,10 +58,6 @@ closed = codes "closed" ++ feed
 -- the response, if it can be sent
 abbrev pub reply_line : ℤ → Reply → List ℕ
 reply_line correlation reply = if is_sendable correlation reply then frame_line (response correlation reply) else closed
-
--- the refusals in audit lines
-abbrev pub audit_lines : List Refusal → List ℕ
-audit_lines refusals = flat_map (λ r. line_of r ++ feed) refusals
 
 -- the refusals that a trail keeps at a place
 abbrev pub refusals_in : Option Entry → List Refusal
@@ -82,11 +73,6 @@ event_text correlation o = reply_line correlation o.reply ++ audit_lines o.refus
 
 abbrev pub unreadable : ℕ → List ℕ
 unreadable number = codes "line " ++ (decimal number ++ (codes ": unreadable" ++ feed))
-
-abbrev pub stop_line : Stop → List ℕ
-stop_line NoMemory = codes "stop 1" ++ feed
-stop_line TrailFull = codes "stop 2" ++ feed
-stop_line Down = codes "stop 3" ++ feed
 
 -- ---- a script
 

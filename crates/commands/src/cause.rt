@@ -1,7 +1,7 @@
 //! Why a script or a run ends before its input does, in sentences.
 
-use crate::order::Unreadable;
 use request_handlers::Stop;
+use script_lines::Unreadable;
 use thiserror::Error;
 
 /// Why a line ends its script.

@@ -3,15 +3,10 @@
 
 mod cause;
 mod command;
-mod lines;
 mod open;
-mod order;
 mod run;
 mod text;
 mod turn;
 
-pub use lines::{content, split_input, split_line};
 pub use open::{Opened, open_and_explain};
-pub use order::{Order, Sent, Unreadable, parse_number, parse_order};
 pub use run::{check, check_and_explain, replay, replay_and_explain};
-pub use text::{push_audit_lines, stop_text};

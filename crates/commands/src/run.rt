@@ -4,7 +4,7 @@
 ghost use Rattle.std.specs.Prelude.{◌≡◌, [], IfSome, IfErr};
 ghost use Rattle.wire_types.specs.Device.{TakesWithin, Wrote};
 ghost use Rattle.request_handlers.specs.Core.{opened};
-ghost use Rattle.commands.specs.Lines.{lines_of};
+ghost use Rattle.script_lines.specs.Lines.{lines_of};
 ghost use Rattle.commands.specs.Replay.{script_answer, refused_answer, input_answer, replay_answer};
 ghost use Rattle.commands.specs.Check.{settings_answer, check_answer, answer_to, command_answer};
 ghost use Rattle.commands.specs.Printed.{Printed, last_words, EndsEarly, Replayed};
@@ -12,10 +12,10 @@ ghost use Rattle.commands.specs.declared.cause.Early.TheVariants.{Write as Early
 
 use crate::cause::{Cause, Early};
 use crate::command::Command;
-use crate::lines::{split_input, split_line};
-use crate::text::{refused_text, stop_text};
+use crate::text::refused_text;
 use crate::turn::{Turn, line_turn};
 use request_handlers::{Core, Stop};
+use script_lines::{split_input, split_line};
 use settings_text::{SettingsFault, document_of_text};
 use std::alloc::Global;
 use std::fmt::Display;
@@ -196,7 +196,7 @@ fn last_words(early: Early) -> &'static str
 {
     match early {
         Early::Settings => "settings refused: NoMemory\n",
-        Early::Script => stop_text(Stop::NoMemory),
+        Early::Script => Stop::NoMemory.line(),
         Early::Read | Early::TooLong | Early::Write => "",
     }
 }

@@ -5,19 +5,17 @@ ghost use Rattle.msg_admin.specs.Request.{request_at, Fits};
 ghost use Rattle.audit_trail.specs.declared.event.Event.TheVariants as events;
 ghost use Rattle.api_dispatch.specs.Bounds.{EventFits};
 ghost use Rattle.request_handlers.specs.Core.{events_of};
-ghost use Rattle.commands.specs.Replay.{refusals_at, reply_line, audit_lines, Turns, step_turn, request_turn, frame_turn, unasked_turn, order_turn, line_turn};
+ghost use Rattle.audit_trail.specs.Line.{audit_lines};
+ghost use Rattle.commands.specs.Replay.{refusals_at, reply_line, Turns, step_turn, request_turn, frame_turn, unasked_turn, order_turn, line_turn};
 
 use crate::cause::Cause;
-use crate::lines::content;
-use crate::order::{Order, Sent, parse_order};
-use crate::text::{
-    closed_text, no_request_text, push_audit_lines, reply_text, stop_text, unreadable_text,
-};
+use crate::text::{closed_text, no_request_text, reply_text, unreadable_text};
 use acl_binding::Caller;
-use audit_trail::Event;
+use audit_trail::{Event, push_audit_lines};
 use authorizer::Refusal;
 use msg_admin::{FRAME_LIMIT, Header, Request, read_request};
 use request_handlers::{Core, Receipt, Stop};
+use script_lines::{Order, Sent, content, parse_order};
 use std::alloc::{AllocError, Global};
 use wire_types::ReadFault;
 
@@ -63,7 +61,7 @@ fn step(alloc: Global, core: &mut Core, correlation: i32, event: Event) -> Resul
     match core.step(event) {
         Ok(receipt) => Ok(Turn::Goes(receipt_text(alloc, core, correlation, &receipt)?)),
         Err(Stop::NoMemory) => Err(AllocError),
-        Err(stop) => Ok(Turn::Ends(String::from_str(alloc, stop_text(stop))?, Cause::Stop(stop))),
+        Err(stop) => Ok(Turn::Ends(String::from_str(alloc, stop.line())?, Cause::Stop(stop))),
     }
 }
 

@@ -1,5 +1,8 @@
 //! Why a step did not happen.
 
+ghost use Rattle.std.specs.Prelude.{◌≡◌};
+ghost use Rattle.request_handlers.specs.Stop.{stop_line};
+
 use thiserror::Error;
 
 /// Why a step did not happen.
@@ -14,4 +17,17 @@ pub enum Stop {
     /// An earlier event put the core down. The core is unchanged.
     #[error("an earlier event put the broker down")]
     Down = 3,
+}
+
+impl Stop {
+    /// The line that tells of it, with its line feed.
+    pub fn line(self) -> &'static str
+        ensures { result.now ≡ stop_line self }
+    {
+        match self {
+            Stop::NoMemory => "stop 1\n",
+            Stop::TrailFull => "stop 2\n",
+            Stop::Down => "stop 3\n",
+        }
+    }
 }

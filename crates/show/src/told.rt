@@ -2,10 +2,10 @@
 
 use crate::answer::{Answers, push_stop};
 use bytes::Bytes;
-use commands::{Order, content, split_line, stop_text};
 use hex::FromHexError;
 use message_words::{Sheet, push_closed, push_no_answer, push_response, push_silence};
 use request_handlers::Stop;
+use script_lines::{Order, content, split_line};
 use std::alloc::{AllocError, Global};
 use std::str::from_utf8;
 
@@ -26,7 +26,7 @@ fn stop_in(line: &[u8]) -> Option<Stop> {
     stops
         .iter()
         .copied()
-        .find(|stop| content(stop_text(*stop).as_bytes()) == line)
+        .find(|stop| content(stop.line().as_bytes()) == line)
 }
 
 /// The bytes that a line of hexadecimal digits spells.

@@ -1,7 +1,7 @@
 -- What a line of whoever steers a broker asks for: `tick N`, `mark`, `marks`, `audit`, `state` or `end`.
 use Rattle.std.specs.Prelude.{ℕ, if◌then◌else◌, List, codes, Option, Some, None, option_map, option_and_then}
 use Rattle.std.specs.Str.{bytes_eq}
-use Rattle.commands.specs.Order.{cut, number_of, text_of}
+use Rattle.script_lines.specs.Order.{cut, number_of, text_of}
 use Rattle.steering_lines.specs.declared.said.Said.{Said}
 use Rattle.steering_lines.specs.declared.said.Said.TheVariants.{Tick, Mark, Marks, Audit, State, End}
 

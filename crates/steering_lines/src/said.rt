@@ -3,7 +3,7 @@
 ghost use Rattle.std.specs.Prelude.{◌≡◌};
 ghost use Rattle.steering_lines.specs.Said.{said_in, said_of};
 
-use commands::parse_number;
+use script_lines::parse_number;
 use std::str::from_utf8;
 
 /// What a line asks for.

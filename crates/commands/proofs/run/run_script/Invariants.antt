@@ -1,7 +1,7 @@
 use Rattle.std.proofs.Common.{◌≡◌, ℕ, ◌+◌, ◌≤◌, List, [], length}
 use Rattle.std.specs.Io.KnownBytes.{Appends}
 use Rattle.request_handlers.specs.Core.{events_of}
-use Rattle.commands.specs.Lines.{lines_of}
+use Rattle.script_lines.specs.Lines.{lines_of}
 use Rattle.commands.specs.Replay.{script_answer, after, IsUp}
 use Rattle.commands.proofs.run.run_script.Given as goal
 

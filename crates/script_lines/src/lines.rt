@@ -3,7 +3,7 @@
 ghost use Rattle.std.specs.Prelude.{◌≡◌, ◌+◌, ◌<◌, ◌∷◌, ◌++◌, length};
 ghost use Rattle.std.specs.Io.BufRead.{strip_last};
 ghost use Rattle.std.specs.List.{position};
-ghost use Rattle.commands.specs.Lines.{lines_of, is_line_feed, settings_part, script_part};
+ghost use Rattle.script_lines.specs.Lines.{lines_of, is_line_feed, settings_part, script_part};
 
 const LINE_FEED: u8 = b'\n';
 

@@ -3,7 +3,7 @@ use Rattle.std.proofs.Common.{◌≡◌, ℕ, suc, ◌+◌, ◌<◌, ◌≤◌, 
 use Rattle.std.specs.List.{onto_first, position, position_or_len}
 use Rattle.std.proofs.lemmas.Bool.{cases_Bool}
 use Rattle.std.proofs.lemmas.Bool.Decides.{nat_tests}
-use Rattle.commands.specs.Lines.{lines_of, is_line_feed}
+use Rattle.script_lines.specs.Lines.{lines_of, is_line_feed}
 
 -- one more element at the front
 shift : (n b : ℕ) (bs : List ℕ) → (take ((1 + n) + 1) (b ∷ bs) ≡ b ∷ take (n + 1) bs) × (drop ((1 + n) + 1) (b ∷ bs) ≡ drop (n + 1) bs)

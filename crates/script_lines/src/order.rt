@@ -4,7 +4,7 @@ ghost use Rattle.std.specs.Prelude.{◌≡◌, IfOk, option_map};
 ghost use Rattle.std.specs.Result.{result_ok};
 ghost use Rattle.std.specs.Int.{w32};
 ghost use Rattle.wire_types.specs.Reading.{nat_at};
-ghost use Rattle.commands.specs.Order.{behind_size, frame_of, words_of, caller_of, sent_of, number_of, order_in, text_of, order_of};
+ghost use Rattle.script_lines.specs.Order.{behind_size, frame_of, words_of, caller_of, sent_of, number_of, order_in, text_of, order_of};
 
 use acl_binding::Caller;
 use bytes::Bytes;

@@ -1,5 +1,5 @@
-use Rattle.commands.proofs.LinesLemmas.{first_line, only_line}
-use Rattle.commands.proofs.lines.split_line.Goals as goal
+use Rattle.script_lines.proofs.LinesLemmas.{first_line, only_line}
+use Rattle.script_lines.proofs.lines.split_line.Goals as goal
 
 pub returns-in-Some-clause-lines : goal.returns-in-Some-clause-lines
 returns-in-Some-clause-lines c =

@@ -1,6 +1,6 @@
 use Rattle.std.proofs.Common.{◌≡◌, ◌++◌, false, ap, ◌∙◌, append_assoc, sym, rules}
-use Rattle.commands.specs.Lines.{is_bar, lines_of, settings_part}
-use Rattle.commands.proofs.lines.split_input.Goals as goal
+use Rattle.script_lines.specs.Lines.{is_bar, lines_of, settings_part}
+use Rattle.script_lines.proofs.lines.split_input.Goals as goal
 
 pub loop-line-preserved : goal.loop-line-preserved
 loop-line-preserved c =

@@ -7,7 +7,7 @@ use Rattle.std.specs.Str.{all_ascii_digits}
 use Rattle.std.specs.Str.Parse.{digits_value, ParsesUnsigned}
 use Rattle.std.proofs.lemmas.Bool.{and_parts, cond-false, false_from_ne_true, lt-ltb, ltb-true}
 use Rattle.std.proofs.lemmas.Str.Parse.{numerals_by_value, tells_all_ascii_digits, parse_plain}
-use Rattle.commands.specs.Order.{number_of}
+use Rattle.script_lines.specs.Order.{number_of}
 
 -- the conditions of `number_of`, one by one
 abbrev IsNumber : List ℕ → Type 0

@@ -1,6 +1,6 @@
 use Rattle.std.proofs.Common.{◌≡◌, ℕ, List, ◌++◌, length}
-use Rattle.commands.specs.Lines.{lines_of, settings_part, script_part}
-use Rattle.commands.proofs.lines.split_input.Given as goal
+use Rattle.script_lines.specs.Lines.{lines_of, settings_part, script_part}
+use Rattle.script_lines.proofs.lines.split_input.Given as goal
 
 abbrev pub invariant-loop-line : goal.invariant-loop-line
 invariant-loop-line l =

@@ -8,9 +8,9 @@ use Rattle.hex.specs.Hex.{decode_of}
 use Rattle.hex.specs.declared.error.FromHexError.{FromHexError}
 use Rattle.acl_binding.specs.declared.question.Caller.{Caller}
 use Rattle.wire_types.specs.Reading.{Found, nat_at}
-use Rattle.commands.specs.declared.order.Sent.{Sent}
-use Rattle.commands.specs.declared.order.Order.{Order}
-use Rattle.commands.specs.declared.order.Order.TheVariants.{Ask, Mark, Tick}
+use Rattle.script_lines.specs.declared.order.Sent.{Sent}
+use Rattle.script_lines.specs.declared.order.Order.{Order}
+use Rattle.script_lines.specs.declared.order.Order.TheVariants.{Ask, Mark, Tick}
 
 -- a size field, and the bytes that it counts (Kafka protocol guide, "Common Request and Response Structure")
 abbrev pub behind_size : Found ℕ → Option (List ℕ)
