@@ -3,7 +3,8 @@
 use crate::server::ServeOptions;
 use broker_keeping::Closing;
 use crossbeam_channel::Sender;
-use session_pool::{Limits, Users};
+use session_logins::Users;
+use session_pool::Limits;
 use session_workers::Job;
 use std::alloc::Global;
 use std::io::ErrorKind;

@@ -8,7 +8,7 @@ use arguments::{Job, Serving, arguments};
 use broker_keeping::Steering;
 use broker_server::{ServeOptions, serve};
 use commands::{Opened, check_and_explain, open_and_explain, replay_and_explain};
-use session_pool::Users;
+use session_logins::Users;
 use std::alloc::{AllocError, Global};
 use std::io::{BufRead, Input, Print, Read, Write};
 use std::net::{Net, TcpListener, TcpStream};

@@ -8,7 +8,7 @@ use audit_trail::Event;
 use bytes::Bytes;
 use msg_admin::{FRAME_LIMIT, read_request};
 use request_handlers::Core;
-use session_pool::Users;
+use session_logins::Users;
 use settings_text::{Document, document_of_text};
 use std::alloc::Global;
 use std::test::Fail;

@@ -5,7 +5,8 @@ ghost use Rattle.msg_admin.specs.declared.request.TheConstants.{FRAME_LIMIT as L
 ghost use Rattle.request_handlers.specs.Seats.{most_seats};
 
 use request_handlers::{Core, MOST_SEATS};
-use session_pool::{Gate, Limits, LockedDesk, SessionEnd, Users, Why, serve_session};
+use session_logins::Users;
+use session_pool::{Gate, Limits, LockedDesk, SessionEnd, Why, serve_session};
 use settings_text::{Document, document_of_text};
 use std::alloc::Global;
 use std::io::{Read, Write};

@@ -10,7 +10,7 @@ use Rattle.msg_admin.specs.Versions.{unsupported_at}
 use Rattle.audit_trail.specs.declared.event.Event.{Event}
 use Rattle.session_pool.specs.Asks.{Setting, Tells, Refuses, asked, asks_of, fresh, offered, known, logs_in, greets, admits, readable, supported}
 use Rattle.session_pool.specs.Frames.{cut}
-use Rattle.session_pool.specs.Login.{is_plain, login_of}
+use Rattle.session_logins.specs.Login.{is_plain, login_of}
 use Rattle.session_pool.specs.Own.{SomeTells, IsOwn, AreOwn, AsksAreOwn}
 
 one_more : (g : Setting) (frame : List ℕ) (frames : List (List ℕ)) (e : Event) → IsOwn g frames e → IsOwn g (frame ∷ frames) e

@@ -20,7 +20,7 @@ use Rattle.session_pool.specs.declared.login.State.TheVariants.{Fresh, Offered, 
 use Rattle.session_pool.specs.declared.why.Why.{Why}
 use Rattle.session_pool.specs.declared.why.Why.TheVariants.{Malformed as IsMalformed, Login}
 use Rattle.session_pool.specs.Frames.{cut}
-use Rattle.session_pool.specs.Login.{is_plain, login_of}
+use Rattle.session_logins.specs.Login.{is_plain, login_of}
 
 -- the users who may log in, and the host that calls
 pub record Setting : Type 0 where

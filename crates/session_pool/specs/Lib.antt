@@ -1,7 +1,5 @@
 pub mod Asks
-pub mod Compared
 pub mod Frames
-pub mod Login
 pub mod Logins
 pub mod Own
 pub mod Reads

@@ -1,18 +1,10 @@
 -- What the calls of a login say.
-use Rattle.std.specs.Prelude.{◌≡◌, ◌≢◌, List, Option, Some, None, Result, Ok, Err, ℕ}
+use Rattle.std.specs.Prelude.{◌≡◌, List, Option, Some, None, Result, Ok, Err, ℕ}
 use Rattle.wire_types.specs.declared.error_code.ErrorCode.TheVariants as codes
-use Rattle.settings_text.specs.declared.document.User.{User}
-use Rattle.settings_text.specs.declared.fault.SettingsFault.{SettingsFault}
-use Rattle.settings_text.specs.declared.fault.SettingsFault.TheVariants as faults
 use Rattle.session_pool.specs.declared.login.Closed.{Closed}
 use Rattle.session_pool.specs.declared.login.Known.{Known}
 use Rattle.session_pool.specs.declared.login.LoginFault.{LoginFault}
 use Rattle.session_pool.specs.declared.login.LoginFault.TheVariants as login
-
--- The call answered so, unless memory was refused.
-abbrev pub Admits : Result (List User) SettingsFault → Result (List User) SettingsFault → Type 0
-Admits due (Ok users) = due ≡ Ok users
-Admits due (Err fault) = fault ≢ faults.NoMemory → due ≡ Err fault
 
 -- the code with which a login is closed
 abbrev pub sasl_failed : Closed

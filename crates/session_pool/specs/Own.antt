@@ -10,7 +10,7 @@ use Rattle.audit_trail.specs.declared.event.Event.TheVariants.{Ask}
 use Rattle.settings_text.specs.declared.document.User.{User}
 use Rattle.session_pool.specs.Asks.{Setting, asks, fresh}
 use Rattle.session_pool.specs.Frames.{cut}
-use Rattle.session_pool.specs.Login.{login_of}
+use Rattle.session_logins.specs.Login.{login_of}
 
 -- the frame tells a user's password, whose principal this is
 abbrev pub TellsPassword : List User → List ℕ → List ℕ → Type 0

@@ -4,8 +4,6 @@
 //! user who is known to a `Desk`. `LockedDesk` is the desk that many threads share.
 #![tactic(auto)]
 
-mod answer;
-mod compare;
 mod desk;
 mod frame;
 mod gate;
@@ -14,7 +12,6 @@ mod locked;
 mod login;
 mod respond;
 mod session;
-mod users;
 mod why;
 mod witness;
 
@@ -24,6 +21,5 @@ pub use laws::asks_are_own;
 pub use locked::{LockedDesk, Quiet};
 pub use login::{Closed, Fresh, Known, LoginFault, Offered};
 pub use session::{Limits, SessionEnd, serve_session};
-pub use users::Users;
 pub use why::Why;
 pub use witness::Witness;

@@ -1,17 +1,15 @@
 //! A session's states. Each is used up by the call that leaves it, so that nobody asks before a login, and no password is
 //! tried twice.
 
-ghost use Rattle.std.specs.Prelude.{◌≡◌, IfOk, MatchResult, true, false, option_map};
-ghost use Rattle.std.specs.List.{position};
+ghost use Rattle.std.specs.Prelude.{◌≡◌, IfOk, MatchResult, true, false};
 ghost use Rattle.audit_trail.specs.declared.event.Event.TheVariants.{Ask};
-ghost use Rattle.session_pool.specs.Login.{is_plain, is_nul, cut_at_nul, plain_of, user_of, principal_of, login_of};
+ghost use Rattle.session_logins.specs.Login.{is_plain, login_of};
 ghost use Rattle.session_pool.specs.Logins.{mechanism_unknown, LogsIn};
 
-use crate::users::Users;
 use acl_binding::Caller;
 use audit_trail::Event;
 use msg_admin::{Header, Request};
-use settings_text::User;
+use session_logins::{Users, principal_of, user_of};
 use std::alloc::{AllocError, Global};
 use wire_types::{ErrorCode, Text};
 
@@ -66,62 +64,6 @@ impl Fresh {
     }
 }
 
-/// The place of the first NUL.
-fn find_nul(bytes: &[u8]) -> Option<usize>
-    ensures { result ≡ position is_nul bytes.now }
-{
-    bytes.iter().position(|byte| *byte == 0)
-}
-
-/// What stands before the first NUL and behind it.
-fn cut_at_nul(bytes: &[u8]) -> Option<(&[u8], &[u8])>
-    ensures { option_map (λ p. (p.0.now, p.1.now)) result ≡ cut_at_nul bytes.now }
-{
-    let at = find_nul(bytes)?;
-    Some((&bytes[..at], &bytes[at + 1..]))
-}
-
-/// The parts of a PLAIN message.
-#[derive(Drop)]
-struct Plain<'a> {
-    authorization: &'a [u8],
-    authentication: &'a [u8],
-    password: &'a [u8],
-}
-
-fn split_plain(message: &[u8]) -> Option<Plain<'_>>
-    ensures { option_map (λ p. (p.authorization.now, p.authentication.now, p.password.now)) result ≡ plain_of message.now }
-{
-    let (authorization, rest) = cut_at_nul(message)?;
-    let (authentication, password) = cut_at_nul(rest)?;
-    if find_nul(password).is_some() {
-        return None;
-    }
-    Some(Plain {
-        authorization,
-        authentication,
-        password,
-    })
-}
-
-/// The user that a PLAIN message names with the right password.
-fn user_of<'u>(users: &'u Users, message: &[u8]) -> Option<&'u User>
-    ensures { option_map (λ u. u.now) result ≡ user_of users.now message.now }
-{
-    let plain = split_plain(message)?;
-    if !plain.authorization.is_empty() && plain.authorization != plain.authentication {
-        return None;
-    }
-    users.find(plain.authentication, plain.password)
-}
-
-fn principal(alloc: Global, user: &User) -> Result<Text, AllocError>
-    ensures { IfOk result (λ who. who ≡ principal_of user.now) }
-{
-    let name = user.name.as_str();
-    Ok(Text::from(format!(in alloc; "User:{name}")?))
-}
-
 impl Offered {
     /// Only the right password gives a user: the message is the authorization identity, empty or the user's name, NUL, the
     /// user's name, NUL, and the password (RFC 4616, section 2). Else the code is 58.
@@ -130,7 +72,7 @@ impl Offered {
     {
         let Offered(()) = self;
         match user_of(users, message) {
-            Some(user) => match principal(alloc, user) {
+            Some(user) => match principal_of(alloc, user) {
                 Ok(who) => Ok(Known { who }),
                 Err(_) => Err(LoginFault::NoMemory),
             },

@@ -8,13 +8,11 @@ ghost use Rattle.api_dispatch.specs.Bounds.{EventFits};
 ghost use Rattle.session_pool.specs.declared.login.State.TheVariants as state;
 ghost use Rattle.session_pool.specs.declared.respond.Outcome.TheVariants as outcome;
 ghost use Rattle.session_pool.specs.Asks.{Step, Tells, Submits, Refuses, step_of, leads, greets, admits, submits, offers, logs_in};
-ghost use Rattle.session_pool.specs.Login.{login_of};
+ghost use Rattle.session_logins.specs.Login.{login_of};
 ghost use Rattle.session_pool.specs.Turns.{Says, Meant};
 
-use crate::answer::{write_handshake, write_login, write_versions};
 use crate::desk::Desk;
 use crate::login::{Closed, Fresh, Known, LoginFault, Offered, State};
-use crate::users::Users;
 use audit_trail::Event;
 use bytes::Bytes;
 use msg_admin::{
@@ -22,6 +20,7 @@ use msg_admin::{
     write_unsupported_versions,
 };
 use request_handlers::{Receipt, Stop};
+use session_logins::{Users, write_handshake, write_login, write_versions};
 use std::alloc::{AllocError, Global};
 use wire_types::{ErrorCode, ReadFault, Text, WriteFault};
 

@@ -6,7 +6,8 @@ ghost use Rattle.session_workers.specs.Ends.{HasRisen};
 
 use audit_trail::Event;
 use request_handlers::{Receipt, Seat};
-use session_pool::{Gate, Limits, LockedDesk, SessionEnd, Users, serve_session};
+use session_logins::Users;
+use session_pool::{Gate, Limits, LockedDesk, SessionEnd, serve_session};
 use std::alloc::Global;
 use std::io::{Read, Write};
 use std::sync::Wait;

@@ -1,8 +1,8 @@
 use Rattle.std.proofs.Common.{◌≡◌, drop, option_map}
 use Rattle.std.proofs.Common.{find}
-use Rattle.session_pool.specs.Login.{is_user}
-use Rattle.session_pool.proofs.Found.{or_else}
-use Rattle.session_pool.proofs.users.Users.find.Given as goal
+use Rattle.session_logins.specs.Login.{is_user}
+use Rattle.session_logins.proofs.Found.{or_else}
+use Rattle.session_logins.proofs.users.Users.find.Given as goal
 
 -- the one found so far, or else the first among the rest
 abbrev pub invariant-loop-user : goal.invariant-loop-user

@@ -28,7 +28,7 @@ fn write_own(alloc: Global, correlation: i32, reply: &Reply) -> Result<Bytes, Al
 
 /// What an ApiVersions is answered.
 #[tactic(auto, using(crate::proofs::Short::versions_short))]
-pub(crate) fn write_versions(alloc: Global, correlation: i32) -> Result<Bytes, AllocError>
+pub fn write_versions(alloc: Global, correlation: i32) -> Result<Bytes, AllocError>
     ensures { IfOk result (λ bytes. bytes ≡ response correlation (replies.ApiVersions versions_reply)) }
 {
     let reply = Reply::ApiVersions(versions_reply(alloc)?);
@@ -37,7 +37,7 @@ pub(crate) fn write_versions(alloc: Global, correlation: i32) -> Result<Bytes, A
 
 /// What a SaslHandshake is answered.
 #[tactic(auto, using(crate::proofs::Short::handshake_short))]
-pub(crate) fn write_handshake(
+pub fn write_handshake(
     alloc: Global,
     correlation: i32,
     error: ErrorCode,
@@ -50,11 +50,7 @@ pub(crate) fn write_handshake(
 
 /// What a SaslAuthenticate is answered.
 #[tactic(auto, using(crate::proofs::Short::login_short))]
-pub(crate) fn write_login(
-    alloc: Global,
-    correlation: i32,
-    error: ErrorCode,
-) -> Result<Bytes, AllocError>
+pub fn write_login(alloc: Global, correlation: i32, error: ErrorCode) -> Result<Bytes, AllocError>
     ensures { IfOk result (λ bytes. bytes ≡ response correlation (replies.SaslAuthenticate (authenticate_reply error))) }
 {
     let reply = Reply::SaslAuthenticate(SaslAuthenticateReply::telling(error));

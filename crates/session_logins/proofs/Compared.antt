@@ -2,7 +2,7 @@
 use Rattle.std.proofs.Common.{◌≡◌, ℕ, suc, ◌+◌, ◌<◌, ◌≤◌, ◌==◌, ◌&&◌, not, Bool, true, false, cond, List, [], ◌∷◌, length, get_or, drop, drop-cons, add-one, refl, sym, ap, ◌∙◌, arith}
 use Rattle.std.proofs.lemmas.Bool.Decides.{nat_tests}
 use Rattle.std.specs.Str.{bytes_eq}
-use Rattle.session_pool.specs.Compared.{differences}
+use Rattle.session_logins.specs.Compared.{differences}
 
 none_or_some : (b : Bool) (n : ℕ) → (cond b 0 1 + n == 0) ≡ (b && n == 0)
 none_or_some true n = let same_sum : 0 + n ≡ n = omega arith in ap (λ m. m == 0) same_sum

@@ -1,9 +1,9 @@
 use Rattle.std.proofs.Common.{◌≡◌, [], length, arith, refl, ap}
 use Rattle.std.proofs.lemmas.List.{nil_from_length}
 use mir.Val.{bool_byte}
-use Rattle.session_pool.proofs.Compared.{few_passed, rest_passed, place_passed, place_lacks}
-use Rattle.session_pool.proofs.compare.differences.Goals.{in-Some, in-None}
-use Rattle.session_pool.proofs.compare.differences.Goals as goal
+use Rattle.session_logins.proofs.Compared.{few_passed, rest_passed, place_passed, place_lacks}
+use Rattle.session_logins.proofs.compare.differences.Goals.{in-Some, in-None}
+use Rattle.session_logins.proofs.compare.differences.Goals as goal
 
 pub loop-byte-preserved : goal.loop-byte-preserved
 loop-byte-preserved c =

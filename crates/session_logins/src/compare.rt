@@ -2,7 +2,7 @@
 
 ghost use Rattle.std.specs.Prelude.{◌≡◌};
 ghost use Rattle.std.specs.Str.{bytes_eq};
-ghost use Rattle.session_pool.specs.Compared.{differences};
+ghost use Rattle.session_logins.specs.Compared.{differences};
 
 /// At how many places they differ. Each place is looked at.
 fn differences(told: &[u8], kept: &[u8]) -> usize

@@ -4,8 +4,8 @@ ghost use Rattle.std.specs.Prelude.{◌≡◌, Ok, Err, if◌then◌else◌, opt
 ghost use Rattle.std.specs.List.{find};
 ghost use Rattle.settings_text.specs.declared.fault.SettingsFault.TheVariants as faults;
 ghost use Rattle.settings_text.specs.Users.{are_users};
-ghost use Rattle.session_pool.specs.Login.{is_user};
-ghost use Rattle.session_pool.specs.Logins.{Admits};
+ghost use Rattle.session_logins.specs.Login.{is_user};
+ghost use Rattle.session_logins.specs.Users.{Admits};
 
 use crate::compare::are_same;
 use settings_text::{SettingsFault, User, are_users};

@@ -1,6 +1,6 @@
 use Rattle.std.proofs.Common.{◌≡◌, ◌+◌, ◌≤◌, length, drop}
-use Rattle.session_pool.specs.Compared.{differences}
-use Rattle.session_pool.proofs.compare.differences.Given as goal
+use Rattle.session_logins.specs.Compared.{differences}
+use Rattle.session_logins.proofs.compare.differences.Given as goal
 
 -- those so far, and then those of what is left
 abbrev pub invariant-loop-byte : goal.invariant-loop-byte

@@ -1,0 +1,11 @@
+//! What a login needs of no core: who may log in, by which message (PLAIN, RFC 4616), and what is answered meanwhile.
+#![tactic(auto)]
+
+mod answer;
+mod compare;
+mod message;
+mod users;
+
+pub use answer::{write_handshake, write_login, write_versions};
+pub use message::{principal_of, user_of};
+pub use users::Users;
