@@ -40,12 +40,12 @@ SCRIPTS = (
     "must_not_compile.py",
 )
 # rt gives a proof only the processors that no other one waits for, also where all the others could wait. So what all the
-# rest waits for comes by itself: the crate below all others, with one that stands on none, and behind what it stands on the
-# core. Tests that nothing stands on are left for the end, where they fill what the last proofs, which wait for each other,
-# leave free.
+# rest waits for comes by itself: the crate below all others, with one that stands on none, and behind it the core with what
+# that stands on. Tests that nothing stands on are left for the end, where they fill what the last proofs, which wait for each
+# other, leave free.
 APART = "arguments"
 CORE = "request_handlers"
-# What is proved before the core though it doesn't stand on it.
+# What fills a gap before the core is proved, though that doesn't stand on it.
 BESIDE = ("settings_text", "event_equality")
 SEEN_EVERY = 2  # seconds
 TICKS = os.sysconf("SC_CLK_TCK")
@@ -132,8 +132,8 @@ def copy_lines(source, shown, kept):
 
 def stages():
     """The crates over which `rt ci` is called, in turn; at last over all."""
-    below = [it for it in crates_of([CORE, *BESIDE]) if it != CORE]
-    return [[below[0], APART], below, [CORE], []]
+    lowest, *_ = crates_of([CORE])
+    return [[lowest, APART], [CORE, *BESIDE], []]
 
 
 def run_rt(words, log, sampler):
