@@ -7,7 +7,6 @@
 mod acls;
 mod codes;
 mod data;
-mod fault_place;
 mod groups;
 mod logins;
 mod names;
@@ -19,9 +18,8 @@ mod sheet;
 mod topics;
 mod transactions;
 
-pub use fault_place::fault_end;
 pub use names::{api_name, key_name};
-pub use reply::{push_reply, read_reply};
+pub use reply::push_reply;
 pub use request::push_request;
 pub use response::{
     push_closed, push_no_answer, push_response, push_sent_reply, push_silence, push_unread_answer,

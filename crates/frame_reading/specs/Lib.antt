@@ -1,0 +1,2 @@
+pub mod FaultPlace
+pub mod Reading
