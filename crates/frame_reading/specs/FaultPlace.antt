@@ -1,5 +1,5 @@
 -- Where the first fault of a frame shows itself.
-use Rattle.std.specs.Prelude.{◌≡◌, ◌<◌, ◌≤◌, ◌+◌, ℕ, List, length, take, Bool, true, false, Result, Ok, Err}
+use Rattle.std.specs.Prelude.{◌≡◌, ◌<◌, ◌≤◌, ◌+◌, ℕ, List, length, take, Bool, true, false, Result, Err}
 use Rattle.wire_types.specs.declared.fault.Malformed.{Malformed}
 use Rattle.wire_types.specs.declared.fault.Malformed.TheVariants.{Short}
 use Rattle.msg_admin.specs.declared.header.Header.{Header}
