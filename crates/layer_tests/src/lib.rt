@@ -25,4 +25,4 @@ mod primitives;
 #[cfg(test)]
 mod producers;
 #[cfg(test)]
-mod transactions;
+mod unwritten_marker;
