@@ -26,6 +26,8 @@ SCRIPTS = (
     "lines.py",
     "settings.py",
     "histories.py",
+    "group_histories.py",
+    "drawn_bindings.py",
     "refused_memory.py",
     "refused_runs.py",
     "refused_sessions.py",
@@ -46,7 +48,7 @@ SCRIPTS = (
 APART = "arguments"
 CORE = "request_handlers"
 # What fills a gap before the core is proved, though that doesn't stand on it.
-BESIDE = ("settings_text", "event_equality")
+BESIDE = ("settings_text", "script_lines", "session_logins", "frame_reading")
 SEEN_EVERY = 2  # seconds
 TICKS = os.sysconf("SC_CLK_TCK")
 PAGE = os.sysconf("SC_PAGE_SIZE")

@@ -1,13 +1,11 @@
 //! The keeper's steps, by lines of whoever steers the broker.
 
 use crate::watch::lines_since;
-use keeper_steps::{Step, Steps};
 use request_handlers::{Core, Stop};
-use session_pool::{LockedDesk, Why, Witness};
+use session_pool::{Closing, LockedDesk, Step, Steps, Why, Witness};
 use std::alloc::{AllocError, Global};
 use std::io::{BufRead, Write};
 use std::sync::Wait;
-use std::sync::atomic::{AtomicU64, Ordering};
 use std::sync::ledger::Ledger;
 use steering_lines::{Said, front_text, moment_text, open_ones, parse_said, state_lines};
 use wire_types::write_whole;
@@ -17,30 +15,6 @@ use wire_types::write_whole;
 pub struct Steering<I, O> {
     pub lines: I,
     pub answers: O,
-}
-
-/// Whether no more connections are to be taken.
-#[derive(Drop)]
-pub struct Closing {
-    flag: AtomicU64,
-}
-
-impl Closing {
-    /// At first they are to be taken.
-    pub fn new() -> Closing {
-        Closing {
-            flag: AtomicU64::new(0),
-        }
-    }
-
-    /// From here on no more are.
-    pub fn close(&self) {
-        self.flag.store(1, Ordering::SeqCst);
-    }
-
-    pub fn is_closed(&self) -> bool {
-        self.flag.load(Ordering::SeqCst) != 0
-    }
 }
 
 /// What the keeper does for the last line.

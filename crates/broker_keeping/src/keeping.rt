@@ -2,9 +2,8 @@
 
 use crate::control::Control;
 use crate::ticks::Ticks;
-use keeper_steps::{Clocked, Step, Steps};
 use request_handlers::Core;
-use session_pool::{Why, Witness};
+use session_pool::{Clocked, Step, Steps, Why, Witness};
 use std::io::{BufRead, Write};
 use std::sync::Wait;
 use std::sync::ledger::Ledger;

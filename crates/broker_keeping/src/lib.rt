@@ -7,7 +7,7 @@ mod sentences;
 mod ticks;
 mod watch;
 
-pub use control::{Closing, Control, Steering};
+pub use control::{Control, Steering};
 pub use keeping::Keeping;
 pub use sentences::Sentences;
 pub use ticks::Ticks;

@@ -1,7 +1,7 @@
 //! The keeper's clock.
 
 use crate::watch::Watch;
-use keeper_steps::Clock;
+use session_pool::Clock;
 use std::io::Write;
 use std::sync::Wait;
 use std::sync::ledger::Ledger;

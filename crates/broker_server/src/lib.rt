@@ -1,7 +1,6 @@
 //! The broker on a TCP listener: each connection is a session, which one of so many workers serves.
 #![tactic(auto)]
 
-mod accept;
 mod lines;
 mod server;
 

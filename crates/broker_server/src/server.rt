@@ -5,14 +5,12 @@ ghost use Rattle.broker_server.specs.Lines.{listening_line};
 ghost use Rattle.broker_server.specs.Serves.{IsLast, Serves};
 ghost use Rattle.request_handlers.specs.Seats.{most_seats};
 
-use crate::accept::accept_all;
 use crate::lines::{Failure, failure_line, listening_line, settled_line};
-use broker_keeping::{Closing, Control, Keeping, Sentences, Steering, Ticks, Watch};
-use keeper_steps::{Clocked, Steps};
+use broker_keeping::{Control, Keeping, Sentences, Steering, Ticks, Watch};
 use request_handlers::{Core, MOST_SEATS, Receipt, Seat};
 use session_logins::Users;
-use session_pool::{Gate, LockedDesk, SessionEnd, Witness};
-use session_workers::{PoolFault, serve_all};
+use session_pool::{Clocked, Closing, LockedDesk, SessionEnd};
+use session_workers::{ConnectionOptions, PoolFault, serve_connections};
 use settlement::{SettleFault, Settled, settle};
 use std::alloc::{AllocError, Global};
 use std::io::{BufRead, Write};
@@ -21,8 +19,7 @@ use std::net::{Net, TcpListener, TcpStream};
 use std::sync::Wait;
 use std::sync::ledger::{Blank, Ledger};
 use std::thread::Threads;
-use std::time::Duration;
-use std::{thread, time};
+use std::time;
 use wire_types::{Shared, write_whole};
 
 /// The exit status where all is served and settled.
@@ -31,23 +28,13 @@ const SETTLED: u8 = 0;
 /// The exit status where it isn't.
 const FAILED: u8 = 1;
 
-/// How a listener's connections are served.
+/// How a broker serves.
 #[derive(Clone, Copy, Debug, PartialEq, Eq)]
 pub struct ServeOptions {
-    /// So many connections are served at once. Two more wait for a worker, and the others in the listener's queue.
-    pub workers: usize,
-    /// So many are served in all.
-    pub connections: u64,
-    /// For so long connections are taken, if there is an end to it.
-    pub open: Option<Duration>,
-    /// After so long a wait for its peer a session ends, if it ever does. It is above zero.
-    pub idle: Option<Duration>,
+    pub connections: ConnectionOptions,
     /// Whether each refusal is told.
     pub audit: bool,
 }
-
-/// How many connections wait for a worker in the channel, where one more waits for its turn.
-const WAITING: usize = 1;
 
 /// The receipts of each end.
 fn receipts_of<L: Ledger>(
@@ -59,46 +46,6 @@ fn receipts_of<L: Ledger>(
         receipts.push(end.receipts)?;
     }
     Ok(receipts)
-}
-
-/// Accepts connections in a thread of their own, and serves them. Where no thread can be made for it, none is accepted.
-fn serve_accepted<
-    'x,
-    'r,
-    L: Ledger + Send + Sync,
-    R: Net<Listener = TcpListener, Stream = TcpStream> + Threads + Wait + time::Clock + Sync,
-    K: Steps + Witness + Drop,
-    G: Gate + Sync,
->(
-    rt: &'x R,
-    alloc: Global,
-    desk: &'x LockedDesk<L, &'r R>,
-    users: &'x Shared<Users>,
-    listener: &'x TcpListener,
-    options: ServeOptions,
-    closing: Option<&'x Closing>,
-    steps: K,
-    gate: &'x G,
-) -> Result<Vec<SessionEnd<Seat<L>>>, PoolFault> {
-    let (to, from) = crossbeam_channel::bounded(alloc, WAITING).map_err(|_| PoolFault::NoMemory)?;
-    thread::scope(
-        thread::scope_env(),
-        rt,
-        move |scope| -> Result<Vec<SessionEnd<Seat<L>>>, PoolFault> {
-            let accepting = scope.spawn(move || accept_all(
-                rt, alloc, listener, users, options, closing, to,
-            ));
-            if accepting.is_err() {
-                return Err(PoolFault::NoThread);
-            }
-            let ends = serve_all(rt, alloc, desk, from, options.workers, steps, gate);
-            // Without workers nobody reads the lines' end.
-            if let Some(closing) = closing {
-                closing.close();
-            }
-            ends
-        },
-    )
 }
 
 /// What tells the keeper its steps: lines where they steer the broker, and else the clock.
@@ -153,8 +100,16 @@ fn serve_at<
     let is_steered = steering.is_some();
     let keeping = keeping_of(rt, alloc, &desk, sentences, options, &closing, steering);
     let closing = if is_steered { Some(&closing) } else { None };
-    let ends = serve_accepted(
-        rt, alloc, &desk, users, listener, options, closing, keeping, sentences,
+    let ends = serve_connections(
+        rt,
+        alloc,
+        &desk,
+        users,
+        listener,
+        options.connections,
+        closing,
+        keeping,
+        sentences,
     )?;
     let sessions = ends.len().saturating_sub(1);
     let receipts = receipts_of(alloc, ends).map_err(|_| SettleFault::NoMemory)?;

@@ -1,14 +1,13 @@
 //! The broker's program.
 #![tactic(auto)]
 
-mod showing;
-
-use crate::showing::show_by;
 use arguments::{Job, Serving, arguments};
 use broker_keeping::Steering;
 use broker_server::{ServeOptions, serve};
 use commands::{Opened, check_and_explain, open_and_explain, replay_and_explain};
 use session_logins::Users;
+use session_workers::ConnectionOptions;
+use show::{explain, show_and_explain};
 use std::alloc::{AllocError, Global};
 use std::io::{BufRead, Input, Print, Read, Write};
 use std::net::{Net, TcpListener, TcpStream};
@@ -22,28 +21,23 @@ use std::{fs, io, time};
 /// The exit status of a command line that isn't understood.
 const MISUSED: u8 = 2;
 
-/// The exit status of a server that was never started, and of a script that wasn't shown to its end.
-pub(crate) const FAILED: u8 = 1;
+/// The exit status of a server that was never started.
+const FAILED: u8 = 1;
 
 /// The words of the command line as texts.
 fn texts<'a>(alloc: Global, words: &'a [String]) -> Result<Vec<&'a str>, AllocError> {
     words.iter().map(|word| word.as_str()).collect(alloc)
 }
 
-/// Says what went wrong. If that fails, nothing else does.
-pub(crate) fn explain<E: Write>(alloc: Global, errors: &mut E, what: &str, why: &str) {
-    if let Ok(text) = format!(in alloc; "kbroker: {what}: {why}\n") {
-        let _ = errors.write_all(text.as_bytes());
-    }
-}
-
 /// How connections are served, with times in place of numbers.
 fn options_of(serving: Serving<'_>) -> ServeOptions {
     ServeOptions {
-        workers: serving.workers as usize,
-        connections: serving.connections,
-        open: serving.open_seconds.map(Duration::from_secs),
-        idle: serving.idle_seconds.map(Duration::from_secs),
+        connections: ConnectionOptions {
+            workers: serving.workers as usize,
+            connections: serving.connections,
+            open: serving.open_seconds.map(Duration::from_secs),
+            idle: serving.idle_seconds.map(Duration::from_secs),
+        },
         audit: serving.audit,
     }
 }
@@ -172,7 +166,7 @@ fn main(rt: HostRuntime) -> io::Result<ExitCode> {
         Job::Replay => replay_and_explain(alloc, &mut reader, &mut writer, &mut errors),
         Job::Check => check_and_explain(alloc, &mut reader, &mut writer, &mut errors),
         Job::Show(answers) => {
-            show_by(&rt, alloc, answers, &mut reader, &mut writer, &mut errors)
+            show_and_explain(&rt, alloc, answers, &mut reader, &mut writer, &mut errors)
         }
         Job::Serve(serving) => serve_by(&rt, alloc, serving, &mut writer, errors),
     };

@@ -1,136 +1,156 @@
-//! Vectors from outside: checksums of RFC 3720, and batches that another encoder made.
+//! Vectors from outside: checksums of RFC 3720, and batches that another encoder made, in hexadecimal digits.
 
 use bytes::Bytes;
-use record_batch::{Batch, Outcome, RecordAt, crc32c};
+use record_batch::{Batch, BatchHeader, Outcome, RecordAt, crc32c};
 use std::alloc::{AllocError, Global};
-use std::process::Abort;
+use std::test::Fail;
 use wire_types::{Items, write_varint};
 
 // One record with the value `a`.
-const ONE: [u8; 69] = [
-    0, 0, 0, 0, 0, 0, 0, 0, 0, 0, 0, 57, 0, 0, 0, 0, 2, 219, 233, 200, 118, 0, 0, 0, 0, 0, 0, 0, 0,
-    0, 0, 0, 0, 0, 0, 0, 0, 0, 0, 0, 0, 0, 0, 255, 255, 255, 255, 255, 255, 255, 255, 255, 255,
-    255, 255, 255, 255, 0, 0, 0, 1, 14, 0, 0, 0, 1, 2, 97, 0,
-];
+const ONE: &str =
+    "0000000000000000000000390000000002dbe9c87600000000000000000000000000000000000000000000ffffffffff\
+    ffffffffffffffffff000000010e00000001026100";
 
 // From offset 40: the key `k`, no value, headers `h` of `v` and ff of null; no key and an empty value; an empty key
 // and the value `value`. Transactional, of producer 9 in epoch 2, from sequence 4 on, leader epoch 7.
-const RICH: [u8; 95] = [
-    0, 0, 0, 0, 0, 0, 0, 40, 0, 0, 0, 83, 0, 0, 0, 7, 2, 17, 85, 176, 145, 0, 16, 0, 0, 0, 2, 0, 0,
-    0, 0, 0, 0, 3, 232, 0, 0, 0, 0, 0, 0, 3, 237, 0, 0, 0, 0, 0, 0, 0, 9, 0, 2, 0, 0, 0, 4, 0, 0,
-    0, 3, 28, 0, 10, 0, 2, 107, 1, 4, 2, 104, 2, 118, 2, 255, 1, 12, 0, 0, 2, 1, 0, 0, 22, 0, 5, 4,
-    0, 10, 118, 97, 108, 117, 101, 0,
-];
+const RICH: &str =
+    "00000000000000280000005300000007021155b09100100000000200000000000003e800000000000003ed0000000000\
+    000009000200000004000000031c000a00026b01040268027602ff010c00000201000016000504000a76616c756500";
 
 // Producer 7 in epoch 1 at the moment 1000.
-const COMMIT: [u8; 78] = [
-    0, 0, 0, 0, 0, 0, 0, 0, 0, 0, 0, 66, 0, 0, 0, 0, 2, 210, 94, 20, 49, 0, 48, 0, 0, 0, 0, 0, 0,
-    0, 0, 0, 0, 3, 232, 0, 0, 0, 0, 0, 0, 3, 232, 0, 0, 0, 0, 0, 0, 0, 7, 0, 1, 255, 255, 255, 255,
-    0, 0, 0, 1, 32, 0, 0, 0, 8, 0, 0, 0, 1, 12, 0, 0, 0, 0, 0, 0, 0,
-];
+const COMMIT: &str =
+    "0000000000000000000000420000000002d25e143100300000000000000000000003e800000000000003e80000000000\
+    0000070001ffffffff000000012000000008000000010c00000000000000";
 
-const ABORT: [u8; 78] = [
-    0, 0, 0, 0, 0, 0, 0, 0, 0, 0, 0, 66, 0, 0, 0, 0, 2, 38, 96, 194, 121, 0, 48, 0, 0, 0, 0, 0, 0,
-    0, 0, 0, 0, 3, 232, 0, 0, 0, 0, 0, 0, 3, 232, 0, 0, 0, 0, 0, 0, 0, 7, 0, 1, 255, 255, 255, 255,
-    0, 0, 0, 1, 32, 0, 0, 0, 8, 0, 0, 0, 0, 12, 0, 0, 0, 0, 0, 0, 0,
-];
+const ABORT: &str =
+    "00000000000000000000004200000000022660c27900300000000000000000000003e800000000000003e80000000000\
+    0000070001ffffffff000000012000000008000000000c00000000000000";
 
-/// The batch that the bytes are.
-fn batch_of(rt: &impl Abort, alloc: Global, bytes: &[u8]) -> Batch {
-    let bytes = Bytes::copy_from_slice(alloc, bytes).expect(rt, "memory");
-    Batch::check(bytes, 1_000).expect(rt, "a batch")
+// The header of 1,000 records.
+const THOUSAND: &str =
+    "0000000000000000000023190000000002a71c3b260000000003e700000000000000000000000000000000ffffffffff\
+    ffffffffffffffffff000003e8";
+
+/// 32 bytes of each kind.
+const ZEROS: &str = "0000000000000000000000000000000000000000000000000000000000000000";
+
+const ONES: &str = "ffffffffffffffffffffffffffffffffffffffffffffffffffffffffffffffff";
+
+const ASCENDING: &str = "000102030405060708090a0b0c0d0e0f101112131415161718191a1b1c1d1e1f";
+
+const DESCENDING: &str = "1f1e1d1c1b1a191817161514131211100f0e0d0c0b0a09080706050403020100";
+
+#[test]
+fn known_checksums(rt: HostRuntime) -> Result<(), Fail> {
+    for (digits, checksum) in [
+        ("313233343536373839", 0xe306_9283),
+        ("", 0),
+        (ZEROS, 0x8a91_36aa),
+        (ONES, 0x62a8_ab43),
+        (ASCENDING, 0x46dd_794e),
+        (DESCENDING, 0x113f_db5c),
+    ] {
+        let bytes = hex::decode(rt.alloc(), digits)?;
+        assert_eq!(rt; crc32c(bytes.as_slice()), checksum, "{digits}");
+    }
+    Ok(())
 }
 
-/// The marker of producer 7 in epoch 1 at the moment 1000.
-fn marker_of(rt: &impl Abort, alloc: Global, outcome: Outcome) -> Batch {
-    Batch::control(alloc, outcome, 7, 1, 1_000).expect(rt, "memory")
-}
-
-fn is_text(bytes: &Option<Bytes>, text: &[u8]) -> bool {
-    match bytes {
-        Some(bytes) => bytes.as_slice() == text,
-        None => false,
+/// The batch that the digits are.
+fn batch_of(alloc: Global, digits: &str) -> Result<Batch, Fail> {
+    let bytes = Bytes::from_vec(hex::decode(alloc, digits)?)?;
+    match Batch::check(bytes, 10_000) {
+        Ok(batch) => Ok(batch),
+        Err(_) => Err(Fail::from("no batch")),
     }
 }
 
 #[test]
-fn known_checksums(rt: HostRuntime) {
-    let mut ascending = [0; 32];
-    let mut descending = [0; 32];
-    for i in 0..32u8 {
-        ascending[i as usize] = i;
-        descending[i as usize] = 31 - i;
-    }
-    assert_eq!(rt; crc32c(b"123456789"), 0xe306_9283);
-    assert_eq!(rt; crc32c(b""), 0);
-    assert_eq!(rt; crc32c(&[0; 32]), 0x8a91_36aa);
-    assert_eq!(rt; crc32c(&[255; 32]), 0x62a8_ab43);
-    assert_eq!(rt; crc32c(&ascending), 0x46dd_794e);
-    assert_eq!(rt; crc32c(&descending), 0x113f_db5c);
-}
-
-#[test]
-fn one_record(rt: HostRuntime) {
-    let batch = batch_of(&rt, rt.alloc(), &ONE);
-    assert_eq!(rt; batch.batch_length(), 57);
-    assert_eq!(rt; batch.magic(), 2);
-    assert_eq!(rt; batch.crc(), 0xdbe9_c876);
-    assert_eq!(rt; batch.attributes(), 0);
-    assert_eq!(rt; batch.producer_id(), -1);
-    assert_eq!(rt; batch.record_count(), 1);
-    assert!(rt; !batch.is_control());
-    assert!(rt; !batch.is_transactional());
-    assert_eq!(rt; batch.marker(), None);
-}
-
-#[test]
-fn fields(rt: HostRuntime) {
-    let batch = batch_of(&rt, rt.alloc(), &RICH);
-    assert_eq!(rt; batch.base_offset(), 40);
-    assert_eq!(rt; batch.partition_leader_epoch(), 7);
-    assert_eq!(rt; batch.last_offset_delta(), 2);
-    assert_eq!(rt; batch.base_timestamp(), 1000);
-    assert_eq!(rt; batch.max_timestamp(), 1005);
-    assert_eq!(rt; batch.producer_epoch(), 2);
-    assert_eq!(rt; batch.base_sequence(), 4);
-    assert!(rt; batch.is_transactional());
-}
-
-fn recs_of(alloc: Global, bytes: &[u8]) -> Result<Items<RecordAt>, AllocError> {
-    let bytes = Bytes::copy_from_slice(alloc, bytes)?;
-    let Ok(batch) = Batch::check(bytes, 10_000) else {
-        return Ok(Items::new(alloc));
+fn fields(rt: HostRuntime) -> Result<(), Fail> {
+    let one = batch_of(rt.alloc(), ONE)?;
+    let of_one = BatchHeader {
+        base_offset: 0,
+        batch_length: 57,
+        partition_leader_epoch: 0,
+        magic: 2,
+        crc: 0xdbe9_c876,
+        attributes: 0,
+        last_offset_delta: 0,
+        base_timestamp: 0,
+        max_timestamp: 0,
+        producer_id: -1,
+        producer_epoch: -1,
+        base_sequence: -1,
+        record_count: 1,
     };
-    if !batch.has_offsets() {
-        return Ok(Items::new(alloc));
+    assert_eq!(rt; *one.header(), of_one);
+    let rich = batch_of(rt.alloc(), RICH)?;
+    let of_rich = BatchHeader {
+        base_offset: 40,
+        batch_length: 83,
+        partition_leader_epoch: 7,
+        magic: 2,
+        crc: 0x1155_b091,
+        attributes: 16,
+        last_offset_delta: 2,
+        base_timestamp: 1_000,
+        max_timestamp: 1_005,
+        producer_id: 9,
+        producer_epoch: 2,
+        base_sequence: 4,
+        record_count: 3,
+    };
+    assert_eq!(rt; *rich.header(), of_rich);
+    Ok(())
+}
+
+fn records_of(alloc: Global, batch: &Batch) -> Result<Items<RecordAt>, AllocError> {
+    if batch.has_offsets() {
+        batch.recs(alloc)
+    } else {
+        Ok(Items::new(alloc))
     }
-    batch.share()?.recs(alloc)
+}
+
+/// Offset, time behind the batch's, key, value, and how many headers.
+type Told<'a> = (i64, i64, Option<&'a [u8]>, Option<&'a [u8]>, usize);
+
+fn slice_of(bytes: &Option<Bytes>) -> Option<&[u8]> {
+    match bytes {
+        Some(bytes) => Some(bytes.as_slice()),
+        None => None,
+    }
+}
+
+fn told(record: &RecordAt) -> Told<'_> {
+    let rec = &record.rec;
+    (
+        record.offset,
+        rec.timestamp_delta,
+        slice_of(&rec.key),
+        slice_of(&rec.value),
+        rec.headers.len(),
+    )
 }
 
 #[test]
-fn three_records(rt: HostRuntime) {
-    let recs = recs_of(rt.alloc(), &RICH).expect(&rt, "memory");
-    match recs.as_slice() {
-        [first, second, third] => {
-            assert_eq!(rt; first.offset, 40);
-            assert!(rt; is_text(&first.rec.key, b"k"));
-            assert!(rt; first.rec.value.is_none());
-            assert_eq!(rt; first.rec.headers.len(), 2);
-            assert!(rt; second.rec.key.is_none());
-            assert!(rt; is_text(&second.rec.value, b""));
-            assert_eq!(rt; third.offset, 42);
-            assert_eq!(rt; third.rec.timestamp_delta, -3);
-            assert!(rt; is_text(&third.rec.value, b"value"));
-        }
-        _ => assert!(rt; false),
+fn three_records(rt: HostRuntime) -> Result<(), Fail> {
+    let records = records_of(rt.alloc(), &batch_of(rt.alloc(), RICH)?)?;
+    let wanted: [Told<'_>; 3] = [
+        (40, 0, Some(b"k"), None, 2),
+        (41, 6, None, Some(b""), 0),
+        (42, -3, Some(b""), Some(b"value"), 0),
+    ];
+    assert_eq!(rt; records.len(), 3);
+    for (record, wanted) in records.iter().zip(wanted) {
+        assert!(rt; told(record) == wanted);
     }
+    Ok(())
 }
 
 // 1,000 records of the value `x` each, as another encoder has them but for the numbers, which are written here.
-fn thousand(alloc: Global) -> Result<Vec<u8>, AllocError> {
-    let mut out = Vec::new(alloc);
-    out.extend_from_slice(&ONE)?;
-    out.truncate(61);
+fn thousand(alloc: Global) -> Result<Vec<u8>, Fail> {
+    let mut out = hex::decode(alloc, THOUSAND)?;
     for place in 0..1_000i32 {
         let longer = if place < 64 { 0 } else { 1 };
         write_varint(&mut out, 7 + longer)?;
@@ -138,33 +158,29 @@ fn thousand(alloc: Global) -> Result<Vec<u8>, AllocError> {
         write_varint(&mut out, place)?;
         out.extend_from_slice(&[1, 2, 120, 0])?;
     }
-    for (at, number) in [(8, 8985), (17, 0xa71c_3b26), (23, 999), (57, 1_000u32)] {
-        for (i, byte) in number.to_be_bytes().iter().enumerate() {
-            if let Some(place) = out.get_mut(at + i) {
-                *place = *byte;
-            }
-        }
-    }
     Ok(out)
 }
 
 #[test]
-fn thousand_records(rt: HostRuntime) {
-    let bytes = thousand(rt.alloc()).expect(&rt, "memory");
-    let recs = recs_of(rt.alloc(), bytes.as_slice()).expect(&rt, "memory");
-    assert_eq!(rt; recs.len(), 1_000);
-    match recs.get(999) {
-        Some(last) => assert_eq!(rt; last.offset, 999),
-        None => assert!(rt; false),
-    }
+fn thousand_records(rt: HostRuntime) -> Result<(), Fail> {
+    let bytes = Bytes::from_vec(thousand(rt.alloc())?)?;
+    let Ok(batch) = Batch::check(bytes, 10_000) else {
+        return Err(Fail::from("no batch"));
+    };
+    let records = records_of(rt.alloc(), &batch)?;
+    assert_eq!(rt; records.len(), 1_000);
+    assert_eq!(rt; records.get(999).map(|last| last.offset), Some(999));
+    Ok(())
 }
 
+/// Of producer 7 in epoch 1 at the moment 1000.
 #[test]
-fn markers(rt: HostRuntime) {
-    let commit = marker_of(&rt, rt.alloc(), Outcome::Commit);
-    let abort = marker_of(&rt, rt.alloc(), Outcome::Abort);
-    assert_eq!(rt; commit.bytes().as_slice(), COMMIT.as_slice());
-    assert_eq!(rt; abort.bytes().as_slice(), ABORT.as_slice());
-    assert_eq!(rt; commit.marker(), Some(Outcome::Commit));
-    assert_eq!(rt; abort.marker(), Some(Outcome::Abort));
+fn markers(rt: HostRuntime) -> Result<(), Fail> {
+    for (outcome, digits) in [(Outcome::Commit, COMMIT), (Outcome::Abort, ABORT)] {
+        let marker = Batch::control(rt.alloc(), outcome, 7, 1, 1_000)?;
+        let bytes = hex::decode(rt.alloc(), digits)?;
+        assert!(rt; marker.bytes().as_slice() == bytes.as_slice());
+        assert_eq!(rt; marker.marker(), Some(outcome));
+    }
+    Ok(())
 }

@@ -4,12 +4,13 @@ use wire_types::ErrorCode;
 
 #[test]
 fn code_numbers(rt: HostRuntime) {
-    assert_eq!(rt; ErrorCode::None.number(), 0);
     assert_eq!(rt; ErrorCode::ProducerFenced.number(), 90);
-    assert_eq!(rt;
-        ErrorCode::of_number(3),
-        Some(ErrorCode::UnknownTopicOrPartition)
-    );
-    assert_eq!(rt; ErrorCode::of_number(4), None);
-    assert_eq!(rt; ErrorCode::of_number(-1), None);
+    for (number, code) in [
+        (0, Some(ErrorCode::None)),
+        (3, Some(ErrorCode::UnknownTopicOrPartition)),
+        (4, None),
+        (-1, None),
+    ] {
+        assert_eq!(rt; ErrorCode::of_number(number), code);
+    }
 }

@@ -41,39 +41,36 @@ fn is_silent(alloc: Global, reply: Reply) -> Option<bool> {
 
 #[test]
 fn silent_replies(rt: HostRuntime) {
+    let alloc = rt.alloc();
     let produced = ProduceReply {
-        topics: Items::new(rt.alloc()),
+        topics: Items::new(alloc),
         throttle: 0,
     };
-    assert_eq!(rt;
-        is_silent(rt.alloc(), Reply::SilentProduce(produced)),
-        Some(true)
-    );
-    assert_eq!(rt;
-        is_silent(rt.alloc(), Reply::Marked { left: 2 }),
-        Some(true)
-    );
-    assert_eq!(rt; is_silent(rt.alloc(), Reply::Idle), Some(true));
-    assert_eq!(rt;
-        is_silent(rt.alloc(), Reply::Ticked { left: 3 }),
-        Some(true)
-    );
+    assert!(rt; is_silent(alloc, Reply::SilentProduce(produced)) == Some(true));
+    assert!(rt; is_silent(alloc, Reply::Marked { left: 2 }) == Some(true));
+    assert!(rt; is_silent(alloc, Reply::Idle) == Some(true));
+    assert!(rt; is_silent(alloc, Reply::Ticked { left: 3 }) == Some(true));
 }
 
 #[test]
 fn apis(rt: HostRuntime) {
-    assert_eq!(rt; Api::of(3, 1), Some(Api::Metadata));
-    assert_eq!(rt; Api::of(3, 0), None);
-    assert_eq!(rt; Api::of(1, 3), None);
-    assert_eq!(rt; Api::of(1, 4), Some(Api::Fetch));
-    assert_eq!(rt; Api::of(25, 0), Some(Api::AddOffsetsToTxn));
-    assert_eq!(rt; Api::of(25, 1), None);
-    assert_eq!(rt; Api::of(27, 0), None);
-    assert_eq!(rt; Api::of(18, 0), Some(Api::ApiVersions));
-    assert_eq!(rt; Api::of(18, 3), None);
-    assert_eq!(rt; Api::of(28, 2), None);
-    assert_eq!(rt; Api::of(28, 3), Some(Api::TxnOffsetCommit));
-    assert_eq!(rt; (Api::Metadata.key(), Api::Metadata.version()), (3, 1));
+    for (key, version, api) in [
+        (3, 1, Some(Api::Metadata)),
+        (3, 0, None),
+        (1, 3, None),
+        (1, 4, Some(Api::Fetch)),
+        (25, 0, Some(Api::AddOffsetsToTxn)),
+        (25, 1, None),
+        (27, 0, None),
+        (18, 0, Some(Api::ApiVersions)),
+        (18, 3, None),
+        (28, 2, None),
+        (28, 3, Some(Api::TxnOffsetCommit)),
+    ] {
+        assert_eq!(rt; Api::of(key, version), api, "{key} {version}");
+    }
+    assert_eq!(rt; Api::Metadata.key(), 3);
+    assert_eq!(rt; Api::Metadata.version(), 1);
 }
 
 #[test]

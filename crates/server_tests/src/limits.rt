@@ -1,24 +1,44 @@
 //! How many frames are served, and how long they may be.
 
-use session_clients::{HANDSHAKE, LOGIN, METADATA, bytes_of, serve};
+ghost use Rattle.std.specs.Prelude.{◌≤◌};
+ghost use Rattle.msg_admin.specs.declared.request.TheConstants.{FRAME_LIMIT as LIMIT};
+
+use crate::clients::{End, HANDSHAKE, LOGIN, METADATA, bytes_of, serve};
 use session_pool::{Limits, Why};
+use std::alloc::Global;
+use std::sync::Wait;
 use std::test::Fail;
+
+/// How a session ends that may be asked so much.
+fn end_of<R: Wait + Drop>(
+    rt: R,
+    alloc: Global,
+    frames: &[&str],
+    limits: Limits,
+) -> Result<End, Fail>
+    requires { limits.frame ≤ LIMIT }
+{
+    let input = bytes_of(alloc, frames)?;
+    let mut written = Vec::new(alloc);
+    serve(rt, alloc, input.as_slice(), &mut written, limits)
+}
 
 /// As many frames are served as the limit says, and the input isn't looked at behind them.
 #[test]
 fn as_many_frames_as_are_served(rt: HostRuntime) -> Result<(), Fail> {
-    let alloc = rt.alloc();
-    let input = bytes_of(alloc, &[HANDSHAKE, LOGIN, METADATA])?;
     for frames in 0..5u64 {
         let limits = Limits {
             frame: 8_192,
             frames,
         };
-        let mut written = Vec::new(alloc);
-        let end = serve(rt, alloc, input.as_slice(), &mut written, limits)?;
-        assert!(rt; end.why == if frames < 4 { Why::Limit } else { Why::Closed });
-        assert_eq!(rt; end.receipts, usize::from(frames > 2));
-        assert_eq!(rt; end.count, u64::from(frames > 2));
+        let end = end_of(rt, rt.alloc(), &[HANDSHAKE, LOGIN, METADATA], limits)?;
+        let why = if frames < 4 { Why::Limit } else { Why::Closed };
+        let asked = u64::from(frames > 2);
+        assert!(rt; end.why == why, "{frames}");
+        assert!(rt;
+            end.receipts as u64 == asked && end.count == asked,
+            "{frames}"
+        );
     }
     Ok(())
 }
@@ -26,20 +46,14 @@ fn as_many_frames_as_are_served(rt: HostRuntime) -> Result<(), Fail> {
 /// A frame as long as the limit is served.
 #[test]
 fn the_longest_frame(rt: HostRuntime) -> Result<(), Fail> {
-    let alloc = rt.alloc();
-    let input = bytes_of(alloc, &[HANDSHAKE])?;
     for frame in 15..19u32 {
-        let limits = Limits { frame, frames: 1 };
-        let mut written = Vec::new(alloc);
-        let end = serve(rt, alloc, input.as_slice(), &mut written, limits)?;
-        assert!(rt;
-            end.why
-                == if frame < 17 {
-                    Why::BadFrame
-                } else {
-                    Why::Limit
-                }
-        );
+        let end = end_of(rt, rt.alloc(), &[HANDSHAKE], Limits { frame, frames: 1 })?;
+        let why = if frame < 17 {
+            Why::BadFrame
+        } else {
+            Why::Limit
+        };
+        assert!(rt; end.why == why, "{frame}");
     }
     Ok(())
 }
@@ -47,7 +61,6 @@ fn the_longest_frame(rt: HostRuntime) -> Result<(), Fail> {
 #[test]
 fn what_is_served_by_default(rt: HostRuntime) -> Result<(), Fail> {
     let limits = Limits::default();
-    assert_eq!(rt; limits.frame, 104_857_600);
-    assert_eq!(rt; limits.frames, 1_000_000);
+    assert!(rt; limits.frame == 104_857_600 && limits.frames == 1_000_000);
     Ok(())
 }

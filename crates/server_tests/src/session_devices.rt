@@ -2,12 +2,14 @@
 
 ghost use Rattle.std.specs.Prelude.{None};
 
-use session_clients::{
+use crate::clients::{
     HANDSHAKE, HANDSHAKE_TOLD, LOGIN, LOGIN_TOLD, METADATA, METADATA_TOLD, bytes_of, serve,
 };
 use session_pool::{Limits, Why};
+use std::alloc::Global;
 use std::io;
 use std::io::{ErrorKind, Read, Write};
+use std::sync::Wait;
 use std::sync::atomic::{AtomicU64, Ordering};
 use std::test::Fail;
 
@@ -18,6 +20,17 @@ struct Slow<'a> {
     interruptions: u32,
     interrupted: u32,
     reads: usize,
+}
+
+impl<'a> Slow<'a> {
+    fn new(bytes: &'a [u8], interruptions: u32, reads: usize) -> Slow<'a> {
+        Slow {
+            bytes,
+            interruptions,
+            interrupted: 0,
+            reads,
+        }
+    }
 }
 
 impl Read for Slow<'_> {
@@ -92,49 +105,52 @@ impl Write for Counting {
     }
 }
 
+/// Why a session ended over a reader, and what it wrote.
+fn told<R: Wait + Drop, Rd: Read + Drop>(
+    rt: R,
+    alloc: Global,
+    reader: Rd,
+) -> Result<(Why, Vec<u8>), Fail> {
+    let mut written = Vec::new(alloc);
+    let end = serve(rt, alloc, reader, &mut written, Limits::default())?;
+    Ok((end.why, written))
+}
+
+/// The same, with how many bytes it wrote.
+fn count<R: Wait + Drop, Rd: Read + Drop>(
+    rt: R,
+    alloc: Global,
+    reader: Rd,
+) -> Result<(Why, usize), Fail> {
+    let (why, written) = told(rt, alloc, reader)?;
+    Ok((why, written.len()))
+}
+
 #[test]
 fn one_byte_at_a_time(rt: HostRuntime) -> Result<(), Fail> {
-    let alloc = rt.alloc();
-    let input = bytes_of(alloc, &[HANDSHAKE, LOGIN, METADATA])?;
-    let mut at_once = Vec::new(alloc);
-    let first = serve(rt, alloc, input.as_slice(), &mut at_once, Limits::default())?;
-    let slow = Slow {
-        bytes: input.as_slice(),
-        interruptions: 1,
-        interrupted: 0,
-        reads: usize::MAX,
-    };
-    let mut slowly = Vec::new(alloc);
-    let second = serve(rt, alloc, slow, &mut slowly, Limits::default())?;
-    assert!(rt; first == second);
-    assert!(rt; at_once == slowly);
-    assert_eq!(rt; at_once.len(), 21 + 16 + 69);
+    let input = bytes_of(rt.alloc(), &[HANDSHAKE, LOGIN, METADATA])?;
+    let at_once = told(rt, rt.alloc(), input.as_slice())?;
+    let slow = Slow::new(input.as_slice(), 1, usize::MAX);
+    assert!(rt; told(rt, rt.alloc(), slow)? == at_once);
+    assert_eq!(rt; at_once.1.len(), 21 + 16 + 69);
     Ok(())
 }
 
 /// Each read fails in turn: what came before is answered.
 #[test]
 fn failing_reads(rt: HostRuntime) -> Result<(), Fail> {
-    let alloc = rt.alloc();
-    let input = bytes_of(alloc, &[HANDSHAKE, LOGIN])?;
+    let input = bytes_of(rt.alloc(), &[HANDSHAKE, LOGIN])?;
     for reads in 0..input.len() + 1 {
-        let slow = Slow {
-            bytes: input.as_slice(),
-            interruptions: 0,
-            interrupted: 0,
-            reads,
+        let answered = match reads {
+            0..=20 => 0,
+            21..=45 => 21,
+            _ => 37,
         };
-        let mut written = Vec::new(alloc);
-        let end = serve(rt, alloc, slow, &mut written, Limits::default())?;
-        assert!(rt; end.why == Why::ReadFault);
-        let answered = if reads < 21 {
-            0
-        } else if reads < 46 {
-            21
-        } else {
-            37
-        };
-        assert_eq!(rt; written.len(), answered);
+        let slow = Slow::new(input.as_slice(), 0, reads);
+        assert!(rt;
+            count(rt, rt.alloc(), slow)? == (Why::ReadFault, answered),
+            "{reads}"
+        );
     }
     Ok(())
 }
@@ -142,46 +158,39 @@ fn failing_reads(rt: HostRuntime) -> Result<(), Fail> {
 /// A thousand interruptions in a row are none; one more is a fault.
 #[test]
 fn interrupted_reads(rt: HostRuntime) -> Result<(), Fail> {
-    let alloc = rt.alloc();
-    let input = bytes_of(alloc, &[HANDSHAKE])?;
-    for interruptions in 1_000..1_002u32 {
-        let slow = Slow {
-            bytes: input.as_slice(),
-            interruptions,
-            interrupted: 0,
-            reads: usize::MAX,
-        };
-        let mut written = Vec::new(alloc);
-        let end = serve(rt, alloc, slow, &mut written, Limits::default())?;
-        assert!(rt;
-            end.why
-                == if interruptions == 1_000 {
-                    Why::Closed
-                } else {
-                    Why::ReadFault
-                }
-        );
+    let input = bytes_of(rt.alloc(), &[HANDSHAKE])?;
+    for (interruptions, why) in [(1_000, Why::Closed), (1_001, Why::ReadFault)] {
+        let slow = Slow::new(input.as_slice(), interruptions, usize::MAX);
+        assert!(rt; count(rt, rt.alloc(), slow)?.0 == why, "{interruptions}");
     }
     Ok(())
+}
+
+/// How a session ends whose writer takes so many writes, and what it takes.
+fn cut_off<R: Wait + Drop>(
+    rt: R,
+    alloc: Global,
+    input: &[u8],
+    writes: usize,
+) -> Result<(Why, usize, Vec<u8>), Fail> {
+    let mut narrow = Narrow {
+        held: Vec::new(alloc),
+        writes,
+    };
+    let end = serve(rt, alloc, input, &mut narrow, Limits::default())?;
+    Ok((end.why, end.receipts, narrow.held))
 }
 
 /// Each write fails in turn: the answers' front is written, and the receipt is kept where its event was answered.
 #[test]
 fn failing_writes(rt: HostRuntime) -> Result<(), Fail> {
-    let alloc = rt.alloc();
-    let input = bytes_of(alloc, &[HANDSHAKE, LOGIN, METADATA])?;
-    let mut whole = Vec::new(alloc);
-    let full = serve(rt, alloc, input.as_slice(), &mut whole, Limits::default())?;
-    assert!(rt; full.why == Why::Closed);
+    let input = bytes_of(rt.alloc(), &[HANDSHAKE, LOGIN, METADATA])?;
+    let whole = bytes_of(rt.alloc(), &[HANDSHAKE_TOLD, LOGIN_TOLD, METADATA_TOLD])?;
     for writes in 0..whole.len() {
-        let mut narrow = Narrow {
-            held: Vec::new(alloc),
-            writes,
-        };
-        let end = serve(rt, alloc, input.as_slice(), &mut narrow, Limits::default())?;
-        assert!(rt; end.why == Why::WriteFault);
-        assert_eq!(rt; end.receipts, usize::from(writes >= 37));
-        assert!(rt; narrow.held.as_slice() == &whole[..writes]);
+        let (why, receipts, held) = cut_off(rt, rt.alloc(), input.as_slice(), writes)?;
+        assert!(rt; why == Why::WriteFault, "{writes}");
+        assert!(rt; receipts == usize::from(writes >= 37), "{writes}");
+        assert!(rt; held.as_slice() == &whole[..writes], "{writes}");
     }
     Ok(())
 }
@@ -189,13 +198,10 @@ fn failing_writes(rt: HostRuntime) -> Result<(), Fail> {
 /// Each front of an input ends between frames or inside one, and the whole frames before are answered.
 #[test]
 fn each_front_of_an_input(rt: HostRuntime) -> Result<(), Fail> {
-    let alloc = rt.alloc();
-    let input = bytes_of(alloc, &[HANDSHAKE, LOGIN, METADATA])?;
-    let whole = bytes_of(alloc, &[HANDSHAKE_TOLD, LOGIN_TOLD, METADATA_TOLD])?;
+    let input = bytes_of(rt.alloc(), &[HANDSHAKE, LOGIN, METADATA])?;
+    let whole = bytes_of(rt.alloc(), &[HANDSHAKE_TOLD, LOGIN_TOLD, METADATA_TOLD])?;
     for len in 0..input.len() {
-        let mut written = Vec::new(alloc);
-        let end = serve(rt, alloc, &input[..len], &mut written, Limits::default())?;
-        let (why, answered) = match len {
+        let (due, answered) = match len {
             0 => (Why::Closed, 0),
             1..=20 => (Why::Cut, 0),
             21 => (Why::Closed, 21),
@@ -203,62 +209,54 @@ fn each_front_of_an_input(rt: HostRuntime) -> Result<(), Fail> {
             46 => (Why::Closed, 37),
             _ => (Why::Cut, 37),
         };
-        assert!(rt; end.why == why, "{len}");
-        assert!(rt; written.len() == answered, "{len}");
+        let (why, written) = told(rt, rt.alloc(), &input[..len])?;
+        assert!(rt; why == due && written.len() == answered, "{len}");
         assert!(rt; whole.as_slice().starts_with(written.as_slice()), "{len}");
     }
     Ok(())
 }
 
+/// Why a session ended, and how many reads it made.
+fn reads_of<R: Wait + Drop>(rt: R, alloc: Global, bytes: &[u8]) -> Result<(Why, u64), Fail> {
+    let reads = AtomicU64::new(0);
+    let counted = Counted {
+        bytes,
+        reads: &reads,
+    };
+    let (why, _) = count(rt, alloc, counted)?;
+    Ok((why, reads.load(Ordering::SeqCst)))
+}
+
 /// Room is made for as much as has come, so a long frame comes in few reads.
 #[test]
 fn a_long_frame_in_few_reads(rt: HostRuntime) -> Result<(), Fail> {
-    let alloc = rt.alloc();
-    let mut input = bytes_of(alloc, &["000f4240"])?;
+    let mut input = bytes_of(rt.alloc(), &["000f4240"])?;
     input.resize(4 + 1_000_000, 0)?;
-    let reads = AtomicU64::new(0);
-    let counted = Counted {
-        bytes: input.as_slice(),
-        reads: &reads,
-    };
-    let mut written = Vec::new(alloc);
-    let end = serve(rt, alloc, counted, &mut written, Limits::default())?;
-    assert!(rt; end.why == Why::Malformed);
-    assert!(rt; reads.load(Ordering::SeqCst) < 12);
+    let (why, reads) = reads_of(rt, rt.alloc(), input.as_slice())?;
+    assert!(rt; why == Why::Malformed && reads < 12);
     Ok(())
 }
 
 /// What comes at once is one read, and the end of the input another.
 #[test]
 fn one_read_for_many_frames(rt: HostRuntime) -> Result<(), Fail> {
-    let alloc = rt.alloc();
-    let input = bytes_of(alloc, &[HANDSHAKE, LOGIN, METADATA])?;
-    let reads = AtomicU64::new(0);
-    let counted = Counted {
-        bytes: input.as_slice(),
-        reads: &reads,
-    };
-    let mut written = Vec::new(alloc);
-    let end = serve(rt, alloc, counted, &mut written, Limits::default())?;
-    assert!(rt; end.why == Why::Closed);
-    assert_eq!(rt; reads.load(Ordering::SeqCst), 2);
+    let input = bytes_of(rt.alloc(), &[HANDSHAKE, LOGIN, METADATA])?;
+    assert!(rt; reads_of(rt, rt.alloc(), input.as_slice())? == (Why::Closed, 2));
     Ok(())
 }
 
 /// Each answer is one write.
 #[test]
 fn one_write_for_each_answer(rt: HostRuntime) -> Result<(), Fail> {
-    let alloc = rt.alloc();
-    let input = bytes_of(alloc, &[HANDSHAKE, LOGIN, METADATA])?;
+    let input = bytes_of(rt.alloc(), &[HANDSHAKE, LOGIN, METADATA])?;
     let mut counting = Counting { writes: 0 };
     let end = serve(
         rt,
-        alloc,
+        rt.alloc(),
         input.as_slice(),
         &mut counting,
         Limits::default(),
     )?;
-    assert!(rt; end.why == Why::Closed);
-    assert_eq!(rt; counting.writes, 3);
+    assert!(rt; end.why == Why::Closed && counting.writes == 3);
     Ok(())
 }

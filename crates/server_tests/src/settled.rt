@@ -5,7 +5,7 @@ ghost use Rattle.request_handlers.specs.Seats.{most_seats};
 
 use crate::talk::{METADATA, core, event_of, other_core};
 use audit_trail::Event;
-use request_handlers::{Core, MOST_SEATS, Receipt};
+use request_handlers::{Core, MOST_SEATS, Receipt, Stop};
 use session_pool::{Desk, LockedDesk, Quiet};
 use settlement::{SettleFault, Settled, settle};
 use std::alloc::Global;
@@ -22,6 +22,18 @@ struct Books<L: Ledger> {
     two: Vec<Receipt>,
 }
 
+/// Two receipts of one end.
+fn receipts_of(
+    alloc: Global,
+    first: Result<Receipt, Stop>,
+    second: Result<Receipt, Stop>,
+) -> Result<Vec<Receipt>, Fail> {
+    match (first, second) {
+        (Ok(first), Ok(second)) => Ok(vec![in alloc; first, second]?),
+        _ => Err(Fail::from("receipts")),
+    }
+}
+
 /// Two seats take turns: ann asks for all topics, two ticks are told, and a marker is to be written.
 fn keep_books<L: Ledger, R: Wait + Drop>(
     rt: R,
@@ -32,18 +44,20 @@ fn keep_books<L: Ledger, R: Wait + Drop>(
     requires empty { core.trail ≡ [] }
     requires ledger { (blank.name ≡ L.name) × (blank.parts ≡ L.parts) × (blank.parts ≡ most_seats + 1) }
 {
-    let desk: LockedDesk<L, R> = LockedDesk::new(core, blank, rt);
-    let one = desk.seat().ok_or("seat")?;
-    let two = desk.seat().ok_or("seat")?;
     let asked = event_of(alloc, METADATA).ok_or("event")?;
+    let desk: LockedDesk<L, R> = LockedDesk::new(core, blank, rt);
+    let (Some(one), Some(two)) = (desk.seat(), desk.seat()) else {
+        return Err(Fail::from("seats"));
+    };
     let (one, first) = desk.submit(one, asked);
     let (two, second) = desk.submit(two, Event::Tick(5));
     let (_, third) = desk.submit(one, Event::Mark);
     let (_, fourth) = desk.submit(two, Event::Tick(6));
+    let quiet = desk.close();
     Ok(Books {
-        quiet: desk.close(),
-        one: vec![in alloc; first.ok().ok_or("first")?, third.ok().ok_or("third")?]?,
-        two: vec![in alloc; second.ok().ok_or("second")?, fourth.ok().ok_or("fourth")?]?,
+        quiet,
+        one: receipts_of(alloc, first, third)?,
+        two: receipts_of(alloc, second, fourth)?,
     })
 }
 
@@ -84,25 +98,20 @@ fn settle_each_at<L: Ledger, R: Wait + Drop + Copy>(
 ) -> Result<Settling, Fail>
     requires ledger { (blank.name ≡ L.name) × (blank.parts ≡ L.parts) × (blank.parts ≡ most_seats + 1) }
 {
+    let equal = first_receipts(rt, alloc, core(alloc).ok_or("core")?)?;
+    let another = first_receipts(rt, alloc, other_core(alloc).ok_or("core")?)?;
     let Books { quiet, one, two } = keep_books::<L, R>(
         rt,
         alloc,
         core(alloc).ok_or("core")?,
         blank,
     )?;
-    let mut ends = vec![in alloc; one]?;
-    let of_one = settle(alloc, &quiet, ends.as_slice());
-    ends.push(two)?;
-    let of_both = settle(alloc, &quiet, ends.as_slice());
-    ends.push(first_receipts(rt, alloc, core(alloc).ok_or("core")?)?)?;
-    let with_an_equal_desk = settle(alloc, &quiet, ends.as_slice());
-    ends.push(first_receipts(rt, alloc, other_core(alloc).ok_or("core")?)?)?;
-    let with_another_desk = settle(alloc, &quiet, ends.as_slice());
+    let ends = vec![in alloc; one, two, equal, another]?;
     Ok(Settling {
-        of_both,
-        of_one,
-        with_an_equal_desk,
-        with_another_desk,
+        of_one: settle(alloc, &quiet, &ends[..1]),
+        of_both: settle(alloc, &quiet, &ends[..2]),
+        with_an_equal_desk: settle(alloc, &quiet, &ends[..3]),
+        with_another_desk: settle(alloc, &quiet, ends.as_slice()),
     })
 }
 
@@ -113,13 +122,11 @@ fn settle_each<R: Wait + Drop + Copy>(rt: R, alloc: Global) -> Result<Settling, 
 #[test]
 fn receipts_of_two_ends(rt: HostRuntime) -> Result<(), Fail> {
     let told = settle_each(rt, rt.alloc())?;
-    assert!(rt;
-        told.of_both
-            == Ok(Settled {
-                events: 4,
-                refusals: 0,
-            })
-    );
+    let settled = Settled {
+        events: 4,
+        refusals: 0,
+    };
+    assert!(rt; told.of_both == Ok(settled));
     assert!(rt; told.of_one == Err(SettleFault::Missing));
     assert!(rt; told.with_an_equal_desk == Err(SettleFault::Twice));
     assert!(rt; told.with_another_desk == Err(SettleFault::Stray));

@@ -3,15 +3,16 @@
 ghost use Rattle.std.specs.Prelude.{◌≡◌, ◌+◌};
 ghost use Rattle.request_handlers.specs.Seats.{most_seats};
 
+use crate::clients::bytes_of;
 use crate::hold::{Flags, Hold, Place, Talk};
 use crate::talk::{FETCH, HANDSHAKE, LOGIN, METADATA, PRODUCE, core, event_of, users};
+use acl_binding::Caller;
 use audit_trail::{Event, Trail};
 use crossbeam_channel::Sender;
-use keeper_steps::{Clock, Clocked};
-use request_handlers::{MOST_SEATS, Receipt};
-use session_clients::bytes_of;
+use msg_admin::Request;
+use request_handlers::{MOST_SEATS, Receipt, Seat};
 use session_logins::Users;
-use session_pool::{Limits, LockedDesk, Why};
+use session_pool::{Clock, Clocked, Limits, LockedDesk, Quiet, SessionEnd, Why};
 use session_workers::{Job, serve_all};
 use settlement::settle;
 use std::alloc::Global;
@@ -88,12 +89,63 @@ fn send<R: Wait + time::Clock + Copy>(
     Ok(())
 }
 
+/// Hands over both jobs: session 1 asks for all topics, and session 2 produces a record and fetches it.
+fn send_both<R: Wait + time::Clock + Copy>(
+    rt: R,
+    alloc: Global,
+    to: &Sender<Job<Talk<R>, Vec<u8>>>,
+    flags: &Shared<Flags>,
+    place: Place,
+) -> Result<(), Fail> {
+    let users = Shared::new(alloc, users(alloc)?).ok().ok_or("users")?;
+    let one = [HANDSHAKE, LOGIN, METADATA];
+    let two = [HANDSHAKE, LOGIN, PRODUCE, FETCH];
+    let holds = place == Place::Read;
+    send(rt, alloc, to, 1, &one, &users, flags, holds)?;
+    send(rt, alloc, to, 2, &two, &users, flags, false)
+}
+
+/// Serves two sessions by so many workers.
+fn serve_both<L: Ledger + Send + Sync, R: Threads + Wait + time::Clock + Copy + Send + Sync>(
+    rt: R,
+    alloc: Global,
+    desk: &LockedDesk<L, R>,
+    flags: &Shared<Flags>,
+    place: Place,
+    workers: usize,
+) -> Result<Vec<SessionEnd<Seat<L>>>, Fail> {
+    let gate = Hold {
+        rt,
+        flags: flags.share()?,
+        place,
+        last: 3,
+    };
+    let (to, from) = crossbeam_channel::unbounded(alloc)?;
+    send_both(rt, alloc, &to, flags, place)?;
+    drop(to);
+    let steps = Clocked::new(Ticks { rt, moment: 0 });
+    match serve_all(&rt, alloc, desk, from, workers, steps, &gate) {
+        Ok(ends) => Ok(ends),
+        Err(_) => Err(Fail::from("served")),
+    }
+}
+
+/// Whether a request is the frame's, by ann.
+fn is_told(alloc: Global, caller: &Caller, request: &Request, frame: &str) -> bool {
+    match event_of(alloc, frame) {
+        Some(Event::Ask { request: sent, .. }) => {
+            caller.who.as_str() == "User:ann" && *request == sent
+        }
+        _ => false,
+    }
+}
+
 /// Whether the requests of a trail are these frames', by ann, in this order.
-fn are_told(alloc: Global, trail: &Trail, frames: &[&str]) -> Result<bool, Fail> {
+fn are_told(alloc: Global, trail: &Trail, frames: &[&str]) -> bool {
     let mut found = 0usize;
     for place in 0..trail.len() {
         let Some(entry) = trail.entry(place) else {
-            return Ok(false);
+            return false;
         };
         if let Event::Ask {
             caller,
@@ -101,24 +153,64 @@ fn are_told(alloc: Global, trail: &Trail, frames: &[&str]) -> Result<bool, Fail>
             ..
         } = entry.event.value()
         {
-            let Some(frame) = frames.get(found) else {
-                return Ok(false);
-            };
-            match event_of(alloc, *frame) {
-                Some(Event::Ask { request: sent, .. }) => {
-                    if caller.who.as_str() != "User:ann" || *request != sent {
-                        return Ok(false);
-                    }
+            match frames.get(found) {
+                Some(frame) if is_told(alloc, caller, request, *frame) => {
+                    found = found.wrapping_add(1);
                 }
-                _ => return Ok(false),
+                _ => return false,
             }
-            found = found.wrapping_add(1);
         }
     }
-    Ok(found == frames.len())
+    found == frames.len()
 }
 
-/// Serves two sessions by so many workers.
+fn closed_in<L: Ledger>(ends: &[SessionEnd<Seat<L>>]) -> usize {
+    let mut closed = 0usize;
+    for end in ends {
+        closed = closed.wrapping_add(usize::from(end.why == Why::Closed));
+    }
+    closed
+}
+
+/// The receipts of each end, and how many they are.
+fn receipts_of<L: Ledger>(
+    alloc: Global,
+    ends: Vec<SessionEnd<Seat<L>>>,
+) -> Result<(Vec<Vec<Receipt>>, usize), Fail> {
+    let mut receipts = Vec::new(alloc);
+    let mut count = 0usize;
+    for end in ends {
+        count = count.wrapping_add(end.receipts.len());
+        receipts.push(end.receipts)?;
+    }
+    Ok((receipts, count))
+}
+
+/// What came of the sessions at a desk.
+fn came_of<L: Ledger>(
+    alloc: Global,
+    quiet: &Quiet<L>,
+    ends: Vec<SessionEnd<Seat<L>>>,
+    late: bool,
+) -> Result<Came, Fail> {
+    let closed = closed_in(ends.as_slice());
+    let (receipts, count) = receipts_of(alloc, ends)?;
+    let settled = match settle(alloc, quiet, receipts.as_slice()) {
+        Ok(settled) => Some(settled.events),
+        Err(_) => None,
+    };
+    let trail = quiet.core().trail();
+    Ok(Came {
+        ends: receipts.len(),
+        closed,
+        receipts: count,
+        entries: trail.len(),
+        settled,
+        late,
+        told: are_told(alloc, trail, &[PRODUCE, FETCH, METADATA]),
+    })
+}
+
 fn run_at<L: Ledger + Send + Sync, R: Threads + Wait + time::Clock + Copy + Send + Sync>(
     rt: R,
     alloc: Global,
@@ -128,54 +220,12 @@ fn run_at<L: Ledger + Send + Sync, R: Threads + Wait + time::Clock + Copy + Send
 ) -> Result<Came, Fail>
     requires ledger { (blank.name ≡ L.name) × (blank.parts ≡ L.parts) × (blank.parts ≡ most_seats + 1) }
 {
-    let desk: LockedDesk<L, R> = LockedDesk::new(core(alloc).ok_or("core")?, blank, rt);
     let flags = Shared::new(alloc, Flags::new()).ok().ok_or("flags")?;
-    let users = Shared::new(alloc, users(alloc)?).ok().ok_or("users")?;
-    let gate = Hold {
-        rt,
-        flags: flags.share()?,
-        place,
-        last: 3,
-    };
-    let (to, from) = crossbeam_channel::unbounded(alloc)?;
-    let one = [HANDSHAKE, LOGIN, METADATA];
-    let two = [HANDSHAKE, LOGIN, PRODUCE, FETCH];
-    send(
-        rt,
-        alloc,
-        &to,
-        1,
-        &one,
-        &users,
-        &flags,
-        place == Place::Read,
-    )?;
-    send(rt, alloc, &to, 2, &two, &users, &flags, false)?;
-    drop(to);
-    let steps = Clocked::new(Ticks { rt, moment: 0 });
-    let ends = serve_all(&rt, alloc, &desk, from, workers, steps, &gate)
-        .ok()
-        .ok_or("served")?;
-    let mut receipts: Vec<Vec<Receipt>> = Vec::new(alloc);
-    let mut closed = 0usize;
-    let mut count = 0usize;
-    for end in ends {
-        closed = closed.wrapping_add(usize::from(end.why == Why::Closed));
-        count = count.wrapping_add(end.receipts.len());
-        receipts.push(end.receipts)?;
-    }
-    let quiet = desk.close();
-    Ok(Came {
-        ends: receipts.len(),
-        closed,
-        receipts: count,
-        entries: quiet.core().trail().len(),
-        settled: settle(alloc, &quiet, receipts.as_slice())
-            .ok()
-            .map(|settled| settled.events),
-        late: flags.value().late.load(Ordering::SeqCst) != 0,
-        told: are_told(alloc, quiet.core().trail(), &[PRODUCE, FETCH, METADATA])?,
-    })
+    let core = core(alloc).ok_or("core")?;
+    let desk: LockedDesk<L, R> = LockedDesk::new(core, blank, rt);
+    let ends = serve_both(rt, alloc, &desk, &flags, place, workers)?;
+    let late = flags.value().late.load(Ordering::SeqCst) != 0;
+    came_of(alloc, &desk.close(), ends, late)
 }
 
 fn run<R: Threads + Wait + time::Clock + Copy + Send + Sync>(
@@ -191,12 +241,10 @@ fn run<R: Threads + Wait + time::Clock + Copy + Send + Sync>(
 fn a_session_goes_on_while_another_is_held(rt: HostRuntime) -> Result<(), Fail> {
     for place in [Place::Frame, Place::Read] {
         let came = run(rt, rt.alloc(), place, 2)?;
-        assert!(rt; !came.late);
-        assert_eq!(rt; came.ends, 3);
-        assert_eq!(rt; came.closed, 3);
-        assert_eq!(rt; came.receipts, came.entries);
-        assert_eq!(rt; came.settled, Some(came.entries as u64));
-        assert!(rt; came.told);
+        assert!(rt; !came.late && came.told, "{place:?}");
+        assert!(rt; came.ends == 3 && came.closed == 3, "{place:?}");
+        assert!(rt; came.receipts == came.entries, "{place:?}");
+        assert!(rt; came.settled == Some(came.entries as u64), "{place:?}");
     }
     Ok(())
 }

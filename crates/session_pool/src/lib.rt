@@ -2,8 +2,11 @@
 //!
 //! `serve_session` reads frames, keeps how far the login went in a state that each call uses up, and hands the events of a
 //! user who is known to a `Desk`. `LockedDesk` is the desk that many threads share.
+//! `Steps` tells a keeper, who asks nothing, when to have the core told the time or a marker written: by a clock (`Clocked`), or
+//! as whoever steers the broker has it.
 #![tactic(auto)]
 
+mod closing;
 mod desk;
 mod frame;
 mod gate;
@@ -12,14 +15,17 @@ mod locked;
 mod login;
 mod respond;
 mod session;
+mod steps;
 mod why;
 mod witness;
 
+pub use closing::Closing;
 pub use desk::Desk;
 pub use gate::Gate;
 pub use laws::asks_are_own;
 pub use locked::{LockedDesk, Quiet};
 pub use login::{Closed, Fresh, Known, LoginFault, Offered};
 pub use session::{Limits, SessionEnd, serve_session};
+pub use steps::{Clock, Clocked, Step, Steps};
 pub use why::Why;
 pub use witness::Witness;

@@ -5,9 +5,9 @@ use Rattle.msg_admin.specs.declared.reply.Reply.TheVariants.{Marked, Ticked}
 use Rattle.audit_trail.specs.declared.event.Event.{Event}
 use Rattle.audit_trail.specs.declared.event.Event.TheVariants.{Ask, Mark, Tick}
 use Rattle.request_handlers.specs.Seats.{SeatValue}
-use Rattle.keeper_steps.specs.declared.steps.Step.{Step}
-use Rattle.keeper_steps.specs.declared.steps.Step.TheVariants as steps
 use Rattle.session_pool.specs.declared.session.SessionEnd.{SessionEnd}
+use Rattle.session_pool.specs.declared.steps.Step.{Step}
+use Rattle.session_pool.specs.declared.steps.Step.TheVariants as steps
 
 -- a seat that was fresh has risen by the number of the end's receipts
 abbrev pub HasRisen : SessionEnd SeatValue → Type 0

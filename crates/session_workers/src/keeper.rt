@@ -4,10 +4,9 @@ ghost use Rattle.std.specs.Prelude.{◌≡◌, ◌+◌, [], vec_len, All};
 ghost use Rattle.session_workers.specs.Ends.{IsKept, IsOfKeeper, markers_left, step_event};
 
 use audit_trail::Event;
-use keeper_steps::{Step, Steps};
 use msg_admin::Reply;
 use request_handlers::{Receipt, Seat};
-use session_pool::{LockedDesk, SessionEnd, Why, Witness};
+use session_pool::{LockedDesk, SessionEnd, Step, Steps, Why, Witness};
 use std::alloc::Global;
 use std::sync::Wait;
 use std::sync::atomic::{AtomicU64, Ordering};

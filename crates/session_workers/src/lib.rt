@@ -1,13 +1,17 @@
-//! Worker threads that serve sessions, and the keeper that tells the core the time and has it write the markers it owes.
+//! Worker threads that serve sessions, those of a listener's connections among them, and the keeper that tells the core the time
+//! and has it write the markers it owes.
 //!
 //! `serve_all` starts the workers, each of which takes one job after the other from a channel and serves it at a locked desk,
 //! and keeps on the calling thread until all of them have ended. What the keeper does next it is told by its
-//! `keeper_steps::Steps`.
+//! `session_pool::Steps`.
 #![tactic(auto)]
 
+mod accept;
+mod connections;
 mod job;
 mod keeper;
 mod workers;
 
+pub use connections::{ConnectionOptions, serve_connections};
 pub use job::Job;
 pub use workers::{PoolFault, serve_all};

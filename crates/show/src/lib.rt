@@ -1,14 +1,14 @@
 //! A script in words: each request and each answer by the names of the Kafka protocol guide.
 //!
-//! `show_script` reads what `replay` reads, and lays out each line and its answer as `message_words` has them.
+//! `show_and_explain` reads what `replay` reads, and lays out each line and its answer as `message_words` has them.
 #![tactic(auto)]
 
 mod anew;
 mod answer;
+mod command;
 mod outcome;
 mod script;
 mod sent;
 mod told;
 
-pub use outcome::{ShowFault, Shown};
-pub use script::show_script;
+pub use command::{explain, show_and_explain};

@@ -1,8 +1,9 @@
 //! Arrays, tagged sections and topics.
 
+use std::alloc::Global;
 use std::test::Fail;
 use wire_types::{
-    Cursor, Items, Malformed, ReadFault, Text, Topic, Wire, flexible_topics_room,
+    Cursor, Items, Malformed, ReadFault, Text, Topic, Wire, WriteFault, flexible_topics_room,
     nullable_flexible_topics_room, read_array, read_compact_array, read_compact_nullable_array,
     read_flexible_topics, read_nullable_array, read_nullable_flexible_topics, read_varint_array,
     size, write_array, write_compact_array, write_compact_count, write_compact_nullable_array,
@@ -10,41 +11,63 @@ use wire_types::{
     write_nullable_flexible_topics, write_varint_array, write_varint_count,
 };
 
+/// Whether the items are 7 alone, or there are none.
+fn are(items: &Option<Items<i32>>, wanted: Option<i32>) -> bool {
+    match (items, wanted) {
+        (Some(items), Some(wanted)) => items.as_slice() == [wanted].as_slice(),
+        (None, None) => true,
+        _ => false,
+    }
+}
+
+fn are_arrays(alloc: Global, cursor: &mut Cursor<'_>) -> Result<bool, ReadFault> {
+    Ok(
+        are(&Some(read_array(alloc, cursor)?), Some(7))
+            && are(&read_nullable_array(alloc, cursor)?, None)
+            && are(&Some(read_varint_array(alloc, cursor)?), Some(7)),
+    )
+}
+
+fn are_compact_arrays(alloc: Global, cursor: &mut Cursor<'_>) -> Result<bool, ReadFault> {
+    Ok(
+        are(&Some(read_compact_array(alloc, cursor)?), Some(7))
+            && are(&read_compact_nullable_array(alloc, cursor)?, None),
+    )
+}
+
 #[test]
 fn read_arrays(rt: HostRuntime) -> Result<(), Fail> {
-    let alloc = rt.alloc();
-    let one: Items<i32> = Items::from(vec![in alloc; 7]?);
     let mut cursor = Cursor::new(
-        b"\x00\x00\x00\x01\x00\x00\x00\x07\xff\xff\xff\xff\x02\x00\x00\x00\x07\x00\x02\x00\x00\x00\x07",
+        b"\x00\x00\x00\x01\x00\x00\x00\x07\xff\xff\xff\xff\x02\x00\x00\x00\x07\x02\x00\x00\x00\x07\x00",
     );
-    assert!(rt; read_array(alloc, &mut cursor) == Ok(Items::from(vec![in alloc; 7]?)));
-    let none: Result<Option<Items<i32>>, ReadFault> = read_nullable_array(alloc, &mut cursor);
-    assert!(rt; none == Ok(None));
-    assert!(rt; read_compact_array(alloc, &mut cursor) == Ok(Items::from(vec![in alloc; 7]?)));
-    let none: Result<Option<Items<i32>>, ReadFault> = read_compact_nullable_array(
-        alloc,
-        &mut cursor,
-    );
-    assert!(rt; none == Ok(None));
-    assert!(rt; read_varint_array(alloc, &mut cursor) == Ok(one));
+    assert!(rt; are_arrays(rt.alloc(), &mut cursor)?);
+    assert!(rt; are_compact_arrays(rt.alloc(), &mut cursor)?);
     assert!(rt; cursor.is_empty());
     Ok(())
 }
 
+fn write_arrays(out: &mut Vec<u8>, items: &Items<i32>) -> Result<(), WriteFault> {
+    write_array(out, items)?;
+    write_varint_array(out, items)?;
+    write_compact_array(out, items)
+}
+
+fn write_nullable_arrays(out: &mut Vec<u8>, items: &Option<Items<i32>>) -> Result<(), WriteFault> {
+    write_nullable_array(out, items)?;
+    write_compact_nullable_array(out, items)
+}
+
 #[test]
 fn written_arrays(rt: HostRuntime) -> Result<(), Fail> {
-    let alloc = rt.alloc();
-    let mut out = Vec::new(alloc);
-    let one: Items<i32> = Items::from(vec![in alloc; 7]?);
-    assert!(rt; write_array(&mut out, &one).is_ok());
-    assert!(rt; write_varint_array(&mut out, &one).is_ok());
-    assert!(rt; write_compact_array(&mut out, &one).is_ok());
-    let some = Some(one);
-    assert!(rt; write_nullable_array(&mut out, &some).is_ok());
-    assert!(rt; write_compact_nullable_array(&mut out, &some).is_ok());
-    assert_eq!(rt;
-        out.as_slice(),
-        b"\x00\x00\x00\x01\x00\x00\x00\x07\x02\x00\x00\x00\x07\x02\x00\x00\x00\x07\x00\x00\x00\x01\x00\x00\x00\x07\x02\x00\x00\x00\x07".as_slice()
+    let one = Items::from(vec![in rt.alloc(); 7]?);
+    let mut out = Vec::new(rt.alloc());
+    assert!(rt; write_arrays(&mut out, &one).is_ok());
+    assert!(rt; write_nullable_arrays(&mut out, &Some(one)).is_ok());
+    assert!(rt;
+        out.as_slice()
+            == b"\x00\x00\x00\x01\x00\x00\x00\x07\x02\x00\x00\x00\x07\x02\x00\x00\x00\x07\
+            \x00\x00\x00\x01\x00\x00\x00\x07\x02\x00\x00\x00\x07"
+                .as_slice()
     );
     Ok(())
 }
@@ -56,45 +79,56 @@ fn a_count_above_the_bytes_left(rt: HostRuntime) {
     assert!(rt; matches!(&items, Err(ReadFault::Malformed(Malformed::Short))));
 }
 
+fn count(bytes: &[u8]) -> Result<u32, Malformed> {
+    Cursor::new(bytes).read_count()
+}
+
+fn compact_count(bytes: &[u8]) -> Result<u32, Malformed> {
+    Cursor::new(bytes).read_compact_count()
+}
+
+fn varint_count(bytes: &[u8]) -> Result<u32, Malformed> {
+    Cursor::new(bytes).read_varint_count()
+}
+
 /// A count in each form, of as many bytes as are left, and of one more.
 #[test]
 fn counts(rt: HostRuntime) {
+    assert_eq!(rt; count(b"\x00\x00\x00\x04abcd"), Ok(4));
+    assert_eq!(rt; count(b"\x00\x00\x00\x04abc"), Err(Malformed::Short));
+    assert_eq!(rt; compact_count(b"\x04abc"), Ok(3));
+    assert_eq!(rt; compact_count(b"\x04ab"), Err(Malformed::Short));
+    assert_eq!(rt; compact_count(b"\x00a"), Err(Malformed::Range));
+    assert_eq!(rt; varint_count(b"\x04ab"), Ok(2));
+    assert_eq!(rt; varint_count(b"\x04a"), Err(Malformed::Short));
+}
+
+fn write_counts(out: &mut Vec<u8>) -> Result<(), WriteFault> {
+    write_count(out, 4)?;
+    write_compact_count(out, 3)?;
+    write_varint_count(out, 2)
+}
+
+#[test]
+fn written_counts(rt: HostRuntime) {
     let mut out = Vec::new(rt.alloc());
-    assert!(rt; write_count(&mut out, 4).is_ok());
-    assert!(rt; write_compact_count(&mut out, 3).is_ok());
-    assert!(rt; write_varint_count(&mut out, 2).is_ok());
-    assert_eq!(rt; out.as_slice(), b"\x00\x00\x00\x04\x04\x04".as_slice());
-    assert_eq!(rt; Cursor::new(b"\x00\x00\x00\x04abcd").read_count(), Ok(4));
-    assert_eq!(rt;
-        Cursor::new(b"\x00\x00\x00\x04abc").read_count(),
-        Err(Malformed::Short)
-    );
-    assert_eq!(rt; Cursor::new(b"\x04abc").read_compact_count(), Ok(3));
-    assert_eq!(rt;
-        Cursor::new(b"\x04ab").read_compact_count(),
-        Err(Malformed::Short)
-    );
-    assert_eq!(rt; Cursor::new(b"\x04ab").read_varint_count(), Ok(2));
-    assert_eq!(rt;
-        Cursor::new(b"\x04a").read_varint_count(),
-        Err(Malformed::Short)
-    );
-    assert_eq!(rt;
-        Cursor::new(b"\x00a").read_compact_count(),
-        Err(Malformed::Range)
-    );
+    assert!(rt; write_counts(&mut out).is_ok());
+    assert!(rt; out.as_slice() == b"\x00\x00\x00\x04\x04\x04".as_slice());
+}
+
+/// What skipping the tags gives, and how many bytes are left.
+fn skipped(bytes: &[u8]) -> (Result<(), Malformed>, usize) {
+    let mut cursor = Cursor::new(bytes);
+    (cursor.skip_tags(), cursor.len())
 }
 
 #[test]
 fn tagged_sections(rt: HostRuntime) -> Result<(), Fail> {
-    let mut cursor = Cursor::new(b"\x02\x05\x01a\x06\x00\xff");
-    assert_eq!(rt; cursor.skip_tags(), Ok(()));
-    assert_eq!(rt; cursor.len(), 1);
-    let mut short = Cursor::new(b"\x03\x05\x00");
-    assert_eq!(rt; short.skip_tags(), Err(Malformed::Short));
+    assert!(rt; skipped(b"\x02\x05\x01a\x06\x00\xff") == (Ok(()), 1));
+    assert!(rt; skipped(b"\x03\x05\x00").0 == Err(Malformed::Short));
     let mut out = Vec::new(rt.alloc());
     write_no_tags(&mut out)?;
-    assert_eq!(rt; out.as_slice(), b"\x00".as_slice());
+    assert!(rt; out.as_slice() == b"\x00".as_slice());
     Ok(())
 }
 

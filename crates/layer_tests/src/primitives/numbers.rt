@@ -1,5 +1,6 @@
 //! Numbers: the vectors of the Kafka protocol guide's primitives and of zigzag.
 
+use std::alloc::AllocError;
 use std::test::Fail;
 use wire_types::{
     Cursor, Malformed, write_bool, write_i8, write_i16, write_i32, write_i64, write_u32,
@@ -18,19 +19,37 @@ fn varlong(bytes: &[u8]) -> Result<i64, Malformed> {
     Cursor::new(bytes).read_varlong()
 }
 
+/// The numbers at the front of the bytes, one of each width.
+fn fixed(cursor: &mut Cursor<'_>) -> Result<(i8, i16, i32, i64, u32), Malformed> {
+    Ok((
+        cursor.read_i8()?,
+        cursor.read_i16()?,
+        cursor.read_i32()?,
+        cursor.read_i64()?,
+        cursor.read_u32()?,
+    ))
+}
+
+fn truth(bytes: &[u8]) -> Result<bool, Malformed> {
+    Cursor::new(bytes).read_bool()
+}
+
 #[test]
 fn numbers_of_fixed_width(rt: HostRuntime) {
-    let bytes =
-        b"\xfe\xff\xfe\x80\x00\x00\x01\x80\x00\x00\x00\x00\x00\x00\x02\xe3\x06\x92\x83\x07\x00";
-    let mut cursor = Cursor::new(bytes);
-    assert_eq!(rt; cursor.read_i8(), Ok(-2));
-    assert_eq!(rt; cursor.read_i16(), Ok(-2));
-    assert_eq!(rt; cursor.read_i32(), Ok(-2_147_483_647));
-    assert_eq!(rt; cursor.read_i64(), Ok(-9_223_372_036_854_775_806));
-    assert_eq!(rt; cursor.read_u32(), Ok(0xe306_9283));
-    assert_eq!(rt; cursor.read_bool(), Ok(true));
-    assert_eq!(rt; cursor.read_bool(), Ok(false));
-    assert_eq!(rt; cursor.read_bool(), Err(Malformed::Short));
+    let bytes = b"\xfe\xff\xfe\x80\x00\x00\x01\x80\x00\x00\x00\x00\x00\x00\x02\xe3\x06\x92\x83";
+    assert!(rt;
+        fixed(&mut Cursor::new(bytes))
+            == Ok((
+                -2,
+                -2,
+                -2_147_483_647,
+                -9_223_372_036_854_775_806,
+                0xe306_9283
+            ))
+    );
+    assert_eq!(rt; truth(b"\x07"), Ok(true));
+    assert_eq!(rt; truth(b"\x00"), Ok(false));
+    assert_eq!(rt; truth(b""), Err(Malformed::Short));
 }
 
 #[test]
@@ -54,27 +73,32 @@ fn numbers_of_variable_length(rt: HostRuntime) {
     }
 }
 
+fn write_fixed(out: &mut Vec<u8>) -> Result<(), AllocError> {
+    write_i8(out, -2)?;
+    write_i16(out, -2)?;
+    write_i32(out, 1)?;
+    write_i64(out, -9_223_372_036_854_775_806)?;
+    write_u32(out, 0xe306_9283)?;
+    write_bool(out, true)?;
+    write_bool(out, false)
+}
+
+fn write_variable(out: &mut Vec<u8>) -> Result<(), AllocError> {
+    write_uvarint(out, 300)?;
+    write_varint(out, -2)?;
+    write_varlong(out, -9_223_372_036_854_775_808)
+}
+
 #[test]
 fn written_numbers(rt: HostRuntime) -> Result<(), Fail> {
     let mut out = Vec::new(rt.alloc());
-    write_i8(&mut out, -2)?;
-    write_i16(&mut out, -2)?;
-    write_i32(&mut out, 1)?;
-    write_i64(&mut out, -9_223_372_036_854_775_806)?;
-    write_u32(&mut out, 0xe306_9283)?;
-    write_bool(&mut out, true)?;
-    write_bool(&mut out, false)?;
-    assert_eq!(rt;
-        out.as_slice(),
-        b"\xfe\xff\xfe\x00\x00\x00\x01\x80\x00\x00\x00\x00\x00\x00\x02\xe3\x06\x92\x83\x01\x00".as_slice()
-    );
-    let mut out = Vec::new(rt.alloc());
-    write_uvarint(&mut out, 300)?;
-    write_varint(&mut out, -2)?;
-    write_varlong(&mut out, -9_223_372_036_854_775_808)?;
-    assert_eq!(rt;
-        out.as_slice(),
-        b"\xac\x02\x03\xff\xff\xff\xff\xff\xff\xff\xff\xff\x01".as_slice()
+    write_fixed(&mut out)?;
+    write_variable(&mut out)?;
+    assert!(rt;
+        out.as_slice()
+            == b"\xfe\xff\xfe\x00\x00\x00\x01\x80\x00\x00\x00\x00\x00\x00\x02\xe3\x06\x92\x83\x01\x00\
+            \xac\x02\x03\xff\xff\xff\xff\xff\xff\xff\xff\xff\x01"
+                .as_slice()
     );
     Ok(())
 }

@@ -1,32 +1,65 @@
 //! Texts and bytes in each of their forms, with the faults that they can have.
 
 use bytes::Bytes;
+use std::alloc::Global;
 use std::test::Fail;
 use wire_types::{
-    Cursor, Malformed, ReadFault, Text, write_bytes, write_compact_bytes, write_compact_nullable,
-    write_compact_nullable_bytes, write_compact_string, write_nullable, write_nullable_bytes,
-    write_string, write_varint_bytes, write_varint_nullable_bytes,
+    Cursor, Malformed, ReadFault, Text, WriteFault, write_bytes, write_compact_bytes,
+    write_compact_nullable, write_compact_nullable_bytes, write_compact_string, write_nullable,
+    write_nullable_bytes, write_string, write_varint_bytes, write_varint_nullable_bytes,
 };
+
+/// Whether a text that is read is this one, or no text.
+fn is(text: &Option<Text>, wanted: Option<&str>) -> bool {
+    match (text, wanted) {
+        (Some(text), Some(wanted)) => text.as_str() == wanted,
+        (None, None) => true,
+        _ => false,
+    }
+}
+
+/// Whether the texts at the front are a text and each form of one that may be null.
+fn are_texts(alloc: Global, cursor: &mut Cursor<'_>) -> Result<bool, ReadFault> {
+    Ok(
+        is(&Some(cursor.read_string(alloc)?), Some("ab"))
+            && is(&cursor.read_nullable(alloc)?, None)
+            && is(&cursor.read_nullable(alloc)?, Some("c")),
+    )
+}
+
+/// The same in the compact form.
+fn are_compact_texts(alloc: Global, cursor: &mut Cursor<'_>) -> Result<bool, ReadFault> {
+    Ok(
+        is(&Some(cursor.read_compact_string(alloc)?), Some("de"))
+            && is(&cursor.read_compact_nullable(alloc)?, None)
+            && is(&cursor.read_compact_nullable(alloc)?, Some("f")),
+    )
+}
 
 #[test]
 fn read_texts(rt: HostRuntime) -> Result<(), Fail> {
-    let alloc = rt.alloc();
-    let bytes = b"\x00\x02ab\xff\xff\x00\x01c\x03de\x00\x02f";
-    let mut cursor = Cursor::new(bytes);
-    assert!(rt; cursor.read_string(alloc) == Ok(Text::of(alloc, "ab")?));
-    assert!(rt; cursor.read_nullable(alloc) == Ok(None));
-    assert!(rt; cursor.read_nullable(alloc) == Ok(Some(Text::of(alloc, "c")?)));
-    assert!(rt; cursor.read_compact_string(alloc) == Ok(Text::of(alloc, "de")?));
-    assert!(rt; cursor.read_compact_nullable(alloc) == Ok(None));
-    assert!(rt; cursor.read_compact_nullable(alloc) == Ok(Some(Text::of(alloc, "f")?)));
+    let mut cursor = Cursor::new(b"\x00\x02ab\xff\xff\x00\x01c\x03de\x00\x02f");
+    assert!(rt; are_texts(rt.alloc(), &mut cursor)?);
+    assert!(rt; are_compact_texts(rt.alloc(), &mut cursor)?);
     assert!(rt; cursor.is_empty());
     Ok(())
 }
 
+fn string_fault(alloc: Global, bytes: &[u8]) -> Option<ReadFault> {
+    Cursor::new(bytes).read_string(alloc).err()
+}
+
+fn compact_fault(alloc: Global, bytes: &[u8]) -> Option<ReadFault> {
+    Cursor::new(bytes).read_compact_string(alloc).err()
+}
+
+fn nullable_fault(alloc: Global, bytes: &[u8]) -> Option<ReadFault> {
+    Cursor::new(bytes).read_nullable(alloc).err()
+}
+
 #[test]
-fn faulty_texts(rt: HostRuntime) -> Result<(), Fail> {
+fn faulty_texts(rt: HostRuntime) {
     let alloc = rt.alloc();
-    let fault = |malformed| Err(ReadFault::Malformed(malformed));
     for (bytes, malformed) in [
         (b"\xff\xfe\x00".as_slice(), Malformed::Range),
         (b"\xff\xff\x00".as_slice(), Malformed::Range),
@@ -34,60 +67,84 @@ fn faulty_texts(rt: HostRuntime) -> Result<(), Fail> {
         (b"\x00\x03ab".as_slice(), Malformed::Short),
         (b"\x00".as_slice(), Malformed::Short),
     ] {
-        assert!(rt; Cursor::new(bytes).read_string(alloc) == fault(malformed));
+        assert!(rt; string_fault(alloc, bytes) == Some(ReadFault::Malformed(malformed)));
     }
-    assert!(rt; Cursor::new(b"\x00").read_compact_string(alloc) == fault(Malformed::Range));
-    assert!(rt;
-        matches!(
-            &Cursor::new(b"\xff\xfe").read_nullable(alloc),
-            Err(ReadFault::Malformed(Malformed::Range))
-        )
-    );
-    Ok(())
+    let range = Some(ReadFault::Malformed(Malformed::Range));
+    assert!(rt; compact_fault(alloc, b"\x00") == range);
+    assert!(rt; nullable_fault(alloc, b"\xff\xfe") == range);
+}
+
+/// Whether bytes that are read are these, or none.
+fn are(bytes: &Option<Bytes>, wanted: Option<&[u8]>) -> bool {
+    match (bytes, wanted) {
+        (Some(bytes), Some(wanted)) => bytes.as_slice() == wanted,
+        (None, None) => true,
+        _ => false,
+    }
+}
+
+fn are_bytes(alloc: Global, cursor: &mut Cursor<'_>) -> Result<bool, ReadFault> {
+    Ok(
+        are(&Some(cursor.read_bytes(alloc)?), Some(b"ab"))
+            && are(&cursor.read_nullable_bytes(alloc)?, None)
+            && are(&cursor.read_nullable_bytes(alloc)?, Some(b"c")),
+    )
+}
+
+fn are_compact_bytes(alloc: Global, cursor: &mut Cursor<'_>) -> Result<bool, ReadFault> {
+    Ok(
+        are(&Some(cursor.read_compact_bytes(alloc)?), Some(b"de"))
+            && are(&cursor.read_compact_nullable_bytes(alloc)?, None)
+            && are(&cursor.read_compact_nullable_bytes(alloc)?, Some(b"f")),
+    )
+}
+
+fn are_varint_bytes(alloc: Global, cursor: &mut Cursor<'_>) -> Result<bool, ReadFault> {
+    Ok(
+        are(&Some(cursor.read_varint_bytes(alloc)?), Some(b"gh"))
+            && are(&cursor.read_varint_nullable_bytes(alloc)?, None)
+            && are(&cursor.read_varint_nullable_bytes(alloc)?, Some(b"i")),
+    )
 }
 
 #[test]
 fn read_shared_bytes(rt: HostRuntime) -> Result<(), Fail> {
     let alloc = rt.alloc();
     let text = b"\x00\x00\x00\x02ab\xff\xff\xff\xff\x00\x00\x00\x01c\x03de\x00\x02f\x04gh\x01\x02i";
-    let whole = Bytes::copy_from_slice(alloc, text)?;
+    let whole = Bytes::from_static(text);
     let mut cursor = Cursor::over(&whole);
-    let is = |part: Result<Bytes, ReadFault>, want: &[u8]| match part {
-        Ok(part) => part.as_slice() == want,
-        Err(_) => false,
-    };
-    assert!(rt; is(cursor.read_bytes(alloc), b"ab"));
-    assert!(rt; matches!(&cursor.read_nullable_bytes(alloc), Ok(None)));
-    assert!(rt; matches!(&cursor.read_nullable_bytes(alloc), Ok(Some(_))));
-    assert!(rt; is(cursor.read_compact_bytes(alloc), b"de"));
-    assert!(rt; matches!(&cursor.read_compact_nullable_bytes(alloc), Ok(None)));
-    assert!(rt; matches!(&cursor.read_compact_nullable_bytes(alloc), Ok(Some(_))));
-    assert!(rt; is(cursor.read_varint_bytes(alloc), b"gh"));
-    assert!(rt; matches!(&cursor.read_varint_nullable_bytes(alloc), Ok(None)));
-    assert!(rt; matches!(&cursor.read_varint_nullable_bytes(alloc), Ok(Some(_))));
-    assert_eq!(rt; cursor.len(), 0);
+    assert!(rt; are_bytes(alloc, &mut cursor)?);
+    assert!(rt; are_compact_bytes(alloc, &mut cursor)?);
+    assert!(rt; are_varint_bytes(alloc, &mut cursor)?);
+    assert!(rt; cursor.is_empty());
     Ok(())
+}
+
+fn write_texts(out: &mut Vec<u8>, text: &Text) -> Result<(), WriteFault> {
+    write_string(out, text)?;
+    write_nullable(out, &None)?;
+    write_compact_string(out, text)?;
+    write_compact_nullable(out, &None)
+}
+
+fn write_each(out: &mut Vec<u8>, bytes: &Bytes) -> Result<(), WriteFault> {
+    write_bytes(out, bytes)?;
+    write_nullable_bytes(out, &None)?;
+    write_compact_bytes(out, bytes)?;
+    write_compact_nullable_bytes(out, &None)?;
+    write_varint_bytes(out, bytes)?;
+    write_varint_nullable_bytes(out, &None)
 }
 
 #[test]
 fn written_texts_and_bytes(rt: HostRuntime) -> Result<(), Fail> {
-    let alloc = rt.alloc();
-    let mut out = Vec::new(alloc);
-    let text = Text::of(alloc, "ab")?;
-    let bytes = Bytes::copy_from_slice(alloc, b"cd")?;
-    assert!(rt; write_string(&mut out, &text).is_ok());
-    assert!(rt; write_nullable(&mut out, &None).is_ok());
-    assert!(rt; write_compact_string(&mut out, &text).is_ok());
-    assert!(rt; write_compact_nullable(&mut out, &None).is_ok());
-    assert!(rt; write_bytes(&mut out, &bytes).is_ok());
-    assert!(rt; write_nullable_bytes(&mut out, &None).is_ok());
-    assert!(rt; write_compact_bytes(&mut out, &bytes).is_ok());
-    assert!(rt; write_compact_nullable_bytes(&mut out, &None).is_ok());
-    assert!(rt; write_varint_bytes(&mut out, &bytes).is_ok());
-    assert!(rt; write_varint_nullable_bytes(&mut out, &None).is_ok());
-    assert_eq!(rt;
-        out.as_slice(),
-        b"\x00\x02ab\xff\xff\x03ab\x00\x00\x00\x00\x02cd\xff\xff\xff\xff\x03cd\x00\x04cd\x01".as_slice()
+    let text = Text::of(rt.alloc(), "ab")?;
+    let mut out = Vec::new(rt.alloc());
+    assert!(rt; write_texts(&mut out, &text).is_ok());
+    assert!(rt; write_each(&mut out, &Bytes::from_static(b"cd")).is_ok());
+    assert!(rt;
+        out.as_slice()
+            == b"\x00\x02ab\xff\xff\x03ab\x00\x00\x00\x00\x02cd\xff\xff\xff\xff\x03cd\x00\x04cd\x01".as_slice()
     );
     Ok(())
 }

@@ -1,10 +1,11 @@
 //! Who tells the keeper what to do next.
 
 ghost use Rattle.std.specs.Prelude.{◌≡◌, ◌<◌, Some, IfOk, is_ok};
-ghost use Rattle.keeper_steps.specs.declared.steps.Step.TheVariants.{Mark};
+ghost use Rattle.session_pool.specs.declared.steps.Step.TheVariants.{Mark};
 
+use crate::why::Why;
+use crate::witness::Witness;
 use request_handlers::Core;
-use session_pool::{Why, Witness};
 
 /// What the keeper does next.
 #[derive(Clone, Copy, Debug, PartialEq, Eq)]

@@ -25,28 +25,28 @@ const SETTINGS: &str =
     operation = \"DESCRIBE\"\npermission = \"ALLOW\"\n";
 
 /// Ann chooses PLAIN.
-pub const HANDSHAKE: &str = "000000110011000100000001ffff0005504c41494e";
+pub(crate) const HANDSHAKE: &str = "000000110011000100000001ffff0005504c41494e";
 
-pub const HANDSHAKE_TOLD: &str = "00000011000000010000000000010005504c41494e";
+pub(crate) const HANDSHAKE_TOLD: &str = "00000011000000010000000000010005504c41494e";
 
 /// Ann tells her password.
-pub const LOGIN: &str = "000000150024000000000002ffff0000000700616e6e007077";
+pub(crate) const LOGIN: &str = "000000150024000000000002ffff0000000700616e6e007077";
 
-pub const LOGIN_TOLD: &str = "0000000c000000020000ffff00000000";
+pub(crate) const LOGIN_TOLD: &str = "0000000c000000020000ffff00000000";
 
 /// Ann asks for all topics.
-pub const METADATA: &str = "0000000e0003000100000001ffffffffffff";
+pub(crate) const METADATA: &str = "0000000e0003000100000001ffffffffffff";
 
-pub const METADATA_TOLD: &str = "00000041000000010000000100000001000168\
+pub(crate) const METADATA_TOLD: &str = "00000041000000010000000100000001000168\
     00002384ffff0000000100000001000000016200000000010000000000000000000100000001000000010000000100000001";
 
 /// What a session came to.
 #[derive(Clone, Copy, Debug, PartialEq, Eq)]
-pub struct End {
-    pub why: Why,
-    pub receipts: usize,
+pub(crate) struct End {
+    pub(crate) why: Why,
+    pub(crate) receipts: usize,
     /// What its seat counts.
-    pub count: u64,
+    pub(crate) count: u64,
 }
 
 /// Serves one session, of the number 7, at a desk of its own.
@@ -85,7 +85,7 @@ fn serve_on<L: Ledger, R: Wait + Drop, Rd: Read + Drop, Wr: Write, G: Gate>(
 }
 
 /// Serves one session, and calls the gate round each of its frames.
-pub fn serve_gated<R: Wait + Drop, Rd: Read + Drop, Wr: Write, G: Gate>(
+pub(crate) fn serve_gated<R: Wait + Drop, Rd: Read + Drop, Wr: Write, G: Gate>(
     rt: R,
     alloc: Global,
     reader: Rd,
@@ -107,7 +107,7 @@ pub fn serve_gated<R: Wait + Drop, Rd: Read + Drop, Wr: Write, G: Gate>(
 }
 
 /// Serves one session.
-pub fn serve<R: Wait + Drop, Rd: Read + Drop, Wr: Write>(
+pub(crate) fn serve<R: Wait + Drop, Rd: Read + Drop, Wr: Write>(
     rt: R,
     alloc: Global,
     reader: Rd,
@@ -120,7 +120,7 @@ pub fn serve<R: Wait + Drop, Rd: Read + Drop, Wr: Write>(
 }
 
 /// The bytes of texts in hexadecimal digits, one behind the other.
-pub fn bytes_of(alloc: Global, parts: &[&str]) -> Result<Vec<u8>, Fail> {
+pub(crate) fn bytes_of(alloc: Global, parts: &[&str]) -> Result<Vec<u8>, Fail> {
     let mut bytes = Vec::new(alloc);
     for part in parts {
         let decoded = hex::decode(alloc, *part).ok().ok_or("digits")?;

@@ -1,7 +1,7 @@
 //! The command that shows a script.
 
-use crate::{FAILED, explain};
-use show::{ShowFault, Shown, show_script};
+use crate::outcome::{ShowFault, Shown};
+use crate::script::show_script;
 use std::alloc::Global;
 use std::fmt::Display;
 use std::fs;
@@ -12,10 +12,20 @@ use wire_types::{InputFault, read_input};
 /// The exit status where each line was shown.
 const SHOWN: u8 = 0;
 
+/// The exit status of a script that wasn't shown to its end.
+const FAILED: u8 = 1;
+
 /// Why a file's text isn't there.
 enum Unread {
     Unopened,
     Fault(InputFault),
+}
+
+/// Says what went wrong. If that fails, nothing else does.
+pub fn explain<E: Write>(alloc: Global, errors: &mut E, what: &str, why: &str) {
+    if let Ok(text) = format!(in alloc; "kbroker: {what}: {why}\n") {
+        let _ = errors.write_all(text.as_bytes());
+    }
 }
 
 /// Reads the text of a file.
@@ -69,8 +79,9 @@ fn end_of<E: Write>(alloc: Global, errors: &mut E, shown: Result<Shown, ShowFaul
     }
 }
 
-/// Shows the script that is read, with the answers in the file that is named, or else made anew. Gives the exit status.
-pub(crate) fn show_by<T: Files, R: Read, W: Write, E: Write>(
+/// Shows the script that is read, with the answers in the file that is named, or else made anew, and says why where it isn't shown
+/// to its end. Gives the exit status.
+pub fn show_and_explain<T: Files, R: Read, W: Write, E: Write>(
     rt: &T,
     alloc: Global,
     answers: Option<&str>,

@@ -1,11 +1,10 @@
-//! Connections become jobs.
+//! Connections that become jobs.
 
-use crate::server::ServeOptions;
-use broker_keeping::Closing;
+use crate::connections::ConnectionOptions;
+use crate::job::Job;
 use crossbeam_channel::Sender;
 use session_logins::Users;
-use session_pool::Limits;
-use session_workers::Job;
+use session_pool::{Closing, Limits};
 use std::alloc::Global;
 use std::io::ErrorKind;
 use std::net::{SocketAddr, TcpListener, TcpStream};
@@ -117,7 +116,7 @@ fn accept_until<R: Wait + time::Clock>(
     listener: &TcpListener,
     opening: Option<Opening<'_>>,
     users: &Shared<Users>,
-    options: ServeOptions,
+    options: ConnectionOptions,
     jobs: Sender<Connection>,
 ) {
     for session in 0..options.connections {
@@ -142,7 +141,7 @@ pub(crate) fn accept_all<R: Wait + time::Clock>(
     alloc: Global,
     listener: &TcpListener,
     users: &Shared<Users>,
-    options: ServeOptions,
+    options: ConnectionOptions,
     closing: Option<&Closing>,
     jobs: Sender<Connection>,
 ) {
