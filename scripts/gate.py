@@ -43,12 +43,20 @@ SCRIPTS = (
 )
 # rt gives a proof only the processors that no other one waits for, also where all the others could wait. So what all the
 # rest waits for comes by itself: the crate below all others, with one that stands on none, and behind it the core with what
-# that stands on. Tests that nothing stands on are left for the end, where they fill what the last proofs, which wait for each
+# that stands on. Tests that stand on the core are left for the end, where they fill what the last proofs, which wait for each
 # other, leave free.
 APART = "arguments"
 CORE = "request_handlers"
-# What fills a gap before the core is proved, though that doesn't stand on it.
-BESIDE = ("settings_text", "script_lines", "session_logins", "frame_reading")
+# What fills a gap before the core is proved, though that doesn't stand on it: its last three crates wait for one another, and
+# would leave most of the machine without work.
+BESIDE = (
+    "settings_text",
+    "script_lines",
+    "session_logins",
+    "event_equality",
+    "message_words",
+    "layer_tests",
+)
 SEEN_EVERY = 2  # seconds
 TICKS = os.sysconf("SC_CLK_TCK")
 PAGE = os.sysconf("SC_PAGE_SIZE")

@@ -51,6 +51,13 @@ class Line(NamedTuple):
     taken: Callable = fields_of
     refused: tuple = ()
 
+    def told(self, answer):
+        """What is taken of the answer, or all of it where it is no response."""
+        try:
+            return self.taken(self.api, answer) if self.api else answer
+        except ValueError:
+            return answer
+
 
 def hold(script, settings, lines):
     """Ends the program at the first of a script's lines for which anything else is printed than is wanted."""
@@ -58,7 +65,6 @@ def hold(script, settings, lines):
     if len(printed) != len(lines):
         sys.exit(f"{NAME}: {script} has {len(lines)} lines and {len(printed)} answers")
     for at, (line, (answer, refused)) in enumerate(zip(lines, printed), 1):
-        told = line.taken(line.api, answer) if line.api and answer not in ("-", "closed") else answer
-        told, wanted = [told, *refused], [line.wanted, *line.refused]
+        told, wanted = [line.told(answer), *refused], [line.wanted, *line.refused]
         if told != wanted:
-            sys.exit(f"{NAME}: {script}, line {at}: {line.api} is told {told} in place of {wanted}")
+            sys.exit(f"{NAME}: {script}, line {at}: {line.api or line.text} is told {told} in place of {wanted}")

@@ -137,8 +137,8 @@ fn told(record: &RecordAt) -> Told<'_> {
 fn three_records(rt: HostRuntime) -> Result<(), Fail> {
     let records = records_of(rt.alloc(), &batch_of(rt.alloc(), RICH)?)?;
     let wanted: [Told<'_>; 3] = [
-        (40, 0, Some(b"k"), None, 2),
-        (41, 6, None, Some(b""), 0),
+        (40, 5, Some(b"k"), None, 2),
+        (41, 0, None, Some(b""), 0),
         (42, -3, Some(b""), Some(b"value"), 0),
     ];
     assert_eq!(rt; records.len(), 3);
