@@ -165,12 +165,14 @@ def run_rt(words, log, sampler):
 
 
 def run_checks():
-    """Checks all that `rt ci` checks, and writes what it took. Returns what was said and the last status."""
+    """Checks all that `rt ci` checks, and writes what it took. Returns what was said, what of it by the last call, which is
+    over all crates, and the status of that."""
     LOG.parent.mkdir(exist_ok=True)
     started = time.monotonic()
     sampler = Sampler()
     with LOG.open("wb") as log:
         for names in stages():
+            last = log.tell()
             status = run_rt(names, log, sampler)
     used = resource.getrusage(resource.RUSAGE_CHILDREN)
     taken = {
@@ -181,7 +183,8 @@ def run_checks():
         "peak": sampler.peak,
     }
     TIMES.write_text(json.dumps(taken, indent=1) + "\n")
-    return LOG.read_text(encoding="utf-8", errors="replace"), status
+    said = LOG.read_bytes()
+    return said.decode(errors="replace"), said[last:].decode(errors="replace"), status
 
 
 def run_scripts():
@@ -202,14 +205,14 @@ def main():
     prove.end_on_signals()
     prove.hold_alone()
     started = time.monotonic()
-    text, status = run_checks()
+    text, last, status = run_checks()
     of_scripts = run_scripts()
-    passed, failed = map(int, (TOTALS.findall(text) or [(0, 1)])[-1])
+    passed, failed = map(int, (TOTALS.findall(last) or [(0, 1)])[-1])
     if status and not failed:
         failed = 1
     crates = len(re.findall(r"^rt: \w+ proved$", text, re.M))
     edits = len({*re.findall(r"^rt: must-fail (\S+): refused", text, re.M)})
-    tests = sum(map(int, re.findall(r"^test result: ok\. (\d+) passed", text, re.M)))
+    tests = sum(map(int, re.findall(r"^test result: ok\. (\d+) passed", last, re.M)))
     minutes = (time.monotonic() - started) / 60
     print(
         f"gate: {crates} crates proved, {edits} edits refused, {tests} tests and {of_scripts} scripts"
