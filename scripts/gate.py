@@ -42,21 +42,10 @@ SCRIPTS = (
     "must_not_compile.py",
 )
 # rt gives a proof only the processors that no other one waits for, also where all the others could wait. So what all the
-# rest waits for comes by itself: the crate below all others, with one that stands on none, and behind it the core with what
-# that stands on. Tests that stand on the core are left for the end, where they fill what the last proofs, which wait for each
-# other, leave free.
-APART = "arguments"
+# rest waits for comes by itself, and has two: the crate below all others. Behind it comes the core with what that stands on,
+# and what fills a gap before the core though that doesn't stand on it. All else is left for the end.
 CORE = "request_handlers"
-# What fills a gap before the core is proved, though that doesn't stand on it: its last three crates wait for one another, and
-# would leave most of the machine without work.
-BESIDE = (
-    "settings_text",
-    "script_lines",
-    "session_logins",
-    "event_equality",
-    "message_words",
-    "layer_tests",
-)
+BESIDE = "script_lines", "session_logins"
 SEEN_EVERY = 2  # seconds
 TICKS = os.sysconf("SC_CLK_TCK")
 PAGE = os.sysconf("SC_PAGE_SIZE")
@@ -143,7 +132,7 @@ def copy_lines(source, shown, kept):
 def stages():
     """The crates over which `rt ci` is called, in turn; at last over all."""
     lowest, *_ = crates_of([CORE])
-    return [[lowest, APART], [CORE, *BESIDE], []]
+    return [[lowest], [CORE, *BESIDE], []]
 
 
 def run_rt(words, log, sampler):

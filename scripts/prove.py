@@ -174,12 +174,6 @@ def lines_behind(crates):
     return behind
 
 
-def kept_busy(jobs):
-    """The processors that so many jobs in one crate keep busy. Two do half as much again as one and keep three
-    busy, so they pay only where a processor would have nothing else to do."""
-    return 2 * jobs - 1
-
-
 def start_next(rt, left, running, memory, needs, below, behind):
     """Starts what is ready and has a processor and memory, in the order of what is left. Only what the longest chain
     waits for gets more jobs than one: what those of another crate take would be missing there, once more is ready."""
@@ -188,11 +182,11 @@ def start_next(rt, left, running, memory, needs, below, behind):
     most = processors(rt) - (len(ready) + len(running) - 1)  # one for each of the others
     longest = max((behind[it] for it in (*ready, *(it.crate for it in running))), default=0)
     for crate in ready:
-        idle = processors(rt) - sum(kept_busy(it.jobs) for it in running)
+        idle = processors(rt) - sum(it.jobs for it in running)
         room, need = memory - sum(it.need for it in running), needs[crate]
         if idle < 1 or running and need > room:
             continue
-        spare = min(MOST_JOBS, (min(idle, most) + 1) // 2, 1 + int((room / need - 1) / NEED_OF_JOB))
+        spare = min(MOST_JOBS, idle, most, 1 + int((room / need - 1) / NEED_OF_JOB))
         if behind[crate] < longest:
             spare = 1
         lock = lock_of(crate)

@@ -1,5 +1,7 @@
 //! The keeper's steps, by lines of whoever steers the broker.
 
+use crate::said::{Said, parse_said};
+use crate::standing::{front_text, moment_text, open_ones, state_lines};
 use crate::watch::lines_since;
 use request_handlers::{Core, Stop};
 use session_pool::{Closing, LockedDesk, Step, Steps, Why, Witness};
@@ -7,7 +9,6 @@ use std::alloc::{AllocError, Global};
 use std::io::{BufRead, Write};
 use std::sync::Wait;
 use std::sync::ledger::Ledger;
-use steering_lines::{Said, front_text, moment_text, open_ones, parse_said, state_lines};
 use wire_types::write_whole;
 
 /// Lines that steer a broker, and where each is answered.

@@ -3,7 +3,9 @@
 
 mod control;
 mod keeping;
+mod said;
 mod sentences;
+mod standing;
 mod ticks;
 mod watch;
 

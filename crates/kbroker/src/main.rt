@@ -1,9 +1,12 @@
 //! The broker's program.
 #![tactic(auto)]
 
+mod lines;
+mod server;
+
+use crate::server::{ServeOptions, serve};
 use arguments::{Job, Serving, arguments};
 use broker_keeping::Steering;
-use broker_server::{ServeOptions, serve};
 use commands::{Opened, check_and_explain, open_and_explain, replay_and_explain};
 use session_logins::Users;
 use session_workers::ConnectionOptions;

@@ -1,5 +1,6 @@
 //! Requests, replies and frames in words: each field by its name in the Kafka protocol guide.
 //!
+//! Responses are read back as a client reads them, and where a frame's first fault stands is found by reading less of it.
 //! Whatever has fields implements `Fields`, one file for each family of apis, and `Sheet` lays the fields out. What is laid
 //! out is under no contract.
 #![tactic(auto)]
@@ -7,9 +8,11 @@
 mod acls;
 mod codes;
 mod data;
+mod fault_place;
 mod groups;
 mod logins;
 mod names;
+mod reading;
 mod records;
 mod reply;
 mod request;
@@ -18,7 +21,9 @@ mod sheet;
 mod topics;
 mod transactions;
 
+pub use fault_place::fault_end;
 pub use names::{api_name, key_name};
+pub use reading::read_reply;
 pub use reply::push_reply;
 pub use request::push_request;
 pub use response::{

@@ -1,10 +1,10 @@
 //! What a frame is answered, in words.
 
 use crate::names::api_name;
+use crate::reading::read_reply;
 use crate::reply::push_reply;
 use crate::sheet::Sheet;
 use bytes::Bytes;
-use frame_reading::read_reply;
 use msg_admin::{Api, Reply, unsupported_versions, write_unsupported_versions};
 use std::alloc::{AllocError, Global};
 use wire_types::{Cursor, Malformed, ReadFault};

@@ -2,5 +2,6 @@
 #![tactic(auto)]
 
 mod books;
+mod same;
 
 pub use books::{SettleFault, Settled, settle};

@@ -3,8 +3,7 @@
 use acl_binding::Caller;
 use audit_trail::push_word;
 use bytes::Bytes;
-use frame_reading::fault_end;
-use message_words::{Sheet, api_name, key_name, push_request};
+use message_words::{Sheet, api_name, fault_end, key_name, push_request};
 use msg_admin::{FRAME_LIMIT, Header, Request, read_request, unsupported_versions};
 use script_lines::Sent;
 use std::alloc::AllocError;

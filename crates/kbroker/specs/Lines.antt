@@ -1,0 +1,20 @@
+-- What the server prints.
+use Rattle.std.specs.Prelude.{ℕ, ◌++◌, List, codes, decimal}
+use Rattle.settlement.specs.declared.books.Settled.{Settled}
+use Rattle.settlement.specs.Settle.{fault_name as settle_fault_name}
+use Rattle.session_workers.specs.Faults.{fault_name as pool_fault_name}
+use Rattle.kbroker.specs.declared.lines.Failure.{Failure}
+use Rattle.kbroker.specs.declared.lines.Failure.TheVariants.{Pool, Settle}
+
+-- the first line, of where it listens
+abbrev pub listening_line : List ℕ → List ℕ
+listening_line address = codes "listening on " ++ address ++ codes "\n"
+
+-- the last line, where the books are settled
+abbrev pub settled_line : ℕ → Settled → List ℕ
+settled_line sessions settled = ((codes "sessions " ++ decimal sessions) ++ (codes " events " ++ decimal settled.events)) ++ (codes " refusals " ++ decimal settled.refusals ++ codes "\n")
+
+-- the last line, where they aren't
+abbrev pub failure_line : Failure → List ℕ
+failure_line (Pool fault) = codes "settle failed: " ++ pool_fault_name fault ++ codes "\n"
+failure_line (Settle fault) = codes "settle failed: " ++ settle_fault_name fault ++ codes "\n"

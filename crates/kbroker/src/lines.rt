@@ -1,0 +1,53 @@
+//! What the server prints.
+
+ghost use Rattle.std.specs.Prelude.{◌≡◌, IfOk, string_bytes};
+ghost use Rattle.kbroker.specs.Lines.{listening_line, settled_line, failure_line};
+
+use session_workers::PoolFault;
+use settlement::{SettleFault, Settled};
+use std::alloc::{AllocError, Global};
+use thiserror::Error;
+
+/// Why the books are not settled.
+#[derive(Clone, Copy, Debug, PartialEq, Eq, Error)]
+pub(crate) enum Failure {
+    /// The sessions' ends are given up.
+    #[error(transparent)]
+    Pool(#[from] PoolFault),
+    /// Receipts and trail don't fit.
+    #[error(transparent)]
+    Settle(#[from] SettleFault),
+}
+
+/// The first line, of where it listens.
+pub(crate) fn listening_line(alloc: Global, address: &str) -> Result<String, AllocError>
+    ensures { IfOk result (λ text. string_bytes text ≡ listening_line address.now) }
+{
+    format!(in alloc; "listening on {address}\n")
+}
+
+/// The last line, where the books are settled.
+pub(crate) fn settled_line(
+    alloc: Global,
+    sessions: usize,
+    settled: Settled,
+) -> Result<String, AllocError>
+    ensures { IfOk result (λ text. string_bytes text ≡ settled_line sessions settled) }
+{
+    let Settled { events, refusals } = settled;
+    let mut line = format!(in alloc; "sessions {sessions}")?;
+    line.push_str(format!(in alloc; " events {events}")?.as_str())?;
+    line.push_str(format!(in alloc; " refusals {refusals}\n")?.as_str())?;
+    Ok(line)
+}
+
+/// The last line, where they aren't.
+pub(crate) fn failure_line(alloc: Global, failure: Failure) -> Result<String, AllocError>
+    ensures { IfOk result (λ text. string_bytes text ≡ failure_line failure) }
+{
+    let name = match failure {
+        Failure::Pool(fault) => fault.name(),
+        Failure::Settle(fault) => fault.name(),
+    };
+    format!(in alloc; "settle failed: {name}\n")
+}
