@@ -22,10 +22,12 @@ from program import NAME, PROGRAM, ROOT, crates_of
 
 FUNCTIONS = re.compile(r"^logic=proved functions=(\d+)", re.M)
 UNUSABLE = re.compile(r"^rattle: error\[unusable-built-library\]: the rlib of `(\w+)`", re.M)
-RUNS_PROGRAM = re.compile(r"^rt: running ", re.M)
 SHARE_OF_MEMORY = 0.85
-MOST_JOBS = 4
-NEED_OF_JOB = 0.6  # of another job in the same crate
+FEWEST_JOBS, MOST_JOBS = 2, 4  # of what most waits for,
+FIRST = 3  # or what is behind that by fewer percent of all
+LINES_OF_CRATE = 300
+MOST_NICE = 19
+NEED_OF_JOB = 0.3  # of another job in the same crate
 TOLD_EVERY = 10  # seconds
 
 
@@ -70,25 +72,37 @@ class Progress:
 class Step:
     """A library that is being proved, or the program that is being built."""
 
-    def __init__(self, rt, crate, jobs, lock):
+    def __init__(self, rt, crate, jobs, nice, lock):
         self.rt, self.crate, self.jobs, self.lock = rt, crate, jobs, lock
         self.log = log_of(crate)
         self.need = rt.need(crate) * (1 + NEED_OF_JOB * (jobs - 1))
         self.stamp = crate.stamp()
         self.log.parent.mkdir(exist_ok=True)
         with self.log.open("w") as log:
-            words = self.of_program() if crate.is_program else self.of_library(log)
+            words = self.of_program(log) if crate.is_program else self.of_library(log)
             self.process = subprocess.Popen(
                 [*rt.rtlib.guarded(), *words],
                 cwd=crate.folder,
                 stdin=subprocess.DEVNULL,
                 stdout=log,
                 stderr=subprocess.STDOUT,
+                preexec_fn=lambda: os.nice(nice),
             )
 
-    def of_program(self):
-        """The command that builds the program: it also runs it, over no input."""
-        return [sys.executable, self.rt.__file__, "run", "--jobs", str(self.jobs), "--", "replay"]
+    def of_program(self, log):
+        """The command that proves the program and compiles what was proved."""
+        PROGRAM.unlink(missing_ok=True)
+        self.crate.out = log
+        words = self.crate.words(["--jobs", str(self.jobs)], keeps=False)
+        words += ["--toolchain", f"{self.rt.KIT}/toolchain", "--backend", "llvm"]
+        return [self.rt.rtlib.RATTLE, "build", *words, "-o", f"{PROGRAM}.o"]
+
+    def link_program(self):
+        """Links what was compiled, and says whether all is well: what it may call of the system is held to HANDLES."""
+        program = str(PROGRAM.relative_to(self.crate.folder))
+        with self.log.open("a") as log:
+            self.crate.out, self.crate.allowed = log, self.rt.handles_of(str(ROOT))
+            return not self.crate.link(f"{program}.o", program)
 
     def of_library(self, log):
         """The command that proves a library and writes its statements, and what was there is removed."""
@@ -103,8 +117,8 @@ class Step:
         """Keeps what a proof has given, or says why there is none."""
         text = self.log.read_text(errors="replace")
         is_well = self.process.returncode == 0
-        if self.crate.is_program:
-            is_well = RUNS_PROGRAM.search(text)
+        if is_well and self.crate.is_program:
+            is_well = self.link_program()
         if not is_well:
             stale = {*self.rt.rtlib.STALE.findall(text), *UNUSABLE.findall(text)}
             if stale:
@@ -114,8 +128,7 @@ class Step:
             sys.exit(f"kbroker: {self.crate.name} is not proved{killed}: see {self.log.relative_to(ROOT)}")
         if self.stamp != self.crate.stamp():
             sys.exit(f"kbroker: a source of {self.crate.name} or below it changed meanwhile")
-        if not self.crate.is_program:
-            stamp_of(self.crate).write_text(self.stamp)
+        stamp_of(self.crate).write_text(self.stamp)
         os.close(self.lock)
 
     def stop(self):
@@ -128,8 +141,7 @@ def lock_of(crate):
     """What keeps every other rt out of the crate's folder until it is closed, or None where one works there."""
     lock = os.open(crate.folder, os.O_RDONLY)
     try:
-        if not crate.is_program:  # whose rt takes the lock itself
-            fcntl.flock(lock, fcntl.LOCK_EX | fcntl.LOCK_NB)
+        fcntl.flock(lock, fcntl.LOCK_EX | fcntl.LOCK_NB)
     except BlockingIOError:
         os.close(lock)
         return None
@@ -147,52 +159,61 @@ def functions_in(log):
 
 
 def stamp_of(crate):
-    """The file with the sum of the sources that the crate's library was made from."""
-    return Path(crate.folder) / "out/rlib/stamp"
+    """The file with the sum of the sources that the crate's library was made from, or the program."""
+    return Path(crate.folder) / ("out/stamp" if crate.is_program else "out/rlib/stamp")
+
+
+def is_made(crate):
+    """Whether what is kept of the crate was made from its sources as they stand."""
+    if not crate.is_program:
+        return crate.makes_rlib() and crate.is_built()
+    stamp = stamp_of(crate)
+    return PROGRAM.is_file() and stamp.is_file() and stamp.read_text() == crate.stamp()
 
 
 def lacking(crates):
-    """Those of these crates, lowest first, whose library is to be made. Statements fit only the libraries that they
+    """Those of these crates, lowest first, whose library, or program, is to be made. Statements fit only the libraries that they
     were proved over, so what stands on a library that is newer is made anew too."""
     found = []
     for crate in crates:
-        is_kept = crate.makes_rlib() and crate.is_built() and not {*found} & {*crate.below()}
+        is_kept = is_made(crate) and not {*found} & {*crate.below()}
         made = stamp_of(crate).stat().st_mtime_ns if is_kept else 0
         if not is_kept or any(stamp_of(it).stat().st_mtime_ns > made for it in crate.below()):
             found.append(crate)
     return found
 
 
-def lines_behind(crates):
-    """The lines of the longest chain of crates that waits for each one, its own among them."""
-    behind = {it: 0 for it in crates}
+def work_behind(crates, below):
+    """The work of the longest chain of crates that waits for each one, its own among it, in lines: a crate also takes the
+    time to read what it stands on and to write what stands on it reads."""
+    behind = {it: it.count(rb"\n") + LINES_OF_CRATE for it in crates}
     for crate in reversed(crates):
-        behind[crate] += crate.count(rb"\n")
-        for below in crate.below():
-            if below in behind:
-                behind[below] = max(behind[below], behind[crate])
+        behind[crate] += max((behind[it] for it in crates if crate in below[it]), default=0)
     return behind
 
 
 def start_next(rt, left, running, memory, needs, below, behind):
-    """Starts what is ready and has a processor and memory, in the order of what is left. Only what the longest chain
-    waits for gets more jobs than one: what those of another crate take would be missing there, once more is ready."""
+    """Starts what is ready and finds a processor and memory, what the most work waits for first. What runs with less work
+    behind it takes none from a crate: it is nicer, and runs on what is left. So there is one more than processors where
+    there are several, as few crates use theirs all the time. What the most work waits for, or nearly so, shares them."""
     unmade = {*left, *(it.crate for it in running)}
     ready = [it for it in left if not unmade & below[it]]
-    most = processors(rt) - (len(ready) + len(running) - 1)  # one for each of the others
-    longest = max((behind[it] for it in (*ready, *(it.crate for it in running))), default=0)
+    open_ones = [*ready, *(it.crate for it in running)]
+    lanes, most = processors(rt), max((behind[it] for it in open_ones), default=0)
+    slack = {it: 100 * (most - behind[it]) // max(behind.values()) for it in open_ones}
+    first = sum(it < FIRST for it in slack.values())
     for crate in ready:
-        idle = processors(rt) - sum(it.jobs for it in running)
+        used = sum(it.jobs for it in running if behind[it.crate] >= behind[crate])
+        idle = lanes + (lanes > 1) - used
         room, need = memory - sum(it.need for it in running), needs[crate]
         if idle < 1 or running and need > room:
             continue
-        spare = min(MOST_JOBS, idle, most, 1 + int((room / need - 1) / NEED_OF_JOB))
-        if behind[crate] < longest:
-            spare = 1
+        jobs = max(FEWEST_JOBS, lanes + 1 - first) if slack[crate] < FIRST else 1
+        jobs = min(jobs, MOST_JOBS, lanes, idle, 1 + int((room / need - 1) / NEED_OF_JOB))
         lock = lock_of(crate)
         if lock is not None:
             left.remove(crate)
-            running.append(Step(rt, crate, max(1, spare), lock))
+            running.append(Step(rt, crate, max(1, jobs), min(slack[crate], MOST_NICE), lock))
 
 
 def processors(rt):
@@ -202,10 +223,11 @@ def processors(rt):
 
 
 def prove_side_by_side(rt, left, progress):
-    """Proves these crates, each when those below it are, and those with the longest chain above them first."""
+    """Proves these crates, each when those below it are, and those with the most work behind them first."""
     memory, running = SHARE_OF_MEMORY * rt.free(), []
-    behind, needs = lines_behind(left), {it: rt.need(it) for it in left}
+    needs = {it: rt.need(it) for it in left}
     below = {it: {*it.below()} for it in left}  # which takes a while to find
+    behind = work_behind(left, below)
     left = sorted(left, key=lambda it: -behind[it])
     try:
         while left or running:
@@ -227,7 +249,7 @@ def load_crates(rt, names):
     known = {}
     for name in crates_of(names):
         folder = str(ROOT / "crates" / name)
-        known[folder] = rt.rtlib.Crate(folder, str(ROOT), known)
+        known[folder] = (rt.Crate if name == NAME else rt.rtlib.Crate)(folder, str(ROOT), known)
     return [*known.values()]
 
 

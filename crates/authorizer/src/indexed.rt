@@ -18,8 +18,8 @@ use crate::names::ANY_NAME;
 use crate::picking::{ByNumber, copies, forget, pick_from_all, take_out};
 use crate::place::{Place, places};
 use acl_binding::{Added, Binding, Filter, Numbered, Question, Verdict};
-use indexmap::IndexMap;
 use std::alloc::{AllocError, Global};
+use std::collections::HashMap;
 use std::marker::Model;
 use wire_types::{Items, Shared};
 
@@ -28,7 +28,7 @@ use wire_types::{Items, Shared};
 pub struct IndexedBook {
     entries: ByNumber,
     next: u64,
-    contents: IndexMap<Content, u64>,
+    contents: HashMap<Content, u64>,
     index: Index,
 }
 
@@ -62,7 +62,7 @@ impl IndexedBook {
         IndexedBook {
             entries: ByNumber::new(alloc),
             next: 1,
-            contents: IndexMap::new(alloc),
+            contents: HashMap::new(alloc),
             index: Index::new(alloc),
         }
     }
@@ -123,7 +123,7 @@ impl IndexedBook {
             self.entries.remove(&number);
             return Err(fault);
         }
-        self.contents.insert(content, number).unwrap();
+        let _told = self.contents.insert(content, number);
         self.next += 1;
         Ok(())
     }

@@ -12,9 +12,8 @@ use crate::content::Content;
 use crate::index::Index;
 use crate::place::Place;
 use acl_binding::{Binding, Filter, Numbered};
-use indexmap::IndexMap;
 use std::alloc::{AllocError, Global};
-use std::collections::BTreeMap;
+use std::collections::{BTreeMap, HashMap};
 use wire_types::{Items, Shared};
 
 /// Bindings by their creation numbers: one that is entered twice stands once.
@@ -91,10 +90,10 @@ pub(crate) fn take_out(entries: &mut ByNumber, picked: &ByNumber)
 }
 
 /// Takes what they say out of what the bindings say.
-pub(crate) fn forget(contents: &mut IndexMap<Content, u64>, picked: &ByNumber)
+pub(crate) fn forget(contents: &mut HashMap<Content, u64>, picked: &ByNumber)
     ensures { HasForgotten contents.old.entries contents.new.entries (values picked.now) }
 {
     for entry in picked.values() {
-        contents.swap_remove(entry);
+        contents.remove(entry);
     }
 }

@@ -1,1 +1,2 @@
 pub mod Permission
+pub mod Named

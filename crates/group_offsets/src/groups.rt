@@ -9,8 +9,8 @@ ghost use Rattle.group_offsets.specs.Permission.{MayUse};
 
 use authorizer::{Permit, Policy, Spent};
 use bytes::Bytes;
-use indexmap::IndexSet;
 use msg_group::{HeartbeatRequest, JoinGroupRequest, LeaveGroupRequest, SyncGroupRequest};
+use name_places::Places;
 use offset_tables::{Group, Joined, Offsets, PartitionOffset};
 use record_batch::Outcome;
 use std::alloc::{AllocError, Global};
@@ -21,8 +21,8 @@ use wire_types::{ErrorCode, Text};
 #[derive(Drop)]
 pub struct Groups {
     groups: Vec<Group>,
-    /// The groups' names, in the same order.
-    names: IndexSet<String>,
+    /// Where each group's name stands among theirs.
+    names: Places,
     nothing: Offsets,
 }
 
@@ -32,11 +32,11 @@ impl Model for Groups {
 
     ghost Value = { List Group };
 
-    ghost use Rattle.offset_tables.specs.Named.{AreNamed};
+    ghost use Rattle.group_offsets.specs.Named.{AreNamed};
 
     ghost view = { λ g. g.groups.items };
 
-    ghost invariant = { λ g. AreNamed g.names.keys g.nothing g.groups.items };
+    ghost invariant = { λ g. AreNamed g.names g.nothing g.groups.items };
 }
 
 impl Groups {
@@ -46,7 +46,7 @@ impl Groups {
     {
         Groups {
             groups: Vec::new(alloc),
-            names: IndexSet::new(alloc),
+            names: Places::new(alloc),
             nothing: Offsets::new(alloc),
         }
     }
@@ -341,9 +341,10 @@ impl Groups {
         ensures ok { OnOk result (self.new ≡ self.old ++ group ∷ []) }
         ensures err { OnErr result (self.new ≡ self.old) }
     {
-        let name = String::from(group.name.clone()?);
+        let name = group.name.clone()?;
         self.groups.reserve(1)?;
-        self.names.insert(name)?;
+        self.names.reserve()?;
+        self.names.push(name, self.groups.len());
         self.groups.push_reserved(group);
         Ok(())
     }
@@ -353,7 +354,7 @@ impl Groups {
         ensures place { result ≡ place_of self.now name.now }
         ensures within { IfSome result (λ place. place < length self.now) }
     {
-        self.names.get_index_of(name.as_str())
+        self.names.look_up(name)
     }
 
     /// Lets each member go that was not heard of for longer than its session timeout.

@@ -8,20 +8,20 @@ use wire_types::{
 };
 
 /// Asks for bindings to be created.
-#[derive(Clone, Debug, Drop, PartialEq, Eq)]
+#[derive(Drop, PartialEq, Eq)]
 pub struct CreateAclsRequest {
     pub creations: Items<BindingEntry>,
 }
 
 /// What came of one of them.
-#[derive(Clone, Debug, Drop, PartialEq, Eq)]
+#[derive(Drop, PartialEq, Eq)]
 pub struct CreatedAcl {
     pub error: ErrorCode,
     pub message: Option<Text>,
 }
 
 /// What came of each, in the order of the request.
-#[derive(Clone, Debug, Drop, PartialEq, Eq)]
+#[derive(Drop, PartialEq, Eq)]
 pub struct CreateAclsReply {
     pub throttle: i32,
     pub results: Items<CreatedAcl>,

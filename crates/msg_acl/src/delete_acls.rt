@@ -8,13 +8,13 @@ use wire_types::{
 };
 
 /// Asks for the bindings that the filters pick to be deleted.
-#[derive(Clone, Debug, Drop, PartialEq, Eq)]
+#[derive(Drop, PartialEq, Eq)]
 pub struct DeleteAclsRequest {
     pub filters: Items<FilterEntry>,
 }
 
 /// A binding that was deleted.
-#[derive(Clone, Debug, Drop, PartialEq, Eq)]
+#[derive(Drop, PartialEq, Eq)]
 pub struct DeletedAcl {
     pub error: ErrorCode,
     pub message: Option<Text>,
@@ -22,7 +22,7 @@ pub struct DeletedAcl {
 }
 
 /// What came of one filter.
-#[derive(Clone, Debug, Drop, PartialEq, Eq)]
+#[derive(Drop, PartialEq, Eq)]
 pub struct DeletedAcls {
     pub error: ErrorCode,
     pub message: Option<Text>,
@@ -30,7 +30,7 @@ pub struct DeletedAcls {
 }
 
 /// What came of each filter, in the order of the request.
-#[derive(Clone, Debug, Drop, PartialEq, Eq)]
+#[derive(Drop, PartialEq, Eq)]
 pub struct DeleteAclsReply {
     pub throttle: i32,
     pub results: Items<DeletedAcls>,

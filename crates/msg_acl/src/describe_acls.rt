@@ -9,13 +9,13 @@ use wire_types::{
 };
 
 /// Asks for the bindings that a filter picks.
-#[derive(Clone, Debug, Drop, PartialEq, Eq)]
+#[derive(Drop, PartialEq, Eq)]
 pub struct DescribeAclsRequest {
     pub filter: FilterEntry,
 }
 
 /// A binding of a resource.
-#[derive(Clone, Debug, Drop, PartialEq, Eq)]
+#[derive(Drop, PartialEq, Eq)]
 pub struct DescribedAcl {
     pub principal: Text,
     pub host: Text,
@@ -24,7 +24,7 @@ pub struct DescribedAcl {
 }
 
 /// A resource, and its bindings.
-#[derive(Clone, Debug, Drop, PartialEq, Eq)]
+#[derive(Drop, PartialEq, Eq)]
 pub struct DescribedResource {
     pub kind: i8,
     pub name: Text,
@@ -33,7 +33,7 @@ pub struct DescribedResource {
 }
 
 /// The bindings that were picked, by resource.
-#[derive(Clone, Debug, Drop, PartialEq, Eq)]
+#[derive(Drop, PartialEq, Eq)]
 pub struct DescribeAclsReply {
     pub throttle: i32,
     pub error: ErrorCode,

@@ -7,7 +7,7 @@ use wire_types::{
 };
 
 /// A binding as it stands in a message, before its words are looked at.
-#[derive(Clone, Debug, Drop, PartialEq, Eq)]
+#[derive(Clone, Drop, PartialEq, Eq)]
 pub struct BindingEntry {
     pub kind: i8,
     pub name: Text,
@@ -19,7 +19,7 @@ pub struct BindingEntry {
 }
 
 /// A filter as it stands in a message. A null text stands for any.
-#[derive(Clone, Debug, Drop, PartialEq, Eq)]
+#[derive(Drop, PartialEq, Eq)]
 pub struct FilterEntry {
     pub kind: i8,
     pub name: Option<Text>,

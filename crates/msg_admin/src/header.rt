@@ -13,7 +13,7 @@ use wire_types::{
 };
 
 /// A request's api, the number that its answer carries again, and the name that the client goes by.
-#[derive(Clone, Debug, Drop, PartialEq, Eq)]
+#[derive(Drop, PartialEq, Eq)]
 pub struct Header {
     pub key: i16,
     pub version: i16,

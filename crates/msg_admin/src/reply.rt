@@ -22,7 +22,7 @@ use std::alloc::Global;
 use wire_types::WriteFault;
 
 /// What an event is answered. Only an answer to a request is sent.
-#[derive(Clone, Debug, PartialEq, Eq)]
+#[derive(PartialEq, Eq)]
 pub enum Reply {
     Produce(ProduceReply),
     /// What a Produce is answered that wants no answer: it is kept, and no bytes are sent.

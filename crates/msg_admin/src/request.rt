@@ -32,7 +32,7 @@ use wire_types::{Cursor, Malformed, ReadFault, Wire, WriteFault, room_behind};
 pub const FRAME_LIMIT: usize = 104_857_600;
 
 /// What a client asks for.
-#[derive(Clone, Debug, PartialEq, Eq)]
+#[derive(PartialEq, Eq)]
 pub enum Request {
     Produce(ProduceRequest),
     Fetch(FetchRequest),

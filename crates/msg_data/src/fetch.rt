@@ -10,7 +10,7 @@ use wire_types::{
 };
 
 /// A partition, and the offset and the number of bytes that are wanted.
-#[derive(Clone, Debug, Drop, PartialEq, Eq)]
+#[derive(Drop, PartialEq, Eq)]
 pub struct FetchPartition {
     pub index: i32,
     pub offset: i64,
@@ -18,7 +18,7 @@ pub struct FetchPartition {
 }
 
 /// Asks for records.
-#[derive(Clone, Debug, Drop, PartialEq, Eq)]
+#[derive(Drop, PartialEq, Eq)]
 pub struct FetchRequest {
     /// Read and not looked at.
     pub replica: i32,
@@ -39,7 +39,7 @@ pub struct AbortedTransaction {
 }
 
 /// The records of a partition, and how far its log goes.
-#[derive(Clone, Debug, Drop, PartialEq, Eq)]
+#[derive(Drop, PartialEq, Eq)]
 pub struct FetchedRecords {
     pub index: i32,
     pub error: ErrorCode,
@@ -50,7 +50,7 @@ pub struct FetchedRecords {
 }
 
 /// The records, in the request's order.
-#[derive(Clone, Debug, Drop, PartialEq, Eq)]
+#[derive(Drop, PartialEq, Eq)]
 pub struct FetchReply {
     pub throttle: i32,
     pub topics: Items<Topic<FetchedRecords>>,

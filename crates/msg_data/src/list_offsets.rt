@@ -8,14 +8,14 @@ use wire_types::{
 };
 
 /// A partition, and the time of the offset that is wanted, or -1 for the end and -2 for the start.
-#[derive(Clone, Debug, Drop, PartialEq, Eq)]
+#[derive(Drop, PartialEq, Eq)]
 pub struct WantedOffset {
     pub index: i32,
     pub timestamp: i64,
 }
 
 /// Asks for offsets of partitions.
-#[derive(Clone, Debug, Drop, PartialEq, Eq)]
+#[derive(Drop, PartialEq, Eq)]
 pub struct ListOffsetsRequest {
     /// Read and not looked at.
     pub replica: i32,
@@ -24,7 +24,7 @@ pub struct ListOffsetsRequest {
 }
 
 /// The offset that was found in a partition.
-#[derive(Clone, Debug, Drop, PartialEq, Eq)]
+#[derive(Drop, PartialEq, Eq)]
 pub struct FoundOffset {
     pub index: i32,
     pub error: ErrorCode,
@@ -33,7 +33,7 @@ pub struct FoundOffset {
 }
 
 /// The offsets, in the request's order.
-#[derive(Clone, Debug, Drop, PartialEq, Eq)]
+#[derive(Drop, PartialEq, Eq)]
 pub struct ListOffsetsReply {
     pub throttle: i32,
     pub topics: Items<Topic<FoundOffset>>,

@@ -8,13 +8,13 @@ use wire_types::{
 };
 
 /// Asks for topics, or for all of them.
-#[derive(Clone, Debug, Drop, PartialEq, Eq)]
+#[derive(Drop, PartialEq, Eq)]
 pub struct MetadataRequest {
     pub topics: Option<Items<Text>>,
 }
 
 /// A broker of the cluster.
-#[derive(Clone, Debug, Drop, PartialEq, Eq)]
+#[derive(Drop, PartialEq, Eq)]
 pub struct BrokerInfo {
     pub node: i32,
     pub host: Text,
@@ -23,7 +23,7 @@ pub struct BrokerInfo {
 }
 
 /// A partition, its leader, and the nodes that keep it.
-#[derive(Clone, Debug, Drop, PartialEq, Eq)]
+#[derive(Drop, PartialEq, Eq)]
 pub struct PartitionInfo {
     pub error: ErrorCode,
     pub index: i32,
@@ -33,7 +33,7 @@ pub struct PartitionInfo {
 }
 
 /// A topic with its partitions, or why it has none.
-#[derive(Clone, Debug, Drop, PartialEq, Eq)]
+#[derive(Drop, PartialEq, Eq)]
 pub struct TopicInfo {
     pub error: ErrorCode,
     pub name: Text,
@@ -42,7 +42,7 @@ pub struct TopicInfo {
 }
 
 /// What the cluster consists of.
-#[derive(Clone, Debug, Drop, PartialEq, Eq)]
+#[derive(Drop, PartialEq, Eq)]
 pub struct MetadataReply {
     pub brokers: Items<BrokerInfo>,
     pub controller: i32,

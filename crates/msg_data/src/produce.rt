@@ -9,14 +9,14 @@ use wire_types::{
 };
 
 /// A partition, and the batch that is to be appended.
-#[derive(Clone, Debug, Drop, PartialEq, Eq)]
+#[derive(Drop, PartialEq, Eq)]
 pub struct ProducedRecords {
     pub index: i32,
     pub records: Option<Bytes>,
 }
 
 /// Asks for batches to be appended.
-#[derive(Clone, Debug, Drop, PartialEq, Eq)]
+#[derive(Drop, PartialEq, Eq)]
 pub struct ProduceRequest {
     pub transactional_id: Option<Text>,
     pub acks: i16,
@@ -25,7 +25,7 @@ pub struct ProduceRequest {
 }
 
 /// Where a partition's batch was put.
-#[derive(Clone, Debug, Drop, PartialEq, Eq)]
+#[derive(Drop, PartialEq, Eq)]
 pub struct ProducedOffset {
     pub index: i32,
     pub error: ErrorCode,
@@ -34,7 +34,7 @@ pub struct ProducedOffset {
 }
 
 /// Where the batches were put, in the request's order.
-#[derive(Clone, Debug, Drop, PartialEq, Eq)]
+#[derive(Drop, PartialEq, Eq)]
 pub struct ProduceReply {
     pub topics: Items<Topic<ProducedOffset>>,
     pub throttle: i32,

@@ -7,7 +7,7 @@ use wire_types::{
 };
 
 /// Tells that the member is there.
-#[derive(Clone, Debug, Drop, PartialEq, Eq)]
+#[derive(Drop, PartialEq, Eq)]
 pub struct HeartbeatRequest {
     pub group: Text,
     pub generation: i32,
@@ -15,7 +15,7 @@ pub struct HeartbeatRequest {
 }
 
 /// Whether the member is one of that generation.
-#[derive(Clone, Debug, Drop, PartialEq, Eq)]
+#[derive(Drop, PartialEq, Eq)]
 pub struct HeartbeatReply {
     pub throttle: i32,
     pub error: ErrorCode,

@@ -8,14 +8,14 @@ use wire_types::{
 };
 
 /// A protocol that a member speaks, and what it tells the group under it.
-#[derive(Clone, Debug, Drop, PartialEq, Eq)]
+#[derive(Clone, Drop, PartialEq, Eq)]
 pub struct OfferedProtocol {
     pub name: Text,
     pub metadata: Bytes,
 }
 
 /// Asks to be a member, a new one where the member's id is empty.
-#[derive(Clone, Debug, Drop, PartialEq, Eq)]
+#[derive(Drop, PartialEq, Eq)]
 pub struct JoinGroupRequest {
     pub group: Text,
     pub session_timeout: i32,
@@ -27,14 +27,14 @@ pub struct JoinGroupRequest {
 }
 
 /// A member, and what it told the group under the chosen protocol.
-#[derive(Clone, Debug, Drop, PartialEq, Eq)]
+#[derive(Drop, PartialEq, Eq)]
 pub struct JoinedMember {
     pub member: Text,
     pub metadata: Bytes,
 }
 
 /// The group's generation with its protocol, its leader and its members.
-#[derive(Clone, Debug, Drop, PartialEq, Eq)]
+#[derive(Drop, PartialEq, Eq)]
 pub struct JoinGroupReply {
     pub throttle: i32,
     pub error: ErrorCode,

@@ -7,14 +7,14 @@ use wire_types::{
 };
 
 /// Asks to be a member no longer.
-#[derive(Clone, Debug, Drop, PartialEq, Eq)]
+#[derive(Drop, PartialEq, Eq)]
 pub struct LeaveGroupRequest {
     pub group: Text,
     pub member: Text,
 }
 
 /// Whether the member has left.
-#[derive(Clone, Debug, Drop, PartialEq, Eq)]
+#[derive(Drop, PartialEq, Eq)]
 pub struct LeaveGroupReply {
     pub throttle: i32,
     pub error: ErrorCode,

@@ -8,7 +8,7 @@ use wire_types::{
 };
 
 /// A partition, and the offset that is to be committed there.
-#[derive(Clone, Debug, Drop, PartialEq, Eq)]
+#[derive(Drop, PartialEq, Eq)]
 pub struct OffsetToCommit {
     pub index: i32,
     pub offset: i64,
@@ -16,7 +16,7 @@ pub struct OffsetToCommit {
 }
 
 /// Asks to commit offsets, for a member or (generation -1 and an empty member) for no member.
-#[derive(Clone, Debug, Drop, PartialEq, Eq)]
+#[derive(Drop, PartialEq, Eq)]
 pub struct OffsetCommitRequest {
     pub group: Text,
     pub generation: i32,
@@ -27,14 +27,14 @@ pub struct OffsetCommitRequest {
 }
 
 /// Whether the offset of a partition is committed.
-#[derive(Clone, Debug, Drop, PartialEq, Eq)]
+#[derive(Drop, PartialEq, Eq)]
 pub struct CommittedOffset {
     pub index: i32,
     pub error: ErrorCode,
 }
 
 /// The partitions, in the request's order.
-#[derive(Clone, Debug, Drop, PartialEq, Eq)]
+#[derive(Drop, PartialEq, Eq)]
 pub struct OffsetCommitReply {
     pub topics: Items<Topic<CommittedOffset>>,
 }

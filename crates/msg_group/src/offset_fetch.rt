@@ -10,7 +10,7 @@ use wire_types::{
 };
 
 /// Asks for the offsets of partitions, or of all that have one.
-#[derive(Clone, Debug, Drop, PartialEq, Eq)]
+#[derive(Drop, PartialEq, Eq)]
 pub struct OffsetFetchRequest {
     pub group: Text,
     pub topics: Option<Items<Topic<i32>>>,
@@ -18,7 +18,7 @@ pub struct OffsetFetchRequest {
 }
 
 /// The committed offset of a partition, or -1.
-#[derive(Clone, Debug, Drop, PartialEq, Eq)]
+#[derive(Drop, PartialEq, Eq)]
 pub struct FetchedOffset {
     pub index: i32,
     pub offset: i64,
@@ -28,7 +28,7 @@ pub struct FetchedOffset {
 }
 
 /// The offsets, in the request's order.
-#[derive(Clone, Debug, Drop, PartialEq, Eq)]
+#[derive(Drop, PartialEq, Eq)]
 pub struct OffsetFetchReply {
     pub throttle: i32,
     pub topics: Items<Topic<FetchedOffset>>,

@@ -8,14 +8,14 @@ use wire_types::{
 };
 
 /// A member, and what it is assigned.
-#[derive(Clone, Debug, Drop, PartialEq, Eq)]
+#[derive(Drop, PartialEq, Eq)]
 pub struct MemberAssignment {
     pub member: Text,
     pub assignment: Bytes,
 }
 
 /// Asks for the member's assignment; a leader tells those of all members.
-#[derive(Clone, Debug, Drop, PartialEq, Eq)]
+#[derive(Drop, PartialEq, Eq)]
 pub struct SyncGroupRequest {
     pub group: Text,
     pub generation: i32,
@@ -24,7 +24,7 @@ pub struct SyncGroupRequest {
 }
 
 /// What the member is assigned.
-#[derive(Clone, Debug, Drop, PartialEq, Eq)]
+#[derive(Drop, PartialEq, Eq)]
 pub struct SyncGroupReply {
     pub throttle: i32,
     pub error: ErrorCode,

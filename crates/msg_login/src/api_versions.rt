@@ -7,7 +7,7 @@ use wire_types::{
 };
 
 /// An api by its key, and the versions in which it is served.
-#[derive(Clone, Debug, Drop, PartialEq, Eq)]
+#[derive(Drop, PartialEq, Eq)]
 pub struct ServedVersions {
     pub key: i16,
     pub min: i16,
@@ -15,7 +15,7 @@ pub struct ServedVersions {
 }
 
 /// The apis that are served.
-#[derive(Clone, Debug, Drop, PartialEq, Eq)]
+#[derive(Drop, PartialEq, Eq)]
 pub struct ApiVersionsReply {
     pub error: ErrorCode,
     pub apis: Items<ServedVersions>,

@@ -11,13 +11,13 @@ use wire_types::{
 };
 
 /// What the client tells by its mechanism, such as its name and password.
-#[derive(Clone, Debug, Drop, PartialEq, Eq)]
+#[derive(Drop, PartialEq, Eq)]
 pub struct SaslAuthenticateRequest {
     pub auth: Bytes,
 }
 
 /// Whether the client is logged in, and what the mechanism has the broker tell.
-#[derive(Clone, Debug, Drop, PartialEq, Eq)]
+#[derive(Drop, PartialEq, Eq)]
 pub struct SaslAuthenticateReply {
     pub error: ErrorCode,
     pub message: Option<Text>,

@@ -10,13 +10,13 @@ use wire_types::{
 };
 
 /// Names the mechanism that the client chose.
-#[derive(Clone, Debug, Drop, PartialEq, Eq)]
+#[derive(Drop, PartialEq, Eq)]
 pub struct SaslHandshakeRequest {
     pub mechanism: Text,
 }
 
 /// Whether the mechanism is one of those that are offered, and these.
-#[derive(Clone, Debug, Drop, PartialEq, Eq)]
+#[derive(Drop, PartialEq, Eq)]
 pub struct SaslHandshakeReply {
     pub error: ErrorCode,
     pub mechanisms: Items<Text>,

@@ -7,7 +7,7 @@ use wire_types::{
 };
 
 /// Asks to add a group to a producer's transaction.
-#[derive(Clone, Debug, Drop, PartialEq, Eq)]
+#[derive(Drop, PartialEq, Eq)]
 pub struct AddOffsetsToTxnRequest {
     pub transactional_id: Text,
     pub producer: i64,
@@ -16,7 +16,7 @@ pub struct AddOffsetsToTxnRequest {
 }
 
 /// How the adding came off.
-#[derive(Clone, Debug, Drop, PartialEq, Eq)]
+#[derive(Drop, PartialEq, Eq)]
 pub struct AddOffsetsToTxnReply {
     pub throttle: i32,
     pub error: ErrorCode,

@@ -7,7 +7,7 @@ use wire_types::{
 };
 
 /// Asks to add partitions to a producer's transaction.
-#[derive(Clone, Debug, Drop, PartialEq, Eq)]
+#[derive(Drop, PartialEq, Eq)]
 pub struct AddPartitionsToTxnRequest {
     pub transactional_id: Text,
     pub producer: i64,
@@ -16,14 +16,14 @@ pub struct AddPartitionsToTxnRequest {
 }
 
 /// How the adding of a partition came off.
-#[derive(Clone, Debug, Drop, PartialEq, Eq)]
+#[derive(Drop, PartialEq, Eq)]
 pub struct AddedPartition {
     pub index: i32,
     pub error: ErrorCode,
 }
 
 /// The partitions, in the request's order.
-#[derive(Clone, Debug, Drop, PartialEq, Eq)]
+#[derive(Drop, PartialEq, Eq)]
 pub struct AddPartitionsToTxnReply {
     pub throttle: i32,
     pub topics: Items<Topic<AddedPartition>>,

@@ -12,7 +12,7 @@ use wire_types::{
 };
 
 /// What is asked, in each version.
-#[derive(Clone, Debug, Drop, PartialEq, Eq)]
+#[derive(Drop, PartialEq, Eq)]
 pub struct EndTxn {
     pub transactional_id: Text,
     pub producer: i64,
@@ -21,13 +21,13 @@ pub struct EndTxn {
 }
 
 /// What is asked, in the form of versions 3 to 5.
-#[derive(Clone, Debug, Drop, PartialEq, Eq)]
+#[derive(Drop, PartialEq, Eq)]
 pub struct FlexibleEndTxn {
     pub asked: EndTxn,
 }
 
 /// Asks to end a producer's transaction.
-#[derive(Clone, Debug, Drop, PartialEq, Eq)]
+#[derive(Drop, PartialEq, Eq)]
 pub enum EndTxnRequest {
     Version0(EndTxn),
     Version1(EndTxn),
@@ -38,21 +38,21 @@ pub enum EndTxnRequest {
 }
 
 /// How the ending came off.
-#[derive(Clone, Debug, Drop, PartialEq, Eq)]
+#[derive(Drop, PartialEq, Eq)]
 pub struct Ended {
     pub throttle: i32,
     pub error: ErrorCode,
 }
 
 /// How the ending came off, in the form of versions 3 and 4.
-#[derive(Clone, Debug, Drop, PartialEq, Eq)]
+#[derive(Drop, PartialEq, Eq)]
 pub struct FlexibleEnded {
     pub throttle: i32,
     pub error: ErrorCode,
 }
 
 /// How the ending came off, in the form of version 5: with an error code the pair is -1 and -1.
-#[derive(Clone, Debug, Drop, PartialEq, Eq)]
+#[derive(Drop, PartialEq, Eq)]
 pub struct EndedWithPair {
     pub throttle: i32,
     pub error: ErrorCode,
@@ -61,7 +61,7 @@ pub struct EndedWithPair {
 }
 
 /// How the ending came off, in the version that asked for it.
-#[derive(Clone, Debug, Drop, PartialEq, Eq)]
+#[derive(Drop, PartialEq, Eq)]
 pub enum EndTxnReply {
     Version0(Ended),
     Version1(Ended),

@@ -7,7 +7,7 @@ use wire_types::{
 };
 
 /// Asks for the coordinator of a group (key type 0) or of a transactional id (key type 1).
-#[derive(Clone, Debug, Drop, PartialEq, Eq)]
+#[derive(Drop, PartialEq, Eq)]
 pub struct FindCoordinatorRequest {
     pub key: Text,
     /// Any number is read: of another than 0 and 1 the answer tells that it is none.
@@ -15,7 +15,7 @@ pub struct FindCoordinatorRequest {
 }
 
 /// The coordinator, or node -1.
-#[derive(Clone, Debug, Drop, PartialEq, Eq)]
+#[derive(Drop, PartialEq, Eq)]
 pub struct FindCoordinatorReply {
     pub throttle: i32,
     pub error: ErrorCode,

@@ -7,14 +7,14 @@ use wire_types::{
 };
 
 /// Asks for the producer of a transactional id, or for one without transactions.
-#[derive(Clone, Debug, Drop, PartialEq, Eq)]
+#[derive(Drop, PartialEq, Eq)]
 pub struct InitProducerIdRequest {
     pub transactional_id: Option<Text>,
     pub timeout: i32,
 }
 
 /// The producer id with its epoch, or -1 for both.
-#[derive(Clone, Debug, Drop, PartialEq, Eq)]
+#[derive(Drop, PartialEq, Eq)]
 pub struct InitProducerIdReply {
     pub throttle: i32,
     pub error: ErrorCode,

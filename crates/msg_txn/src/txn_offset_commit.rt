@@ -9,7 +9,7 @@ use wire_types::{
 };
 
 /// A partition, and the offset that is to be committed there.
-#[derive(Clone, Debug, Drop, PartialEq, Eq)]
+#[derive(Drop, PartialEq, Eq)]
 pub struct OffsetToStage {
     pub index: i32,
     pub offset: i64,
@@ -19,7 +19,7 @@ pub struct OffsetToStage {
 }
 
 /// Asks to commit offsets of a group with a producer's transaction.
-#[derive(Clone, Debug, Drop, PartialEq, Eq)]
+#[derive(Drop, PartialEq, Eq)]
 pub struct TxnOffsetCommitRequest {
     pub transactional_id: Text,
     pub group: Text,
@@ -33,14 +33,14 @@ pub struct TxnOffsetCommitRequest {
 }
 
 /// Whether the offset of a partition waits for the transaction's end.
-#[derive(Clone, Debug, Drop, PartialEq, Eq)]
+#[derive(Drop, PartialEq, Eq)]
 pub struct StagedOffset {
     pub index: i32,
     pub error: ErrorCode,
 }
 
 /// The partitions, in the request's order.
-#[derive(Clone, Debug, Drop, PartialEq, Eq)]
+#[derive(Drop, PartialEq, Eq)]
 pub struct TxnOffsetCommitReply {
     pub throttle: i32,
     pub topics: Items<Topic<StagedOffset>>,

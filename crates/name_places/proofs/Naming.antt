@@ -2,7 +2,11 @@
 use Rattle.std.proofs.Common.{◌≡◌, ℕ, ◌+◌, ◌<◌, List, [], ◌∷◌, ◌++◌, length, Option, Some, None, Result, Ok, Err, IsOk, OnOk, Bool, true, false, cond, refl, sym, ap, ◌∙◌, arith}
 use Rattle.std.specs.Prelude.{is_some, IfSome}
 use Rattle.std.specs.Option.{option_map}
+use Rattle.std.specs.Map.{lookup}
 use Rattle.std.specs.Str.{bytes_eq}
+use Rattle.std.specs.String.{string_bytes, string_eq}
+use Rattle.std.specs.declared.string.String.{String}
+use Rattle.std.specs.declared.alloc.Global.{Global}
 use Rattle.std.proofs.lemmas.Slice.Eq.{bytes_eq-Decides}
 use Rattle.name_places.specs.Places.{place_in}
 
@@ -62,3 +66,27 @@ entered_more names name other absent = sym (place_more names name other ∙ by_t
 pub on_ok : {T E : Type 0} (r : Result T E) (P : Type 0) → IsOk r → OnOk r P → P
 on_ok (Ok x) P ok h = h
 on_ok (Err e) P ok h = absurd (let clash : false ≡ true = ok in cc)
+
+-- ---- a table whose keys find what they found
+
+abbrev is_text : List ℕ → String Global → Bool
+is_text name k = bytes_eq name (string_bytes k)
+
+key_there : (name : List ℕ) (es : List (String Global × ℕ)) → is_some (lookup (is_text name) es) ≡ true → (k : String Global) × (name ≡ string_bytes k)
+key_there name [] there = absurd (let clash : false ≡ true = there in cc)
+key_there name (e ∷ es) there = by_test (bytes_eq name (string_bytes e.0)) refl there (key_there name es) where
+  by_test : (b : Bool) → bytes_eq name (string_bytes e.0) ≡ b → is_some (cond b (Some e.1) (lookup (is_text name) es)) ≡ true
+      → (is_some (lookup (is_text name) es) ≡ true → (k : String Global) × (name ≡ string_bytes k)) → (k : String Global) × (name ≡ string_bytes k)
+  by_test true e' there rest = (e.0, same_bytes name (string_bytes e.0) e')
+  by_test false e' there rest = rest there
+
+-- finds as much by a name: one that no key has is found in neither
+pub same_by_name : (old new : List (String Global × ℕ)) → ((k : String Global) → lookup (string_eq k) new ≡ lookup (string_eq k) old) → (name : List ℕ) → lookup (is_text name) new ≡ lookup (is_text name) old
+same_by_name old new same name = by_found (lookup (is_text name) old) (lookup (is_text name) new) refl refl where
+  at_key : (k : String Global) → name ≡ string_bytes k → lookup (is_text name) new ≡ lookup (is_text name) old
+  at_key k is = ap (λ (n : List ℕ). lookup (is_text n) new) is ∙ same k ∙ sym (ap (λ (n : List ℕ). lookup (is_text n) old) is)
+
+  by_found : (was is : Option ℕ) → lookup (is_text name) old ≡ was → lookup (is_text name) new ≡ is → lookup (is_text name) new ≡ lookup (is_text name) old
+  by_found (Some n) is e f = let k = key_there name old (ap (λ (o : Option ℕ). is_some o) e) in at_key k.0 k.1
+  by_found None (Some n) e f = let k = key_there name new (ap (λ (o : Option ℕ). is_some o) f) in at_key k.0 k.1
+  by_found None None e f = f ∙ sym e

@@ -3,13 +3,13 @@
 ghost use Rattle.std.specs.Prelude.{◌≡◌, ◌<◌, ◌++◌, ◌∷◌, [], List, ℕ, length, IfSome, OnOk};
 ghost use Rattle.name_places.specs.Places.{place_in, room_for, ArePlaces};
 
-use indexmap::IndexMap;
 use std::alloc::{AllocError, Global};
+use std::collections::HashMap;
 use wire_types::Text;
 
 /// The places of the names of a list. Of a name that stands there twice it is the first.
 pub struct Places {
-    table: IndexMap<String, usize>,
+    table: HashMap<String, usize>,
 }
 
 /// Written out, so that a proof has one call where a list is let go with its places, and not the drops of a table.
@@ -25,7 +25,7 @@ impl Places {
         ensures { ArePlaces result [] }
     {
         Places {
-            table: IndexMap::new(alloc),
+            table: HashMap::new(alloc),
         }
     }
 

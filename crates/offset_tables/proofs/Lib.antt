@@ -2,8 +2,7 @@ pub mod Places
 pub mod Following
 pub mod Waiting
 pub mod Apart
-pub mod Named
 pub mod Reading
 pub mod Describing
-pub mod Placing
+pub mod Topics
 pub mod Rows

@@ -2,6 +2,7 @@
 use Rattle.std.proofs.Common.{◌≡◌, ℕ, ℤ, zero, suc, ◌<◌, List, [], ◌∷◌, ◌++◌, length, get_or, set, Option, Some, None, Bool, true, false, cond, refl, sym, subst, ap, ◌∙◌, arith}
 use Rattle.std.specs.Prelude.{◌&&◌, ◌||◌, slice_get, nat_eq, is_some}
 use Rattle.std.specs.Ordering.{int_eq}
+use Rattle.std.specs.Cmp.{nat_eq_equiv}
 use Rattle.std.specs.Option.{option_and_then, option_map_or}
 use Rattle.std.specs.List.{list_any}
 use Rattle.std.specs.Map.{lookup}
@@ -10,12 +11,12 @@ use Rattle.std.proofs.lemmas.Bool.Decides.{Decides-int_eq, Decides-eqb}
 use Rattle.std.proofs.lemmas.List.{length-set}
 use Rattle.std.proofs.lemmas.List.Folds.{list_any-append, list_any_at}
 use Rattle.std.proofs.lemmas.Option.{slice_get-get_or}
-use Rattle.indexmap.specs.IndexSet.{IndexSet}
+use Rattle.std.specs.declared.vec.Vec.{Vec}
+use Rattle.std.specs.declared.alloc.Global.{Global}
 use Rattle.record_batch.specs.declared.outcome.Outcome.{Outcome}
 use Rattle.record_batch.specs.declared.outcome.Outcome.TheVariants.{Abort, Commit}
-use Rattle.offset_tables.specs.declared.partition.Partition.{Partition}
 use Rattle.offset_tables.specs.declared.row.Row.{Row}
-use Rattle.offset_tables.specs.Kept.{waits, committed_at, waiting_at, has_row, IsTableOf, IsSameRow, decided, IsDecided, AreDecided}
+use Rattle.offset_tables.specs.Kept.{waits, committed_at, waiting_at, has_row, IsTableOf, IsSameRow, IsStaged, decided, IsDecided, AreDecided, HasMore}
 
 -- ---- numbers
 
@@ -85,8 +86,61 @@ pub same_set : (rows : List Row) (at : ℕ) (r new : Row) → at < length rows �
 same_set rows at r new h is same = record {
   each = length-set rows at new;
   committed = kept_at (λ (x : Row). x.committed) rows at r new h is same.committed;
-  waiting = λ p. kept_at (λ (x : Row). waits x p) rows at r new h is (ap (lookup (int_eq p)) same.waiting);
+  waiting = λ p. kept_at (λ (x : Row). waits x p) rows at r new h is (same.waiting p);
 }
+
+pub same_table : (find : List ℕ → ℤ → Option ℕ) (rows new : List Row) (staged : List (ℤ × Vec ℕ Global)) → SameRows rows new → IsTableOf find rows staged → IsTableOf find new staged
+same_table find rows new staged same t = record {
+  within = λ topic index n at. let h = t.within topic index n at in omega (arith, h, same.each);
+  apart = t.apart;
+  exact = λ p n. t.exact p n ∙ ap is_some (sym (same.waiting p n));
+}
+
+-- ---- a producer that waits in one row more
+
+pub stage_table : (find : List ℕ → ℤ → Option ℕ) (rows : List Row) (staged more : List (ℤ × Vec ℕ Global)) (at : ℕ) (r new : Row) (producer : ℤ) (place : ℕ) → at < length rows → r ≡ get_or rows at r → IsStaged r new producer place
+    → HasMore staged more producer at → IsTableOf find rows staged → IsTableOf find (set rows at new) more
+stage_table find rows staged more at r new producer place h is made has t = record { within = within; apart = t.apart; exact = exact } where
+  within : (topic : List ℕ) (index : ℤ) (n : ℕ) → find topic index ≡ Some n → n < length (set rows at new)
+  within topic index n found = let k = t.within topic index n found in omega (arith, k, length-set rows at new)
+
+  waited : (p : ℤ) → waiting_at rows p at ≡ waits r p
+  waited p = ap (option_and_then (λ (x : Row). waits x p)) (read_here rows at r h is)
+
+  same_sides : (n : ℕ) → nat_eq at n ≡ nat_eq n at
+  same_sides n = nat_eq_equiv.symm at n
+
+  exact : (p : ℤ) (n : ℕ) → has_row more p n ≡ is_some (waiting_at (set rows at new) p n)
+  exact p n =
+      has p n ∙ ap (λ (b : Bool). cond (int_eq producer p && b) true (has_row staged p n)) (same_sides n)
+      ∙ by_place (nat_eq n at) refl
+      ∙ ap is_some (sym (read_set (λ (x : Row). waits x p) rows at n new h)) where
+        own : (o : Bool) (w : Option ℕ) → cond (o && true) true (is_some w) ≡ is_some (cond o (Some place) w)
+        own true w = refl
+        own false w = refl
+
+        other : (o : Bool) (w : Bool) → cond (o && false) true w ≡ w
+        other true w = refl
+        other false w = refl
+
+        by_place : (b : Bool) → nat_eq n at ≡ b → cond (int_eq producer p && b) true (has_row staged p n) ≡ is_some (cond b (waits new p) (waiting_at rows p n))
+        by_place true e =
+            ap (λ (x : Bool). cond (int_eq producer p && true) true x) (t.exact p n ∙ ap is_some (ap (waiting_at rows p) (same_place n at e) ∙ waited p))
+            ∙ own (int_eq producer p) (waits r p) ∙ ap is_some (sym (made.waiting p))
+        by_place false e = other (int_eq producer p) (has_row staged p n) ∙ t.exact p n
+
+-- a row in which it waits is one that it has
+pub has_already : (rows : List Row) (staged : List (ℤ × Vec ℕ Global)) (at : ℕ) (r : Row) (producer : ℤ) → at < length rows → r ≡ get_or rows at r → is_some (waits r producer) ≡ true
+    → ((n : ℕ) → has_row staged producer n ≡ is_some (waiting_at rows producer n)) → HasMore staged staged producer at
+has_already rows staged at r producer h is waiting exact p n = by_own (int_eq producer p) (nat_eq at n) refl refl where
+  there : has_row staged producer at ≡ true
+  there = exact at ∙ ap is_some (ap (option_and_then (λ (x : Row). waits x producer)) (read_here rows at r h is)) ∙ waiting
+
+  by_own : (a b : Bool) → int_eq producer p ≡ a → nat_eq at n ≡ b → has_row staged p n ≡ cond (a && b) true (has_row staged p n)
+  by_own true true e f = sym (ap (λ (q : ℤ). has_row staged q n) (same_number producer p e)) ∙ sym (ap (has_row staged producer) (same_place at n f)) ∙ there
+  by_own true false e f = refl
+  by_own false true e f = refl
+  by_own false false e f = refl
 
 -- ---- a decision
 
@@ -192,24 +246,27 @@ all_decided places producer outcome old new so exact = record { each = so.each; 
     by_own false e = ap (λ (b : Bool). cond b None (waiting_at old p n)) (false_and (is_some (waiting_at old producer n)))
 
 -- the producer has no rows then
-pub decide_table : {S : Type 0} (keys : List Partition) (rows new : List Row) (staged less : List (ℤ × IndexSet ℕ S)) (producer : ℤ) (outcome : Outcome)
+pub decide_table : (find : List ℕ → ℤ → Option ℕ) (rows new : List Row) (staged less : List (ℤ × Vec ℕ Global)) (producer : ℤ) (outcome : Outcome)
     → ((p : ℤ) → lookup (int_eq p) less ≡ cond (int_eq producer p) None (lookup (int_eq p) staged)) → AllDecided producer outcome rows new
-    → IsTableOf keys rows staged → IsTableOf keys new less
-decide_table {S} keys rows new staged less producer outcome taken so t = record { each = so.each ∙ t.each; exact = exact } where
+    → IsTableOf find rows staged → IsTableOf find new less
+decide_table find rows new staged less producer outcome taken so t = record { within = within; apart = t.apart; exact = exact } where
+  within : (topic : List ℕ) (index : ℤ) (n : ℕ) → find topic index ≡ Some n → n < length new
+  within topic index n at = let h = t.within topic index n at in omega (arith, h, so.each)
+
   exact : (p : ℤ) (n : ℕ) → has_row less p n ≡ is_some (waiting_at new p n)
-  exact p n = ap (λ (o : Option (IndexSet ℕ S)). option_map_or (λ (s : IndexSet ℕ S). list_any (nat_eq n) s.keys) o false) (taken p) ∙ by_own (int_eq producer p) ∙ ap is_some (sym (so.waiting p n)) where
-    by_own : (o : Bool) → option_map_or (λ (s : IndexSet ℕ S). list_any (nat_eq n) s.keys) (cond o None (lookup (int_eq p) staged)) false ≡ is_some (cond o None (waiting_at rows p n))
+  exact p n = ap (λ (o : Option (Vec ℕ Global)). option_map_or (λ (s : Vec ℕ Global). list_any (nat_eq n) s.items) o false) (taken p) ∙ by_own (int_eq producer p) ∙ ap is_some (sym (so.waiting p n)) where
+    by_own : (o : Bool) → option_map_or (λ (s : Vec ℕ Global). list_any (nat_eq n) s.items) (cond o None (lookup (int_eq p) staged)) false ≡ is_some (cond o None (waiting_at rows p n))
     by_own true = refl
     by_own false = t.exact p n
 
 -- where nothing is found of a producer, it waits in no row
-pub nothing_waits : {S : Type 0} (keys : List Partition) (rows : List Row) (staged : List (ℤ × IndexSet ℕ S)) (producer : ℤ) → lookup (int_eq producer) staged ≡ None → IsTableOf keys rows staged
+pub nothing_waits : (find : List ℕ → ℤ → Option ℕ) (rows : List Row) (staged : List (ℤ × Vec ℕ Global)) (producer : ℤ) → lookup (int_eq producer) staged ≡ None → IsTableOf find rows staged
     → (n : ℕ) → list_any (nat_eq n) [] ≡ is_some (waiting_at rows producer n)
-nothing_waits {S} keys rows staged producer none t n = sym (ap (λ (o : Option (IndexSet ℕ S)). option_map_or (λ (s : IndexSet ℕ S). list_any (nat_eq n) s.keys) o false) none) ∙ t.exact producer n
+nothing_waits find rows staged producer none t n = sym (ap (λ (o : Option (Vec ℕ Global)). option_map_or (λ (s : Vec ℕ Global). list_any (nat_eq n) s.items) o false) none) ∙ t.exact producer n
 
-pub something_waits : {S : Type 0} (keys : List Partition) (rows : List Row) (staged : List (ℤ × IndexSet ℕ S)) (producer : ℤ) (s : IndexSet ℕ S) → lookup (int_eq producer) staged ≡ Some s → IsTableOf keys rows staged
-    → (n : ℕ) → list_any (nat_eq n) s.keys ≡ is_some (waiting_at rows producer n)
-something_waits {S} keys rows staged producer s found t n = sym (ap (λ (o : Option (IndexSet ℕ S)). option_map_or (λ (x : IndexSet ℕ S). list_any (nat_eq n) x.keys) o false) found) ∙ t.exact producer n
+pub something_waits : (find : List ℕ → ℤ → Option ℕ) (rows : List Row) (staged : List (ℤ × Vec ℕ Global)) (producer : ℤ) (s : Vec ℕ Global) → lookup (int_eq producer) staged ≡ Some s → IsTableOf find rows staged
+    → (n : ℕ) → list_any (nat_eq n) s.items ≡ is_some (waiting_at rows producer n)
+something_waits find rows staged producer s found t n = sym (ap (λ (o : Option (Vec ℕ Global)). option_map_or (λ (x : Vec ℕ Global). list_any (nat_eq n) x.items) o false) found) ∙ t.exact producer n
 
 -- no row in which a producer waits is behind all others
 waiting_within : (rows : List Row) (producer : ℤ) (n : ℕ) → is_some (waiting_at rows producer n) ≡ true → n < length rows
@@ -217,12 +274,12 @@ waiting_within [] producer n h = absurd (let clash : false ≡ true = h in cc)
 waiting_within (r ∷ rows) producer zero h = omega arith
 waiting_within (r ∷ rows) producer (suc n) h = let within = waiting_within rows producer n h in omega arith
 
-pub all_within : {S : Type 0} (keys : List Partition) (rows : List Row) (staged : List (ℤ × IndexSet ℕ S)) (producer : ℤ) (s : IndexSet ℕ S) → lookup (int_eq producer) staged ≡ Some s → IsTableOf keys rows staged
-    → (k d : ℕ) → k < length s.keys → get_or s.keys k d < length rows
-all_within keys rows staged producer s found t k d h =
-    waiting_within rows producer (get_or s.keys k d)
-    (sym (something_waits keys rows staged producer s found t (get_or s.keys k d)) ∙ list_any_at (nat_eq (get_or s.keys k d)) s.keys k d h ((Decides-eqb (get_or s.keys k d) (get_or s.keys k d)).1 refl))
+pub all_within : (find : List ℕ → ℤ → Option ℕ) (rows : List Row) (staged : List (ℤ × Vec ℕ Global)) (producer : ℤ) (s : Vec ℕ Global) → lookup (int_eq producer) staged ≡ Some s → IsTableOf find rows staged
+    → (k d : ℕ) → k < length s.items → get_or s.items k d < length rows
+all_within find rows staged producer s found t k d h =
+    waiting_within rows producer (get_or s.items k d)
+    (sym (something_waits find rows staged producer s found t (get_or s.items k d)) ∙ list_any_at (nat_eq (get_or s.items k d)) s.items k d h ((Decides-eqb (get_or s.items k d) (get_or s.items k d)).1 refl))
 
 -- a table whose rows are spelled in another way
-pub table_spelled : {S : Type 0} (keys : List Partition) (rows spelled : List Row) (staged : List (ℤ × IndexSet ℕ S)) → spelled ≡ rows → IsTableOf keys rows staged → IsTableOf keys spelled staged
-table_spelled keys rows spelled staged same t = subst (λ (l : List Row). IsTableOf keys l staged) (sym same) t
+pub table_spelled : (find : List ℕ → ℤ → Option ℕ) (rows spelled : List Row) (staged : List (ℤ × Vec ℕ Global)) → spelled ≡ rows → IsTableOf find rows staged → IsTableOf find spelled staged
+table_spelled find rows spelled staged same t = subst (λ (l : List Row). IsTableOf find l staged) (sym same) t

@@ -3,7 +3,5 @@ pub mod Turn
 pub mod Group
 pub mod Joining
 pub mod Groups
-pub mod Named
-pub mod Partitions
 pub mod Laws
 pub mod Kept

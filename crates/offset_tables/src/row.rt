@@ -1,12 +1,12 @@
 //! What is kept of one partition's offsets.
 
-ghost use Rattle.std.specs.Prelude.{◌≡◌, ◌<◌, [], Some, None, OnOk};
-ghost use Rattle.indexmap.specs.IndexMap.{spare};
-ghost use Rattle.offset_tables.specs.Kept.{IsSameRow, IsStaged, IsDecided, has_some};
+ghost use Rattle.std.specs.Prelude.{◌≡◌, ◌<◌, [], Some, None, OnOk, is_some};
+ghost use Rattle.std.specs.HashMap.{spare};
+ghost use Rattle.offset_tables.specs.Kept.{waits, IsSameRow, IsStaged, IsDecided, has_some};
 
-use indexmap::IndexMap;
 use record_batch::Outcome;
 use std::alloc::{AllocError, Global};
+use std::collections::HashMap;
 
 /// The places of the events that count for a partition.
 #[derive(Drop)]
@@ -14,7 +14,7 @@ pub struct Row {
     /// Where its committed offset is told.
     pub committed: Option<usize>,
     /// Of each producer whose offset waits for a decision, where that is told.
-    pub waiting: IndexMap<i64, usize>,
+    pub waiting: HashMap<i64, usize>,
 }
 
 impl Row {
@@ -25,7 +25,7 @@ impl Row {
     {
         Row {
             committed: None,
-            waiting: IndexMap::new(alloc),
+            waiting: HashMap::new(alloc),
         }
     }
 
@@ -57,11 +57,18 @@ impl Row {
     pub(crate) fn decide(&mut self, producer: i64, outcome: Outcome)
         ensures { IsDecided self.old self.new producer outcome }
     {
-        if let Some(place) = self.waiting.swap_remove(&producer) {
+        if let Some(place) = self.waiting.remove(&producer) {
             if outcome == Outcome::Commit {
                 self.commit(place);
             }
         }
+    }
+
+    /// Whether this producer waits.
+    pub(crate) fn waits(&self, producer: i64) -> bool
+        ensures { result ≡ is_some (waits self.now producer) }
+    {
+        self.waiting.contains_key(&producer)
     }
 
     /// Whether some producer waits.

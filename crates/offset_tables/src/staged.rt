@@ -1,27 +1,45 @@
 //! Of each producer the rows in which it waits.
 
-ghost use Rattle.std.specs.Prelude.{OnOk, OnErr};
-ghost use Rattle.offset_tables.specs.Kept.{HasMore, HasSame};
+ghost use Rattle.std.specs.Prelude.{◌≡◌, ◌<◌, ℕ, length, is_some, OnOk, OnErr};
+ghost use Rattle.offset_tables.specs.Kept.{has_row, waiting_at, HasMore, HasSame};
 
-use indexmap::{IndexMap, IndexSet};
+use crate::row::Row;
 use std::alloc::{AllocError, Global};
+use std::collections::HashMap;
 
-/// One more row of a producer, which may have it already.
+/// Of each producer the places of the rows in which it waits.
+pub(crate) type Staged = HashMap<i64, Vec<usize>>;
+
+/// The producer has the row at this place, which it may have already.
 pub(crate) fn enter(
-    staged: &mut IndexMap<i64, IndexSet<usize>>,
+    staged: &mut Staged,
     alloc: Global,
     producer: i64,
-    row: usize,
+    rows: &[Row],
+    at: usize,
 ) -> Result<(), AllocError>
-    ensures ok { OnOk result (HasMore staged.old.entries staged.new.entries producer row) }
+    requires within { at < length rows.now }
+    requires exact { (n : ℕ) → has_row staged.old.entries producer n ≡ is_some (waiting_at rows.now producer n) }
+    ensures ok { OnOk result (HasMore staged.old.entries staged.new.entries producer at) }
     ensures err { OnErr result (HasSame staged.old.entries staged.new.entries) }
 {
-    if let Some(rows) = staged.get_mut(&producer) {
-        rows.insert(row)?;
+    if rows[at].waits(producer) {
         return Ok(());
     }
-    let mut rows = IndexSet::new(alloc);
-    rows.insert(row)?;
-    staged.insert(producer, rows)?;
+    add(staged, alloc, producer, at)
+}
+
+/// The producer has the row at this place once more.
+fn add(staged: &mut Staged, alloc: Global, producer: i64, at: usize) -> Result<(), AllocError>
+    ensures ok { OnOk result (HasMore staged.old.entries staged.new.entries producer at) }
+    ensures err { OnErr result (HasSame staged.old.entries staged.new.entries) }
+{
+    if let Some(places) = staged.get_mut(&producer) {
+        places.push(at)?;
+        return Ok(());
+    }
+    let mut places = Vec::new(alloc);
+    places.push(at)?;
+    staged.insert(producer, places)?;
     Ok(())
 }

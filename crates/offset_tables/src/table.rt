@@ -4,26 +4,25 @@ ghost use Rattle.std.specs.Prelude.{◌≡◌, ◌<◌, ℕ, [], Some, length, I
 ghost use Rattle.std.specs.List.{All};
 ghost use Rattle.std.specs.Option.{option_copied};
 ghost use Rattle.offset_tables.specs.declared.event.OffsetEvent.TheVariants as events;
-ghost use Rattle.offset_tables.specs.Partitions.{place_among};
-ghost use Rattle.offset_tables.specs.Kept.{row_in, committed_in, some_waits, AreDecided, IsTable, StillDescribes, DescribesNext, IsKept};
+ghost use Rattle.offset_tables.specs.Kept.{place_in, row_in, committed_in, some_waits, AreDecided, IsTable, StillDescribes, DescribesNext, IsKept};
 
 use crate::event::{OffsetEvent, PartitionOffset};
-use crate::partition::{Partition, Wanted};
+use crate::placing::{Places, enter_place, find_place};
 use crate::row::Row;
-use crate::staged::enter;
-use indexmap::{IndexMap, IndexSet};
+use crate::staged::{Staged, enter};
 use record_batch::Outcome;
 use std::alloc::{AllocError, Global};
+use std::collections::HashMap;
 use wire_types::Text;
 
 /// A row for each partition of which an offset was committed or staged, and the rows in which each producer waits.
 #[derive(Drop)]
 pub struct Table {
-    pub partitions: IndexSet<Partition>,
-    /// The rows of the partitions, in the same order.
+    /// The place of each partition's row.
+    pub places: Places,
     pub rows: Vec<Row>,
     /// Of each producer the rows in which it waits.
-    pub staged: IndexMap<i64, IndexSet<usize>>,
+    pub staged: Staged,
     pub alloc: Global,
 }
 
@@ -33,38 +32,35 @@ impl Table {
         ensures { IsKept result [] }
     {
         Table {
-            partitions: IndexSet::new(alloc),
+            places: HashMap::new(alloc),
             rows: Vec::new(alloc),
-            staged: IndexMap::new(alloc),
+            staged: HashMap::new(alloc),
             alloc,
         }
     }
 
     fn place_of(&self, topic: &Text, index: i32) -> Option<usize>
-        ensures { result ≡ place_among self.now.partitions.keys topic.now index }
+        ensures { result ≡ place_in self.now.places topic.now index }
     {
-        self.partitions.get_index_of(Wanted {
-            topic: topic.as_str(),
-            index,
-        })
+        find_place(&self.places, topic, index)
     }
 
     fn row(&self, topic: &Text, index: i32) -> Option<&Row>
-        ensures { option_copied result ≡ row_in self.now.partitions.keys self.now.rows.items topic.now index }
+        ensures { option_copied result ≡ row_in (place_in self.now.places) self.now.rows.items topic.now index }
     {
         self.rows.get(self.place_of(topic, index)?)
     }
 
     /// The place of the event that tells a partition's committed offset.
     pub(crate) fn committed(&self, topic: &Text, index: i32) -> Option<usize>
-        ensures { result ≡ committed_in self.now.partitions.keys self.now.rows.items topic.now index }
+        ensures { result ≡ committed_in (place_in self.now.places) self.now.rows.items topic.now index }
     {
         self.row(topic, index)?.committed
     }
 
     /// Whether some producer waits with an offset of the partition.
     pub(crate) fn is_staged(&self, topic: &Text, index: i32) -> bool
-        ensures { result ≡ some_waits (row_in self.now.partitions.keys self.now.rows.items topic.now index) }
+        ensures { result ≡ some_waits (row_in (place_in self.now.places) self.now.rows.items topic.now index) }
     {
         match self.row(topic, index) {
             Some(row) => row.is_staged(),
@@ -114,7 +110,7 @@ impl Table {
         let at = self.row_for(offset)?;
         self.rows[at].reserve()?;
         // This is the first change, and the last call that may fail.
-        enter(&mut self.staged, self.alloc, producer, at)?;
+        enter(&mut self.staged, self.alloc, producer, &self.rows, at)?;
         self.rows[at].stage(producer, place);
         Ok(())
     }
@@ -124,7 +120,7 @@ impl Table {
         ensures table { IsTable self.new }
         ensures described { (place : ℕ) → DescribesNext self.old self.new place (events.Decide producer outcome) }
     {
-        if let Some(places) = self.staged.swap_remove(&producer) {
+        if let Some(places) = self.staged.remove(&producer) {
             decide_rows(&mut self.rows, places.as_slice(), producer, outcome);
         }
     }
@@ -134,15 +130,21 @@ impl Table {
         requires { IsTable self.old }
         ensures table { IsTable self.new }
         ensures same { StillDescribes self.old self.new }
-        ensures place { IfOk result (λ at. place_among self.new.partitions.keys offset.now.topic offset.now.index ≡ Some at) }
+        ensures place { IfOk result (λ at. place_in self.new.places offset.now.topic offset.now.index ≡ Some at) }
         ensures within { IfOk result (λ at. at < length self.new.rows.items) }
     {
         if let Some(at) = self.place_of(&offset.topic, offset.index) {
             return Ok(at);
         }
         self.rows.reserve(1)?;
-        self.partitions.insert(Partition::of(offset)?)?;
         let at = self.rows.len();
+        enter_place(
+            &mut self.places,
+            self.alloc,
+            &offset.topic,
+            offset.index,
+            at,
+        )?;
         self.rows.push_reserved(Row::new(self.alloc));
         Ok(at)
     }

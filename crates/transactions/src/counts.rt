@@ -6,12 +6,12 @@ ghost use Rattle.transactions.specs.Warrants.{owes};
 ghost use Rattle.transactions.specs.Kept.{count_of, has_count, owed_of};
 
 use crate::marker::OwedMarker;
-use indexmap::IndexMap;
 use std::alloc::AllocError;
+use std::collections::HashMap;
 use wire_types::{Shared, Text};
 
 /// Whether the id owes any.
-pub(crate) fn owes_any(counts: &IndexMap<String, usize>, id: &Text) -> bool
+pub(crate) fn owes_any(counts: &HashMap<String, usize>, id: &Text) -> bool
     ensures { result ≡ nat_lt 0 (count_of counts.now id.now) }
 {
     match counts.get(id.as_str()) {
@@ -22,7 +22,7 @@ pub(crate) fn owes_any(counts: &IndexMap<String, usize>, id: &Text) -> bool
 
 /// Enters the ids of these markers that aren't there yet, none of which owes any. Raising them takes no memory then.
 pub(crate) fn enter_all(
-    counts: &mut IndexMap<String, usize>,
+    counts: &mut HashMap<String, usize>,
     owed: &[Shared<OwedMarker>],
 ) -> Result<(), AllocError>
     ensures same { (id : List ℕ) → count_of counts.new id ≡ count_of counts.old id }
@@ -34,7 +34,7 @@ pub(crate) fn enter_all(
     Ok(())
 }
 
-fn enter(counts: &mut IndexMap<String, usize>, id: &Text) -> Result<(), AllocError>
+fn enter(counts: &mut HashMap<String, usize>, id: &Text) -> Result<(), AllocError>
     ensures same { (other : List ℕ) → count_of counts.new other ≡ count_of counts.old other }
     ensures kept { (other : List ℕ) → has_count counts.old other ≡ true → has_count counts.new other ≡ true }
     ensures entered { OnOk result (has_count counts.new id.now ≡ true) }
@@ -46,7 +46,7 @@ fn enter(counts: &mut IndexMap<String, usize>, id: &Text) -> Result<(), AllocErr
 }
 
 /// One more for each of these markers, whose ids were entered. It takes no memory.
-pub(crate) fn raise_all(counts: &mut IndexMap<String, usize>, owed: &[Shared<OwedMarker>])
+pub(crate) fn raise_all(counts: &mut HashMap<String, usize>, owed: &[Shared<OwedMarker>])
     requires entered { (id : List ℕ) → owes owed.now id ≡ true → has_count counts.old id ≡ true }
     requires fits { (id : List ℕ) → count_of counts.old id + owed_of owed.now id < 2 ^ 64 }
     ensures { (id : List ℕ) → count_of counts.new id ≡ count_of counts.old id + owed_of owed.now id }
@@ -56,7 +56,7 @@ pub(crate) fn raise_all(counts: &mut IndexMap<String, usize>, owed: &[Shared<Owe
     }
 }
 
-fn raise(counts: &mut IndexMap<String, usize>, id: &Text)
+fn raise(counts: &mut HashMap<String, usize>, id: &Text)
     requires entered { has_count counts.old id.now ≡ true }
     requires fits { count_of counts.old id.now + 1 < 2 ^ 64 }
     ensures raised { (other : List ℕ) → count_of counts.new other ≡ count_of counts.old other + (if bytes_eq id.now other then 1 else 0) }
@@ -68,7 +68,7 @@ fn raise(counts: &mut IndexMap<String, usize>, id: &Text)
 }
 
 /// One less for the id, which owes one. It takes no memory.
-pub(crate) fn lower(counts: &mut IndexMap<String, usize>, id: &Text)
+pub(crate) fn lower(counts: &mut HashMap<String, usize>, id: &Text)
     requires { 0 < count_of counts.old id.now }
     ensures { (other : List ℕ) → count_of counts.old other ≡ count_of counts.new other + (if bytes_eq id.now other then 1 else 0) }
 {

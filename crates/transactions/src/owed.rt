@@ -6,9 +6,8 @@ ghost use Rattle.transactions.specs.Warrants.{owes};
 
 use crate::counts::{enter_all, lower, owes_any, raise_all};
 use crate::marker::OwedMarker;
-use indexmap::IndexMap;
 use std::alloc::{AllocError, Global};
-use std::collections::VecDeque;
+use std::collections::{HashMap, VecDeque};
 use std::marker::Model;
 use wire_types::{Items, Shared, Text};
 
@@ -16,7 +15,7 @@ use wire_types::{Items, Shared, Text};
 #[derive(Drop)]
 pub struct Owed {
     queue: VecDeque<Shared<OwedMarker>>,
-    counts: IndexMap<String, usize>,
+    counts: HashMap<String, usize>,
 }
 
 impl Model for Owed {
@@ -38,7 +37,7 @@ impl Owed {
     {
         Owed {
             queue: VecDeque::new(alloc),
-            counts: IndexMap::new(alloc),
+            counts: HashMap::new(alloc),
         }
     }
 

@@ -7,7 +7,7 @@ use Rattle.offset_tables.specs.declared.event.OffsetEvent.TheVariants.{Decide}
 use Rattle.offset_tables.specs.Group.{with_event}
 use Rattle.offset_tables.specs.Groups.{place_of}
 use Rattle.offset_tables.proofs.Places.{turned_at, kept_fresh}
-use Rattle.offset_tables.proofs.Named.{are_named_set}
+use Rattle.group_offsets.proofs.Named.{are_named_set}
 use Rattle.group_offsets.proofs.groups.Groups.decide.Goals as goal
 
 pub returns-in-Some-clause-ok : goal.returns-in-Some-clause-ok
@@ -30,4 +30,4 @@ returns-clause-ok c =
     ∙ kept_fresh {A = Unit {0}} c.args.self.now c.decide-2.new.self c.args.name.now (λ (g : Group). Puts tt (with_event (Decide c.args.producer c.args.outcome) g)) none made (c.in_ok-decide.ensures.name ∙ ap (λ (g : Group). g.name) c.in_ok-group.ensures)) c.begin.ensures.ok
 
 pub invariant_of-self : goal.invariant_of-self
-invariant_of-self c = are_named_set c.self.inside.names.keys c.self.inside.nothing c.self.inside.groups.items c.in-Some.at c.index_mut.result.now c.decide.new.self c.index_mut.ensures.value c.decide.ensures.name c.self.invariant
+invariant_of-self c = are_named_set c.self.inside.names c.self.inside.nothing c.self.inside.groups.items c.in-Some.at c.index_mut.result.now c.decide.new.self c.index_mut.ensures.value c.decide.ensures.name c.self.invariant

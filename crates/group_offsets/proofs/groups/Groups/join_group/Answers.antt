@@ -8,7 +8,7 @@ use Rattle.offset_tables.specs.Joining.{join_group}
 use Rattle.offset_tables.specs.declared.member.Joined.{Joined}
 use Rattle.offset_tables.specs.Groups.{place_of, group_of}
 use Rattle.offset_tables.proofs.Places.{group_at, turned_at, answered_at, kept_fresh, answered_fresh}
-use Rattle.offset_tables.proofs.Named.{are_named_set}
+use Rattle.group_offsets.proofs.Named.{are_named_set}
 use Rattle.group_offsets.proofs.groups.Groups.join_group.Goals as goal
 
 pub join-requires : goal.join-requires
@@ -47,4 +47,4 @@ keep-requires c =
     ap (place_of c.args.self.now) (c.in_ok-answer.ensures.name ∙ ap (λ (g : Group). g.name) c.in_ok-group.ensures) ∙ none
 
 pub invariant_of-self : goal.invariant_of-self
-invariant_of-self c = are_named_set c.self.inside.names.keys c.self.inside.nothing c.self.inside.groups.items c.in-Some.at c.index_mut.result.now c.join.new.self c.index_mut.ensures.value c.join.ensures.name c.self.invariant
+invariant_of-self c = are_named_set c.self.inside.names c.self.inside.nothing c.self.inside.groups.items c.in-Some.at c.index_mut.result.now c.join.new.self c.index_mut.ensures.value c.join.ensures.name c.self.invariant

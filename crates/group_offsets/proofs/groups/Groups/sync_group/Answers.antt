@@ -4,7 +4,7 @@ use Rattle.offset_tables.specs.declared.group.Group.{Group}
 use Rattle.offset_tables.specs.Group.{sync_group}
 use Rattle.offset_tables.specs.Groups.{place_of}
 use Rattle.offset_tables.proofs.Places.{turned_at, answered_at, refused_fresh, refusal_fresh, sync_fresh}
-use Rattle.offset_tables.proofs.Named.{are_named_set}
+use Rattle.group_offsets.proofs.Named.{are_named_set}
 use Rattle.group_offsets.proofs.groups.Groups.sync_group.Goals as goal
 
 pub returns-in-Some-clause-groups : goal.returns-in-Some-clause-groups
@@ -28,4 +28,4 @@ returns-in-None-clause-answer c =
     rw (c.nobody.ensures) (refusal_fresh c.args.self.now c.args.request.now.group (λ (g : Group). sync_group g c.args.request.now c.args.moment) none (sync_fresh c.args.request.now c.args.moment))
 
 pub invariant_of-self : goal.invariant_of-self
-invariant_of-self c = are_named_set c.self.inside.names.keys c.self.inside.nothing c.self.inside.groups.items c.in-Some.at c.index_mut.result.now c.sync.new.self c.index_mut.ensures.value c.sync.ensures.name c.self.invariant
+invariant_of-self c = are_named_set c.self.inside.names c.self.inside.nothing c.self.inside.groups.items c.in-Some.at c.index_mut.result.now c.sync.new.self c.index_mut.ensures.value c.sync.ensures.name c.self.invariant

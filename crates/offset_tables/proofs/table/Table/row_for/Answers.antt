@@ -1,42 +1,43 @@
-use Rattle.std.proofs.Common.{◌≡◌, ℕ, ◌+◌, List, [], ◌∷◌, ◌++◌, length, Some, None, sym, ap, ◌∙◌, arith, rules}
-use Rattle.std.proofs.lemmas.List.{length_push}
+use Rattle.std.proofs.Common.{◌≡◌, ℤ, ℕ, List, [], ◌∷◌, ◌++◌, length, None, Some, cond, ap, ◌∙◌, w32, arith, rules}
+use Rattle.std.specs.Prelude.{◌&&◌, FitsSigned}
+use Rattle.std.specs.Ordering.{int_eq}
+use Rattle.std.specs.Str.{bytes_eq}
+use Rattle.std.proofs.lemmas.Int.{to_z-of_z}
 use Rattle.offset_tables.specs.declared.row.Row.{Row}
-use Rattle.offset_tables.specs.Partitions.{place_among}
-use Rattle.offset_tables.proofs.Describing.{push_table, push_described, place_last}
-use Rattle.offset_tables.proofs.Placing.{place_within, key_entered, own_key}
+use Rattle.offset_tables.specs.Kept.{place_in}
+use Rattle.offset_tables.proofs.Describing.{StandsAt, push_table, push_described}
 use Rattle.offset_tables.proofs.table.Table.row_for.Goals as goal
 
 pub returns-in-Some-clause-within : goal.returns-in-Some-clause-within
 returns-in-Some-clause-within c =
     let t = c.args.self.now in
-    let found : place_among t.partitions.keys c.args.offset.now.topic c.args.offset.now.index ≡ Some c.in-Some.at = search rules in
-    let within = place_within t.partitions.keys c.args.offset.now.topic c.args.offset.now.index c.in-Some.at found in
+    let found : place_in t.places c.args.offset.now.topic c.args.offset.now.index ≡ Some c.in-Some.at = search rules in
+    let within = c.requires.within c.args.offset.now.topic c.args.offset.now.index c.in-Some.at found in
     omega arith
 
 pub returns-clause-table : goal.returns-clause-table
 returns-clause-table c =
     let t = c.args.self.now in
-    let k = c.in_ok-of.field-0 in
-    let none : place_among t.partitions.keys c.args.offset.now.topic c.args.offset.now.index ≡ None = search rules in
-    let entered : c.insert.new.self.keys ≡ t.partitions.keys ++ k ∷ [] = key_entered t.partitions.keys c.insert.new.self.keys k c.args.offset.now.topic c.args.offset.now.index none c.in_ok-of.ensures.topic c.in_ok-of.ensures.index c.in_ok-insert.ensures.keys in
+    let o = c.args.offset.now in
+    let fits : FitsSigned w32 o.index = search rules in
+    let count : c.len-at.result ≡ length t.rows.items = search rules in
     let grown : c.push_reserved.new.self.items ≡ t.rows.items ++ c.new.result ∷ [] = c.push_reserved.ensures.items ∙ ap (λ (l : List Row). l ++ c.new.result ∷ []) c.reserve.ensures.items in
-    rw (entered, grown) (push_table t.partitions.keys t.rows.items t.staged.entries k c.new.result c.new.ensures.waiting
-    (length_push t.rows.items c.new.result ∙ ap (λ (n : ℕ). n + 1) c.requires.each ∙ sym (length_push t.partitions.keys k)) c.requires)
+    let stands : StandsAt o.topic o.index (length t.rows.items) (place_in t.places) (place_in c.enter_place.new.places) = λ other number.
+    c.in_ok-enter_place.ensures.ok other number
+    ∙ ap (λ (i : ℤ). cond (bytes_eq o.topic other && int_eq i number) (Some c.len-at.result) (place_in t.places other number)) (to_z-of_z w32 o.index fits)
+    ∙ ap (λ (n : ℕ). cond (bytes_eq o.topic other && int_eq o.index number) (Some n) (place_in t.places other number)) count in
+    rw grown (push_table (place_in t.places) (place_in c.enter_place.new.places) t.rows.items t.staged.entries c.new.result o.topic o.index stands c.new.ensures.waiting c.requires)
 
 pub returns-clause-same : goal.returns-clause-same
 returns-clause-same c = λ es d.
     let t = c.args.self.now in
-    let k = c.in_ok-of.field-0 in
-    let none : place_among t.partitions.keys c.args.offset.now.topic c.args.offset.now.index ≡ None = search rules in
-    let entered : c.insert.new.self.keys ≡ t.partitions.keys ++ k ∷ [] = key_entered t.partitions.keys c.insert.new.self.keys k c.args.offset.now.topic c.args.offset.now.index none c.in_ok-of.ensures.topic c.in_ok-of.ensures.index c.in_ok-insert.ensures.keys in
+    let o = c.args.offset.now in
+    let fits : FitsSigned w32 o.index = search rules in
+    let count : c.len-at.result ≡ length t.rows.items = search rules in
+    let absent : place_in t.places o.topic o.index ≡ None = search rules in
     let grown : c.push_reserved.new.self.items ≡ t.rows.items ++ c.new.result ∷ [] = c.push_reserved.ensures.items ∙ ap (λ (l : List Row). l ++ c.new.result ∷ []) c.reserve.ensures.items in
-    rw (entered, grown) (push_described t.partitions.keys t.rows.items k c.new.result es c.requires.each c.new.ensures.committed c.new.ensures.waiting d)
-
-pub returns-clause-place : goal.returns-clause-place
-returns-clause-place c =
-    let t = c.args.self.now in
-    let k = c.in_ok-of.field-0 in
-    let none : place_among t.partitions.keys c.args.offset.now.topic c.args.offset.now.index ≡ None = search rules in
-    let entered : c.insert.new.self.keys ≡ t.partitions.keys ++ k ∷ [] = key_entered t.partitions.keys c.insert.new.self.keys k c.args.offset.now.topic c.args.offset.now.index none c.in_ok-of.ensures.topic c.in_ok-of.ensures.index c.in_ok-insert.ensures.keys in
-    let count : length t.partitions.keys ≡ c.len-at.result = search rules in
-    rw entered (place_last t.partitions.keys k c.args.offset.now.topic c.args.offset.now.index none (own_key k c.args.offset.now.topic c.args.offset.now.index c.in_ok-of.ensures.topic c.in_ok-of.ensures.index) ∙ ap (λ (n : ℕ). Some n) count)
+    let stands : StandsAt o.topic o.index (length t.rows.items) (place_in t.places) (place_in c.enter_place.new.places) = λ other number.
+    c.in_ok-enter_place.ensures.ok other number
+    ∙ ap (λ (i : ℤ). cond (bytes_eq o.topic other && int_eq i number) (Some c.len-at.result) (place_in t.places other number)) (to_z-of_z w32 o.index fits)
+    ∙ ap (λ (n : ℕ). cond (bytes_eq o.topic other && int_eq o.index number) (Some n) (place_in t.places other number)) count in
+    rw grown (push_described (place_in t.places) (place_in c.enter_place.new.places) t.rows.items c.new.result o.topic o.index es absent stands c.new.ensures.committed c.new.ensures.waiting d)

@@ -1,0 +1,11 @@
+use Rattle.std.proofs.Common.{◌≡◌, true, is_some, sym, ◌∙◌, w64}
+use Rattle.std.proofs.lemmas.Int.{to_z-of_z}
+use Rattle.offset_tables.specs.Kept.{waits}
+use Rattle.offset_tables.proofs.Reading.{has_already}
+use Rattle.offset_tables.proofs.staged.enter.Goals as goal
+
+pub returns-then-waits-clause-ok : goal.returns-then-waits-clause-ok
+returns-then-waits-clause-ok c =
+    let own = to_z-of_z w64 c.args.producer c.ranges.producer in
+    let waiting : is_some (waits c.index-rows-at.result c.args.producer) ≡ true = rw own at (sym c.waits.ensures ∙ c.if-waits.true) in
+    has_already c.args.rows.now c.args.staged.now.entries c.args.at c.index-rows-at.result c.args.producer c.requires.within c.index-rows-at.is waiting c.requires.exact
