@@ -23,11 +23,11 @@ from program import NAME, PROGRAM, ROOT, crates_of
 FUNCTIONS = re.compile(r"^logic=proved functions=(\d+)", re.M)
 UNUSABLE = re.compile(r"^rattle: error\[unusable-built-library\]: the rlib of `(\w+)`", re.M)
 SHARE_OF_MEMORY = 0.85
-FEWEST_JOBS, MOST_JOBS = 2, 4  # of what most waits for,
-FIRST = 3  # or what is behind that by fewer percent of all
+FEWEST_JOBS, MOST_JOBS = 2, 4  # of what the most work waits for
+FIRST = 400  # lines: with so few less waiting for it, it still counts as that
+LINES_OF_NICE, MOST_NICE = 140, 19
 LINES_OF_CRATE = 300
-MOST_NICE = 19
-NEED_OF_JOB = 0.3  # of another job in the same crate
+NEED_OF_JOB = 0.6  # of another job in the same crate
 TOLD_EVERY = 10  # seconds
 
 
@@ -72,14 +72,14 @@ class Progress:
 class Step:
     """A library that is being proved, or the program that is being built."""
 
-    def __init__(self, rt, crate, jobs, nice, lock):
+    def __init__(self, rt, crate, need, jobs, nice, lock):
         self.rt, self.crate, self.jobs, self.lock = rt, crate, jobs, lock
         self.log = log_of(crate)
-        self.need = rt.need(crate) * (1 + NEED_OF_JOB * (jobs - 1))
+        self.need = need * (1 + NEED_OF_JOB * (jobs - 1))
         self.stamp = crate.stamp()
         self.log.parent.mkdir(exist_ok=True)
         with self.log.open("w") as log:
-            words = self.of_program(log) if crate.is_program else self.of_library(log)
+            words = self.of_program(jobs, log) if crate.is_program else self.of_library(jobs, log)
             self.process = subprocess.Popen(
                 [*rt.rtlib.guarded(), *words],
                 cwd=crate.folder,
@@ -89,11 +89,11 @@ class Step:
                 preexec_fn=lambda: os.nice(nice),
             )
 
-    def of_program(self, log):
+    def of_program(self, jobs, log):
         """The command that proves the program and compiles what was proved."""
         PROGRAM.unlink(missing_ok=True)
         self.crate.out = log
-        words = self.crate.words(["--jobs", str(self.jobs)], keeps=False)
+        words = self.crate.words(["--jobs", str(jobs)], keeps=False)
         words += ["--toolchain", f"{self.rt.KIT}/toolchain", "--backend", "llvm"]
         return [self.rt.rtlib.RATTLE, "build", *words, "-o", f"{PROGRAM}.o"]
 
@@ -104,13 +104,13 @@ class Step:
             self.crate.out, self.crate.allowed = log, self.rt.handles_of(str(ROOT))
             return not self.crate.link(f"{program}.o", program)
 
-    def of_library(self, log):
+    def of_library(self, jobs, log):
         """The command that proves a library and writes its statements, and what was there is removed."""
         crate = self.crate
         shutil.rmtree(os.path.dirname(crate.rlib), ignore_errors=True)
         os.makedirs(os.path.dirname(crate.rlib))
         crate.out = log
-        words = crate.words(["--jobs", str(self.jobs)], keeps=False)
+        words = crate.words(["--jobs", str(jobs)], keeps=False)
         return [self.rt.rtlib.RATTLE, "build", *words, "--statements", "-o", crate.rlib]
 
     def end(self):
@@ -195,25 +195,24 @@ def work_behind(crates, below):
 def start_next(rt, left, running, memory, needs, below, behind):
     """Starts what is ready and finds a processor and memory, what the most work waits for first. What runs with less work
     behind it takes none from a crate: it is nicer, and runs on what is left. So there is one more than processors where
-    there are several, as few crates use theirs all the time. What the most work waits for, or nearly so, shares them."""
+    there are several, as few crates use theirs all the time. What the most work waits for, or nearly so, has more jobs."""
     unmade = {*left, *(it.crate for it in running)}
     ready = [it for it in left if not unmade & below[it]]
-    open_ones = [*ready, *(it.crate for it in running)]
-    lanes, most = processors(rt), max((behind[it] for it in open_ones), default=0)
-    slack = {it: 100 * (most - behind[it]) // max(behind.values()) for it in open_ones}
-    first = sum(it < FIRST for it in slack.values())
+    lanes, others = processors(rt), len(ready) + len(running) - 1
+    most = max((behind[it] for it in (*ready, *(it.crate for it in running))), default=0)
     for crate in ready:
+        slack = most - behind[crate]
         used = sum(it.jobs for it in running if behind[it.crate] >= behind[crate])
         idle = lanes + (lanes > 1) - used
         room, need = memory - sum(it.need for it in running), needs[crate]
         if idle < 1 or running and need > room:
             continue
-        jobs = max(FEWEST_JOBS, lanes + 1 - first) if slack[crate] < FIRST else 1
-        jobs = min(jobs, MOST_JOBS, lanes, idle, 1 + int((room / need - 1) / NEED_OF_JOB))
+        jobs = max(FEWEST_JOBS, lanes - others) if slack < FIRST else 1
+        jobs = max(1, min(jobs, MOST_JOBS, lanes, idle, 1 + int((room / need - 1) / NEED_OF_JOB)))
         lock = lock_of(crate)
         if lock is not None:
             left.remove(crate)
-            running.append(Step(rt, crate, max(1, jobs), min(slack[crate], MOST_NICE), lock))
+            running.append(Step(rt, crate, need, jobs, min(slack // LINES_OF_NICE, MOST_NICE), lock))
 
 
 def processors(rt):

@@ -1,7 +1,1 @@
-pub mod Acl
-pub mod Data
-pub mod Equality
-pub mod Group
-pub mod Login
-pub mod Txn
 pub mod Places

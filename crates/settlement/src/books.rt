@@ -4,8 +4,7 @@ ghost use Rattle.std.specs.Prelude.{◌≡◌, ℕ, ◌+◌, ◌<◌, ◌↔◌,
 ghost use Rattle.audit_trail.specs.Trail.{refusal_count};
 ghost use Rattle.settlement.specs.Settle.{IsTold, AreTold, times_held, times_in, Settles, Faults, ticked, fault_name};
 
-use crate::same::{is_same_event, is_same_reply};
-use audit_trail::Trail;
+use audit_trail::{Trail, is_same_event, is_same_reply};
 use request_handlers::Receipt;
 use session_pool::Quiet;
 use std::alloc::Global;

@@ -2,6 +2,5 @@
 #![tactic(auto)]
 
 mod books;
-mod same;
 
 pub use books::{SettleFault, Settled, settle};
