@@ -16,7 +16,7 @@ for crate in wire_types record_batch msg_data producer_state partition_log; do
 done
 cp "$top/bench/logs/rattle.rt.txt" "$own/src/main.rt"
 touch "$own"/{specs,proofs}/Lib.antt
-echo 'log_speed: partition_log producer_state record_batch msg_data wire_types bytes' >> "$work/crates.txt"
+echo 'log_speed: partition_log producer_state record_batch msg_data wire_types' >> "$work/crates.txt"
 git -C "$work" init -q
 (cd "$own" && rt run > "$work/build.log" 2>&1) || { cat "$work/build.log"; exit 1; }
 

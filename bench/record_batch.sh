@@ -11,7 +11,7 @@ cp -r "$top"/crates/{wire_types,record_batch} "$work/crates/"
 cp "$top/bench/record_batch/rattle.rt.txt" "$work/crates/batch_speed/src/main.rt"
 touch "$work"/crates/batch_speed/{specs,proofs}/Lib.antt
 grep -E '^(wire_types|record_batch):' "$top/crates.txt" > "$work/crates.txt"
-echo 'batch_speed: record_batch wire_types bytes' >> "$work/crates.txt"
+echo 'batch_speed: record_batch wire_types' >> "$work/crates.txt"
 git -C "$work" init -q
 (cd "$work/crates/batch_speed" && rt run > "$work/build.log" 2>&1) || { cat "$work/build.log"; exit 1; }
 rustc -O --edition 2024 -o "$work/plain" "$top/bench/record_batch/plain.rs"

@@ -11,7 +11,6 @@ use crate::room::Room;
 use acl_binding::{Caller, Kind, Operation};
 use authorizer::{Paid, Policy, ask_one};
 use broker_world::{Outcome, State, Topics, magnitude, served_in_parts};
-use bytes::Bytes;
 use msg_admin::Reply;
 use msg_data::{
     AbortedTransaction, FetchPartition, FetchReply, FetchRequest, FetchedRecords, Isolation,
@@ -20,7 +19,7 @@ use partition_log::{FetchFault, Log, Served};
 use record_batch::Batch;
 use std::alloc::{AllocError, Global};
 use walk::{Part, PartApi, refusal_code, walk};
-use wire_types::{ErrorCode, Items, Text};
+use wire_types::{Bytes, ErrorCode, Items, Text};
 
 /// Who fetches, what that reader sees of transactions, and from what.
 #[derive(Drop)]

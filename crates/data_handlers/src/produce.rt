@@ -14,7 +14,6 @@ ghost use Rattle.data_handlers.specs.Produce.{produced_error, produced_at, produ
 use acl_binding::{Caller, Kind, Operation};
 use authorizer::{Paid, Permit, Policy, Spent, ask_given};
 use broker_world::{Outcome, State, Topics, magnitude, refused_by, served_in_parts};
-use bytes::Bytes;
 use msg_admin::Reply;
 use msg_data::{ProduceReply, ProduceRequest, ProducedOffset, ProducedRecords};
 use partition_log::Log;
@@ -23,7 +22,7 @@ use std::alloc::{AllocError, Global};
 use transactions::{Given, Pair, Target, TopicPartition};
 use txn_coordinator::Coordinator;
 use walk::{Part, PartApi, refusal_code, walk};
-use wire_types::{ErrorCode, Items, Text, Topic};
+use wire_types::{Bytes, ErrorCode, Items, Text, Topic};
 
 /// What a Produce says of all its partitions, the greatest size of a batch, and the transactions that are open.
 #[derive(Drop)]

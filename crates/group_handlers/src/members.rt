@@ -11,7 +11,6 @@ ghost use Rattle.group_handlers.specs.Members.{join_welcome, join_error, join_re
 use acl_binding::{Caller, Kind, Operation, Question};
 use authorizer::{Paid, ask_one};
 use broker_world::{Outcome, State, code_in, read_question, refused_whole, served_whole};
-use bytes::Bytes;
 use msg_admin::Reply;
 use msg_group::{
     HeartbeatReply, HeartbeatRequest, JoinGroupReply, JoinGroupRequest, JoinedMember,
@@ -20,7 +19,7 @@ use msg_group::{
 use offset_tables::Joined;
 use std::alloc::{AllocError, Global};
 use walk::refusal_code;
-use wire_types::{ErrorCode, Items, Text};
+use wire_types::{Bytes, ErrorCode, Items, Text};
 
 /// What a member is told that has joined.
 fn join_welcome(alloc: Global, joined: Joined) -> Result<Reply, AllocError>

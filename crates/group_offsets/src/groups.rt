@@ -8,14 +8,13 @@ ghost use Rattle.offset_tables.specs.Groups.{group_of, turned, join, sync, beat,
 ghost use Rattle.group_offsets.specs.Permission.{MayUse};
 
 use authorizer::{Permit, Policy, Spent};
-use bytes::Bytes;
 use msg_group::{HeartbeatRequest, JoinGroupRequest, LeaveGroupRequest, SyncGroupRequest};
 use name_places::Places;
 use offset_tables::{Group, Joined, Offsets, PartitionOffset};
 use record_batch::Outcome;
 use std::alloc::{AllocError, Global};
 use std::marker::Model;
-use wire_types::{ErrorCode, Text};
+use wire_types::{Bytes, ErrorCode, Text};
 
 /// The groups in the order of their beginning.
 #[derive(Drop)]

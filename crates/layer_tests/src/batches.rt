@@ -1,10 +1,9 @@
 //! Vectors from outside: checksums of RFC 3720, and batches that another encoder made, in hexadecimal digits.
 
-use bytes::Bytes;
 use record_batch::{Batch, BatchHeader, Outcome, RecordAt, crc32c};
 use std::alloc::{AllocError, Global};
 use std::test::Fail;
-use wire_types::{Items, write_varint};
+use wire_types::{Bytes, Items, write_varint};
 
 // One record with the value `a`.
 const ONE: &str =

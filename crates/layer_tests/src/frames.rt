@@ -1,6 +1,5 @@
 //! Whole frames, as they travel.
 
-use bytes::Bytes;
 use msg_admin::{
     Api, Header, Reply, fits_is_writable, found_is_request, one_reply, one_request, one_response,
     read_fits, read_request, sendable_is_short, write_reply, write_request, written_is_read,
@@ -8,16 +7,17 @@ use msg_admin::{
 };
 use msg_data::ProduceReply;
 use std::alloc::Global;
-use wire_types::Items;
+use wire_types::{Bytes, Items};
 
 /// Asks for all topics.
 const ALL_TOPICS: &[u8] =
     b"\x00\x00\x00\x0e\x00\x03\x00\x01\x00\x00\x00\x01\xff\xff\xff\xff\xff\xff";
 
 /// The header of the frame, and whether what is read of it is written as the same frame.
-fn comes_back(alloc: Global, frame: &'static [u8]) -> Option<(Header, bool)> {
+fn comes_back(alloc: Global, frame: &[u8]) -> Option<(Header, bool)> {
     let (_size, bytes) = frame.split_at(frame.len().min(4));
-    let Ok((header, request)) = read_request(alloc, &Bytes::from_static(bytes)) else {
+    let bytes = Bytes::copy_from_slice(alloc, bytes).ok()?;
+    let Ok((header, request)) = read_request(alloc, &bytes) else {
         return None;
     };
     let written = write_request(alloc, &header, &request);

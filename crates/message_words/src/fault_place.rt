@@ -3,17 +3,16 @@
 ghost use Rattle.std.specs.Prelude.{◌≡◌, ◌≤◌, length, take, IfOk};
 ghost use Rattle.message_words.specs.FaultPlace.{is_short, IsFaultEnd};
 
-use bytes::Bytes;
 use msg_admin::read_request;
 use std::alloc::{AllocError, Global};
-use wire_types::{Malformed, ReadFault};
+use wire_types::{Bytes, Malformed, ReadFault};
 
 /// Whether so many bytes of a frame, from the front, are too few to tell what it is.
 fn is_short(alloc: Global, frame: &Bytes, count: usize) -> Result<bool, AllocError>
     requires { count ≤ length frame.now }
     ensures { IfOk result (λ short. short ≡ is_short (take count frame.now)) }
 {
-    match read_request(alloc, &frame.slice(..count)?) {
+    match read_request(alloc, &frame.slice(0..count)?) {
         Ok(_) => Ok(false),
         Err(ReadFault::Malformed(Malformed::Short)) => Ok(true),
         Err(ReadFault::Malformed(_)) => Ok(false),

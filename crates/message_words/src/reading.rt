@@ -10,11 +10,10 @@ ghost use Rattle.msg_admin.specs.Request.{Answers};
 ghost use Rattle.msg_admin.specs.Response.{IsResponse};
 ghost use Rattle.message_words.specs.Reading.{response_at};
 
-use bytes::Bytes;
 use msg_admin::{Api, Reply};
 use msg_txn::EndTxnReply;
 use std::alloc::Global;
-use wire_types::{Cursor, Malformed, ReadFault, Wire};
+use wire_types::{Bytes, Cursor, Malformed, ReadFault, Wire};
 
 /// The correlation id, in a header of a flexible version or a plain one.
 fn read_correlation(flexible: bool, cursor: &mut Cursor<'_>) -> Result<i32, ReadFault>

@@ -2,11 +2,10 @@
 
 use crate::codes::compression_name;
 use crate::sheet::{Fields, Sheet};
-use bytes::Bytes;
 use record_batch::{Batch, BatchFault, BatchHeader, Header, RecordAt};
 use std::alloc::{AllocError, Global};
 use std::fmt::Display;
-use wire_types::{Cursor, Items, Malformed, ReadFault, read_varint_array};
+use wire_types::{Bytes, Cursor, Items, Malformed, ReadFault, read_varint_array};
 
 /// The bytes of a batch up to its length, that field included.
 const BATCH_START: usize = 12;
@@ -223,8 +222,8 @@ fn split_first(bytes: &Bytes) -> Result<Option<FirstBatch>, AllocError> {
     };
     let end = end.min(bytes.len());
     Ok(Some(FirstBatch {
-        batch: bytes.slice(..end)?,
-        rest: bytes.slice(end..)?,
+        batch: bytes.slice(0..end)?,
+        rest: bytes.slice(end..bytes.len())?,
     }))
 }
 

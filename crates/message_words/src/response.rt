@@ -4,10 +4,9 @@ use crate::names::api_name;
 use crate::reading::read_reply;
 use crate::reply::push_reply;
 use crate::sheet::Sheet;
-use bytes::Bytes;
 use msg_admin::{Api, Reply, unsupported_versions, write_unsupported_versions};
 use std::alloc::{AllocError, Global};
-use wire_types::{Cursor, Malformed, ReadFault};
+use wire_types::{Bytes, Cursor, Malformed, ReadFault};
 
 /// The bytes of a frame's size field.
 const SIZE_FIELD: usize = 4;
@@ -66,7 +65,7 @@ fn behind_size(response: &Bytes) -> Result<Option<Bytes>, AllocError> {
         }
         Err(_) => return Ok(None),
     }
-    Ok(Some(response.slice(SIZE_FIELD.min(response.len())..)?))
+    Ok(Some(response.slice(SIZE_FIELD.min(response.len())..response.len())?))
 }
 
 /// Why bytes are no response of an api, in words.

@@ -1,11 +1,10 @@
 //! Fields, one on a line, indented as they stand within one another.
 
 use crate::names::error_name;
-use bytes::Bytes;
 use std::alloc::{AllocError, Global};
 use std::fmt::Display;
 use std::str::from_utf8;
-use wire_types::{ErrorCode, Items, Text};
+use wire_types::{Bytes, ErrorCode, Items, Text};
 
 /// What has fields.
 pub(crate) trait Fields {

@@ -6,9 +6,8 @@ ghost use Rattle.msg_admin.specs.Header.{headed};
 ghost use Rattle.msg_admin.specs.Frame.{GivesFrame, TellsSize};
 
 use crate::header::{header_room, write_header};
-use bytes::Bytes;
 use std::alloc::Global;
-use wire_types::{Wire, WriteFault, write_i32};
+use wire_types::{Bytes, Wire, WriteFault, write_i32};
 
 /// The greatest size that a frame's size field can tell.
 const GREATEST: usize = 2_147_483_647;

@@ -6,7 +6,6 @@ ghost use Rattle.msg_admin.specs.Response.{response, IsTooLong, GivesReply};
 
 use crate::api::Api;
 use crate::frame::write_frame;
-use bytes::Bytes;
 use msg_acl::{CreateAclsReply, DeleteAclsReply, DescribeAclsReply};
 use msg_data::{FetchReply, ListOffsetsReply, MetadataReply, ProduceReply};
 use msg_group::{
@@ -19,7 +18,7 @@ use msg_txn::{
     InitProducerIdReply, TxnOffsetCommitReply,
 };
 use std::alloc::Global;
-use wire_types::WriteFault;
+use wire_types::{Bytes, WriteFault};
 
 /// What an event is answered. Only an answer to a request is sent.
 #[derive(PartialEq, Eq)]

@@ -13,7 +13,6 @@ use crate::api::Api;
 use crate::frame::{write_frame, write_header_frame};
 use crate::header::{Header, least_header, read_sender};
 use crate::laws::read_fits;
-use bytes::Bytes;
 use msg_acl::{CreateAclsRequest, DeleteAclsRequest, DescribeAclsRequest};
 use msg_data::{FetchRequest, ListOffsetsRequest, MetadataRequest, ProduceRequest};
 use msg_group::{
@@ -26,7 +25,7 @@ use msg_txn::{
     FindCoordinatorRequest, FlexibleEndTxn, InitProducerIdRequest, TxnOffsetCommitRequest,
 };
 use std::alloc::Global;
-use wire_types::{Cursor, Malformed, ReadFault, Wire, WriteFault, room_behind};
+use wire_types::{Bytes, Cursor, Malformed, ReadFault, Wire, WriteFault, room_behind};
 
 /// The greatest size that a request's frame may tell of itself.
 pub const FRAME_LIMIT: usize = 104_857_600;

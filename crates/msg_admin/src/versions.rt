@@ -11,10 +11,9 @@ ghost use Rattle.msg_admin.specs.Versions.{start, served_in, is_first, versions_
 
 use crate::api::Api;
 use crate::frame::write_frame;
-use bytes::Bytes;
 use msg_login::{ApiVersionsReply, ServedVersions};
 use std::alloc::{AllocError, Global};
-use wire_types::{Cursor, ErrorCode, Items, Malformed, WriteFault};
+use wire_types::{Bytes, Cursor, ErrorCode, Items, Malformed, WriteFault};
 
 /// An api with the versions in which it is served.
 fn served_in(api: Api) -> ServedVersions

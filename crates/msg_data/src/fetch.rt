@@ -1,10 +1,9 @@
 //! Fetch, version 4: the records of partitions from an offset on.
 
 use crate::isolation::Isolation;
-use bytes::Bytes;
 use std::alloc::Global;
 use wire_types::{
-    Cursor, ErrorCode, Items, ReadFault, Topic, Wire, WriteFault, array_room, bytes_room,
+    Bytes, Cursor, ErrorCode, Items, ReadFault, Topic, Wire, WriteFault, array_room, bytes_room,
     nullable_array_room, read_array, read_nullable_array, room_behind, write_array, write_bytes,
     write_i32, write_i64, write_nullable_array,
 };

@@ -1,9 +1,8 @@
 //! Produce, version 3: batches of records to be appended to partitions.
 
-use bytes::Bytes;
 use std::alloc::Global;
 use wire_types::{
-    Cursor, ErrorCode, Items, ReadFault, Text, Topic, Wire, WriteFault, array_room,
+    Bytes, Cursor, ErrorCode, Items, ReadFault, Text, Topic, Wire, WriteFault, array_room,
     nullable_bytes_room, nullable_room, read_array, room_behind, write_array, write_i16, write_i32,
     write_i64, write_nullable, write_nullable_bytes,
 };

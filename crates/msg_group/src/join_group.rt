@@ -1,9 +1,8 @@
 //! JoinGroup, version 2: a member comes into a group.
 
-use bytes::Bytes;
 use std::alloc::Global;
 use wire_types::{
-    Cursor, ErrorCode, Items, ReadFault, Text, Wire, WriteFault, array_room, bytes_room,
+    Bytes, Cursor, ErrorCode, Items, ReadFault, Text, Wire, WriteFault, array_room, bytes_room,
     read_array, room_behind, string_room, write_array, write_bytes, write_i32, write_string,
 };
 

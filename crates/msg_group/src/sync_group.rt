@@ -1,9 +1,8 @@
 //! SyncGroup, version 1: what the leader assigns to each member.
 
-use bytes::Bytes;
 use std::alloc::Global;
 use wire_types::{
-    Cursor, ErrorCode, Items, ReadFault, Text, Wire, WriteFault, array_room, bytes_room,
+    Bytes, Cursor, ErrorCode, Items, ReadFault, Text, Wire, WriteFault, array_room, bytes_room,
     read_array, room_behind, string_room, write_array, write_bytes, write_i32, write_string,
 };
 

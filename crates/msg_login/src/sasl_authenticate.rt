@@ -3,11 +3,10 @@
 ghost use Rattle.std.specs.Prelude.{◌≡◌};
 ghost use Rattle.msg_login.specs.SaslAuthenticate.{authenticate_reply};
 
-use bytes::Bytes;
 use std::alloc::Global;
 use wire_types::{
-    Cursor, ErrorCode, ReadFault, Text, Wire, WriteFault, bytes_room, nullable_room, write_bytes,
-    write_nullable,
+    Bytes, Cursor, ErrorCode, ReadFault, Text, Wire, WriteFault, bytes_room, nullable_room,
+    write_bytes, write_nullable,
 };
 
 /// What the client tells by its mechanism, such as its name and password.

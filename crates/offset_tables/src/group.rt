@@ -8,11 +8,10 @@ ghost use Rattle.offset_tables.specs.Group.{fresh_group, is_member, member_refus
 use crate::event::{OffsetEvent, PartitionOffset};
 use crate::member::Member;
 use crate::offsets::Offsets;
-use bytes::Bytes;
 use msg_group::{HeartbeatRequest, LeaveGroupRequest, MemberAssignment, SyncGroupRequest};
 use record_batch::Outcome;
 use std::alloc::{AllocError, Global};
-use wire_types::{ErrorCode, Text};
+use wire_types::{Bytes, ErrorCode, Text};
 
 /// A group: its member, and what happened to its offsets.
 #[derive(Drop)]

@@ -11,10 +11,9 @@ use crate::fault::BatchFault;
 use crate::header::BatchHeader;
 use crate::outcome::Outcome;
 use crate::record::{RecordAt, read_records};
-use bytes::Bytes;
 use std::alloc::{AllocError, Global};
 use std::marker::Model;
-use wire_types::{Cursor, Items, ReadFault, write_i32, write_i64};
+use wire_types::{Bytes, Cursor, Items, ReadFault, write_i32, write_i64};
 
 /// A batch of records, or a control batch; seen as its header, its records, its outcome and its
 /// bytes.

@@ -9,11 +9,10 @@ ghost use Rattle.record_batch.specs.Record.{record_head, record_parts, record_at
 ghost use Rattle.record_batch.specs.Batch.{placing, record_at_place};
 
 use crate::header::BatchHeader;
-use bytes::Bytes;
 use std::alloc::Global;
 use wire_types::{
-    Cursor, Items, Malformed, ReadFault, Wire, WriteFault, read_varint_array, varint_bytes_room,
-    varint_nullable_bytes_room, write_varint_bytes, write_varint_nullable_bytes,
+    Bytes, Cursor, Items, Malformed, ReadFault, Wire, WriteFault, read_varint_array,
+    varint_bytes_room, varint_nullable_bytes_room, write_varint_bytes, write_varint_nullable_bytes,
 };
 
 /// A key and a value beside a record. Keys are kept as bytes and need not be text.

@@ -12,7 +12,6 @@ ghost use Rattle.api_dispatch.specs.Bounds.{EventFits};
 
 use acl_binding::Caller;
 use audit_trail::Event;
-use bytes::Bytes;
 use msg_admin::{FRAME_LIMIT, read_request, write_reply};
 use request_handlers::{Core, Receipt, Stop};
 use settings_text::document_of_text;
@@ -20,7 +19,7 @@ use std::alloc::{AllocError, Global};
 use std::io;
 use std::io::Write;
 use std::process::ExitCode;
-use wire_types::{Text, read_input};
+use wire_types::{Bytes, Text, read_input};
 
 /// The exit status where the core was never opened, or the script can't be read.
 const NOT_BEGUN: u8 = 3;

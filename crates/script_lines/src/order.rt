@@ -7,12 +7,11 @@ ghost use Rattle.wire_types.specs.Reading.{nat_at};
 ghost use Rattle.script_lines.specs.Order.{behind_size, frame_of, words_of, caller_of, sent_of, number_of, order_in, text_of, order_of};
 
 use acl_binding::Caller;
-use bytes::Bytes;
 use hex::FromHexError;
 use std::alloc::{AllocError, Global};
 use std::str::from_utf8;
 use thiserror::Error;
-use wire_types::{Cursor, Text};
+use wire_types::{Bytes, Cursor, Text};
 
 /// The bytes of a frame's size field.
 const SIZE_FIELD: usize = 4;
@@ -77,7 +76,7 @@ fn behind_size(frame: &Bytes) -> Result<Option<Bytes>, AllocError>
         }
         Err(_) => return Ok(None),
     }
-    Ok(Some(frame.slice(SIZE_FIELD..)?))
+    Ok(Some(frame.slice(SIZE_FIELD..frame.len())?))
 }
 
 /// The frame that the digits spell, without its size field.

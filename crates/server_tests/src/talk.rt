@@ -5,14 +5,13 @@ ghost use Rattle.api_dispatch.specs.Bounds.{EventFits};
 
 use acl_binding::Caller;
 use audit_trail::Event;
-use bytes::Bytes;
 use msg_admin::{FRAME_LIMIT, read_request};
 use request_handlers::Core;
 use session_logins::Users;
 use settings_text::{Document, document_of_text};
 use std::alloc::Global;
 use std::test::Fail;
-use wire_types::Text;
+use wire_types::{Bytes, Text};
 
 /// Ann may log in, and do all with the topic `b`.
 const SETTINGS: &str =
@@ -77,7 +76,7 @@ pub(crate) fn event_of(alloc: Global, digits: &str) -> Option<Event>
     if frame.len() < 4 {
         return None;
     }
-    let frame = frame.slice(4..).ok()?;
+    let frame = frame.slice(4..frame.len()).ok()?;
     if frame.len() > FRAME_LIMIT {
         return None;
     }

@@ -7,11 +7,10 @@ ghost use Rattle.msg_admin.specs.Versions.{versions_reply};
 ghost use Rattle.msg_login.specs.SaslHandshake.{handshake_reply};
 ghost use Rattle.msg_login.specs.SaslAuthenticate.{authenticate_reply};
 
-use bytes::Bytes;
 use msg_admin::{Reply, versions_reply, write_reply};
 use msg_login::{SaslAuthenticateReply, SaslHandshakeReply};
 use std::alloc::{AllocError, Global};
-use wire_types::{ErrorCode, WriteFault};
+use wire_types::{Bytes, ErrorCode, WriteFault};
 
 /// The response of a reply that can be sent. Only memory can lack.
 #[tactic(auto, using(crate::proofs::Short::never_long))]

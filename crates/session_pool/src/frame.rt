@@ -7,9 +7,9 @@ ghost use Rattle.session_pool.specs.Turns.{Lacks, Comes};
 ghost use Rattle.session_pool.specs.Reads.{HeadLacks, BodyLacks, Took, StopsShort, ReadsOn};
 
 use crate::why::Why;
-use bytes::Bytes;
 use std::alloc::Global;
 use std::io::{ErrorKind, Read};
+use wire_types::Bytes;
 
 /// How often in a row an interrupted read is made again.
 const RETRIES: u32 = 1_000;

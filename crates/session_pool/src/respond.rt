@@ -14,7 +14,6 @@ ghost use Rattle.session_pool.specs.Turns.{Says, Meant};
 use crate::desk::Desk;
 use crate::login::{Closed, Fresh, Known, LoginFault, Offered, State};
 use audit_trail::Event;
-use bytes::Bytes;
 use msg_admin::{
     FRAME_LIMIT, Header, Request, read_request, unsupported_versions, write_reply,
     write_unsupported_versions,
@@ -22,7 +21,7 @@ use msg_admin::{
 use request_handlers::{Receipt, Stop};
 use session_logins::{Users, write_handshake, write_login, write_versions};
 use std::alloc::{AllocError, Global};
-use wire_types::{ErrorCode, ReadFault, Text, WriteFault};
+use wire_types::{Bytes, ErrorCode, ReadFault, Text, WriteFault};
 
 /// What a frame leads to.
 #[derive(Drop)]

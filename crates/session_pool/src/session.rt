@@ -12,13 +12,12 @@ use crate::gate::Gate;
 use crate::login::{Fresh, State};
 use crate::respond::{Outcome, respond};
 use crate::why::Why;
-use bytes::Bytes;
 use msg_admin::FRAME_LIMIT;
 use request_handlers::Receipt;
 use session_logins::Users;
 use std::alloc::Global;
 use std::io::{BufReader, Read, Write};
-use wire_types::{Text, WriteFault, write_whole};
+use wire_types::{Bytes, Text, WriteFault, write_whole};
 
 /// What a session leaves: a receipt for each event that was answered, in order, and its seat.
 #[derive(Drop)]

@@ -2,12 +2,11 @@
 
 use acl_binding::Caller;
 use audit_trail::push_word;
-use bytes::Bytes;
 use message_words::{Sheet, api_name, fault_end, key_name, push_request};
 use msg_admin::{FRAME_LIMIT, Header, Request, read_request, unsupported_versions};
 use script_lines::Sent;
 use std::alloc::AllocError;
-use wire_types::{Cursor, Malformed, ReadFault};
+use wire_types::{Bytes, Cursor, Malformed, ReadFault};
 
 /// Begins with who sends something, with the escapes of an audit line, and what.
 fn push_heading(

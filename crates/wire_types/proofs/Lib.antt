@@ -7,3 +7,4 @@ pub mod OneValue
 pub mod StringLaws
 pub mod Announced
 pub mod Taken
+pub mod Parts

@@ -13,8 +13,8 @@ use crate::counts::{
 use crate::cursor::Cursor;
 use crate::fault::{ReadFault, WriteFault};
 use crate::room::room_behind;
+use crate::shared_bytes::Bytes;
 use crate::varints::varint_room;
-use bytes::Bytes;
 use std::alloc::Global;
 
 impl<'a> Cursor<'a> {

@@ -4,7 +4,7 @@ ghost use Rattle.std.specs.Prelude.{◌≡◌, ◌↔◌, [], IsTrue, ◌+◌, �
 ghost use Rattle.wire_types.specs.Reading.{Takes, byte_at, Reads, skipping, nat_at, int_at, bool_at, front_at, utf8_at, varint_at, varint_limit, many_at, all_at};
 
 use crate::fault::{Malformed, ReadFault};
-use bytes::Bytes;
+use crate::shared_bytes::Bytes;
 use std::alloc::Global;
 use std::marker::Model;
 

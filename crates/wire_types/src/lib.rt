@@ -18,6 +18,7 @@ mod laws;
 mod numbers;
 mod room;
 mod shared;
+mod shared_bytes;
 mod tags;
 mod text;
 mod texts;
@@ -51,6 +52,7 @@ pub use laws::{found_is_spelled, one_value, read_fits, spelled_is_found, written
 pub use numbers::{write_bool, write_i8, write_i16, write_i32, write_i64, write_u32};
 pub use room::room_behind;
 pub use shared::Shared;
+pub use shared_bytes::Bytes;
 pub use tags::write_no_tags;
 pub use text::Text;
 pub use texts::{

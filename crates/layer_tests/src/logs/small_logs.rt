@@ -2,13 +2,13 @@
 
 use crate::logs::plain::{Ask, Entry, Kind, end, is_served, is_shown};
 use crate::logs::{ONE, RICH};
-use bytes::Bytes;
 use msg_data::Isolation;
 use partition_log::{FetchFault, Log, consumer_view};
 use producer_state::Judgment;
 use record_batch::{Batch, Outcome, crc32c};
 use std::alloc::{AllocError, Global};
 use std::test::Fail;
+use wire_types::Bytes;
 
 /// How many batches a log has at most.
 const MOST: u32 = 6;

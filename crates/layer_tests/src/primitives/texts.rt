@@ -1,10 +1,9 @@
 //! Texts and bytes in each of their forms, with the faults that they can have.
 
-use bytes::Bytes;
 use std::alloc::Global;
 use std::test::Fail;
 use wire_types::{
-    Cursor, Malformed, ReadFault, Text, WriteFault, write_bytes, write_compact_bytes,
+    Bytes, Cursor, Malformed, ReadFault, Text, WriteFault, write_bytes, write_compact_bytes,
     write_compact_nullable, write_compact_nullable_bytes, write_compact_string, write_nullable,
     write_nullable_bytes, write_string, write_varint_bytes, write_varint_nullable_bytes,
 };
@@ -111,7 +110,7 @@ fn are_varint_bytes(alloc: Global, cursor: &mut Cursor<'_>) -> Result<bool, Read
 fn read_shared_bytes(rt: HostRuntime) -> Result<(), Fail> {
     let alloc = rt.alloc();
     let text = b"\x00\x00\x00\x02ab\xff\xff\xff\xff\x00\x00\x00\x01c\x03de\x00\x02f\x04gh\x01\x02i";
-    let whole = Bytes::from_static(text);
+    let whole = Bytes::copy_from_slice(alloc, text)?;
     let mut cursor = Cursor::over(&whole);
     assert!(rt; are_bytes(alloc, &mut cursor)?);
     assert!(rt; are_compact_bytes(alloc, &mut cursor)?);
@@ -139,9 +138,10 @@ fn write_each(out: &mut Vec<u8>, bytes: &Bytes) -> Result<(), WriteFault> {
 #[test]
 fn written_texts_and_bytes(rt: HostRuntime) -> Result<(), Fail> {
     let text = Text::of(rt.alloc(), "ab")?;
+    let bytes = Bytes::copy_from_slice(rt.alloc(), b"cd")?;
     let mut out = Vec::new(rt.alloc());
     assert!(rt; write_texts(&mut out, &text).is_ok());
-    assert!(rt; write_each(&mut out, &Bytes::from_static(b"cd")).is_ok());
+    assert!(rt; write_each(&mut out, &bytes).is_ok());
     assert!(rt;
         out.as_slice()
             == b"\x00\x02ab\xff\xff\x03ab\x00\x00\x00\x00\x02cd\xff\xff\xff\xff\x03cd\x00\x04cd\x01".as_slice()

@@ -6,7 +6,7 @@ pub loop-enough-init : goal.loop-enough-init
 loop-enough-init c = record {
   ordered = omega arith;
   apart = λ some. some;
-  within = omega (arith, c.len-enough.ensures.value);
-  told = λ less. absurd (omega (arith, less, c.len-enough.ensures.value));
+  within = omega (arith, c.len-enough.ensures);
+  told = λ less. absurd (omega (arith, less, c.len-enough.ensures));
   before = nothing_is_short;
 }
