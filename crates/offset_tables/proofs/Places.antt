@@ -14,15 +14,15 @@ use Rattle.offset_tables.specs.Turn.{Turn, Stays, Puts, answered, group_after}
 use Rattle.offset_tables.specs.Group.{fresh_group, is_empty, sync_group, beat_group, leave_group}
 use Rattle.offset_tables.specs.Groups.{find_group, group_of, put, turned, nobody, place_of}
 
-pub no_zero : (o : Option ℕ) → option_map (λ j. j + 1) o ≡ Some 0 → ⊥
+no_zero : (o : Option ℕ) → option_map (λ j. j + 1) o ≡ Some 0 → ⊥
 no_zero None h = cc
 no_zero (Some n) h = let e : n + 1 ≡ 0 = cc in omega arith
 
-pub down_one : (o : Option ℕ) (j : ℕ) → option_map (λ j. j + 1) o ≡ Some (suc j) → o ≡ Some j
+down_one : (o : Option ℕ) (j : ℕ) → option_map (λ j. j + 1) o ≡ Some (suc j) → o ≡ Some j
 down_one None j h = absurd (let clash : None ≡ Some (suc j) = h in cc)
 down_one (Some n) j h = let e : n + 1 ≡ suc j = cc in let f : n ≡ j = omega arith in ap Some f
 
-pub not_first : (j : ℕ) → Some 0 ≡ Some (suc j) → ⊥
+not_first : (j : ℕ) → Some 0 ≡ Some (suc j) → ⊥
 not_first j h = let e : 0 ≡ suc j = cc in omega arith
 
 pub not_some : (o : Option ℕ) → option_map (λ j. j + 1) o ≡ None → o ≡ None

@@ -1,10 +1,10 @@
 -- The rows of a table by their places, and what a call on one row makes of all.
 use Rattle.std.proofs.Common.{◌≡◌, ℕ, ℤ, zero, suc, ◌<◌, List, [], ◌∷◌, ◌++◌, length, get_or, set, Option, Some, None, Bool, true, false, cond, refl, sym, subst, ap, ◌∙◌, arith}
-use Rattle.std.specs.Prelude.{◌&&◌, ◌||◌, slice_get, nat_eq, is_some}
+use Rattle.std.specs.Prelude.{◌&&◌, ◌||◌, slice_get, nat_eq, is_some, Result, Ok, Err, OnOk, OnErr}
 use Rattle.std.specs.Ordering.{int_eq}
 use Rattle.std.specs.Cmp.{nat_eq_equiv}
 use Rattle.std.specs.Option.{option_and_then, option_map_or}
-use Rattle.std.specs.List.{list_any}
+use Rattle.std.specs.List.{list_any, AllByRecursion, IsDistinct}
 use Rattle.std.specs.Map.{lookup}
 use Rattle.std.proofs.lemmas.Bool.{true≢false}
 use Rattle.std.proofs.lemmas.Bool.Decides.{Decides-int_eq, Decides-eqb}
@@ -13,10 +13,11 @@ use Rattle.std.proofs.lemmas.List.Folds.{list_any-append, list_any_at}
 use Rattle.std.proofs.lemmas.Option.{slice_get-get_or}
 use Rattle.std.specs.declared.vec.Vec.{Vec}
 use Rattle.std.specs.declared.alloc.Global.{Global}
+use Rattle.std.specs.declared.alloc.AllocError.{AllocError}
 use Rattle.record_batch.specs.declared.outcome.Outcome.{Outcome}
 use Rattle.record_batch.specs.declared.outcome.Outcome.TheVariants.{Abort, Commit}
 use Rattle.offset_tables.specs.declared.row.Row.{Row}
-use Rattle.offset_tables.specs.Kept.{waits, committed_at, waiting_at, has_row, IsTableOf, IsSameRow, IsStaged, decided, IsDecided, AreDecided, HasMore}
+use Rattle.offset_tables.specs.Kept.{waits, committed_at, waiting_at, rows_of, has_row, AreOnce, IsTableOf, IsSameRow, IsStaged, decided, IsDecided, AreDecided, HasMore, HasLast}
 
 -- ---- numbers
 
@@ -94,13 +95,14 @@ same_table find rows new staged same t = record {
   within = λ topic index n at. let h = t.within topic index n at in omega (arith, h, same.each);
   apart = t.apart;
   exact = λ p n. t.exact p n ∙ ap is_some (sym (same.waiting p n));
+  once = t.once;
 }
 
 -- ---- a producer that waits in one row more
 
 pub stage_table : (find : List ℕ → ℤ → Option ℕ) (rows : List Row) (staged more : List (ℤ × Vec ℕ Global)) (at : ℕ) (r new : Row) (producer : ℤ) (place : ℕ) → at < length rows → r ≡ get_or rows at r → IsStaged r new producer place
-    → HasMore staged more producer at → IsTableOf find rows staged → IsTableOf find (set rows at new) more
-stage_table find rows staged more at r new producer place h is made has t = record { within = within; apart = t.apart; exact = exact } where
+    → HasMore staged more producer at → AreOnce more → IsTableOf find rows staged → IsTableOf find (set rows at new) more
+stage_table find rows staged more at r new producer place h is made has once t = record { within = within; apart = t.apart; exact = exact; once = once } where
   within : (topic : List ℕ) (index : ℤ) (n : ℕ) → find topic index ≡ Some n → n < length (set rows at new)
   within topic index n found = let k = t.within topic index n found in omega (arith, k, length-set rows at new)
 
@@ -141,6 +143,39 @@ has_already rows staged at r producer h is waiting exact p n = by_own (int_eq pr
   by_own true false e f = refl
   by_own false true e f = refl
   by_own false false e f = refl
+
+-- a row in which it doesn't wait is behind those that it has
+pub waits_not : (rows : List Row) (staged : List (ℤ × Vec ℕ Global)) (at : ℕ) (r : Row) (producer : ℤ) → at < length rows → r ≡ get_or rows at r → is_some (waits r producer) ≡ false
+    → ((n : ℕ) → has_row staged producer n ≡ is_some (waiting_at rows producer n)) → has_row staged producer at ≡ false
+waits_not rows staged at r producer h is waiting exact = exact at ∙ ap is_some (ap (option_and_then (λ (x : Row). waits x producer)) (read_here rows at r h is)) ∙ waiting
+
+-- a number that a list hasn't stands behind it
+apart_from : (x y : ℕ) (xs : List ℕ) → nat_eq x y ≡ false → AllByRecursion (λ z. nat_eq x z ≡ false) xs → AllByRecursion (λ z. nat_eq x z ≡ false) (xs ++ y ∷ [])
+apart_from x y [] h all = (h, tt)
+apart_from x y (z ∷ xs) h all = (all.0, apart_from x y xs h all.1)
+
+distinct_push : (xs : List ℕ) (y : ℕ) → list_any (nat_eq y) xs ≡ false → IsDistinct nat_eq xs → IsDistinct nat_eq (xs ++ y ∷ [])
+unfolding IsDistinct
+distinct_push [] y new d = (tt, tt)
+distinct_push (x ∷ xs) y new d = let parts = neither (nat_eq y x) (list_any (nat_eq y) xs) new in (apart_from x y xs (nat_eq_equiv.symm x y ∙ parts.0) d.0, distinct_push xs y parts.1 d.1) where
+  neither : (a b : Bool) → (a || b) ≡ false → (a ≡ false) × (b ≡ false)
+  neither true b h = absurd (true≢false h)
+  neither false b h = (refl, h)
+
+last_is_once : (staged new : List (ℤ × Vec ℕ Global)) (producer : ℤ) (at : ℕ) → HasLast staged new producer at → has_row staged producer at ≡ false → AreOnce staged → AreOnce new
+last_is_once staged new producer at last absent once p = subst (IsDistinct nat_eq) (sym (last p)) (by_own (int_eq producer p) refl) where
+  by_own : (o : Bool) → int_eq producer p ≡ o → IsDistinct nat_eq (cond o (rows_of staged p ++ at ∷ []) (rows_of staged p))
+  by_own true e = distinct_push (rows_of staged p) at (ap (λ (q : ℤ). has_row staged q at) (sym (same_number producer p e)) ∙ absent) (once p)
+  by_own false e = once p
+
+same_is_once : (staged new : List (ℤ × Vec ℕ Global)) → ((p : ℤ) → rows_of new p ≡ rows_of staged p) → AreOnce staged → AreOnce new
+same_is_once staged new same once p = subst (IsDistinct nat_eq) (sym (same p)) (once p)
+
+-- whether it was added or not
+pub added_once : (result : Result (Unit {0}) AllocError) (staged new : List (ℤ × Vec ℕ Global)) (producer : ℤ) (at : ℕ) → OnOk result (HasLast staged new producer at) → OnErr result ((p : ℤ) → rows_of new p ≡ rows_of staged p)
+    → has_row staged producer at ≡ false → AreOnce staged → AreOnce new
+added_once (Ok u) staged new producer at last same absent once = last_is_once staged new producer at last absent once
+added_once (Err e) staged new producer at last same absent once = same_is_once staged new same once
 
 -- ---- a decision
 
@@ -245,28 +280,42 @@ all_decided places producer outcome old new so exact = record { each = so.each; 
     by_own true e = ap (λ (q : ℤ). cond (is_some (waiting_at old q n) && true) None (waiting_at old p n)) (same_number producer p e) ∙ by_wait (waiting_at old p n)
     by_own false e = ap (λ (b : Bool). cond b None (waiting_at old p n)) (false_and (is_some (waiting_at old producer n)))
 
+-- the rows that are kept of a producer, if any are
+abbrev rows_in : Option (Vec ℕ Global) → List ℕ
+rows_in o = option_map_or (λ (s : Vec ℕ Global). s.items) o []
+
+pub distinct_none : IsDistinct nat_eq []
+unfolding IsDistinct
+distinct_none = tt
+
 -- the producer has no rows then
 pub decide_table : (find : List ℕ → ℤ → Option ℕ) (rows new : List Row) (staged less : List (ℤ × Vec ℕ Global)) (producer : ℤ) (outcome : Outcome)
     → ((p : ℤ) → lookup (int_eq p) less ≡ cond (int_eq producer p) None (lookup (int_eq p) staged)) → AllDecided producer outcome rows new
     → IsTableOf find rows staged → IsTableOf find new less
-decide_table find rows new staged less producer outcome taken so t = record { within = within; apart = t.apart; exact = exact } where
+decide_table find rows new staged less producer outcome taken so t = record { within = within; apart = t.apart; exact = exact; once = once } where
   within : (topic : List ℕ) (index : ℤ) (n : ℕ) → find topic index ≡ Some n → n < length new
   within topic index n at = let h = t.within topic index n at in omega (arith, h, so.each)
 
   exact : (p : ℤ) (n : ℕ) → has_row less p n ≡ is_some (waiting_at new p n)
-  exact p n = ap (λ (o : Option (Vec ℕ Global)). option_map_or (λ (s : Vec ℕ Global). list_any (nat_eq n) s.items) o false) (taken p) ∙ by_own (int_eq producer p) ∙ ap is_some (sym (so.waiting p n)) where
-    by_own : (o : Bool) → option_map_or (λ (s : Vec ℕ Global). list_any (nat_eq n) s.items) (cond o None (lookup (int_eq p) staged)) false ≡ is_some (cond o None (waiting_at rows p n))
+  exact p n = ap (λ (o : Option (Vec ℕ Global)). list_any (nat_eq n) (rows_in o)) (taken p) ∙ by_own (int_eq producer p) ∙ ap is_some (sym (so.waiting p n)) where
+    by_own : (o : Bool) → list_any (nat_eq n) (rows_in (cond o None (lookup (int_eq p) staged))) ≡ is_some (cond o None (waiting_at rows p n))
     by_own true = refl
     by_own false = t.exact p n
+
+  once : AreOnce less
+  once p = subst (λ (o : Option (Vec ℕ Global)). IsDistinct nat_eq (rows_in o)) (sym (taken p)) (by_own (int_eq producer p)) where
+    by_own : (o : Bool) → IsDistinct nat_eq (rows_in (cond o None (lookup (int_eq p) staged)))
+    by_own true = distinct_none
+    by_own false = t.once p
 
 -- where nothing is found of a producer, it waits in no row
 pub nothing_waits : (find : List ℕ → ℤ → Option ℕ) (rows : List Row) (staged : List (ℤ × Vec ℕ Global)) (producer : ℤ) → lookup (int_eq producer) staged ≡ None → IsTableOf find rows staged
     → (n : ℕ) → list_any (nat_eq n) [] ≡ is_some (waiting_at rows producer n)
-nothing_waits find rows staged producer none t n = sym (ap (λ (o : Option (Vec ℕ Global)). option_map_or (λ (s : Vec ℕ Global). list_any (nat_eq n) s.items) o false) none) ∙ t.exact producer n
+nothing_waits find rows staged producer none t n = sym (ap (λ (o : Option (Vec ℕ Global)). list_any (nat_eq n) (rows_in o)) none) ∙ t.exact producer n
 
 pub something_waits : (find : List ℕ → ℤ → Option ℕ) (rows : List Row) (staged : List (ℤ × Vec ℕ Global)) (producer : ℤ) (s : Vec ℕ Global) → lookup (int_eq producer) staged ≡ Some s → IsTableOf find rows staged
     → (n : ℕ) → list_any (nat_eq n) s.items ≡ is_some (waiting_at rows producer n)
-something_waits find rows staged producer s found t n = sym (ap (λ (o : Option (Vec ℕ Global)). option_map_or (λ (x : Vec ℕ Global). list_any (nat_eq n) x.items) o false) found) ∙ t.exact producer n
+something_waits find rows staged producer s found t n = sym (ap (λ (o : Option (Vec ℕ Global)). list_any (nat_eq n) (rows_in o)) found) ∙ t.exact producer n
 
 -- no row in which a producer waits is behind all others
 waiting_within : (rows : List Row) (producer : ℤ) (n : ℕ) → is_some (waiting_at rows producer n) ≡ true → n < length rows

@@ -1,7 +1,7 @@
 //! Of each producer the rows in which it waits.
 
-ghost use Rattle.std.specs.Prelude.{◌≡◌, ◌<◌, ℕ, length, is_some, OnOk, OnErr};
-ghost use Rattle.offset_tables.specs.Kept.{has_row, waiting_at, HasMore, HasSame};
+ghost use Rattle.std.specs.Prelude.{◌≡◌, ◌<◌, ℕ, ℤ, length, is_some, OnOk, OnErr};
+ghost use Rattle.offset_tables.specs.Kept.{rows_of, has_row, waiting_at, AreOnce, HasMore, HasSame, HasLast};
 
 use crate::row::Row;
 use std::alloc::{AllocError, Global};
@@ -20,8 +20,10 @@ pub(crate) fn enter(
 ) -> Result<(), AllocError>
     requires within { at < length rows.now }
     requires exact { (n : ℕ) → has_row staged.old.entries producer n ≡ is_some (waiting_at rows.now producer n) }
+    requires once { AreOnce staged.old.entries }
     ensures ok { OnOk result (HasMore staged.old.entries staged.new.entries producer at) }
     ensures err { OnErr result (HasSame staged.old.entries staged.new.entries) }
+    ensures once { AreOnce staged.new.entries }
 {
     if rows[at].waits(producer) {
         return Ok(());
@@ -29,10 +31,10 @@ pub(crate) fn enter(
     add(staged, alloc, producer, at)
 }
 
-/// The producer has the row at this place once more.
+/// The producer has the row at this place behind its others.
 fn add(staged: &mut Staged, alloc: Global, producer: i64, at: usize) -> Result<(), AllocError>
-    ensures ok { OnOk result (HasMore staged.old.entries staged.new.entries producer at) }
-    ensures err { OnErr result (HasSame staged.old.entries staged.new.entries) }
+    ensures ok { OnOk result (HasLast staged.old.entries staged.new.entries producer at) }
+    ensures err { OnErr result ((p : ℤ) → rows_of staged.new.entries p ≡ rows_of staged.old.entries p) }
 {
     if let Some(places) = staged.get_mut(&producer) {
         places.push(at)?;

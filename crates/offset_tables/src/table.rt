@@ -28,6 +28,7 @@ pub struct Table {
 
 impl Table {
     /// No rows. It takes no memory.
+    #[tactic(auto, using(crate::proofs::Reading::distinct_none))]
     pub(crate) fn new(alloc: Global) -> Table
         ensures { IsKept result [] }
     {

@@ -27,7 +27,7 @@ returns-clause-table c =
     let within : at < length rows = rw (length-set t.rows.items at c.reserve.new.self) c.in_ok-at.ensures.within in
     let own = to_z-of_z w64 c.args.producer c.ranges.producer in
     stage_table (place_in t.places) rows t.staged.entries c.enter.new.staged.entries at c.index_mut-2.result.now c.stage.new.self c.args.producer c.args.place within c.index_mut-2.ensures.value
-    (rw own at c.stage.ensures) (rw own at c.in_ok-enter.ensures.ok) (same_table (place_in t.places) t.rows.items rows t.staged.entries same c.row_for.ensures.table)
+    (rw own at c.stage.ensures) (rw own at c.in_ok-enter.ensures.ok) c.enter.ensures.once (same_table (place_in t.places) t.rows.items rows t.staged.entries same c.row_for.ensures.table)
 
 pub enter-requires-clause-exact : goal.enter-requires-clause-exact
 enter-requires-clause-exact c = λ n.
