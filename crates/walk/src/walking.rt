@@ -153,7 +153,6 @@ struct Told<A> {
 }
 
 /// Serves one part or refuses it, and counts what was spent for it.
-#[tactic(auto, using(crate::proofs::Endings::refusal_in_ending))]
 fn tell<P, A: Drop, W, X: PartApi<P, A, W>>(
     alloc: Global,
     api: &X,
