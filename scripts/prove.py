@@ -23,8 +23,10 @@ from program import NAME, PROGRAM, ROOT, crates_of
 FUNCTIONS = re.compile(r"^logic=proved functions=(\d+)", re.M)
 UNUSABLE = re.compile(r"^rattle: error\[unusable-built-library\]: the rlib of `(\w+)`", re.M)
 SHARE_OF_MEMORY = 0.85
-FEWEST_JOBS, MOST_JOBS = 2, 4  # of what the most work waits for
+SHARE_OF_NEED = 0.6  # of what rt expects, which is twice what was seen
+MOST_JOBS = 4  # of what the most work waits for
 FIRST = 400  # lines: with so few less waiting for it, it still counts as that
+PRESSING = 1700  # with so few less it takes a processor that is idle
 LINES_OF_NICE, MOST_NICE = 140, 19
 LINES_OF_CRATE = 300
 NEED_OF_JOB = 0.6  # of another job in the same crate
@@ -76,7 +78,7 @@ class Step:
         self.rt, self.crate, self.jobs, self.lock = rt, crate, jobs, lock
         self.log = log_of(crate)
         self.need = need * (1 + NEED_OF_JOB * (jobs - 1))
-        self.stamp = crate.stamp()
+        self.stamp = stamp_now(rt, crate)
         self.log.parent.mkdir(exist_ok=True)
         with self.log.open("w") as log:
             words = self.of_program(jobs, log) if crate.is_program else self.of_library(jobs, log)
@@ -126,7 +128,7 @@ class Step:
             sys.stderr.writelines(text.splitlines(keepends=True)[-20:])
             killed = ", most likely for memory" * (self.process.returncode == -signal.SIGKILL)
             sys.exit(f"kbroker: {self.crate.name} is not proved{killed}: see {self.log.relative_to(ROOT)}")
-        if self.stamp != self.crate.stamp():
+        if self.stamp != stamp_now(self.rt, self.crate):
             sys.exit(f"kbroker: a source of {self.crate.name} or below it changed meanwhile")
         stamp_of(self.crate).write_text(self.stamp)
         os.close(self.lock)
@@ -156,6 +158,12 @@ def functions_in(log):
     """How many functions a log says are proved, or 0 where there is none."""
     text = log.read_text(errors="replace") if log.is_file() else ""
     return sum(map(int, FUNCTIONS.findall(text)[-1:]))
+
+
+def stamp_now(rt, crate):
+    """The sum of the sources that the crate's library, or the program, is made from, as they stand now."""
+    with toolchain.stamps(rt):
+        return crate.stamp()
 
 
 def stamp_of(crate):
@@ -195,24 +203,31 @@ def work_behind(crates, below):
 def start_next(rt, left, running, memory, needs, below, behind):
     """Starts what is ready and finds a processor and memory, what the most work waits for first. What runs with less work
     behind it takes none from a crate: it is nicer, and runs on what is left. So there is one more than processors where
-    there are several, as few crates use theirs all the time. What the most work waits for, or nearly so, has more jobs."""
+    there are several, as few crates use theirs all the time. What the most work waits for, or nearly so, has more jobs where
+    else only what can wait would run: two jobs take a quarter more of the processors than one."""
     unmade = {*left, *(it.crate for it in running)}
     ready = [it for it in left if not unmade & below[it]]
-    lanes, others = processors(rt), len(ready) + len(running) - 1
-    most = max((behind[it] for it in (*ready, *(it.crate for it in running))), default=0)
+    slacks = slacks_of([*ready, *(it.crate for it in running)], behind)
+    lanes, pressing = processors(rt), sum(it < PRESSING for it in slacks.values())
     for crate in ready:
-        slack = most - behind[crate]
+        slack = slacks[crate]
         used = sum(it.jobs for it in running if behind[it.crate] >= behind[crate])
         idle = lanes + (lanes > 1) - used
         room, need = memory - sum(it.need for it in running), needs[crate]
         if idle < 1 or running and need > room:
             continue
-        jobs = max(FEWEST_JOBS, lanes - others) if slack < FIRST else 1
+        jobs = lanes + 1 - pressing if slack < FIRST else 1
         jobs = max(1, min(jobs, MOST_JOBS, lanes, idle, 1 + int((room / need - 1) / NEED_OF_JOB)))
         lock = lock_of(crate)
         if lock is not None:
             left.remove(crate)
             running.append(Step(rt, crate, need, jobs, min(slack // LINES_OF_NICE, MOST_NICE), lock))
+
+
+def slacks_of(crates, behind):
+    """How much less work waits for each of these crates than for that for which the most does."""
+    most = max((behind[it] for it in crates), default=0)
+    return {it: most - behind[it] for it in crates}
 
 
 def processors(rt):
@@ -224,7 +239,7 @@ def processors(rt):
 def prove_side_by_side(rt, left, progress):
     """Proves these crates, each when those below it are, and those with the most work behind them first."""
     memory, running = SHARE_OF_MEMORY * rt.free(), []
-    needs = {it: rt.need(it) for it in left}
+    needs = {it: SHARE_OF_NEED * rt.need(it) for it in left}
     below = {it: {*it.below()} for it in left}  # which takes a while to find
     behind = work_behind(left, below)
     left = sorted(left, key=lambda it: -behind[it])
@@ -259,7 +274,8 @@ def prove(rt, names):
     check_layout(rt, crates)
     removed = set()
     while True:
-        progress, left = Progress(len(crates), "functions"), lacking(crates)
+        with toolchain.stamps(rt):
+            progress, left = Progress(len(crates), "functions"), lacking(crates)
         for crate in crates:
             if crate not in left:
                 progress.add(functions_in(log_of(crate)))

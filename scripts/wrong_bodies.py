@@ -110,7 +110,7 @@ def try_side_by_side(rt, crates, edits, room, options):
     """Tries each crate's edits, as many crates at a time as processors and memory allow, and returns what failed."""
     work = {it: it.count(rb"\n") * (10 + len(edits[it.name])) for it in crates}
     left, running, failed = sorted(crates, key=lambda it: -work[it]), [], 0
-    needs = {it: rt.need(it) for it in crates}
+    needs = {it: prove.SHARE_OF_NEED * rt.need(it) for it in crates}
     memory, lanes = prove.SHARE_OF_MEMORY * rt.free(), prove.processors(rt)
     progress = prove.Progress(len(crates), "edits")
     try:
