@@ -8,7 +8,8 @@ A function is proved from the contracts of those that it calls and never from th
 wrong at once each has to be refused at a place of its own: in the function itself, or in its folder of proofs/. An edit
 is tried so where it turns lines of one body in src/ and nothing else, and no function of that name is turned in the same
 check. It counts as refused where such a place is told, for more than a name that a proof file misses. All others are
-tried alone, as `rt must-fail` tries them.
+tried alone, as `rt must-fail` tries them; and so are all where rt gives no `seeded` (`rattle-kit-13b`), the folder of what
+a check has proved.
 """
 
 import json
@@ -161,12 +162,22 @@ class Trial:
             self.tell(edit, kind in settled, text.partition(": ")[2])
 
 
+def try_in_turn(rt, crate, edits):
+    """Tries these edits one after the other, each over what the checks of those before it have proved."""
+    for edit, (is_refused, text) in zip(edits, rt.must_fail_all(crate, [str(it) for it in edits], FLAGS)):
+        print(json.dumps([edit.name, [is_refused, text.partition(": ")[2]]]), flush=True)
+
+
 def main():
     repository, name, *options = sys.argv[1:]
     rt = toolchain.load()
     crate = next(it for it in rt.rtlib.crates_below(repository) if it.name == name)
+    edits = sorted(Path(crate.folder, "must-fail").glob("*.edit"))
+    if not hasattr(rt, "seeded"):
+        try_in_turn(rt, crate, edits)
+        return
     proved = rt.seeded(crate, FLAGS)
-    trial = Trial(rt, crate, sorted(Path(crate.folder, "must-fail").glob("*.edit")), proved)
+    trial = Trial(rt, crate, edits, proved)
     if proved is None or trial.over({}).returncode:
         sys.exit(f"wrong bodies: {name} itself is not proved")
     if "--alone" not in options:
