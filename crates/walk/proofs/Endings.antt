@@ -5,7 +5,6 @@ use Rattle.authorizer.specs.declared.answer.Refusal.{Refusal}
 use Rattle.authorizer.specs.Asking.{Rules}
 use Rattle.walk.specs.declared.part.Ending.TheVariants.{Served}
 use Rattle.walk.specs.declared.part.Part.{Part}
-use Rattle.walk.specs.declared.walking.Told.{Told}
 use Rattle.walk.specs.Rule.{PartRule, refusal_of}
 use Rattle.walk.specs.Steps.{answer_by, ending_by, refusal_in, part_done, part_told}
 
