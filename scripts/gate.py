@@ -44,6 +44,7 @@ SCRIPTS = (
 # rt gives a proof only the processors that no other one waits for, also where all the others could wait. So what all the
 # rest waits for comes by itself, and has two: the crate below all others. Behind it comes the core with what that stands on,
 # and what fills a gap before the core though that doesn't stand on it. All else is left for the end.
+# An rt that takes no names (rattle-kit-13b) prints its help for them and proves nothing: there all is left for the last call.
 CORE = "request_handlers"
 BESIDE = "script_lines", "session_logins"
 SEEN_EVERY = 2  # seconds
