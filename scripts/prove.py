@@ -5,6 +5,9 @@ Each library is proved from nothing, unless the last proof of the same sources s
 there are processors and memory for: `rt ci` proves them the same way, and the tests and the other crates as well. A
 line on standard error tells how far it is. Each crate's log is crates/NAME/out/prove.log. With names, as in
 `scripts/prove.py walk`, it is those crates and what they stand on.
+
+What the most work waits for comes first, and work is measured: scripts/prove_seconds.txt has the processor seconds of each
+crate. What a run took is kept in crates/NAME/out/prove.seconds, and `scripts/prove_seconds.py` prints a new table of it.
 """
 
 import fcntl
@@ -25,10 +28,11 @@ UNUSABLE = re.compile(r"^rattle: error\[unusable-built-library\]: the rlib of `(
 SHARE_OF_MEMORY = 0.85
 SHARE_OF_NEED = 0.6  # of what rt expects, which is twice what was seen
 MOST_JOBS = 4  # of what the most work waits for
-FIRST = 400  # lines: with so few less waiting for it, it still counts as that
-PRESSING = 1700  # with so few less it takes a processor that is idle
-LINES_OF_NICE, MOST_NICE = 140, 19
-LINES_OF_CRATE = 300
+SECONDS = ROOT / "scripts/prove_seconds.txt"
+SECONDS_OF_CRATE, SECONDS_OF_LINE = 50, 0.25  # of one that the table doesn't have
+FIRST = 60  # seconds: with so few less waiting for it, it still counts as that
+PRESSING = 300  # with so few less it takes a processor that is idle
+SECONDS_OF_NICE, MOST_NICE = 30, 19
 NEED_OF_JOB = 0.6  # of another job in the same crate
 TOLD_EVERY = 10  # seconds
 
@@ -115,6 +119,15 @@ class Step:
         words = crate.words(["--jobs", str(jobs)], keeps=False)
         return [self.rt.rtlib.RATTLE, "build", *words, "--statements", "-o", crate.rlib]
 
+    def has_ended(self):
+        """Whether its command has ended. Then its processor seconds are known."""
+        process, status, used = os.wait4(self.process.pid, os.WNOHANG)
+        if not process:
+            return False
+        self.process.returncode = os.waitstatus_to_exitcode(status)
+        self.seconds = used.ru_utime + used.ru_stime
+        return True
+
     def end(self):
         """Keeps what a proof has given, or says why there is none."""
         text = self.log.read_text(errors="replace")
@@ -130,6 +143,7 @@ class Step:
             sys.exit(f"kbroker: {self.crate.name} is not proved{killed}: see {self.log.relative_to(ROOT)}")
         if self.stamp != stamp_now(self.rt, self.crate):
             sys.exit(f"kbroker: a source of {self.crate.name} or below it changed meanwhile")
+        seconds_of(self.crate.name).write_text(f"{self.seconds:.0f}\n")
         stamp_of(self.crate).write_text(self.stamp)
         os.close(self.lock)
 
@@ -137,6 +151,11 @@ class Step:
         """Ends it before it is done. What it wrote has no stamp, and so is made anew."""
         self.process.kill()
         self.process.wait()
+
+
+def seconds_of(name):
+    """The file with the processor seconds that the last proof of a crate took."""
+    return ROOT / "crates" / name / "out/prove.seconds"
 
 
 def lock_of(crate):
@@ -191,12 +210,18 @@ def lacking(crates):
     return found
 
 
+def seconds_table():
+    """The processor seconds of each crate's proof, as the table of the repository has them."""
+    rows = [it.split() for it in SECONDS.read_text().splitlines() if not it.startswith("#")]
+    return {name: float(seconds) for name, seconds in rows}
+
+
 def work_behind(crates, below):
-    """The work of the longest chain of crates that waits for each one, its own among it, in lines: a crate also takes the
-    time to read what it stands on and to write what stands on it reads."""
-    behind = {it: it.count(rb"\n") + LINES_OF_CRATE for it in crates}
+    """The work of the longest chain of crates that waits for each one, its own among it, in processor seconds."""
+    known, behind = seconds_table(), {}
     for crate in reversed(crates):
-        behind[crate] += max((behind[it] for it in crates if crate in below[it]), default=0)
+        own = known.get(crate.name, SECONDS_OF_CRATE + SECONDS_OF_LINE * crate.count(rb"\n"))
+        behind[crate] = own + max((behind[it] for it in behind if crate in below[it]), default=0)
     return behind
 
 
@@ -221,7 +246,7 @@ def start_next(rt, left, running, memory, needs, below, behind):
         lock = lock_of(crate)
         if lock is not None:
             left.remove(crate)
-            running.append(Step(rt, crate, need, jobs, min(slack // LINES_OF_NICE, MOST_NICE), lock))
+            running.append(Step(rt, crate, need, jobs, min(int(slack // SECONDS_OF_NICE), MOST_NICE), lock))
 
 
 def slacks_of(crates, behind):
@@ -248,7 +273,7 @@ def prove_side_by_side(rt, left, progress):
             start_next(rt, left, running, memory, needs, below, behind)
             progress.tell([it.crate.name for it in running] or ["waiting for another rt to end"])
             time.sleep(0.5)
-            for step in [it for it in running if it.process.poll() is not None]:
+            for step in [it for it in running if it.has_ended()]:
                 running.remove(step)
                 step.end()
                 progress.add(functions_in(step.log))
