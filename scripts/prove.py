@@ -216,12 +216,17 @@ def seconds_table():
     return {name: float(seconds) for name, seconds in rows}
 
 
+def work_of(crates):
+    """The processor seconds that each of these crates' proofs takes, by that table, or by its lines where it has no row."""
+    known = seconds_table()
+    return {it: known.get(it.name, SECONDS_OF_CRATE + SECONDS_OF_LINE * it.count(rb"\n")) for it in crates}
+
+
 def work_behind(crates, below):
     """The work of the longest chain of crates that waits for each one, its own among it, in processor seconds."""
-    known, behind = seconds_table(), {}
+    own, behind = work_of(crates), {}
     for crate in reversed(crates):
-        own = known.get(crate.name, SECONDS_OF_CRATE + SECONDS_OF_LINE * crate.count(rb"\n"))
-        behind[crate] = own + max((behind[it] for it in behind if crate in below[it]), default=0)
+        behind[crate] = own[crate] + max((behind[it] for it in behind if crate in below[it]), default=0)
     return behind
 
 

@@ -5,11 +5,11 @@
 called by scripts/wrong_bodies.py.
 
 A function is proved from the contracts of those that it calls and never from their bodies, so of two bodies that are
-wrong at once each has to be refused at a place of its own: in the function itself, or in its folder of proofs/. An edit
-is tried so where it turns lines of one body in src/ and nothing else, and no function of that name is turned in the same
-check. It counts as refused where such a place is told, for more than a name that a proof file misses. All others are
-tried alone, as `rt must-fail` tries them; and so are all where rt gives no `seeded` (`rattle-kit-13b`), the folder of what
-a check has proved.
+wrong at once each has to be refused at a place of its own: in the function itself, or in its folder of proofs/, where no
+other function of that name is turned in the same check. An edit is tried so where it turns lines of one body in src/ and
+nothing else. It counts as refused where such a place is told, for more than a name that a proof file misses. All others
+are tried alone, as `rt must-fail` tries them; and so are all where rt gives no `seeded` (`rattle-kit-13b`), the folder of
+what a check has proved.
 """
 
 import json
@@ -63,10 +63,12 @@ def spans(lines):
 
 
 class Turned:
-    """An edit that turns lines of the body of one function in src/: the file, the function's name, and the new lines."""
+    """An edit that turns lines of the body of one function in src/: the file, the function's name and place, and the new
+    lines."""
 
-    def __init__(self, edit, path, name, lines):
-        self.edit, self.path, self.name, self.lines = edit, path, name, lines
+    def __init__(self, edit, path, span, lines):
+        self.edit, self.path, self.name, self.lines = edit, path, span.name, lines
+        self.place = path, span.first
 
 
 def turned_by(rt, crate, edit):
@@ -78,17 +80,17 @@ def turned_by(rt, crate, edit):
     old, new = Path(crate.folder, path).read_text().split("\n"), text.split("\n")
     changed = {at: new[at] for at in range(len(old)) if old[at] != new[at]}
     around = [it for it in spans(old) if it.body < min(changed) and max(changed) < it.last]
-    return Turned(edit, path, around[-1].name, changed) if around else None
+    return Turned(edit, path, around[-1], changed) if around else None
 
 
 def grouped(turns):
-    """These in groups, in none of which a name stands twice."""
+    """These in groups, in none of which a function stands twice."""
     groups = []
     for turn in turns:
-        group = next((it for it in groups if turn.name not in it and len(it) < MOST), None)
+        group = next((it for it in groups if turn.place not in it and len(it) < MOST), None)
         if group is None:
             groups.append(group := {})
-        group[turn.name] = turn
+        group[turn.place] = turn
     return [[*it.values()] for it in groups]
 
 
@@ -102,8 +104,8 @@ def texts_of(crate, turns):
     return {path: "\n".join(lines) for path, lines in texts.items()}
 
 
-def refused_in(rt, ran, texts):
-    """The names of the functions at whose places a check tells a fault, and what it tells first of each."""
+def refused_in(rt, ran, texts, group):
+    """The places of these functions of which a check tells a fault, and what it tells first of each."""
     told = ran.stdout.rstrip("\n").split("\n")
     is_verdict = ran.returncode == 1 and told[-1].startswith("logic=not-proved")
     if not is_verdict or any(rt.unread(it, texts) for it in told) or rt.LIMITS.search(ran.stdout):
@@ -116,10 +118,12 @@ def refused_in(rt, ran, texts):
             continue
         path, at = place[1], int(place[2]) - 1
         if path.startswith("proofs/") and not LACKS_NAME.search(line):
-            found.setdefault(path.split("/")[-2].lstrip("+"), line)
+            named = [it.place for it in group if it.name == path.split("/")[-2].lstrip("+")]
+            if len(named) == 1:
+                found.setdefault(*named, line)
         for span in functions.get(path, []):
             if span.first <= at <= span.last:
-                found.setdefault(span.name, line)
+                found.setdefault((path, span.first), line)
     return found
 
 
@@ -145,10 +149,10 @@ class Trial:
         turns = [turned_by(self.rt, self.crate, it) for it in self.left]
         for group in grouped([it for it in turns if it]):
             texts = texts_of(self.crate, group)
-            found = refused_in(self.rt, self.over(texts), texts) if len(group) > 1 else {}
+            found = refused_in(self.rt, self.over(texts), texts, group) if len(group) > 1 else {}
             for turn in group:
-                if turn.name in found:
-                    self.tell(turn.edit, True, found[turn.name])
+                if turn.place in found:
+                    self.tell(turn.edit, True, found[turn.place])
 
     def try_alone(self):
         """Tries each edit that is left alone, and from nothing where over what was proved it comes to nothing."""

@@ -25,6 +25,7 @@ from program import PARTS, ROOT, crates_list, crates_of
 WITHOUT_NAME = "only because a proof file names what the edit took away"
 SHELVES = ("wrong-bodies", "must-fail")
 TURNED = ROOT / "scripts/turned.py"
+SECONDS_OF_EDIT = 12  # in which those of different functions are tried in one check
 
 
 def shelved(name, shelves):
@@ -108,7 +109,7 @@ class Trial:
 
 def try_side_by_side(rt, crates, edits, room, options):
     """Tries each crate's edits, as many crates at a time as processors and memory allow, and returns what failed."""
-    work = {it: it.count(rb"\n") * (10 + len(edits[it.name])) for it in crates}
+    work = {it: seconds + SECONDS_OF_EDIT * len(edits[it.name]) for it, seconds in prove.work_of(crates).items()}
     left, running, failed = sorted(crates, key=lambda it: -work[it]), [], 0
     needs = {it: prove.SHARE_OF_NEED * rt.need(it) for it in crates}
     memory, lanes = prove.SHARE_OF_MEMORY * rt.free(), prove.processors(rt)
