@@ -1,5 +1,8 @@
 //! The command that shows a script.
 
+ghost use Rattle.std.specs.Prelude.{◌≡◌, ◌≤◌, IfSome, length};
+ghost use Rattle.wire_types.specs.Device.{TakesWithin};
+
 use crate::outcome::{ShowFault, Shown};
 use crate::script::show_script;
 use std::alloc::Global;
@@ -7,7 +10,7 @@ use std::fmt::Display;
 use std::fs;
 use std::io::{Read, Write};
 use std::rt::Files;
-use wire_types::{InputFault, read_input};
+use wire_types::{INPUT_LIMIT, InputFault, read_input};
 
 /// The exit status where each line was shown.
 const SHOWN: u8 = 0;
@@ -37,7 +40,9 @@ fn read_file<T: Files>(rt: &T, alloc: Global, path: &str) -> Result<Vec<u8>, Unr
 }
 
 /// Says why an input isn't there, and gives the exit status.
-fn give_up<E: Write>(alloc: Global, errors: &mut E, what: &str, fault: InputFault) -> u8 {
+fn give_up<E: Write>(alloc: Global, errors: &mut E, what: &str, fault: InputFault) -> u8
+    ensures { result ≡ 1 }
+{
     let why = match fault {
         InputFault::Read => "it can't be read",
         InputFault::TooLong => "it has more than 1,073,741,824 bytes",
@@ -88,7 +93,10 @@ pub fn show_and_explain<T: Files, R: Read, W: Write, E: Write>(
     reader: &mut R,
     writer: &mut W,
     errors: &mut E,
-) -> u8 {
+) -> u8
+    ensures shown { result ≡ 0 → IfSome (R.remaining reader.old) (λ input. length input ≤ INPUT_LIMIT) }
+    ensures bounded { TakesWithin (R.remaining reader.old) (R.remaining reader.new) }
+{
     let input = match read_input(alloc, reader) {
         Ok(input) => input,
         Err(fault) => return give_up(alloc, errors, "standard input", fault),
