@@ -37,7 +37,7 @@ impl Wire for CreateAclsRequest {
         Ok(CreateAclsRequest { creations })
     }
 
-    fn write(&self, out: &mut Vec<u8>) -> Result<(), WriteFault> {
+    fn put(&self, out: &mut Vec<u8>) -> Result<(), WriteFault> {
         write_array(out, &self.creations)?;
         Ok(())
     }
@@ -58,7 +58,7 @@ impl Wire for CreatedAcl {
         Ok(CreatedAcl { error, message })
     }
 
-    fn write(&self, out: &mut Vec<u8>) -> Result<(), WriteFault> {
+    fn put(&self, out: &mut Vec<u8>) -> Result<(), WriteFault> {
         self.error.write(out)?;
         write_nullable(out, &self.message)?;
         Ok(())
@@ -81,7 +81,7 @@ impl Wire for CreateAclsReply {
         Ok(CreateAclsReply { throttle, results })
     }
 
-    fn write(&self, out: &mut Vec<u8>) -> Result<(), WriteFault> {
+    fn put(&self, out: &mut Vec<u8>) -> Result<(), WriteFault> {
         write_i32(out, self.throttle)?;
         write_array(out, &self.results)?;
         Ok(())

@@ -46,7 +46,7 @@ impl Wire for DeleteAclsRequest {
         Ok(DeleteAclsRequest { filters })
     }
 
-    fn write(&self, out: &mut Vec<u8>) -> Result<(), WriteFault> {
+    fn put(&self, out: &mut Vec<u8>) -> Result<(), WriteFault> {
         write_array(out, &self.filters)?;
         Ok(())
     }
@@ -72,7 +72,7 @@ impl Wire for DeletedAcl {
         })
     }
 
-    fn write(&self, out: &mut Vec<u8>) -> Result<(), WriteFault> {
+    fn put(&self, out: &mut Vec<u8>) -> Result<(), WriteFault> {
         self.error.write(out)?;
         write_nullable(out, &self.message)?;
         self.binding.write(out)?;
@@ -102,7 +102,7 @@ impl Wire for DeletedAcls {
         })
     }
 
-    fn write(&self, out: &mut Vec<u8>) -> Result<(), WriteFault> {
+    fn put(&self, out: &mut Vec<u8>) -> Result<(), WriteFault> {
         self.error.write(out)?;
         write_nullable(out, &self.message)?;
         write_array(out, &self.matches)?;
@@ -127,7 +127,7 @@ impl Wire for DeleteAclsReply {
         Ok(DeleteAclsReply { throttle, results })
     }
 
-    fn write(&self, out: &mut Vec<u8>) -> Result<(), WriteFault> {
+    fn put(&self, out: &mut Vec<u8>) -> Result<(), WriteFault> {
         write_i32(out, self.throttle)?;
         write_array(out, &self.results)?;
         Ok(())

@@ -51,7 +51,7 @@ impl Wire for DescribeAclsRequest {
         Ok(DescribeAclsRequest { filter })
     }
 
-    fn write(&self, out: &mut Vec<u8>) -> Result<(), WriteFault> {
+    fn put(&self, out: &mut Vec<u8>) -> Result<(), WriteFault> {
         self.filter.write(out)?;
         Ok(())
     }
@@ -79,7 +79,7 @@ impl Wire for DescribedAcl {
         })
     }
 
-    fn write(&self, out: &mut Vec<u8>) -> Result<(), WriteFault> {
+    fn put(&self, out: &mut Vec<u8>) -> Result<(), WriteFault> {
         write_string(out, &self.principal)?;
         write_string(out, &self.host)?;
         write_i8(out, self.operation)?;
@@ -113,7 +113,7 @@ impl Wire for DescribedResource {
         })
     }
 
-    fn write(&self, out: &mut Vec<u8>) -> Result<(), WriteFault> {
+    fn put(&self, out: &mut Vec<u8>) -> Result<(), WriteFault> {
         write_i8(out, self.kind)?;
         write_string(out, &self.name)?;
         write_i8(out, self.pattern)?;
@@ -147,7 +147,7 @@ impl Wire for DescribeAclsReply {
         })
     }
 
-    fn write(&self, out: &mut Vec<u8>) -> Result<(), WriteFault> {
+    fn put(&self, out: &mut Vec<u8>) -> Result<(), WriteFault> {
         write_i32(out, self.throttle)?;
         self.error.write(out)?;
         write_nullable(out, &self.message)?;

@@ -54,7 +54,7 @@ impl Wire for BindingEntry {
         })
     }
 
-    fn write(&self, out: &mut Vec<u8>) -> Result<(), WriteFault> {
+    fn put(&self, out: &mut Vec<u8>) -> Result<(), WriteFault> {
         write_i8(out, self.kind)?;
         write_string(out, &self.name)?;
         write_i8(out, self.pattern)?;
@@ -100,7 +100,7 @@ impl Wire for FilterEntry {
         })
     }
 
-    fn write(&self, out: &mut Vec<u8>) -> Result<(), WriteFault> {
+    fn put(&self, out: &mut Vec<u8>) -> Result<(), WriteFault> {
         write_i8(out, self.kind)?;
         write_nullable(out, &self.name)?;
         write_i8(out, self.pattern)?;

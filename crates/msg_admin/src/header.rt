@@ -61,7 +61,7 @@ impl Wire for Header {
         })
     }
 
-    fn write(&self, out: &mut Vec<u8>) -> Result<(), WriteFault> {
+    fn put(&self, out: &mut Vec<u8>) -> Result<(), WriteFault> {
         write_i16(out, self.key)?;
         write_i16(out, self.version)?;
         write_i32(out, self.correlation)?;

@@ -71,7 +71,7 @@ impl Wire for FetchPartition {
         })
     }
 
-    fn write(&self, out: &mut Vec<u8>) -> Result<(), WriteFault> {
+    fn put(&self, out: &mut Vec<u8>) -> Result<(), WriteFault> {
         write_i32(out, self.index)?;
         write_i64(out, self.offset)?;
         write_i32(out, self.max_bytes)?;
@@ -107,7 +107,7 @@ impl Wire for FetchRequest {
         })
     }
 
-    fn write(&self, out: &mut Vec<u8>) -> Result<(), WriteFault> {
+    fn put(&self, out: &mut Vec<u8>) -> Result<(), WriteFault> {
         write_i32(out, self.replica)?;
         write_i32(out, self.max_wait)?;
         write_i32(out, self.min_bytes)?;
@@ -141,7 +141,7 @@ impl Wire for AbortedTransaction {
         })
     }
 
-    fn write(&self, out: &mut Vec<u8>) -> Result<(), WriteFault> {
+    fn put(&self, out: &mut Vec<u8>) -> Result<(), WriteFault> {
         write_i64(out, self.producer)?;
         write_i64(out, self.first_offset)?;
         Ok(())
@@ -175,7 +175,7 @@ impl Wire for FetchedRecords {
         })
     }
 
-    fn write(&self, out: &mut Vec<u8>) -> Result<(), WriteFault> {
+    fn put(&self, out: &mut Vec<u8>) -> Result<(), WriteFault> {
         write_i32(out, self.index)?;
         self.error.write(out)?;
         write_i64(out, self.high_watermark)?;
@@ -206,7 +206,7 @@ impl Wire for FetchReply {
         Ok(FetchReply { throttle, topics })
     }
 
-    fn write(&self, out: &mut Vec<u8>) -> Result<(), WriteFault> {
+    fn put(&self, out: &mut Vec<u8>) -> Result<(), WriteFault> {
         write_i32(out, self.throttle)?;
         write_array(out, &self.topics)?;
         Ok(())

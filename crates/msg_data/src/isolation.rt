@@ -24,7 +24,7 @@ impl Wire for Isolation {
         }
     }
 
-    fn write(&self, out: &mut Vec<u8>) -> Result<(), WriteFault> {
+    fn put(&self, out: &mut Vec<u8>) -> Result<(), WriteFault> {
         write_i8(out, *self as i8)?;
         Ok(())
     }

@@ -50,7 +50,7 @@ impl Wire for WantedOffset {
         Ok(WantedOffset { index, timestamp })
     }
 
-    fn write(&self, out: &mut Vec<u8>) -> Result<(), WriteFault> {
+    fn put(&self, out: &mut Vec<u8>) -> Result<(), WriteFault> {
         write_i32(out, self.index)?;
         write_i64(out, self.timestamp)?;
         Ok(())
@@ -78,7 +78,7 @@ impl Wire for ListOffsetsRequest {
         })
     }
 
-    fn write(&self, out: &mut Vec<u8>) -> Result<(), WriteFault> {
+    fn put(&self, out: &mut Vec<u8>) -> Result<(), WriteFault> {
         write_i32(out, self.replica)?;
         self.isolation.write(out)?;
         write_array(out, &self.topics)?;
@@ -110,7 +110,7 @@ impl Wire for FoundOffset {
         })
     }
 
-    fn write(&self, out: &mut Vec<u8>) -> Result<(), WriteFault> {
+    fn put(&self, out: &mut Vec<u8>) -> Result<(), WriteFault> {
         write_i32(out, self.index)?;
         self.error.write(out)?;
         write_i64(out, self.timestamp)?;
@@ -137,7 +137,7 @@ impl Wire for ListOffsetsReply {
         Ok(ListOffsetsReply { throttle, topics })
     }
 
-    fn write(&self, out: &mut Vec<u8>) -> Result<(), WriteFault> {
+    fn put(&self, out: &mut Vec<u8>) -> Result<(), WriteFault> {
         write_i32(out, self.throttle)?;
         write_array(out, &self.topics)?;
         Ok(())

@@ -59,7 +59,7 @@ impl Wire for MetadataRequest {
         Ok(MetadataRequest { topics })
     }
 
-    fn write(&self, out: &mut Vec<u8>) -> Result<(), WriteFault> {
+    fn put(&self, out: &mut Vec<u8>) -> Result<(), WriteFault> {
         write_nullable_array(out, &self.topics)?;
         Ok(())
     }
@@ -87,7 +87,7 @@ impl Wire for BrokerInfo {
         })
     }
 
-    fn write(&self, out: &mut Vec<u8>) -> Result<(), WriteFault> {
+    fn put(&self, out: &mut Vec<u8>) -> Result<(), WriteFault> {
         write_i32(out, self.node)?;
         write_string(out, &self.host)?;
         write_i32(out, self.port)?;
@@ -123,7 +123,7 @@ impl Wire for PartitionInfo {
         })
     }
 
-    fn write(&self, out: &mut Vec<u8>) -> Result<(), WriteFault> {
+    fn put(&self, out: &mut Vec<u8>) -> Result<(), WriteFault> {
         self.error.write(out)?;
         write_i32(out, self.index)?;
         write_i32(out, self.leader)?;
@@ -159,7 +159,7 @@ impl Wire for TopicInfo {
         })
     }
 
-    fn write(&self, out: &mut Vec<u8>) -> Result<(), WriteFault> {
+    fn put(&self, out: &mut Vec<u8>) -> Result<(), WriteFault> {
         self.error.write(out)?;
         write_string(out, &self.name)?;
         write_bool(out, self.internal)?;
@@ -191,7 +191,7 @@ impl Wire for MetadataReply {
         })
     }
 
-    fn write(&self, out: &mut Vec<u8>) -> Result<(), WriteFault> {
+    fn put(&self, out: &mut Vec<u8>) -> Result<(), WriteFault> {
         write_array(out, &self.brokers)?;
         write_i32(out, self.controller)?;
         write_array(out, &self.topics)?;

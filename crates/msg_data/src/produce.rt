@@ -50,7 +50,7 @@ impl Wire for ProducedRecords {
         Ok(ProducedRecords { index, records })
     }
 
-    fn write(&self, out: &mut Vec<u8>) -> Result<(), WriteFault> {
+    fn put(&self, out: &mut Vec<u8>) -> Result<(), WriteFault> {
         write_i32(out, self.index)?;
         write_nullable_bytes(out, &self.records)?;
         Ok(())
@@ -80,7 +80,7 @@ impl Wire for ProduceRequest {
         })
     }
 
-    fn write(&self, out: &mut Vec<u8>) -> Result<(), WriteFault> {
+    fn put(&self, out: &mut Vec<u8>) -> Result<(), WriteFault> {
         write_nullable(out, &self.transactional_id)?;
         write_i16(out, self.acks)?;
         write_i32(out, self.timeout)?;
@@ -114,7 +114,7 @@ impl Wire for ProducedOffset {
         })
     }
 
-    fn write(&self, out: &mut Vec<u8>) -> Result<(), WriteFault> {
+    fn put(&self, out: &mut Vec<u8>) -> Result<(), WriteFault> {
         write_i32(out, self.index)?;
         self.error.write(out)?;
         write_i64(out, self.base_offset)?;
@@ -141,7 +141,7 @@ impl Wire for ProduceReply {
         Ok(ProduceReply { topics, throttle })
     }
 
-    fn write(&self, out: &mut Vec<u8>) -> Result<(), WriteFault> {
+    fn put(&self, out: &mut Vec<u8>) -> Result<(), WriteFault> {
         write_array(out, &self.topics)?;
         write_i32(out, self.throttle)?;
         Ok(())

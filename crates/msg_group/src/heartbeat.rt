@@ -37,7 +37,7 @@ impl Wire for HeartbeatRequest {
         })
     }
 
-    fn write(&self, out: &mut Vec<u8>) -> Result<(), WriteFault> {
+    fn put(&self, out: &mut Vec<u8>) -> Result<(), WriteFault> {
         write_string(out, &self.group)?;
         write_i32(out, self.generation)?;
         write_string(out, &self.member)?;
@@ -62,7 +62,7 @@ impl Wire for HeartbeatReply {
         Ok(HeartbeatReply { throttle, error })
     }
 
-    fn write(&self, out: &mut Vec<u8>) -> Result<(), WriteFault> {
+    fn put(&self, out: &mut Vec<u8>) -> Result<(), WriteFault> {
         write_i32(out, self.throttle)?;
         self.error.write(out)?;
         Ok(())

@@ -55,7 +55,7 @@ impl Wire for OfferedProtocol {
         Ok(OfferedProtocol { name, metadata })
     }
 
-    fn write(&self, out: &mut Vec<u8>) -> Result<(), WriteFault> {
+    fn put(&self, out: &mut Vec<u8>) -> Result<(), WriteFault> {
         write_string(out, &self.name)?;
         write_bytes(out, &self.metadata)?;
         Ok(())
@@ -89,7 +89,7 @@ impl Wire for JoinGroupRequest {
         })
     }
 
-    fn write(&self, out: &mut Vec<u8>) -> Result<(), WriteFault> {
+    fn put(&self, out: &mut Vec<u8>) -> Result<(), WriteFault> {
         write_string(out, &self.group)?;
         write_i32(out, self.session_timeout)?;
         write_i32(out, self.rebalance_timeout)?;
@@ -120,7 +120,7 @@ impl Wire for JoinedMember {
         Ok(JoinedMember { member, metadata })
     }
 
-    fn write(&self, out: &mut Vec<u8>) -> Result<(), WriteFault> {
+    fn put(&self, out: &mut Vec<u8>) -> Result<(), WriteFault> {
         write_string(out, &self.member)?;
         write_bytes(out, &self.metadata)?;
         Ok(())
@@ -156,7 +156,7 @@ impl Wire for JoinGroupReply {
         })
     }
 
-    fn write(&self, out: &mut Vec<u8>) -> Result<(), WriteFault> {
+    fn put(&self, out: &mut Vec<u8>) -> Result<(), WriteFault> {
         write_i32(out, self.throttle)?;
         self.error.write(out)?;
         write_i32(out, self.generation)?;

@@ -31,7 +31,7 @@ impl Wire for LeaveGroupRequest {
         Ok(LeaveGroupRequest { group, member })
     }
 
-    fn write(&self, out: &mut Vec<u8>) -> Result<(), WriteFault> {
+    fn put(&self, out: &mut Vec<u8>) -> Result<(), WriteFault> {
         write_string(out, &self.group)?;
         write_string(out, &self.member)?;
         Ok(())
@@ -54,7 +54,7 @@ impl Wire for LeaveGroupReply {
         Ok(LeaveGroupReply { throttle, error })
     }
 
-    fn write(&self, out: &mut Vec<u8>) -> Result<(), WriteFault> {
+    fn put(&self, out: &mut Vec<u8>) -> Result<(), WriteFault> {
         write_i32(out, self.throttle)?;
         self.error.write(out)?;
         Ok(())

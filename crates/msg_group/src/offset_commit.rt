@@ -55,7 +55,7 @@ impl Wire for OffsetToCommit {
         })
     }
 
-    fn write(&self, out: &mut Vec<u8>) -> Result<(), WriteFault> {
+    fn put(&self, out: &mut Vec<u8>) -> Result<(), WriteFault> {
         write_i32(out, self.index)?;
         write_i64(out, self.offset)?;
         write_nullable(out, &self.metadata)?;
@@ -89,7 +89,7 @@ impl Wire for OffsetCommitRequest {
         })
     }
 
-    fn write(&self, out: &mut Vec<u8>) -> Result<(), WriteFault> {
+    fn put(&self, out: &mut Vec<u8>) -> Result<(), WriteFault> {
         write_string(out, &self.group)?;
         write_i32(out, self.generation)?;
         write_string(out, &self.member)?;
@@ -118,7 +118,7 @@ impl Wire for CommittedOffset {
         Ok(CommittedOffset { index, error })
     }
 
-    fn write(&self, out: &mut Vec<u8>) -> Result<(), WriteFault> {
+    fn put(&self, out: &mut Vec<u8>) -> Result<(), WriteFault> {
         write_i32(out, self.index)?;
         self.error.write(out)?;
         Ok(())
@@ -140,7 +140,7 @@ impl Wire for OffsetCommitReply {
         Ok(OffsetCommitReply { topics })
     }
 
-    fn write(&self, out: &mut Vec<u8>) -> Result<(), WriteFault> {
+    fn put(&self, out: &mut Vec<u8>) -> Result<(), WriteFault> {
         write_array(out, &self.topics)?;
         Ok(())
     }

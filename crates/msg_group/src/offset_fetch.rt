@@ -52,7 +52,7 @@ impl Wire for OffsetFetchRequest {
         })
     }
 
-    fn write(&self, out: &mut Vec<u8>) -> Result<(), WriteFault> {
+    fn put(&self, out: &mut Vec<u8>) -> Result<(), WriteFault> {
         write_compact_string(out, &self.group)?;
         write_nullable_flexible_topics(out, &self.topics)?;
         write_bool(out, self.require_stable)?;
@@ -89,7 +89,7 @@ impl Wire for FetchedOffset {
         })
     }
 
-    fn write(&self, out: &mut Vec<u8>) -> Result<(), WriteFault> {
+    fn put(&self, out: &mut Vec<u8>) -> Result<(), WriteFault> {
         write_i32(out, self.index)?;
         write_i64(out, self.offset)?;
         write_i32(out, self.leader_epoch)?;
@@ -126,7 +126,7 @@ impl Wire for OffsetFetchReply {
         })
     }
 
-    fn write(&self, out: &mut Vec<u8>) -> Result<(), WriteFault> {
+    fn put(&self, out: &mut Vec<u8>) -> Result<(), WriteFault> {
         write_i32(out, self.throttle)?;
         write_flexible_topics(out, &self.topics)?;
         self.error.write(out)?;

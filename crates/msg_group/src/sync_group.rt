@@ -41,7 +41,7 @@ impl Wire for MemberAssignment {
         Ok(MemberAssignment { member, assignment })
     }
 
-    fn write(&self, out: &mut Vec<u8>) -> Result<(), WriteFault> {
+    fn put(&self, out: &mut Vec<u8>) -> Result<(), WriteFault> {
         write_string(out, &self.member)?;
         write_bytes(out, &self.assignment)?;
         Ok(())
@@ -71,7 +71,7 @@ impl Wire for SyncGroupRequest {
         })
     }
 
-    fn write(&self, out: &mut Vec<u8>) -> Result<(), WriteFault> {
+    fn put(&self, out: &mut Vec<u8>) -> Result<(), WriteFault> {
         write_string(out, &self.group)?;
         write_i32(out, self.generation)?;
         write_string(out, &self.member)?;
@@ -103,7 +103,7 @@ impl Wire for SyncGroupReply {
         })
     }
 
-    fn write(&self, out: &mut Vec<u8>) -> Result<(), WriteFault> {
+    fn put(&self, out: &mut Vec<u8>) -> Result<(), WriteFault> {
         write_i32(out, self.throttle)?;
         self.error.write(out)?;
         write_bytes(out, &self.assignment)?;

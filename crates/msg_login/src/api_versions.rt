@@ -33,7 +33,7 @@ impl Wire for ServedVersions {
         Ok(ServedVersions { key, min, max })
     }
 
-    fn write(&self, out: &mut Vec<u8>) -> Result<(), WriteFault> {
+    fn put(&self, out: &mut Vec<u8>) -> Result<(), WriteFault> {
         write_i16(out, self.key)?;
         write_i16(out, self.min)?;
         write_i16(out, self.max)?;
@@ -58,7 +58,7 @@ impl Wire for ApiVersionsReply {
         Ok(ApiVersionsReply { error, apis })
     }
 
-    fn write(&self, out: &mut Vec<u8>) -> Result<(), WriteFault> {
+    fn put(&self, out: &mut Vec<u8>) -> Result<(), WriteFault> {
         self.error.write(out)?;
         write_array(out, &self.apis)?;
         Ok(())

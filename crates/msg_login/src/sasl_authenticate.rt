@@ -46,7 +46,7 @@ impl Wire for SaslAuthenticateRequest {
         Ok(SaslAuthenticateRequest { auth })
     }
 
-    fn write(&self, out: &mut Vec<u8>) -> Result<(), WriteFault> {
+    fn put(&self, out: &mut Vec<u8>) -> Result<(), WriteFault> {
         write_bytes(out, &self.auth)?;
         Ok(())
     }
@@ -72,7 +72,7 @@ impl Wire for SaslAuthenticateReply {
         })
     }
 
-    fn write(&self, out: &mut Vec<u8>) -> Result<(), WriteFault> {
+    fn put(&self, out: &mut Vec<u8>) -> Result<(), WriteFault> {
         self.error.write(out)?;
         write_nullable(out, &self.message)?;
         write_bytes(out, &self.auth)?;

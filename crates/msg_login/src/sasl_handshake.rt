@@ -45,7 +45,7 @@ impl Wire for SaslHandshakeRequest {
         Ok(SaslHandshakeRequest { mechanism })
     }
 
-    fn write(&self, out: &mut Vec<u8>) -> Result<(), WriteFault> {
+    fn put(&self, out: &mut Vec<u8>) -> Result<(), WriteFault> {
         write_string(out, &self.mechanism)?;
         Ok(())
     }
@@ -66,7 +66,7 @@ impl Wire for SaslHandshakeReply {
         Ok(SaslHandshakeReply { error, mechanisms })
     }
 
-    fn write(&self, out: &mut Vec<u8>) -> Result<(), WriteFault> {
+    fn put(&self, out: &mut Vec<u8>) -> Result<(), WriteFault> {
         self.error.write(out)?;
         write_array(out, &self.mechanisms)?;
         Ok(())

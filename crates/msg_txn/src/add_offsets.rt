@@ -40,7 +40,7 @@ impl Wire for AddOffsetsToTxnRequest {
         })
     }
 
-    fn write(&self, out: &mut Vec<u8>) -> Result<(), WriteFault> {
+    fn put(&self, out: &mut Vec<u8>) -> Result<(), WriteFault> {
         write_string(out, &self.transactional_id)?;
         write_i64(out, self.producer)?;
         write_i16(out, self.epoch)?;
@@ -67,7 +67,7 @@ impl Wire for AddOffsetsToTxnReply {
         Ok(AddOffsetsToTxnReply { throttle, error })
     }
 
-    fn write(&self, out: &mut Vec<u8>) -> Result<(), WriteFault> {
+    fn put(&self, out: &mut Vec<u8>) -> Result<(), WriteFault> {
         write_i32(out, self.throttle)?;
         self.error.write(out)?;
         Ok(())

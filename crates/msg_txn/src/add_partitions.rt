@@ -50,7 +50,7 @@ impl Wire for AddPartitionsToTxnRequest {
         })
     }
 
-    fn write(&self, out: &mut Vec<u8>) -> Result<(), WriteFault> {
+    fn put(&self, out: &mut Vec<u8>) -> Result<(), WriteFault> {
         write_string(out, &self.transactional_id)?;
         write_i64(out, self.producer)?;
         write_i16(out, self.epoch)?;
@@ -77,7 +77,7 @@ impl Wire for AddedPartition {
         Ok(AddedPartition { index, error })
     }
 
-    fn write(&self, out: &mut Vec<u8>) -> Result<(), WriteFault> {
+    fn put(&self, out: &mut Vec<u8>) -> Result<(), WriteFault> {
         write_i32(out, self.index)?;
         self.error.write(out)?;
         Ok(())
@@ -100,7 +100,7 @@ impl Wire for AddPartitionsToTxnReply {
         Ok(AddPartitionsToTxnReply { throttle, topics })
     }
 
-    fn write(&self, out: &mut Vec<u8>) -> Result<(), WriteFault> {
+    fn put(&self, out: &mut Vec<u8>) -> Result<(), WriteFault> {
         write_i32(out, self.throttle)?;
         write_array(out, &self.topics)?;
         Ok(())

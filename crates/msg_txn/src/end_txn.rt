@@ -121,7 +121,7 @@ impl Wire for EndTxn {
         })
     }
 
-    fn write(&self, out: &mut Vec<u8>) -> Result<(), WriteFault> {
+    fn put(&self, out: &mut Vec<u8>) -> Result<(), WriteFault> {
         write_string(out, &self.transactional_id)?;
         write_i64(out, self.producer)?;
         write_i16(out, self.epoch)?;
@@ -158,7 +158,7 @@ impl Wire for FlexibleEndTxn {
         })
     }
 
-    fn write(&self, out: &mut Vec<u8>) -> Result<(), WriteFault> {
+    fn put(&self, out: &mut Vec<u8>) -> Result<(), WriteFault> {
         write_compact_string(out, &self.asked.transactional_id)?;
         write_i64(out, self.asked.producer)?;
         write_i16(out, self.asked.epoch)?;
@@ -187,7 +187,7 @@ impl Wire for Ended {
         Ok(Ended { throttle, error })
     }
 
-    fn write(&self, out: &mut Vec<u8>) -> Result<(), WriteFault> {
+    fn put(&self, out: &mut Vec<u8>) -> Result<(), WriteFault> {
         write_i32(out, self.throttle)?;
         self.error.write(out)?;
         Ok(())
@@ -211,7 +211,7 @@ impl Wire for FlexibleEnded {
         Ok(FlexibleEnded { throttle, error })
     }
 
-    fn write(&self, out: &mut Vec<u8>) -> Result<(), WriteFault> {
+    fn put(&self, out: &mut Vec<u8>) -> Result<(), WriteFault> {
         write_i32(out, self.throttle)?;
         self.error.write(out)?;
         write_no_tags(out)?;
@@ -244,7 +244,7 @@ impl Wire for EndedWithPair {
         })
     }
 
-    fn write(&self, out: &mut Vec<u8>) -> Result<(), WriteFault> {
+    fn put(&self, out: &mut Vec<u8>) -> Result<(), WriteFault> {
         write_i32(out, self.throttle)?;
         self.error.write(out)?;
         write_i64(out, self.producer)?;

@@ -36,7 +36,7 @@ impl Wire for FindCoordinatorRequest {
         Ok(FindCoordinatorRequest { key, key_type })
     }
 
-    fn write(&self, out: &mut Vec<u8>) -> Result<(), WriteFault> {
+    fn put(&self, out: &mut Vec<u8>) -> Result<(), WriteFault> {
         write_string(out, &self.key)?;
         write_i8(out, self.key_type)?;
         Ok(())
@@ -70,7 +70,7 @@ impl Wire for FindCoordinatorReply {
         })
     }
 
-    fn write(&self, out: &mut Vec<u8>) -> Result<(), WriteFault> {
+    fn put(&self, out: &mut Vec<u8>) -> Result<(), WriteFault> {
         write_i32(out, self.throttle)?;
         self.error.write(out)?;
         write_nullable(out, &self.message)?;

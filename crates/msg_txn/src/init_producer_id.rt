@@ -36,7 +36,7 @@ impl Wire for InitProducerIdRequest {
         })
     }
 
-    fn write(&self, out: &mut Vec<u8>) -> Result<(), WriteFault> {
+    fn put(&self, out: &mut Vec<u8>) -> Result<(), WriteFault> {
         write_nullable(out, &self.transactional_id)?;
         write_i32(out, self.timeout)?;
         Ok(())
@@ -66,7 +66,7 @@ impl Wire for InitProducerIdReply {
         })
     }
 
-    fn write(&self, out: &mut Vec<u8>) -> Result<(), WriteFault> {
+    fn put(&self, out: &mut Vec<u8>) -> Result<(), WriteFault> {
         write_i32(out, self.throttle)?;
         self.error.write(out)?;
         write_i64(out, self.producer)?;

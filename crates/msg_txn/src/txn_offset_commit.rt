@@ -65,7 +65,7 @@ impl Wire for OffsetToStage {
         })
     }
 
-    fn write(&self, out: &mut Vec<u8>) -> Result<(), WriteFault> {
+    fn put(&self, out: &mut Vec<u8>) -> Result<(), WriteFault> {
         write_i32(out, self.index)?;
         write_i64(out, self.offset)?;
         write_i32(out, self.leader_epoch)?;
@@ -110,7 +110,7 @@ impl Wire for TxnOffsetCommitRequest {
         })
     }
 
-    fn write(&self, out: &mut Vec<u8>) -> Result<(), WriteFault> {
+    fn put(&self, out: &mut Vec<u8>) -> Result<(), WriteFault> {
         write_compact_string(out, &self.transactional_id)?;
         write_compact_string(out, &self.group)?;
         write_i64(out, self.producer)?;
@@ -148,7 +148,7 @@ impl Wire for StagedOffset {
         Ok(StagedOffset { index, error })
     }
 
-    fn write(&self, out: &mut Vec<u8>) -> Result<(), WriteFault> {
+    fn put(&self, out: &mut Vec<u8>) -> Result<(), WriteFault> {
         write_i32(out, self.index)?;
         self.error.write(out)?;
         write_no_tags(out)?;
@@ -174,7 +174,7 @@ impl Wire for TxnOffsetCommitReply {
         Ok(TxnOffsetCommitReply { throttle, topics })
     }
 
-    fn write(&self, out: &mut Vec<u8>) -> Result<(), WriteFault> {
+    fn put(&self, out: &mut Vec<u8>) -> Result<(), WriteFault> {
         write_i32(out, self.throttle)?;
         write_flexible_topics(out, &self.topics)?;
         write_no_tags(out)?;

@@ -49,7 +49,7 @@ impl Wire for Header {
         Ok(Header { key, value })
     }
 
-    fn write(&self, out: &mut Vec<u8>) -> Result<(), WriteFault> {
+    fn put(&self, out: &mut Vec<u8>) -> Result<(), WriteFault> {
         write_varint_bytes(out, &self.key)?;
         write_varint_nullable_bytes(out, &self.value)?;
         Ok(())

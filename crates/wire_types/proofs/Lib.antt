@@ -8,3 +8,4 @@ pub mod StringLaws
 pub mod Announced
 pub mod Taken
 pub mod Parts
+pub mod Fronts

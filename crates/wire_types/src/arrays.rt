@@ -1,6 +1,7 @@
 //! Values one after the other behind their count: ARRAY, nullable ARRAY, COMPACT_ARRAY, and those whose count is a VARINT.
 
-ghost use Rattle.std.specs.Prelude.{◌≡◌, ◌+◌, ◌<◌, ◌≤◌, ◌++◌, ◌^◌, length, true, None, Some, OnOk, IfOk, IfSome, MatchResult, Ok, Err};
+ghost use Rattle.std.specs.Io.{StartsWith};
+ghost use Rattle.std.specs.Prelude.{◌≡◌, ◌+◌, ◌<◌, ◌≤◌, ◌++◌, ◌^◌, length, true, None, Some, OnOk, OnErr, IfOk, IfSome, MatchResult, Ok, Err};
 ghost use Rattle.wire_types.specs.Reading.{Takes, Reads, skipping, nat_at, int_at, bool_at, front_at, utf8_at, varint_at, varint_limit, many_at, all_at};
 ghost use Rattle.wire_types.specs.Writing.{Writes, Puts};
 ghost use Rattle.wire_types.specs.Spelling.{room_left, varint_written, many_fit, many_written, many_left};
@@ -67,10 +68,19 @@ pub fn read_all<T: Wire>(
 /// Values one after the other.
 #[tactic(auto, unfolding(crate::specs::Spelling::many_fit, crate::specs::Spelling::many_written))]
 fn write_many<T: Wire>(out: &mut Vec<u8>, items: &[T]) -> Result<(), WriteFault>
-    ensures { Writes (many_fit T.grammar.fits items.now) (out.old.items ++ many_written T.grammar.written items.now) result out.new.items }
+    ensures spelled { Writes (many_fit T.grammar.fits items.now) (out.old.items ++ many_written T.grammar.written items.now) result out.new.items }
+    ensures err { OnErr result (out.new.items ≡ out.old.items) }
+    ensures grown { StartsWith out.new.items out.old.items }
 {
+    let start = out.len();
     for item in items {
-        item.write(out)?;
+        match item.write(out) {
+            Ok(()) => {}
+            Err(fault) => {
+                out.truncate(start);
+                return Err(fault);
+            }
+        }
     }
     Ok(())
 }
@@ -97,11 +107,17 @@ pub fn read_array<T: Wire>(alloc: Global, cursor: &mut Cursor<'_>) -> Result<Ite
 
 #[tactic(auto, unfolding(crate::specs::Spelling::behind_fits))]
 pub fn write_array<T: Wire>(out: &mut Vec<u8>, items: &Items<T>) -> Result<(), WriteFault>
-    ensures { Puts (array T.grammar) items.now out.old.items result out.new.items }
+    ensures spelled { Puts (array T.grammar) items.now out.old.items result out.new.items }
+    ensures err { OnErr result (out.new.items ≡ out.old.items) }
+    ensures grown { StartsWith out.new.items out.old.items }
 {
+    let start = out.len();
     write_count(out, items.len())?;
-    write_many(out, items.as_slice())?;
-    Ok(())
+    let rest = write_many(out, items.as_slice());
+    if rest.is_err() {
+        out.truncate(start);
+    }
+    rest
 }
 
 pub fn array_room<T: Wire>(items: &Items<T>, room: usize) -> Option<usize>
@@ -130,7 +146,9 @@ pub fn write_nullable_array<T: Wire>(
     out: &mut Vec<u8>,
     items: &Option<Items<T>>,
 ) -> Result<(), WriteFault>
-    ensures { Puts (nullable_array T.grammar) items.now out.old.items result out.new.items }
+    ensures spelled { Puts (nullable_array T.grammar) items.now out.old.items result out.new.items }
+    ensures err { OnErr result (out.new.items ≡ out.old.items) }
+    ensures grown { StartsWith out.new.items out.old.items }
 {
     match items {
         None => write_null(out)?,
@@ -163,11 +181,17 @@ pub fn read_compact_array<T: Wire>(
 
 #[tactic(auto, unfolding(crate::specs::Spelling::behind_fits))]
 pub fn write_compact_array<T: Wire>(out: &mut Vec<u8>, items: &Items<T>) -> Result<(), WriteFault>
-    ensures { Puts (compact_array T.grammar) items.now out.old.items result out.new.items }
+    ensures spelled { Puts (compact_array T.grammar) items.now out.old.items result out.new.items }
+    ensures err { OnErr result (out.new.items ≡ out.old.items) }
+    ensures grown { StartsWith out.new.items out.old.items }
 {
+    let start = out.len();
     write_compact_count(out, items.len())?;
-    write_many(out, items.as_slice())?;
-    Ok(())
+    let rest = write_many(out, items.as_slice());
+    if rest.is_err() {
+        out.truncate(start);
+    }
+    rest
 }
 
 pub fn compact_array_room<T: Wire>(items: &Items<T>, room: usize) -> Option<usize>
@@ -196,7 +220,9 @@ pub fn write_compact_nullable_array<T: Wire>(
     out: &mut Vec<u8>,
     items: &Option<Items<T>>,
 ) -> Result<(), WriteFault>
-    ensures { Puts (compact_nullable_array T.grammar) items.now out.old.items result out.new.items }
+    ensures spelled { Puts (compact_nullable_array T.grammar) items.now out.old.items result out.new.items }
+    ensures err { OnErr result (out.new.items ≡ out.old.items) }
+    ensures grown { StartsWith out.new.items out.old.items }
 {
     match items {
         None => write_compact_null(out)?,
@@ -229,11 +255,17 @@ pub fn read_varint_array<T: Wire>(
 
 #[tactic(auto, unfolding(crate::specs::Spelling::behind_fits))]
 pub fn write_varint_array<T: Wire>(out: &mut Vec<u8>, items: &Items<T>) -> Result<(), WriteFault>
-    ensures { Puts (varint_array T.grammar) items.now out.old.items result out.new.items }
+    ensures spelled { Puts (varint_array T.grammar) items.now out.old.items result out.new.items }
+    ensures err { OnErr result (out.new.items ≡ out.old.items) }
+    ensures grown { StartsWith out.new.items out.old.items }
 {
+    let start = out.len();
     write_varint_count(out, items.len())?;
-    write_many(out, items.as_slice())?;
-    Ok(())
+    let rest = write_many(out, items.as_slice());
+    if rest.is_err() {
+        out.truncate(start);
+    }
+    rest
 }
 
 pub fn varint_array_room<T: Wire>(items: &Items<T>, room: usize) -> Option<usize>
@@ -250,7 +282,7 @@ impl<T: Wire> Wire for Items<T> {
         read_array(alloc, cursor)
     }
 
-    fn write(&self, out: &mut Vec<u8>) -> Result<(), WriteFault> {
+    fn put(&self, out: &mut Vec<u8>) -> Result<(), WriteFault> {
         write_array(out, self)
     }
 

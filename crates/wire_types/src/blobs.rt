@@ -1,6 +1,7 @@
 //! Bytes: BYTES, NULLABLE_BYTES, their compact forms, and those whose length is a VARINT.
 
-ghost use Rattle.std.specs.Prelude.{◌≡◌, ◌+◌, ◌<◌, ◌≤◌, ◌++◌, ◌^◌, length, true, None, Some, OnOk, IfOk, IfSome, MatchResult, Ok, Err};
+ghost use Rattle.std.specs.Io.{StartsWith};
+ghost use Rattle.std.specs.Prelude.{◌≡◌, ◌+◌, ◌<◌, ◌≤◌, ◌++◌, ◌^◌, length, true, None, Some, OnOk, OnErr, IfOk, IfSome, MatchResult, Ok, Err};
 ghost use Rattle.wire_types.specs.Reading.{Takes, Reads, skipping, nat_at, int_at, bool_at, front_at, utf8_at, varint_at, varint_limit, many_at, all_at};
 ghost use Rattle.wire_types.specs.Writing.{Writes, Puts};
 ghost use Rattle.wire_types.specs.Spelling.{room_left, varint_written, many_fit, many_written, many_left};
@@ -82,17 +83,25 @@ impl<'a> Cursor<'a> {
 /// A number of bytes in four bytes, and the bytes.
 #[tactic(auto, unfolding(crate::specs::Spelling::behind_fits))]
 pub fn write_bytes(out: &mut Vec<u8>, value: &Bytes) -> Result<(), WriteFault>
-    ensures { Puts bytes value.now out.old.items result out.new.items }
+    ensures spelled { Puts bytes value.now out.old.items result out.new.items }
+    ensures err { OnErr result (out.new.items ≡ out.old.items) }
+    ensures grown { StartsWith out.new.items out.old.items }
 {
+    let start = out.len();
     write_count(out, value.len())?;
-    out.extend_from_slice(value.as_slice())?;
-    Ok(())
+    let rest = out.extend_from_slice(value.as_slice());
+    if rest.is_err() {
+        out.truncate(start);
+    }
+    Ok(rest?)
 }
 
 /// Bytes, or the number -1 for nothing.
 #[tactic(auto, unfolding(crate::specs::Spelling::behind_fits, crate::specs::Spelling::null_behind_fits, crate::specs::Spelling::null_behind_put, crate::specs::Spelling::null_count_fits, crate::specs::Spelling::compact_null_count_fits))]
 pub fn write_nullable_bytes(out: &mut Vec<u8>, value: &Option<Bytes>) -> Result<(), WriteFault>
-    ensures { Puts nullable_bytes value.now out.old.items result out.new.items }
+    ensures spelled { Puts nullable_bytes value.now out.old.items result out.new.items }
+    ensures err { OnErr result (out.new.items ≡ out.old.items) }
+    ensures grown { StartsWith out.new.items out.old.items }
 {
     match value {
         None => write_null(out)?,
@@ -104,11 +113,17 @@ pub fn write_nullable_bytes(out: &mut Vec<u8>, value: &Option<Bytes>) -> Result<
 /// A number of bytes and one in a number of variable length, and the bytes.
 #[tactic(auto, unfolding(crate::specs::Spelling::behind_fits))]
 pub fn write_compact_bytes(out: &mut Vec<u8>, value: &Bytes) -> Result<(), WriteFault>
-    ensures { Puts compact_bytes value.now out.old.items result out.new.items }
+    ensures spelled { Puts compact_bytes value.now out.old.items result out.new.items }
+    ensures err { OnErr result (out.new.items ≡ out.old.items) }
+    ensures grown { StartsWith out.new.items out.old.items }
 {
+    let start = out.len();
     write_compact_count(out, value.len())?;
-    out.extend_from_slice(value.as_slice())?;
-    Ok(())
+    let rest = out.extend_from_slice(value.as_slice());
+    if rest.is_err() {
+        out.truncate(start);
+    }
+    Ok(rest?)
 }
 
 /// The same, or 0 for nothing.
@@ -117,7 +132,9 @@ pub fn write_compact_nullable_bytes(
     out: &mut Vec<u8>,
     value: &Option<Bytes>,
 ) -> Result<(), WriteFault>
-    ensures { Puts compact_nullable_bytes value.now out.old.items result out.new.items }
+    ensures spelled { Puts compact_nullable_bytes value.now out.old.items result out.new.items }
+    ensures err { OnErr result (out.new.items ≡ out.old.items) }
+    ensures grown { StartsWith out.new.items out.old.items }
 {
     match value {
         None => write_compact_null(out)?,
@@ -129,11 +146,17 @@ pub fn write_compact_nullable_bytes(
 /// A number of bytes as a signed number of variable length, and the bytes.
 #[tactic(auto, unfolding(crate::specs::Spelling::behind_fits))]
 pub fn write_varint_bytes(out: &mut Vec<u8>, value: &Bytes) -> Result<(), WriteFault>
-    ensures { Puts varint_bytes value.now out.old.items result out.new.items }
+    ensures spelled { Puts varint_bytes value.now out.old.items result out.new.items }
+    ensures err { OnErr result (out.new.items ≡ out.old.items) }
+    ensures grown { StartsWith out.new.items out.old.items }
 {
+    let start = out.len();
     write_varint_count(out, value.len())?;
-    out.extend_from_slice(value.as_slice())?;
-    Ok(())
+    let rest = out.extend_from_slice(value.as_slice());
+    if rest.is_err() {
+        out.truncate(start);
+    }
+    Ok(rest?)
 }
 
 /// The same, or -1 for nothing.
@@ -142,7 +165,9 @@ pub fn write_varint_nullable_bytes(
     out: &mut Vec<u8>,
     value: &Option<Bytes>,
 ) -> Result<(), WriteFault>
-    ensures { Puts varint_nullable_bytes value.now out.old.items result out.new.items }
+    ensures spelled { Puts varint_nullable_bytes value.now out.old.items result out.new.items }
+    ensures err { OnErr result (out.new.items ≡ out.old.items) }
+    ensures grown { StartsWith out.new.items out.old.items }
 {
     match value {
         None => write_varint_null(out)?,

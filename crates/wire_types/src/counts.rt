@@ -1,6 +1,7 @@
 //! Lengths and counts, in each form that stands before a text, bytes or an array.
 
-ghost use Rattle.std.specs.Prelude.{◌≡◌, ◌+◌, ◌<◌, ◌≤◌, ◌++◌, ◌^◌, length, true, None, Some, OnOk, IfOk, IfSome, MatchResult, Ok, Err, nat_lt, if◌then◌else◌};
+ghost use Rattle.std.specs.Io.{StartsWith};
+ghost use Rattle.std.specs.Prelude.{◌≡◌, ◌+◌, ◌<◌, ◌≤◌, ◌++◌, ◌^◌, length, true, None, Some, OnOk, OnErr, IfOk, IfSome, MatchResult, Ok, Err, nat_lt, if◌then◌else◌};
 ghost use Rattle.wire_types.specs.Reading.{Takes, Reads, skipping, nat_at, int_at, bool_at, front_at, utf8_at, varint_at, varint_limit, many_at, all_at, counted_at};
 ghost use Rattle.wire_types.specs.declared.fault.Malformed.TheVariants.{Short};
 ghost use Rattle.wire_types.specs.Writing.{Writes, Puts};
@@ -130,7 +131,9 @@ impl<'a> Cursor<'a> {
 /// A count in two bytes.
 #[tactic(auto, unfolding(crate::specs::Spelling::null_count_fits, crate::specs::Spelling::int_written))]
 pub(crate) fn write_count16(out: &mut Vec<u8>, count: usize) -> Result<(), WriteFault>
-    ensures { Puts count16 count out.old.items result out.new.items }
+    ensures spelled { Puts count16 count out.old.items result out.new.items }
+    ensures err { OnErr result (out.new.items ≡ out.old.items) }
+    ensures grown { StartsWith out.new.items out.old.items }
 {
     if count >= 32_768 {
         return Err(WriteFault::TooLong);
@@ -141,7 +144,9 @@ pub(crate) fn write_count16(out: &mut Vec<u8>, count: usize) -> Result<(), Write
 
 /// The count -1 in two bytes.
 pub(crate) fn write_null16(out: &mut Vec<u8>) -> Result<(), AllocError>
-    ensures { OnOk result (out.new.items ≡ null_count16.put out.old.items None) }
+    ensures ok { OnOk result (out.new.items ≡ null_count16.put out.old.items None) }
+    ensures err { OnErr result (out.new.items ≡ out.old.items) }
+    ensures grown { StartsWith out.new.items out.old.items }
 {
     write_i16(out, -1)
 }
@@ -149,7 +154,9 @@ pub(crate) fn write_null16(out: &mut Vec<u8>) -> Result<(), AllocError>
 /// A count in four bytes.
 #[tactic(auto, unfolding(crate::specs::Spelling::null_count_fits, crate::specs::Spelling::int_written))]
 pub fn write_count(out: &mut Vec<u8>, count: usize) -> Result<(), WriteFault>
-    ensures { Puts count32 count out.old.items result out.new.items }
+    ensures spelled { Puts count32 count out.old.items result out.new.items }
+    ensures err { OnErr result (out.new.items ≡ out.old.items) }
+    ensures grown { StartsWith out.new.items out.old.items }
 {
     if count >= 2_147_483_648 {
         return Err(WriteFault::TooLong);
@@ -160,7 +167,9 @@ pub fn write_count(out: &mut Vec<u8>, count: usize) -> Result<(), WriteFault>
 
 /// The count -1 in four bytes.
 pub(crate) fn write_null(out: &mut Vec<u8>) -> Result<(), AllocError>
-    ensures { OnOk result (out.new.items ≡ null_count32.put out.old.items None) }
+    ensures ok { OnOk result (out.new.items ≡ null_count32.put out.old.items None) }
+    ensures err { OnErr result (out.new.items ≡ out.old.items) }
+    ensures grown { StartsWith out.new.items out.old.items }
 {
     write_i32(out, -1)
 }
@@ -168,7 +177,9 @@ pub(crate) fn write_null(out: &mut Vec<u8>) -> Result<(), AllocError>
 /// A count and one in a number of variable length.
 #[tactic(auto, unfolding(crate::specs::Spelling::compact_null_count_written, crate::specs::Spelling::compact_null_count_fits))]
 pub fn write_compact_count(out: &mut Vec<u8>, count: usize) -> Result<(), WriteFault>
-    ensures { Puts compact_count count out.old.items result out.new.items }
+    ensures spelled { Puts compact_count count out.old.items result out.new.items }
+    ensures err { OnErr result (out.new.items ≡ out.old.items) }
+    ensures grown { StartsWith out.new.items out.old.items }
 {
     if count >= 4_294_967_295 {
         return Err(WriteFault::TooLong);
@@ -180,7 +191,9 @@ pub fn write_compact_count(out: &mut Vec<u8>, count: usize) -> Result<(), WriteF
 /// The number 0, which stands for nothing.
 #[tactic(auto, unfolding(crate::specs::Spelling::compact_null_count_written))]
 pub(crate) fn write_compact_null(out: &mut Vec<u8>) -> Result<(), AllocError>
-    ensures { OnOk result (out.new.items ≡ compact_null_count.put out.old.items None) }
+    ensures ok { OnOk result (out.new.items ≡ compact_null_count.put out.old.items None) }
+    ensures err { OnErr result (out.new.items ≡ out.old.items) }
+    ensures grown { StartsWith out.new.items out.old.items }
 {
     write_uvarint(out, 0)
 }
@@ -188,7 +201,9 @@ pub(crate) fn write_compact_null(out: &mut Vec<u8>) -> Result<(), AllocError>
 /// A count in a signed number of variable length.
 #[tactic(auto, unfolding(crate::specs::Spelling::null_count_fits))]
 pub fn write_varint_count(out: &mut Vec<u8>, count: usize) -> Result<(), WriteFault>
-    ensures { Puts varint_count count out.old.items result out.new.items }
+    ensures spelled { Puts varint_count count out.old.items result out.new.items }
+    ensures err { OnErr result (out.new.items ≡ out.old.items) }
+    ensures grown { StartsWith out.new.items out.old.items }
 {
     if count >= 2_147_483_648 {
         return Err(WriteFault::TooLong);
@@ -199,7 +214,9 @@ pub fn write_varint_count(out: &mut Vec<u8>, count: usize) -> Result<(), WriteFa
 
 /// The count -1 in a number of variable length.
 pub(crate) fn write_varint_null(out: &mut Vec<u8>) -> Result<(), AllocError>
-    ensures { OnOk result (out.new.items ≡ varint_null_count.put out.old.items None) }
+    ensures ok { OnOk result (out.new.items ≡ varint_null_count.put out.old.items None) }
+    ensures err { OnErr result (out.new.items ≡ out.old.items) }
+    ensures grown { StartsWith out.new.items out.old.items }
 {
     write_varint(out, -1)
 }

@@ -127,7 +127,7 @@ impl Wire for ErrorCode {
         }
     }
 
-    fn write(&self, out: &mut Vec<u8>) -> Result<(), WriteFault> {
+    fn put(&self, out: &mut Vec<u8>) -> Result<(), WriteFault> {
         write_i16(out, self.number())?;
         Ok(())
     }

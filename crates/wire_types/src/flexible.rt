@@ -1,6 +1,7 @@
 //! Topics in the messages of flexible versions: in compact forms, with a tagged section behind each.
 
-ghost use Rattle.std.specs.Prelude.{◌≡◌, ◌++◌};
+ghost use Rattle.std.specs.Prelude.{◌≡◌, ◌++◌, OnErr};
+ghost use Rattle.std.specs.Io.{StartsWith};
 ghost use Rattle.wire_types.specs.Reading.{Reads, many_at};
 ghost use Rattle.wire_types.specs.Writing.{Writes, Puts};
 ghost use Rattle.wire_types.specs.Spelling.{many_fit, many_written, many_left};
@@ -30,14 +31,29 @@ fn read_topic<P: Wire>(alloc: Global, cursor: &mut Cursor<'_>) -> Result<Topic<P
     Ok(Topic { name, partitions })
 }
 
-#[tactic(auto, unfolding(crate::specs::Topic::flexible_topic_of))]
-fn write_topic<P: Wire>(out: &mut Vec<u8>, topic: &Topic<P>) -> Result<(), WriteFault>
-    ensures { Puts (flexible_topic_of P.grammar) topic.now out.old.items result out.new.items }
+/// The topic's spelling, or a part of it.
+#[tactic(auto, unfolding(crate::specs::Topic::flexible_topic_of), using(std::proofs::Transfers::starts_with_trans))]
+fn put_topic<P: Wire>(out: &mut Vec<u8>, topic: &Topic<P>) -> Result<(), WriteFault>
+    ensures spelled { Puts (flexible_topic_of P.grammar) topic.now out.old.items result out.new.items }
+    ensures grown { StartsWith out.new.items out.old.items }
 {
     write_compact_string(out, &topic.name)?;
     write_compact_array(out, &topic.partitions)?;
     write_no_tags(out)?;
     Ok(())
+}
+
+fn write_topic<P: Wire>(out: &mut Vec<u8>, topic: &Topic<P>) -> Result<(), WriteFault>
+    ensures spelled { Puts (flexible_topic_of P.grammar) topic.now out.old.items result out.new.items }
+    ensures err { OnErr result (out.new.items ≡ out.old.items) }
+    ensures grown { StartsWith out.new.items out.old.items }
+{
+    let start = out.len();
+    let written = put_topic(out, topic);
+    if written.is_err() {
+        out.truncate(start);
+    }
+    written
 }
 
 #[tactic(auto, unfolding(crate::specs::Topic::flexible_topic_of))]
@@ -82,10 +98,19 @@ fn read_counted<P: Wire>(
 /// Topics one after the other.
 #[tactic(auto, unfolding(crate::specs::Spelling::many_fit, crate::specs::Spelling::many_written))]
 fn write_topics<P: Wire>(out: &mut Vec<u8>, topics: &[Topic<P>]) -> Result<(), WriteFault>
-    ensures { Writes (many_fit (flexible_topic_of P.grammar).fits topics.now) (out.old.items ++ many_written (flexible_topic_of P.grammar).written topics.now) result out.new.items }
+    ensures spelled { Writes (many_fit (flexible_topic_of P.grammar).fits topics.now) (out.old.items ++ many_written (flexible_topic_of P.grammar).written topics.now) result out.new.items }
+    ensures err { OnErr result (out.new.items ≡ out.old.items) }
+    ensures grown { StartsWith out.new.items out.old.items }
 {
+    let start = out.len();
     for topic in topics {
-        write_topic(out, topic)?;
+        match write_topic(out, topic) {
+            Ok(()) => {}
+            Err(fault) => {
+                out.truncate(start);
+                return Err(fault);
+            }
+        }
     }
     Ok(())
 }
@@ -118,11 +143,17 @@ pub fn write_flexible_topics<P: Wire>(
     out: &mut Vec<u8>,
     topics: &Items<Topic<P>>,
 ) -> Result<(), WriteFault>
-    ensures { Puts (compact_array (flexible_topic_of P.grammar)) topics.now out.old.items result out.new.items }
+    ensures spelled { Puts (compact_array (flexible_topic_of P.grammar)) topics.now out.old.items result out.new.items }
+    ensures err { OnErr result (out.new.items ≡ out.old.items) }
+    ensures grown { StartsWith out.new.items out.old.items }
 {
+    let start = out.len();
     write_compact_count(out, topics.len())?;
-    write_topics(out, topics.as_slice())?;
-    Ok(())
+    let rest = write_topics(out, topics.as_slice());
+    if rest.is_err() {
+        out.truncate(start);
+    }
+    rest
 }
 
 pub fn flexible_topics_room<P: Wire>(topics: &Items<Topic<P>>, room: usize) -> Option<usize>
@@ -151,7 +182,9 @@ pub fn write_nullable_flexible_topics<P: Wire>(
     out: &mut Vec<u8>,
     topics: &Option<Items<Topic<P>>>,
 ) -> Result<(), WriteFault>
-    ensures { Puts (compact_nullable_array (flexible_topic_of P.grammar)) topics.now out.old.items result out.new.items }
+    ensures spelled { Puts (compact_nullable_array (flexible_topic_of P.grammar)) topics.now out.old.items result out.new.items }
+    ensures err { OnErr result (out.new.items ≡ out.old.items) }
+    ensures grown { StartsWith out.new.items out.old.items }
 {
     match topics {
         None => write_compact_null(out)?,

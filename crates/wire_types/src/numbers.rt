@@ -1,6 +1,7 @@
 //! The numbers of a fixed width, big-endian, and truth values: INT8, INT16, INT32, INT64, UINT32, BOOLEAN.
 
-ghost use Rattle.std.specs.Prelude.{◌≡◌, ◌+◌, ◌<◌, ◌≤◌, ◌++◌, ◌^◌, length, true, None, Some, OnOk, IfOk, IfSome, MatchResult, Ok, Err};
+ghost use Rattle.std.specs.Io.{StartsWith};
+ghost use Rattle.std.specs.Prelude.{◌≡◌, ◌+◌, ◌<◌, ◌≤◌, ◌++◌, ◌^◌, length, true, None, Some, OnOk, OnErr, IfOk, IfSome, MatchResult, Ok, Err};
 ghost use Rattle.wire_types.specs.Reading.{Takes, Reads, skipping, nat_at, int_at, bool_at, front_at, utf8_at, varint_at, varint_limit, many_at, all_at};
 ghost use Rattle.wire_types.specs.Writing.{Writes};
 ghost use Rattle.wire_types.specs.Spelling.{room_left, varint_written, many_fit, many_written, many_left};
@@ -65,41 +66,53 @@ impl<'a> Cursor<'a> {
 
 #[tactic(auto, unfolding(crate::specs::Spelling::int_written))]
 pub fn write_i8(out: &mut Vec<u8>, number: i8) -> Result<(), AllocError>
-    ensures { OnOk result (out.new.items ≡ out.old.items ++ int8.written number) }
+    ensures ok { OnOk result (out.new.items ≡ out.old.items ++ int8.written number) }
+    ensures err { OnErr result (out.new.items ≡ out.old.items) }
+    ensures grown { StartsWith out.new.items out.old.items }
 {
     out.extend_from_slice(&number.to_be_bytes())
 }
 
 #[tactic(auto, unfolding(crate::specs::Spelling::int_written))]
 pub fn write_i16(out: &mut Vec<u8>, number: i16) -> Result<(), AllocError>
-    ensures { OnOk result (out.new.items ≡ out.old.items ++ int16.written number) }
+    ensures ok { OnOk result (out.new.items ≡ out.old.items ++ int16.written number) }
+    ensures err { OnErr result (out.new.items ≡ out.old.items) }
+    ensures grown { StartsWith out.new.items out.old.items }
 {
     out.extend_from_slice(&number.to_be_bytes())
 }
 
 #[tactic(auto, unfolding(crate::specs::Spelling::int_written))]
 pub fn write_i32(out: &mut Vec<u8>, number: i32) -> Result<(), AllocError>
-    ensures { OnOk result (out.new.items ≡ out.old.items ++ int32.written number) }
+    ensures ok { OnOk result (out.new.items ≡ out.old.items ++ int32.written number) }
+    ensures err { OnErr result (out.new.items ≡ out.old.items) }
+    ensures grown { StartsWith out.new.items out.old.items }
 {
     out.extend_from_slice(&number.to_be_bytes())
 }
 
 #[tactic(auto, unfolding(crate::specs::Spelling::int_written))]
 pub fn write_i64(out: &mut Vec<u8>, number: i64) -> Result<(), AllocError>
-    ensures { OnOk result (out.new.items ≡ out.old.items ++ int64.written number) }
+    ensures ok { OnOk result (out.new.items ≡ out.old.items ++ int64.written number) }
+    ensures err { OnErr result (out.new.items ≡ out.old.items) }
+    ensures grown { StartsWith out.new.items out.old.items }
 {
     out.extend_from_slice(&number.to_be_bytes())
 }
 
 pub fn write_u32(out: &mut Vec<u8>, number: u32) -> Result<(), AllocError>
-    ensures { OnOk result (out.new.items ≡ uint32.put out.old.items number) }
+    ensures ok { OnOk result (out.new.items ≡ uint32.put out.old.items number) }
+    ensures err { OnErr result (out.new.items ≡ out.old.items) }
+    ensures grown { StartsWith out.new.items out.old.items }
 {
     out.extend_from_slice(&number.to_be_bytes())
 }
 
 #[tactic(auto, unfolding(crate::specs::Spelling::bool_written))]
 pub fn write_bool(out: &mut Vec<u8>, truth: bool) -> Result<(), AllocError>
-    ensures { OnOk result (out.new.items ≡ boolean.put out.old.items truth) }
+    ensures ok { OnOk result (out.new.items ≡ boolean.put out.old.items truth) }
+    ensures err { OnErr result (out.new.items ≡ out.old.items) }
+    ensures grown { StartsWith out.new.items out.old.items }
 {
     out.push(if truth { 1 } else { 0 })?;
     Ok(())
@@ -112,7 +125,7 @@ impl Wire for i32 {
         Ok(cursor.read_i32()?)
     }
 
-    fn write(&self, out: &mut Vec<u8>) -> Result<(), WriteFault> {
+    fn put(&self, out: &mut Vec<u8>) -> Result<(), WriteFault> {
         Ok(write_i32(out, *self)?)
     }
 

@@ -1,6 +1,7 @@
 //! Texts of UTF-8: STRING, NULLABLE_STRING, COMPACT_STRING, COMPACT_NULLABLE_STRING.
 
-ghost use Rattle.std.specs.Prelude.{◌≡◌, ◌+◌, ◌<◌, ◌≤◌, ◌++◌, ◌^◌, length, true, None, Some, OnOk, IfOk, IfSome, MatchResult, Ok, Err};
+ghost use Rattle.std.specs.Io.{StartsWith};
+ghost use Rattle.std.specs.Prelude.{◌≡◌, ◌+◌, ◌<◌, ◌≤◌, ◌++◌, ◌^◌, length, true, None, Some, OnOk, OnErr, IfOk, IfSome, MatchResult, Ok, Err};
 ghost use Rattle.wire_types.specs.Reading.{Takes, Reads, skipping, nat_at, int_at, bool_at, front_at, utf8_at, varint_at, varint_limit, many_at, all_at};
 ghost use Rattle.wire_types.specs.Writing.{Writes, Puts};
 ghost use Rattle.wire_types.specs.Spelling.{room_left, varint_written, many_fit, many_written, many_left};
@@ -75,17 +76,25 @@ impl<'a> Cursor<'a> {
 /// A length in two bytes, and the text.
 #[tactic(auto, unfolding(crate::specs::Spelling::behind_fits))]
 pub fn write_string(out: &mut Vec<u8>, value: &Text) -> Result<(), WriteFault>
-    ensures { Puts string value.now out.old.items result out.new.items }
+    ensures spelled { Puts string value.now out.old.items result out.new.items }
+    ensures err { OnErr result (out.new.items ≡ out.old.items) }
+    ensures grown { StartsWith out.new.items out.old.items }
 {
+    let start = out.len();
     write_count16(out, value.len())?;
-    out.extend_from_slice(value.as_bytes())?;
-    Ok(())
+    let rest = out.extend_from_slice(value.as_bytes());
+    if rest.is_err() {
+        out.truncate(start);
+    }
+    Ok(rest?)
 }
 
 /// A text, or the length -1 for nothing.
 #[tactic(auto, unfolding(crate::specs::Spelling::behind_fits, crate::specs::Spelling::null_behind_fits, crate::specs::Spelling::null_behind_put, crate::specs::Spelling::null_count_fits, crate::specs::Spelling::compact_null_count_fits))]
 pub fn write_nullable(out: &mut Vec<u8>, value: &Option<Text>) -> Result<(), WriteFault>
-    ensures { Puts nullable_string value.now out.old.items result out.new.items }
+    ensures spelled { Puts nullable_string value.now out.old.items result out.new.items }
+    ensures err { OnErr result (out.new.items ≡ out.old.items) }
+    ensures grown { StartsWith out.new.items out.old.items }
 {
     match value {
         None => write_null16(out)?,
@@ -97,17 +106,25 @@ pub fn write_nullable(out: &mut Vec<u8>, value: &Option<Text>) -> Result<(), Wri
 /// A length and one in a number of variable length, and the text.
 #[tactic(auto, unfolding(crate::specs::Spelling::behind_fits))]
 pub fn write_compact_string(out: &mut Vec<u8>, value: &Text) -> Result<(), WriteFault>
-    ensures { Puts compact_string value.now out.old.items result out.new.items }
+    ensures spelled { Puts compact_string value.now out.old.items result out.new.items }
+    ensures err { OnErr result (out.new.items ≡ out.old.items) }
+    ensures grown { StartsWith out.new.items out.old.items }
 {
+    let start = out.len();
     write_compact_count(out, value.len())?;
-    out.extend_from_slice(value.as_bytes())?;
-    Ok(())
+    let rest = out.extend_from_slice(value.as_bytes());
+    if rest.is_err() {
+        out.truncate(start);
+    }
+    Ok(rest?)
 }
 
 /// The same, or 0 for nothing.
 #[tactic(auto, unfolding(crate::specs::Spelling::behind_fits, crate::specs::Spelling::null_behind_fits, crate::specs::Spelling::null_behind_put, crate::specs::Spelling::null_count_fits, crate::specs::Spelling::compact_null_count_fits))]
 pub fn write_compact_nullable(out: &mut Vec<u8>, value: &Option<Text>) -> Result<(), WriteFault>
-    ensures { Puts compact_nullable_string value.now out.old.items result out.new.items }
+    ensures spelled { Puts compact_nullable_string value.now out.old.items result out.new.items }
+    ensures err { OnErr result (out.new.items ≡ out.old.items) }
+    ensures grown { StartsWith out.new.items out.old.items }
 {
     match value {
         None => write_compact_null(out)?,
@@ -157,7 +174,7 @@ impl Wire for Text {
         cursor.read_string(alloc)
     }
 
-    fn write(&self, out: &mut Vec<u8>) -> Result<(), WriteFault> {
+    fn put(&self, out: &mut Vec<u8>) -> Result<(), WriteFault> {
         write_string(out, self)
     }
 

@@ -27,7 +27,7 @@ impl<P: Wire> Wire for Topic<P> {
         Ok(Topic { name, partitions })
     }
 
-    fn write(&self, out: &mut Vec<u8>) -> Result<(), WriteFault> {
+    fn put(&self, out: &mut Vec<u8>) -> Result<(), WriteFault> {
         write_string(out, &self.name)?;
         write_array(out, &self.partitions)?;
         Ok(())

@@ -1,6 +1,7 @@
 //! Numbers of variable length: UNSIGNED_VARINT, VARINT, VARLONG.
 
-ghost use Rattle.std.specs.Prelude.{◌≡◌, ◌+◌, ◌<◌, ◌≤◌, ◌++◌, ◌^◌, length, true, None, Some, OnOk, IfOk, IfSome, MatchResult, Ok, Err};
+ghost use Rattle.std.specs.Io.{StartsWith};
+ghost use Rattle.std.specs.Prelude.{◌≡◌, ◌+◌, ◌<◌, ◌≤◌, ◌++◌, ◌^◌, length, true, None, Some, OnOk, OnErr, IfOk, IfSome, MatchResult, Ok, Err};
 ghost use Rattle.wire_types.specs.Reading.{Takes, Reads, skipping, nat_at, int_at, bool_at, front_at, utf8_at, varint_at, varint_limit, many_at, all_at};
 ghost use Rattle.wire_types.specs.Writing.{Writes};
 ghost use Rattle.wire_types.specs.Spelling.{room_left, varint_written, many_fit, many_written, many_left};
@@ -74,28 +75,39 @@ impl<'a> Cursor<'a> {
 #[tactic(auto, unfolding(crate::specs::Spelling::varint_written, crate::specs::Reading::varint_limit))]
 fn write_varint_within(out: &mut Vec<u8>, more: u32, top: u8, number: u64) -> Result<(), AllocError>
     requires { number < varint_limit more top }
-    ensures { OnOk result (out.new.items ≡ out.old.items ++ varint_written more number) }
+    ensures ok { OnOk result (out.new.items ≡ out.old.items ++ varint_written more number) }
+    ensures err { OnErr result (out.new.items ≡ out.old.items) }
+    ensures grown { StartsWith out.new.items out.old.items }
 {
     if more == 0 || number < 128 {
         out.push(number as u8)?;
         return Ok(());
     }
     out.push((number % 128) as u8 + 128)?;
-    write_varint_within(out, more - 1, top, number / 128)?;
-    Ok(())
+    match write_varint_within(out, more - 1, top, number / 128) {
+        Ok(()) => Ok(()),
+        Err(AllocError) => {
+            out.pop();
+            Err(AllocError)
+        }
+    }
 }
 
 /// An unsigned number of 32 bits.
 #[tactic(auto, unfolding(crate::specs::Reading::varint_limit))]
 pub fn write_uvarint(out: &mut Vec<u8>, number: u32) -> Result<(), AllocError>
-    ensures { OnOk result (out.new.items ≡ uvarint.put out.old.items number) }
+    ensures ok { OnOk result (out.new.items ≡ uvarint.put out.old.items number) }
+    ensures err { OnErr result (out.new.items ≡ out.old.items) }
+    ensures grown { StartsWith out.new.items out.old.items }
 {
     write_varint_within(out, 4, 15, number as u64)
 }
 
 #[tactic(auto, unfolding(crate::specs::Reading::varint_limit))]
 fn write_uvarlong(out: &mut Vec<u8>, number: u64) -> Result<(), AllocError>
-    ensures { OnOk result (out.new.items ≡ uvarlong.put out.old.items number) }
+    ensures ok { OnOk result (out.new.items ≡ uvarlong.put out.old.items number) }
+    ensures err { OnErr result (out.new.items ≡ out.old.items) }
+    ensures grown { StartsWith out.new.items out.old.items }
 {
     write_varint_within(out, 9, 1, number)
 }
@@ -124,14 +136,18 @@ fn long_zigzag(number: i64) -> u64
 
 /// A signed number of 32 bits.
 pub fn write_varint(out: &mut Vec<u8>, number: i32) -> Result<(), AllocError>
-    ensures { OnOk result (out.new.items ≡ varint.put out.old.items number) }
+    ensures ok { OnOk result (out.new.items ≡ varint.put out.old.items number) }
+    ensures err { OnErr result (out.new.items ≡ out.old.items) }
+    ensures grown { StartsWith out.new.items out.old.items }
 {
     write_uvarint(out, zigzag(number))
 }
 
 /// A signed number of 64 bits.
 pub fn write_varlong(out: &mut Vec<u8>, number: i64) -> Result<(), AllocError>
-    ensures { OnOk result (out.new.items ≡ varlong.put out.old.items number) }
+    ensures ok { OnOk result (out.new.items ≡ varlong.put out.old.items number) }
+    ensures err { OnErr result (out.new.items ≡ out.old.items) }
+    ensures grown { StartsWith out.new.items out.old.items }
 {
     write_uvarlong(out, long_zigzag(number))
 }

@@ -1,6 +1,7 @@
 //! What can be read and written.
 
-ghost use Rattle.std.specs.Prelude.{◌≡◌, ◌+◌, ◌<◌, ◌≤◌, ◌++◌, ◌^◌, length, true, None, Some, OnOk, IfOk, IfSome, MatchResult, Ok, Err};
+ghost use Rattle.std.specs.Prelude.{◌≡◌, ◌+◌, ◌<◌, ◌≤◌, ◌++◌, ◌^◌, length, true, None, Some, OnOk, OnErr, IfOk, IfSome, MatchResult, Ok, Err};
+ghost use Rattle.std.specs.Io.{StartsWith};
 ghost use Rattle.wire_types.specs.Reading.{Reads};
 ghost use Rattle.wire_types.specs.Writing.{Writes, Puts};
 ghost use Rattle.wire_types.specs.Grammar.{Grammar};
@@ -19,9 +20,24 @@ pub trait Wire: Drop {
     fn read(alloc: Global, cursor: &mut Cursor<'_>) -> Result<Self, ReadFault>
         ensures { Reads (grammar.reading cursor.old) result cursor.new };
 
-    /// Puts the value's one spelling behind what is there.
+    /// Puts the value's one spelling after what is there. A refusal may leave a part of it there, which `write` takes back.
+    fn put(&self, out: &mut Vec<u8>) -> Result<(), WriteFault>
+        ensures spelled { Puts grammar self.now out.old.items result out.new.items }
+        ensures grown { StartsWith out.new.items out.old.items };
+
+    /// Puts the value's one spelling after what is there, or nothing.
     fn write(&self, out: &mut Vec<u8>) -> Result<(), WriteFault>
-        ensures { Puts grammar self.now out.old.items result out.new.items };
+        ensures spelled { Puts grammar self.now out.old.items result out.new.items }
+        ensures err { OnErr result (out.new.items ≡ out.old.items) }
+        ensures grown { StartsWith out.new.items out.old.items }
+    {
+        let start = out.len();
+        let written = self.put(out);
+        if written.is_err() {
+            out.truncate(start);
+        }
+        written
+    }
 
     /// What is left of a room behind that spelling, if it has one and that has place there.
     fn room_left(&self, room: usize) -> Option<usize>

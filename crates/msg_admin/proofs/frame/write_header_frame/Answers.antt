@@ -12,5 +12,5 @@ returns-in_err-write_header g c =
 pub returns : goal.returns
 returns g c =
     let told = c.in-Some.ensures in
-    let sized = c.in_ok-write_i32.ensures ∙ rw (c.in_ok-out.ensures.items, to_z_pos w32 c.in-Some.count told.2) refl in
+    let sized = c.in_ok-write_i32.ensures.ok ∙ rw (c.in_ok-out.ensures.items, to_z_pos w32 c.in-Some.count told.2) refl in
     (told.0, c.in_ok-from_vec.ensures ∙ alone_is (headed c.args.flexible g.H.Wire.grammar) c.args.header.now c.in-Some.count _ _ told.1 sized c.in_ok-write_header.ensures.1)
