@@ -49,8 +49,3 @@ pub record IsBook (book : BookValue) : Type 0 where
   pub below : AreBelow book.next book.entries
   pub first : 1 ≤ book.next
   pub distinct : AreDistinct book.entries
-
--- a book, and how many more bindings it has room for
-pub record RoomyBook : Type 0 where
-  pub book : BookValue
-  pub room : ℕ

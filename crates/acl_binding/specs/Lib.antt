@@ -8,3 +8,4 @@ pub mod Laws
 pub mod Names
 pub mod WireNumbers
 pub mod Creatable
+pub mod Entries

@@ -31,12 +31,11 @@ pub struct Book {
 }
 
 impl Model for Book {
-    ghost use Rattle.std.specs.Prelude.{◌-◌, length, vec_capacity};
-    ghost use Rattle.acl_binding.specs.Book.{RoomyBook, IsBook};
+    ghost use Rattle.acl_binding.specs.Book.{BookValue, IsBook};
 
-    ghost Value = { RoomyBook };
+    ghost Value = { BookValue };
 
-    ghost view = { λ b. record { book = record { entries = b.entries.items; next = b.next }; room = vec_capacity b.entries - length b.entries.items } };
+    ghost view = { λ b. record { entries = b.entries.items; next = b.next } };
 
     ghost invariant = { λ b. IsBook (record { entries = b.entries.items; next = b.next }) };
 }
@@ -44,7 +43,7 @@ impl Model for Book {
 impl Book {
     /// A book without bindings. Creation numbers begin at 1.
     pub fn new(alloc: Global) -> Book
-        ensures { result.book ≡ empty_book }
+        ensures { result ≡ empty_book }
     {
         Book {
             entries: Vec::new(alloc),
@@ -53,55 +52,46 @@ impl Book {
     }
 
     pub fn len(&self) -> usize
-        ensures { result ≡ length self.now.book.entries }
+        ensures { result ≡ length self.now.entries }
     {
         self.entries.len()
     }
 
     pub fn is_empty(&self) -> bool
-        ensures { IsTrue result ↔ (self.now.book.entries ≡ []) }
+        ensures { IsTrue result ↔ (self.now.entries ≡ []) }
     {
         self.entries.is_empty()
     }
 
     /// The bindings in creation order, each with its number.
     pub fn entries(&self) -> &[Shared<Numbered>]
-        ensures list { result.now ≡ self.now.book.entries }
-        ensures book { IsBook self.now.book }
+        ensures list { result.now ≡ self.now.entries }
+        ensures book { IsBook self.now }
     {
         &self.entries
     }
 
     /// The number that the next new binding gets.
     pub fn next(&self) -> u64
-        ensures { result ≡ self.now.book.next }
+        ensures { result ≡ self.now.next }
     {
         self.next
     }
 
     /// The creation number of an equal binding.
     pub fn number_of(&self, binding: &Binding) -> Option<u64>
-        ensures { result ≡ number_of self.now.book.entries binding.now }
+        ensures { result ≡ number_of self.now.entries binding.now }
     {
         number_of(&self.entries, binding)
     }
 
-    /// Makes room for one more binding.
-    pub fn reserve(&mut self) -> Result<(), AllocError>
-        ensures book { self.new.book ≡ self.old.book }
-        ensures room { OnOk result (1 ≤ self.new.room) }
-    {
-        self.entries.reserve(1)
-    }
-
-    /// Takes a new binding under the next number. Where there is room it isn't refused.
-    pub fn append(&mut self, entry: Shared<Numbered>) -> Result<(), AllocError>
-        requires bound { self.old.book.next + 1 < 2 ^ 64 }
-        requires number { entry.number ≡ self.old.book.next }
-        requires absent { number_of self.old.book.entries entry.binding ≡ None }
-        ensures ok { OnOk result (self.new.book ≡ appended self.old.book entry.binding) }
-        ensures err { OnErr result (self.new.book ≡ self.old.book) }
-        ensures succeeds { 1 ≤ self.old.room → IsOk result }
+    /// Takes a new binding under the next number.
+    fn append(&mut self, entry: Shared<Numbered>) -> Result<(), AllocError>
+        requires bound { self.old.next + 1 < 2 ^ 64 }
+        requires number { entry.number ≡ self.old.next }
+        requires absent { number_of self.old.entries entry.binding ≡ None }
+        ensures ok { OnOk result (self.new ≡ appended self.old entry.binding) }
+        ensures err { OnErr result (self.new ≡ self.old) }
     {
         self.entries.push(entry)?;
         self.next += 1;
@@ -110,11 +100,11 @@ impl Book {
 
     /// Adds a binding under the next creation number, unless an equal one is there.
     pub fn add(&mut self, alloc: Global, binding: Binding) -> Result<Added, AllocError>
-        requires { self.old.book.next + 1 < 2 ^ 64 }
-        ensures ok { OnOk result (self.new.book ≡ added self.old.book binding) }
-        ensures number { IfOk result (λ answer. answer ≡ adding_answer self.old.book binding) }
-        ensures grows { self.new.book.next ≤ self.old.book.next + 1 }
-        ensures err { OnErr result (self.new.book ≡ self.old.book) }
+        requires { self.old.next + 1 < 2 ^ 64 }
+        ensures ok { OnOk result (self.new ≡ added self.old binding) }
+        ensures number { IfOk result (λ answer. answer ≡ adding_answer self.old binding) }
+        ensures grows { self.new.next ≤ self.old.next + 1 }
+        ensures err { OnErr result (self.new ≡ self.old) }
     {
         if let Some(number) = self.number_of(&binding) {
             return Ok(Added::There(number));
@@ -127,16 +117,16 @@ impl Book {
 
     /// Copies of the bindings that the filter picks, in creation order.
     pub fn matching(&self, alloc: Global, filter: &Filter) -> Result<Items<Binding>, AllocError>
-        ensures { IfOk result (λ picked. picked ≡ matching self.now.book.entries filter.now) }
+        ensures { IfOk result (λ picked. picked ≡ matching self.now.entries filter.now) }
     {
         matching(alloc, &self.entries, filter)
     }
 
     /// Takes out the bindings that the filter picks, and answers them in creation order.
     pub fn remove(&mut self, alloc: Global, filter: &Filter) -> Result<Items<Binding>, AllocError>
-        ensures ok { OnOk result (self.new.book ≡ removed self.old.book filter.now) }
-        ensures picked { IfOk result (λ list. list ≡ matching self.old.book.entries filter.now) }
-        ensures err { OnErr result (self.new.book ≡ self.old.book) }
+        ensures ok { OnOk result (self.new ≡ removed self.old filter.now) }
+        ensures picked { IfOk result (λ list. list ≡ matching self.old.entries filter.now) }
+        ensures err { OnErr result (self.new ≡ self.old) }
     {
         let picked = self.matching(alloc, filter)?;
         self.clean(filter);
@@ -144,8 +134,8 @@ impl Book {
     }
 
     /// Takes out the bindings that the filter picks.
-    pub fn clean(&mut self, filter: &Filter)
-        ensures { self.new.book ≡ removed self.old.book filter.now }
+    fn clean(&mut self, filter: &Filter)
+        ensures { self.new ≡ removed self.old filter.now }
     {
         self.entries
             .retain(|entry| !filter.matches(&entry.value().binding));
@@ -153,7 +143,7 @@ impl Book {
 
     /// What the bindings answer to the question: deny before allow.
     pub fn verdict(&self, question: &Question) -> Verdict
-        ensures { result ≡ verdict_of self.now.book.entries question.now }
+        ensures { result ≡ verdict_of self.now.entries question.now }
     {
         if let Some(number) = first_denial(&self.entries, question) {
             return Verdict::Denied(number);

@@ -6,6 +6,7 @@
 mod binding;
 mod book;
 mod creatable;
+mod entries;
 mod filter;
 mod laws;
 mod names;
@@ -17,6 +18,7 @@ mod words;
 pub use binding::{Binding, Numbered};
 pub use book::{Added, Book};
 pub use creatable::{CLUSTER_NAME, is_principal};
+pub use entries::BadEntry;
 pub use filter::{Filter, FilterPattern};
 pub use laws::{equal_bindings, verdict_is_decided};
 pub use question::{Caller, Question, Verdict};

@@ -3,7 +3,7 @@ use Rattle.std.proofs.Common.{◌≡◌, ℕ, ◌+◌, ◌<◌, List, [], ◌∷
 use Rattle.msg_acl.specs.declared.entries.BindingEntry.{BindingEntry}
 use Rattle.msg_acl.specs.declared.entries.FilterEntry.{FilterEntry}
 use Rattle.msg_acl.specs.declared.delete_acls.DeletedAcls.{DeletedAcls}
-use Rattle.acl_entries.specs.Entries.{binding_of, filter_of}
+use Rattle.acl_binding.specs.Entries.{binding_of, filter_of}
 use Rattle.acl_binding.specs.Book.{BookValue}
 use Rattle.acl_handlers.specs.CreateAcls.{book_with, book_created}
 use Rattle.acl_handlers.specs.DeleteAcls.{book_without, book_deleted, deleted_by, deleted}

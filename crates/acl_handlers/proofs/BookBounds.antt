@@ -13,7 +13,7 @@ use Rattle.msg_acl.specs.CreateAcls.{create_acls_request}
 use Rattle.acl_binding.specs.declared.binding.Binding.{Binding}
 use Rattle.acl_binding.specs.declared.filter.Filter.{Filter}
 use Rattle.acl_binding.specs.Book.{BookValue, number_of, added, appended}
-use Rattle.acl_entries.specs.Entries.{binding_of, filter_of}
+use Rattle.acl_binding.specs.Entries.{binding_of, filter_of}
 use Rattle.authorizer.specs.declared.answer.Refusal.{Refusal}
 use Rattle.msg_admin.specs.declared.reply.Reply.{Reply}
 use Rattle.broker_world.specs.World.{World}

@@ -12,7 +12,7 @@ use Rattle.acl_binding.specs.declared.words.Kind.TheVariants.{Cluster}
 use Rattle.acl_binding.specs.declared.words.Operation.TheVariants.{Alter}
 use Rattle.acl_binding.specs.declared.binding.Binding.{Binding}
 use Rattle.acl_binding.specs.Creatable.{cluster_name}
-use Rattle.acl_entries.specs.Entries.{binding_of}
+use Rattle.acl_binding.specs.Entries.{binding_of}
 use Rattle.acl_binding.specs.Book.{BookValue, added}
 use Rattle.acl_binding.specs.Verdict.{asked}
 use Rattle.msg_admin.specs.declared.reply.Reply.TheVariants as replies

@@ -12,7 +12,7 @@ use Rattle.acl_binding.specs.declared.question.Caller.{Caller}
 use Rattle.acl_binding.specs.declared.binding.Binding.{Binding}
 use Rattle.acl_binding.specs.declared.filter.Filter.{Filter}
 use Rattle.acl_binding.specs.WireNumbers.{kind_code, pattern_code, operation_code, permission_code}
-use Rattle.acl_entries.specs.Entries.{filter_of}
+use Rattle.acl_binding.specs.Entries.{filter_of}
 use Rattle.acl_binding.specs.Book.{BookValue}
 use Rattle.acl_binding.specs.Filter.{matching, removed}
 use Rattle.msg_admin.specs.declared.reply.Reply.TheVariants as replies

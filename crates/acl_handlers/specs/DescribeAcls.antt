@@ -17,7 +17,7 @@ use Rattle.acl_binding.specs.declared.filter.Filter.{Filter}
 use Rattle.acl_binding.specs.Words.{kind_number, pattern_number}
 use Rattle.acl_binding.specs.WireNumbers.{kind_code, pattern_code, operation_code, permission_code}
 use Rattle.acl_binding.specs.Creatable.{cluster_name}
-use Rattle.acl_entries.specs.Entries.{filter_of}
+use Rattle.acl_binding.specs.Entries.{filter_of}
 use Rattle.acl_binding.specs.Book.{BookValue}
 use Rattle.acl_binding.specs.Filter.{matching}
 use Rattle.acl_binding.specs.Verdict.{asked}

@@ -1,15 +1,14 @@
 //! CreateAcls: bindings are added to the book.
 
 ghost use Rattle.std.specs.Prelude.{◌≡◌, ◌+◌, ◌<◌, ◌≤◌, ◌^◌, length, map, IfOk, OnOk};
-ghost use Rattle.acl_entries.specs.Entries.{binding_of};
+ghost use Rattle.acl_binding.specs.Entries.{binding_of};
 ghost use Rattle.msg_acl.specs.declared.entries.BindingEntry.{BindingEntry as Entry};
 ghost use Rattle.walk.specs.Codes.{refusal_code};
 ghost use Rattle.authorizer.specs.Asking.{part_paid};
 ghost use Rattle.broker_world.specs.World.{rules_of};
 ghost use Rattle.acl_handlers.specs.CreateAcls.{alter_questions, book_with, book_created, created_with, created, create_acls_reply, create_acls_outcome};
 
-use acl_binding::{Binding, Caller, Operation};
-use acl_entries::{BadEntry, check_binding};
+use acl_binding::{BadEntry, Binding, Caller, Operation};
 use authorizer::{Paid, Policy, Refusal, ask_one};
 use broker_world::{Outcome, State, asks_cluster, refused_whole, served_whole};
 use msg_acl::{BindingEntry, CreateAclsReply, CreateAclsRequest, CreatedAcl};
@@ -48,7 +47,7 @@ fn create(
     ensures next { OnOk result (policy.new.book.next ≤ policy.old.book.next + 1) }
     ensures answer { IfOk result (λ answer. answer ≡ created entry.now) }
 {
-    match check_binding(entry.clone()?) {
+    match Binding::check(entry.clone()?) {
         Ok(binding) => {
             policy.add(alloc, binding)?;
             Ok(created_with(ErrorCode::None))

@@ -1,7 +1,7 @@
 //! DeleteAcls: what filters pick is taken out of the book.
 
 ghost use Rattle.std.specs.Prelude.{◌≡◌, ◌+◌, ◌<◌, ◌≤◌, ◌^◌, map, IfOk, OnOk};
-ghost use Rattle.acl_entries.specs.Entries.{filter_of};
+ghost use Rattle.acl_binding.specs.Entries.{filter_of};
 ghost use Rattle.msg_acl.specs.declared.entries.FilterEntry.{FilterEntry as Entry};
 ghost use Rattle.walk.specs.Codes.{refusal_code};
 ghost use Rattle.authorizer.specs.Asking.{part_paid};

@@ -2,7 +2,7 @@
 
 ghost use Rattle.std.specs.Prelude.{◌≡◌, List, [], ◌∷◌, ◌++◌, IfOk, OnOk};
 ghost use Rattle.acl_binding.specs.declared.binding.Binding.{Binding as AnyBinding};
-ghost use Rattle.acl_entries.specs.Entries.{filter_of};
+ghost use Rattle.acl_binding.specs.Entries.{filter_of};
 ghost use Rattle.authorizer.specs.Asking.{part_paid};
 ghost use Rattle.broker_world.specs.World.{rules_of};
 ghost use Rattle.acl_handlers.specs.DescribeAcls.{describe_acls_questions, described_acl, described, describe_acls_error, describe_acls_reply, describe_acls_outcome};

@@ -1,10 +1,9 @@
 //! The filters that entries of messages are.
 
 ghost use Rattle.std.specs.Prelude.{◌≡◌, IfOk};
-ghost use Rattle.acl_entries.specs.Entries.{filter_of};
+ghost use Rattle.acl_binding.specs.Entries.{filter_of};
 
-use acl_binding::Filter;
-use acl_entries::{BadEntry, check_filter};
+use acl_binding::{BadEntry, Filter};
 use msg_acl::FilterEntry;
 use std::alloc::AllocError;
 
@@ -26,7 +25,7 @@ fn copied(entry: &FilterEntry) -> Result<FilterEntry, AllocError>
 pub(crate) fn filter_in(entry: &FilterEntry) -> Result<Option<Filter>, AllocError>
     ensures { IfOk result (λ filter. filter ≡ filter_of entry.now) }
 {
-    match check_filter(copied(entry)?) {
+    match Filter::check(copied(entry)?) {
         Ok(filter) => Ok(Some(filter)),
         Err(BadEntry) => Ok(None),
     }

@@ -11,7 +11,7 @@ use Rattle.acl_binding.specs.declared.binding.Numbered.{Numbered}
 use Rattle.acl_binding.specs.declared.filter.Filter.{Filter}
 use Rattle.acl_binding.specs.declared.question.Question.{Question}
 use Rattle.acl_binding.specs.Binding.{same_binding}
-use Rattle.acl_entries.specs.Entries.{binding_of, filter_of}
+use Rattle.acl_binding.specs.Entries.{binding_of, filter_of}
 use Rattle.acl_binding.specs.Book.{BookValue, number_of, added, appended}
 use Rattle.acl_binding.specs.Filter.{matches, matching, stays}
 use Rattle.acl_binding.proofs.Same.{same_itself}

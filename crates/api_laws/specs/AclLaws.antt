@@ -5,7 +5,7 @@ use Rattle.msg_acl.specs.declared.create_acls.CreateAclsRequest.{CreateAclsReque
 use Rattle.msg_acl.specs.declared.delete_acls.DeleteAclsRequest.{DeleteAclsRequest}
 use Rattle.msg_acl.specs.declared.describe_acls.DescribeAclsRequest.{DescribeAclsRequest}
 use Rattle.acl_binding.specs.declared.question.Caller.{Caller}
-use Rattle.acl_entries.specs.Entries.{binding_of, filter_of}
+use Rattle.acl_binding.specs.Entries.{binding_of, filter_of}
 use Rattle.acl_binding.specs.Book.{number_of}
 use Rattle.acl_binding.specs.Filter.{matching}
 use Rattle.authorizer.specs.declared.answer.Refusal.{Refusal}

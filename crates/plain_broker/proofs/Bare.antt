@@ -43,7 +43,7 @@ use Rattle.txn_handlers.specs.AddPartitions.{add_questions, cut_rule, told_rule,
 use Rattle.txn_handlers.specs.AddOffsets.{add_offsets_questions, offsets_added}
 use Rattle.txn_handlers.specs.EndTxn.{ended, end_questions}
 use Rattle.txn_handlers.specs.TxnOffsetCommit.{staging, stage_questions, staging_rule}
-use Rattle.acl_entries.specs.Entries.{filter_of}
+use Rattle.acl_binding.specs.Entries.{filter_of}
 use Rattle.acl_handlers.specs.DescribeAcls.{describe_acls_questions, describe_acls_reply}
 use Rattle.acl_handlers.specs.CreateAcls.{alter_questions, book_created, created, create_acls_reply}
 use Rattle.acl_handlers.specs.DeleteAcls.{book_deleted, deleted, delete_acls_reply}

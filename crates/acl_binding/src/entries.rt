@@ -1,18 +1,23 @@
-//! The bindings and filters that stand in messages.
+//! The bindings and filters that the entries of messages are: an entry holds numbers where a binding has words (Kafka protocol
+//! guide, "CreateAcls API (Key: 30)", "DeleteAcls API (Key: 31)").
 
 ghost use Rattle.std.specs.Prelude.{◌≡◌, true, None, Some, IfSome, IfOk, OnErr};
 ghost use Rattle.acl_binding.specs.Creatable.{is_creatable};
 ghost use Rattle.acl_binding.specs.WireNumbers.{kind_at, operation_at, permission_at};
-ghost use Rattle.acl_entries.specs.Entries.{or_any, binding_of, filter_of};
+ghost use Rattle.acl_binding.specs.Entries.{or_any, binding_of, filter_of};
 
-use acl_binding::{Binding, Filter, FilterPattern, Kind, Operation, Pattern, Permission};
+use crate::binding::Binding;
+use crate::filter::{Filter, FilterPattern};
+use crate::words::{Kind, Operation, Pattern, Permission};
 use msg_acl::{BindingEntry, FilterEntry};
+use thiserror::Error;
 
 /// The number that stands for any word.
 const ANY_NUMBER: i8 = 1;
 
 /// The entry is no binding that may be created, or no filter.
-#[derive(Clone, Copy, Debug, PartialEq, Eq)]
+#[derive(Clone, Copy, Debug, PartialEq, Eq, Error)]
+#[error("the entry is no binding that may be created, or no filter")]
 pub struct BadEntry;
 
 fn any_kind(number: i8) -> Option<Option<Kind>>
@@ -78,19 +83,23 @@ fn filter_of(entry: FilterEntry) -> Option<Filter>
     })
 }
 
-/// The binding that the entry is. It is refused where a word is unknown or the binding may not be created.
-pub fn check_binding(entry: BindingEntry) -> Result<Binding, BadEntry>
-    ensures ok { IfOk result (λ b. binding_of entry ≡ Some b) }
-    ensures creatable { IfOk result (λ b. is_creatable b ≡ true) }
-    ensures err { OnErr result (binding_of entry ≡ None) }
-{
-    binding_of(entry).ok_or(BadEntry)
+impl Binding {
+    /// The binding that the entry is. It is refused where a word is unknown or the binding may not be created.
+    pub fn check(entry: BindingEntry) -> Result<Binding, BadEntry>
+        ensures ok { IfOk result (λ b. binding_of entry ≡ Some b) }
+        ensures creatable { IfOk result (λ b. is_creatable b ≡ true) }
+        ensures err { OnErr result (binding_of entry ≡ None) }
+    {
+        binding_of(entry).ok_or(BadEntry)
+    }
 }
 
-/// The filter that the entry is. It is refused where a word is unknown.
-pub fn check_filter(entry: FilterEntry) -> Result<Filter, BadEntry>
-    ensures ok { IfOk result (λ f. filter_of entry ≡ Some f) }
-    ensures err { OnErr result (filter_of entry ≡ None) }
-{
-    filter_of(entry).ok_or(BadEntry)
+impl Filter {
+    /// The filter that the entry is. It is refused where a word is unknown.
+    pub fn check(entry: FilterEntry) -> Result<Filter, BadEntry>
+        ensures ok { IfOk result (λ f. filter_of entry ≡ Some f) }
+        ensures err { OnErr result (filter_of entry ≡ None) }
+    {
+        filter_of(entry).ok_or(BadEntry)
+    }
 }
