@@ -4,14 +4,19 @@ ghost use Rattle.std.specs.Prelude.{◌≡◌, List, [], ◌∷◌, ◌++◌, On
 ghost use Rattle.std.specs.Str.{IsUtf8};
 ghost use Rattle.acl_binding.specs.declared.binding.Numbered.{Numbered as Entry};
 ghost use Rattle.acl_binding.specs.declared.words.Kind.{Kind as AnyKind};
+ghost use Rattle.acl_binding.specs.Book.{IsRising};
 ghost use Rattle.acl_binding.specs.Filter.{stays};
 ghost use Rattle.acl_binding.specs.Words.{kind_number};
 ghost use Rattle.authorizer.specs.Looking.{about, is_at, IsKindIndexed, IsIndexed, kind_index, pattern_names};
-ghost use Rattle.authorizer.specs.Picking.{left_of, stands_at, stands_in};
+ghost use Rattle.authorizer.specs.Picking.{left_of, stands_at, stands_in, HasPicked};
 
-use crate::names::Names;
+mod any_topic;
+mod names;
+
+use crate::picking::{ByNumber, pick_from};
 use crate::place::Place;
 use acl_binding::{Filter, Kind, Numbered, Pattern};
+pub(crate) use names::{ANY_NAME, Names};
 use std::alloc::{AllocError, Global};
 use wire_types::Shared;
 
@@ -107,10 +112,25 @@ impl Index {
     }
 
     /// The bindings at the place.
-    pub(crate) fn held(&self, place: &Place) -> &[Shared<Numbered>]
+    fn held(&self, place: &Place) -> &[Shared<Numbered>]
         ensures { (es : List Entry) → IsIndexed self.now es → result.now ≡ about place.now.kind place.now.pattern place.now.name.now es }
     {
         self.of(place.kind).of(place.pattern).held(place.name)
+    }
+
+    /// Takes those of the bindings at these places that the filter picks.
+    pub(crate) fn pick(
+        &self,
+        places: &[Place],
+        filter: &Filter,
+        picked: &mut ByNumber,
+    ) -> Result<(), AllocError>
+        ensures { OnOk result ((es : List Entry) → IsRising 1 es → IsIndexed self.now es → HasPicked picked.old.entries picked.new.entries filter.now es (stands_in places.now)) }
+    {
+        for place in places {
+            pick_from(self.held(place), filter, picked)?;
+        }
+        Ok(())
     }
 
     /// One more binding, after all others.

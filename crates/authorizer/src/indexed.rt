@@ -12,9 +12,8 @@ ghost use Rattle.authorizer.specs.Picking.{numbered, picks, AreAllAt};
 ghost use Rattle.acl_binding.specs.declared.words.Pattern.TheVariants.{Prefixed};
 
 use crate::content::Content;
-use crate::index::Index;
+use crate::index::{ANY_NAME, Index};
 use crate::looking::{Finding, look, look_prefixes};
-use crate::names::ANY_NAME;
 use crate::picking::{ByNumber, copies, forget, pick_from_all, take_out};
 use crate::place::{Place, places};
 use acl_binding::{Added, Binding, Filter, Numbered, Question, Verdict};

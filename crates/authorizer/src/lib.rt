@@ -5,7 +5,6 @@
 #![tactic(auto)]
 
 mod answer;
-mod any_topic;
 mod asking;
 mod bucket;
 mod content;
@@ -13,7 +12,6 @@ mod index;
 mod indexed;
 mod laws;
 mod looking;
-mod names;
 mod paid;
 mod permit;
 mod picking;

@@ -10,7 +10,7 @@ ghost use Rattle.acl_binding.specs.Verdict.{decided};
 ghost use Rattle.authorizer.specs.Index.{held_by};
 ghost use Rattle.authorizer.specs.Looking.{finding, joined, sooner, is_longer, IsNamed, IsTableOf};
 
-use crate::names::Names;
+use crate::index::Names;
 use acl_binding::{Numbered, Question, Verdict, any_grant, first_denial};
 use wire_types::Shared;
 

@@ -9,8 +9,6 @@ ghost use Rattle.authorizer.specs.Looking.{IsIndexed};
 ghost use Rattle.authorizer.specs.Picking.{entered, without, picks, stands_in, HasPicked};
 
 use crate::content::Content;
-use crate::index::Index;
-use crate::place::Place;
 use acl_binding::{Binding, Filter, Numbered};
 use std::alloc::{AllocError, Global};
 use std::collections::{BTreeMap, HashMap};
@@ -20,7 +18,7 @@ use wire_types::{Items, Shared};
 pub(crate) type ByNumber = BTreeMap<u64, Content>;
 
 /// Takes those of the bindings that the filter picks.
-fn pick_from(
+pub(crate) fn pick_from(
     entries: &[Shared<Numbered>],
     filter: &Filter,
     picked: &mut ByNumber,
@@ -33,23 +31,6 @@ fn pick_from(
         }
     }
     Ok(())
-}
-
-impl Index {
-    /// Takes those of the bindings at these places that the filter picks.
-    pub(crate) fn pick(
-        &self,
-        places: &[Place],
-        filter: &Filter,
-        picked: &mut ByNumber,
-    ) -> Result<(), AllocError>
-        ensures { OnOk result ((es : List Entry) → IsRising 1 es → IsIndexed self.now es → HasPicked picked.old.entries picked.new.entries filter.now es (stands_in places.now)) }
-    {
-        for place in places {
-            pick_from(self.held(place), filter, picked)?;
-        }
-        Ok(())
-    }
 }
 
 /// Those of all bindings that the filter picks.

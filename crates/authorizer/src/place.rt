@@ -5,7 +5,7 @@ ghost use Rattle.acl_binding.specs.declared.binding.Numbered.{Numbered as Entry}
 ghost use Rattle.authorizer.specs.Looking.{is_at, is_longer, IsNamed};
 ghost use Rattle.authorizer.specs.Picking.{picks, stands_in, stands_under, AreAllAt};
 
-use crate::names::ANY_NAME;
+use crate::index::ANY_NAME;
 use acl_binding::{Filter, FilterPattern, Kind, Pattern};
 use std::alloc::{AllocError, Global};
 use wire_types::Items;

@@ -10,7 +10,7 @@ use Rattle.authorizer.specs.Index.{held_by}
 use Rattle.authorizer.proofs.Prefixes.{past, rest_past}
 use Rattle.authorizer.proofs.Looked.{end_reached}
 use Rattle.authorizer.proofs.Unbarred.{bar_here, bar_later, bar_end}
-use Rattle.authorizer.proofs.any_topic.beginnings_bar_write.Goals as goal
+use Rattle.authorizer.proofs.index.any_topic.beginnings_bar_write.Goals as goal
 
 pub loop-c-init : goal.loop-c-init
 loop-c-init c = record {

@@ -1,7 +1,7 @@
 use Rattle.std.proofs.Common.{None, sym, ◌∙◌, rules}
 use Rattle.std.proofs.lemmas.Map.Text.{hash_map_updates_text}
 use Rattle.authorizer.proofs.Tables.{less_kept, less_gone, less_absent}
-use Rattle.authorizer.proofs.names.Names.clean_at.Goals as goal
+use Rattle.authorizer.proofs.index.names.Names.clean_at.Goals as goal
 
 pub returns-in_default : goal.returns-in_default
 returns-in_default c = rw (← c.self.view_is, c.get_mut.follows.holds-at-none) (less_absent c.self.inside.buckets.entries c.args.name.now c.args.filter.now c.in_default.ensures.value)

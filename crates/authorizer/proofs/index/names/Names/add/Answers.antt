@@ -3,7 +3,7 @@ use Rattle.std.specs.Option.{unwrap_or}
 use Rattle.std.proofs.lemmas.Map.Text.{hash_map_updates_text}
 use Rattle.acl_binding.specs.declared.binding.Numbered.{Numbered}
 use Rattle.authorizer.proofs.Tables.{has_more, has_same, on_err}
-use Rattle.authorizer.proofs.names.Names.add.Goals as goal
+use Rattle.authorizer.proofs.index.names.Names.add.Goals as goal
 
 pub returns-in_ok-push-in-Some-clause-ok : goal.returns-in_ok-push-in-Some-clause-ok
 returns-in_ok-push-in-Some-clause-ok c =

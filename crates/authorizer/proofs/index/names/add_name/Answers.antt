@@ -4,7 +4,7 @@ use Rattle.std.specs.HashMap.{get_by_text}
 use Rattle.std.specs.String.{string_bytes}
 use Rattle.std.proofs.lemmas.Map.Text.{hash_map_updates_text}
 use Rattle.acl_binding.specs.declared.binding.Numbered.{Numbered}
-use Rattle.authorizer.proofs.names.add_name.Goals as goal
+use Rattle.authorizer.proofs.index.names.add_name.Goals as goal
 
 pub returns-clause-ok : goal.returns-clause-ok
 returns-clause-ok c = λ other.

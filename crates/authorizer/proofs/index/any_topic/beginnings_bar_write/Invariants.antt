@@ -7,7 +7,7 @@ use Rattle.acl_binding.specs.declared.words.Pattern.TheVariants.{Prefixed}
 use Rattle.acl_binding.specs.declared.binding.Numbered.{Numbered}
 use Rattle.authorizer.specs.AnyTopic.{bars_write}
 use Rattle.authorizer.specs.Looking.{is_longer, IsNamed, IsTableOf}
-use Rattle.authorizer.proofs.any_topic.beginnings_bar_write.Given as goal
+use Rattle.authorizer.proofs.index.any_topic.beginnings_bar_write.Given as goal
 
 -- none of the shorter beginnings bars
 abbrev pub invariant-loop-c : goal.invariant-loop-c

@@ -10,8 +10,8 @@ ghost use Rattle.authorizer.specs.AnyTopic.{bars_write, is_star, is_barred, is_b
 ghost use Rattle.authorizer.specs.Index.{held_by};
 ghost use Rattle.authorizer.specs.Looking.{is_longer, IsNamed, IsTableOf};
 
+use crate::index::names::{ANY_NAME, Names};
 use crate::indexed::IndexedBook;
-use crate::names::{ANY_NAME, Names};
 use acl_binding::{Binding, Kind, Numbered, Operation, Pattern};
 use wire_types::{Shared, Text};
 

@@ -4,7 +4,7 @@ use Rattle.acl_binding.specs.declared.binding.Numbered.{Numbered}
 use Rattle.acl_binding.specs.Filter.{stays}
 use Rattle.authorizer.specs.Index.{nonempty}
 use Rattle.authorizer.proofs.Tables.{found_rows, lookup_retained}
-use Rattle.authorizer.proofs.names.Names.clean.Goals as goal
+use Rattle.authorizer.proofs.index.names.Names.clean.Goals as goal
 
 pub returns : goal.returns
 returns c = rw (← c.self.view_is) (λ other.

@@ -4,7 +4,7 @@ use Rattle.std.specs.declared.string.String.{String}
 use Rattle.std.specs.declared.alloc.Global.{Global}
 use Rattle.acl_binding.specs.declared.binding.Numbered.{Numbered}
 use Rattle.authorizer.specs.AnyTopic.{is_unbarred}
-use Rattle.authorizer.proofs.names.Names.any_unbarred.Given as goal
+use Rattle.authorizer.proofs.index.names.Names.any_unbarred.Given as goal
 
 -- what is looked for is behind
 abbrev pub invariant-loop-name : goal.invariant-loop-name

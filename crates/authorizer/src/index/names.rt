@@ -47,8 +47,8 @@ impl Names {
         }
     }
 
-    /// The bindings of this name.
-    pub(crate) fn held(&self, name: &str) -> &[Shared<Numbered>]
+    /// The bindings of this name, by a look-up that isn't counted. Verdicts can't make one: they stand outside this module.
+    pub(super) fn held(&self, name: &str) -> &[Shared<Numbered>]
         ensures { result.now ≡ held_by self.now name.now }
     {
         match self.buckets.get(name) {

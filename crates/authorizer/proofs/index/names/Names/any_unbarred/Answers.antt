@@ -6,7 +6,7 @@ use Rattle.std.specs.declared.alloc.Global.{Global}
 use Rattle.acl_binding.specs.declared.binding.Numbered.{Numbered}
 use Rattle.authorizer.specs.AnyTopic.{is_unbarred}
 use Rattle.authorizer.proofs.Unbarred.{any_of_rows, any_of_table}
-use Rattle.authorizer.proofs.names.Names.any_unbarred.Goals as goal
+use Rattle.authorizer.proofs.index.names.Names.any_unbarred.Goals as goal
 
 pub loop-name-init : goal.loop-name-init
 loop-name-init c =
