@@ -274,14 +274,22 @@ impl Coordinator {
         self.owed.len()
     }
 
-    /// A warrant for the front marker, if one is owed. The marker stays owed until it is written.
-    pub fn next_warrant(&self) -> Result<Option<Warrant>, AllocError>
-        ensures { IfOk result (λ warrant. warrant ≡ next_warrant self.now) }
+    /// A warrant for the front marker, if one is owed. The marker stays owed until it is written. It takes no memory.
+    pub fn next_warrant(&self) -> Option<Warrant>
+        ensures { result ≡ next_warrant self.now }
     {
-        match self.owed.front() {
-            Some(marker) => Ok(Some(Warrant::new(marker.share()?))),
-            None => Ok(None),
+        match self.front() {
+            Some(marker) => Some(Warrant::of(marker)),
+            None => None,
         }
+    }
+
+    /// What the warrant is for: what is to be written, and where. It takes no memory.
+    pub fn marker(&self, warrant: &Warrant) -> &OwedMarker
+        requires { next_warrant self.now ≡ Some warrant.now }
+        ensures { result.now ≡ warrant.now }
+    {
+        self.front().unwrap()
     }
 
     /// The front marker was written. The last one of an id completes its transaction. It takes no memory.
@@ -289,12 +297,19 @@ impl Coordinator {
         requires { next_warrant self.old ≡ Some warrant }
         ensures { self.new ≡ written self.old }
     {
-        warrant.give_back();
+        warrant.end();
         let front = self.owed.pop();
         let marker = front.value();
         if !self.owed.owes(&marker.id) {
             self.records.complete(&marker.id, marker.outcome);
         }
+    }
+
+    /// The front marker couldn't be written, for lack of memory: it stays owed.
+    pub fn give_back(&self, warrant: Warrant)
+        requires { next_warrant self.now ≡ Some warrant }
+    {
+        warrant.end();
     }
 }
 

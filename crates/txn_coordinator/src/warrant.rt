@@ -3,13 +3,14 @@
 ghost use Rattle.std.specs.Prelude.{◌≡◌};
 
 use std::marker::Model;
+use std::snapshot::Snapshot;
 use transactions::OwedMarker;
-use wire_types::Shared;
 
-/// The front marker, to be written once. Neither `Clone` nor `Drop`: `Coordinator::written` spends it, or it is given
-/// back.
+/// The right to write the front marker, once; seen as that marker. It keeps nothing of it at run time, so it takes no memory: the
+/// coordinator lends what is to be written (`Coordinator::marker`). Neither `Clone` nor `Drop`: it goes back to the coordinator,
+/// its marker written or not.
 pub struct Warrant {
-    marker: Shared<OwedMarker>,
+    marker: Snapshot<OwedMarker>,
 }
 
 impl Model for Warrant {
@@ -17,25 +18,20 @@ impl Model for Warrant {
 
     ghost Value = { OwedMarker };
 
-    ghost view = { λ w. w.marker };
+    ghost view = { λ w. w.marker.value };
 }
 
 impl Warrant {
-    pub(crate) fn new(marker: Shared<OwedMarker>) -> Warrant
-        ensures { result ≡ marker }
+    pub(crate) fn of(front: &OwedMarker) -> Warrant
+        ensures { result ≡ front.now }
     {
-        Warrant { marker }
+        Warrant {
+            marker: Snapshot::of(front),
+        }
     }
 
-    /// What is to be written, and where.
-    pub fn marker(&self) -> &OwedMarker
-        ensures { result.now ≡ self.now }
-    {
-        self.marker.value()
-    }
-
-    /// Gives the warrant back: the marker stays owed.
-    pub fn give_back(self) {
+    /// Ends it, for the coordinator that takes it back.
+    pub(crate) fn end(self) {
         let Warrant { marker: _marker } = self;
     }
 }

@@ -49,18 +49,19 @@ pub fn answer_mark(alloc: Global, state: &mut State) -> Result<Outcome, AllocErr
     ensures paid { IfOk result (λ o. o.paid ≡ []) }
     ensures spent { IfOk result (λ o. o.spent ≡ 0) }
 {
-    let Some(warrant) = state.coordinator.next_warrant()? else {
+    let Some(warrant) = state.coordinator.next_warrant() else {
         return Ok(served_whole(alloc, Reply::Idle, Paid::nothing()));
     };
     let (topics, groups) = (&mut state.topics, &mut state.groups);
-    match write_marker(alloc, topics, groups, warrant.marker(), &state.moment) {
+    let marker = state.coordinator.marker(&warrant);
+    match write_marker(alloc, topics, groups, marker, &state.moment) {
         Ok(()) => {
             state.coordinator.written(warrant);
             let left = state.coordinator.owed() as u64;
             Ok(served_whole(alloc, Reply::Marked { left }, Paid::nothing()))
         }
         Err(AllocError) => {
-            warrant.give_back();
+            state.coordinator.give_back(warrant);
             Err(AllocError)
         }
     }
