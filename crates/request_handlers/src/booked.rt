@@ -106,14 +106,6 @@ impl<L: Ledger> Booked<L> {
         &self.core
     }
 
-    /// The core, which gives no seat any more.
-    pub fn into_core(self) -> Core
-        ensures { result ≡ self.core }
-    {
-        let Booked { core, .. } = self;
-        core
-    }
-
     /// How many events were answered.
     fn len(&self) -> u64
         ensures is { result ≡ length self.now.core.trail }
