@@ -6,6 +6,8 @@ use Rattle.std.specs.Str.{bytes_eq}
 use Rattle.std.specs.Option.{option_map, option_and_then}
 use Rattle.wire_types.specs.declared.error_code.ErrorCode.{ErrorCode}
 use Rattle.wire_types.specs.declared.error_code.ErrorCode.TheVariants as codes
+use Rattle.wire_types.specs.ErrorCode.{number_of}
+use Rattle.msg_data.specs.declared.list_offsets.WantedOffset.{WantedOffset}
 use Rattle.record_batch.specs.declared.header.BatchHeader.{BatchHeader}
 use Rattle.record_batch.specs.declared.fault.BatchFault.{BatchFault}
 use Rattle.record_batch.specs.declared.fault.BatchFault.TheVariants as faults
@@ -32,12 +34,24 @@ use Rattle.data_handlers.specs.RoomLaws.{IsGoodBatch, judged_batch}
 use Rattle.data_handlers.specs.Produce.{produced_to, produced_by, produced}
 use Rattle.data_handlers.specs.ListOffsets.{listed_by, listed_at, listed_error}
 use Rattle.api_laws.proofs.DataGrants.{find_same}
-use Rattle.api_laws.specs.DataLaws.{IsAppended, IsRepeated, IsAgain, IsUnchanged, ProducesAsAnswered, ListsEnds}
+use Rattle.api_laws.specs.DataLaws.{IsAppended, IsRepeated, IsAgain, IsUnchanged, ProducesAsAnswered, IsUnlisted, ListsEnds}
 
 -- ---- ListOffsets
 
+unlisted_time : (p : WantedOffset) → IsUnlisted 42 p (listed_error codes.InvalidRequest p)
+unfolding number_of
+unlisted_time p = record { index = refl; error = refl; timestamp = refl; offset = refl }
+
+unlisted_partition : (p : WantedOffset) → IsUnlisted 3 p (listed_error codes.UnknownTopicOrPartition p)
+unfolding number_of
+unlisted_partition p = record { index = refl; error = refl; timestamp = refl; offset = refl }
+
 pub lists_ends : ListsEnds
 lists_ends = record {
+  other = λ level topics name p log there last first. subst (IsUnlisted 42 p)
+      (sym (ap (listed_by level p) there ∙ ap (λ (t : Bool). cond t (listed_at (limit_of level log) p) (cond (int_eq p.timestamp (negsuc 1)) (listed_at (pos 0) p) (listed_error codes.InvalidRequest p))) last ∙ ap (λ (t : Bool). cond t (listed_at (pos 0) p) (listed_error codes.InvalidRequest p)) first))
+      (unlisted_time p);
+  missing = λ level topics name p there. subst (IsUnlisted 3 p) (sym (ap (listed_by level p) there)) (unlisted_partition p);
   end = λ level topics name p log there minus. ap (listed_by level p) there ∙ ap (λ (z : ℤ). cond (int_eq z (negsuc 0)) (listed_at (limit_of level log) p) (cond (int_eq z (negsuc 1)) (listed_at (pos 0) p) (listed_error codes.InvalidRequest p))) minus;
   start = λ level topics name p log there minus. ap (listed_by level p) there ∙ ap (λ (z : ℤ). cond (int_eq z (negsuc 0)) (listed_at (limit_of level log) p) (cond (int_eq z (negsuc 1)) (listed_at (pos 0) p) (listed_error codes.InvalidRequest p))) minus;
 }

@@ -1,7 +1,7 @@
 -- Each topic's answer stands at its place.
 use Rattle.std.proofs.Common.{◌≡◌, ℕ, List, [], ◌∷◌, ◌++◌, length, map, Option, Some, None, cond, refl, ap, ◌∙◌}
 use Rattle.std.specs.Prelude.{is_none, slice_get}
-use Rattle.std.specs.List.{filter_map, cons_option}
+use Rattle.std.specs.List.{filter_map, cons_option, flat_map}
 use Rattle.std.specs.Option.{option_map}
 use Rattle.std.proofs.lemmas.List.{length-map}
 use Rattle.std.proofs.lemmas.Option.{slice_get-map}
@@ -15,12 +15,13 @@ use Rattle.acl_binding.specs.Verdict.{asked}
 use Rattle.authorizer.specs.declared.answer.Refusal.{Refusal}
 use Rattle.authorizer.specs.Policy.{verdict}
 use Rattle.authorizer.specs.Asking.{Rules, refusal_by, first_of}
-use Rattle.broker_world.specs.World.{World, rules_of}
+use Rattle.broker_world.specs.World.{World, rules_of, topic_names}
 use Rattle.walk.specs.Codes.{refusal_code}
 use Rattle.walk.specs.Weave.{weave}
+use Rattle.msg_data.specs.declared.metadata.TopicInfo.{TopicInfo}
 use Rattle.data_handlers.specs.Metadata.{topic_error, plain_topic, plain_topics, describable, refused_topics, metadata_topics, answer_by, topic_answer}
 use Rattle.broker_world.specs.Questions.{topic_refusal}
-use Rattle.api_laws.specs.Headline.{AnsweredBy, AnswersEachTopic, RefusesEachTopic}
+use Rattle.api_laws.specs.Headline.{AnsweredBy, AnswersEachTopic, RefusesEachTopic, is_yes, may_describe, NullTellsDescribable}
 
 -- the woven answers are the answers one by one
 one_by_one : (w : World) (caller : Caller) (names : List (List ℕ)) → metadata_topics w caller (Some names) ≡ map (topic_answer w caller) names
@@ -68,3 +69,24 @@ refuses_each_topic = record {
   order = in_order;
   listed = λ rules caller. refl;
 }
+
+-- ---- a null list
+
+abbrev alone : World → Caller → List ℕ → List TopicInfo
+alone w caller name = cond (may_describe w caller name) (metadata_topics w caller (Some (name ∷ []))) []
+
+described : (w : World) (caller : Caller) (names : List (List ℕ)) → plain_topics w (describable (rules_of w) caller names) ≡ flat_map (alone w caller) names
+described w caller [] = refl
+described w caller (name ∷ names) = by_verdict (verdict w.book w.supers q) (described w caller names) where
+  q : Question
+  q = asked caller operations.Describe kinds.Topic name
+
+  by_verdict : (x : Verdict) → plain_topics w (describable (rules_of w) caller names) ≡ flat_map (alone w caller) names
+      → plain_topics w (cond (is_none (first_of (refusal_by x q) None)) (name ∷ describable (rules_of w) caller names) (describable (rules_of w) caller names))
+      ≡ cond (is_yes x) (weave (option_map (λ r. topic_error (refusal_code r) name) (first_of (refusal_by x q) None) ∷ []) (plain_topics w (cond (is_none (first_of (refusal_by x q) None)) (name ∷ []) []))) [] ++ flat_map (alone w caller) names
+  by_verdict Yes rest = ap (λ l. plain_topic w name ∷ l) rest
+  by_verdict (Denied n) rest = rest
+  by_verdict Nothing rest = rest
+
+pub null_tells_describable : NullTellsDescribable
+null_tells_describable w caller = described w caller (topic_names w.topics)

@@ -5,6 +5,8 @@ pub mod DataGrants
 pub mod DataPartitions
 pub mod DataAnswers
 pub mod DataFetches
+pub mod FetchSizes
+pub mod Numbers
 pub mod AclEdits
 pub mod Groups
 pub mod Recorded

@@ -2,6 +2,8 @@
 use Rattle.std.specs.Prelude.{◌≡◌, ◌≤◌, ◌⊎◌, ℕ, ℤ, pos, negsuc, int_le, Bool, true, false, List, [], ◌∷◌, ◌++◌, length, Option, Some, None, Ok}
 use Rattle.std.specs.List.{AllByRecursion}
 use Rattle.wire_types.specs.declared.error_code.ErrorCode.TheVariants as codes
+use Rattle.wire_types.specs.ErrorCode.{number_of}
+use Rattle.std.specs.Ordering.{int_eq}
 use Rattle.record_batch.specs.Batch.{BatchData, IsBatch, next_offset}
 use Rattle.producer_state.specs.declared.judgment.Judgment.TheVariants.{Next, Repeat}
 use Rattle.producer_state.specs.Sequences.{judged as judged_by_log}
@@ -13,6 +15,7 @@ use Rattle.msg_data.specs.declared.produce.ProducedRecords.{ProducedRecords}
 use Rattle.msg_data.specs.declared.produce.ProducedOffset.{ProducedOffset}
 use Rattle.msg_data.specs.declared.fetch.FetchPartition.{FetchPartition}
 use Rattle.msg_data.specs.declared.fetch.FetchedRecords.{FetchedRecords}
+use Rattle.msg_data.specs.declared.list_offsets.FoundOffset.{FoundOffset}
 use Rattle.msg_data.specs.declared.list_offsets.WantedOffset.{WantedOffset}
 use Rattle.transactions.specs.Coordinator.{CoordinatorValue}
 use Rattle.data_handlers.specs.declared.room.Room.{Room}
@@ -76,10 +79,20 @@ pub record ProducesAsAnswered : Type 0 where
 
 -- ---- ListOffsets
 
--- of a partition that is there: for -1 the end, as far as the reader sees, and the start for -2
+-- the code of this number, and no offset
+pub record IsUnlisted (number : ℕ) (p : WantedOffset) (answer : FoundOffset) : Type 0 where
+  pub index : answer.index ≡ p.index
+  pub error : number_of answer.error ≡ pos number
+  pub timestamp : answer.timestamp ≡ negsuc 0
+  pub offset : answer.offset ≡ negsuc 0
+
+-- of a partition that is there: for -1 the end, as far as the reader sees, the start for -2, and for any other timestamp the code
+-- 42; of one that isn't there the code 3, whatever is wanted
 pub record ListsEnds : Type 0 where
   pub end : (level : Isolation) (topics : List TopicValue) (name : List ℕ) (p : WantedOffset) (log : LogValue) → log_at topics name p.index ≡ Some log → p.timestamp ≡ negsuc 0 → listed level topics name p ≡ listed_at (limit_of level log) p
   pub start : (level : Isolation) (topics : List TopicValue) (name : List ℕ) (p : WantedOffset) (log : LogValue) → log_at topics name p.index ≡ Some log → p.timestamp ≡ negsuc 1 → listed level topics name p ≡ listed_at (pos 0) p
+  pub other : (level : Isolation) (topics : List TopicValue) (name : List ℕ) (p : WantedOffset) (log : LogValue) → log_at topics name p.index ≡ Some log → int_eq p.timestamp (negsuc 0) ≡ false → int_eq p.timestamp (negsuc 1) ≡ false → IsUnlisted 42 p (listed level topics name p)
+  pub missing : (level : Isolation) (topics : List TopicValue) (name : List ℕ) (p : WantedOffset) → log_at topics name p.index ≡ None → IsUnlisted 3 p (listed level topics name p)
 
 -- ---- Fetch
 

@@ -2,6 +2,8 @@ pub mod Runs
 pub mod Headline
 pub mod Tenants
 pub mod DataLaws
+pub mod FetchSizes
+pub mod Numbers
 pub mod DataTenants
 pub mod AclLaws
 pub mod ProducerLaws

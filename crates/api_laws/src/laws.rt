@@ -1,9 +1,11 @@
 //! The laws, each the contract of a function with nothing to do.
 
 ghost use Rattle.api_laws.specs.Runs.{WholeRuns};
-ghost use Rattle.api_laws.specs.Headline.{AnswersEachTopic, RefusesEachTopic};
+ghost use Rattle.api_laws.specs.Headline.{AnswersEachTopic, RefusesEachTopic, NullTellsDescribable};
+ghost use Rattle.api_laws.specs.Numbers.{RefusalsByNumber};
 ghost use Rattle.api_laws.specs.Tenants.{DependsOnGrants};
 ghost use Rattle.api_laws.specs.DataLaws.{ProducesAsAnswered, FetchesRuns, ListsEnds};
+ghost use Rattle.api_laws.specs.FetchSizes.{FetchIsWithin};
 ghost use Rattle.api_laws.specs.ProducerLaws.{HoldsOnce, InitsOnce, InitDependsOnGrants};
 ghost use Rattle.api_laws.specs.TxnLaws.{AddsAllOrNone, TransactionsDependOnGrants, TransactionsKeepTheRest};
 ghost use Rattle.api_laws.specs.GroupLaws.{GroupsDependOnGrants, GroupsKeepTheRest};
@@ -28,6 +30,16 @@ pub fn metadata_refuses_each_topic()
     ensures { RefusesEachTopic }
 {}
 
+/// A Metadata request with a null list is told exactly the topics that may be described, each as where it is asked for alone.
+pub fn null_metadata_tells_describable()
+    ensures { NullTellsDescribable }
+{}
+
+/// A refused part is told 29, 30, 31 or 53, by what its question is about.
+pub fn refusals_by_number()
+    ensures { RefusalsByNumber }
+{}
+
 /// A Metadata request is answered by what its questions were granted alone.
 pub fn metadata_depends_on_grants()
     ensures { DependsOnGrants }
@@ -44,7 +56,14 @@ pub fn fetches_runs()
     ensures { FetchesRuns }
 {}
 
-/// An allowed partition of a ListOffsets is told the end of its log as far as the reader sees, or the start.
+/// The batches of a Fetch's answer have together at most the request's bytes, and those of a partition at most its own; or they
+/// are one batch.
+pub fn fetch_is_within()
+    ensures { FetchIsWithin }
+{}
+
+/// An allowed partition of a ListOffsets is told the end of its log as far as the reader sees, or the start; for another timestamp
+/// 42, and 3 where it isn't there.
 pub fn lists_ends()
     ensures { ListsEnds }
 {}
