@@ -1,5 +1,5 @@
 -- What a turn asks and writes is what its frame asks and is told.
-use Rattle.std.proofs.Common.{◌≡◌, ℕ, ℤ, suc, true, false, List, [], ◌∷◌, ◌++◌, Option, Some, None, Result, Ok, Err, ◌⊎◌, inl, inr, refl, ap, sym, ◌∙◌, subst, append_assoc, append-nil}
+use Rattle.std.proofs.Common.{◌≡◌, ℕ, ℤ, suc, Bool, true, false, List, [], ◌∷◌, ◌++◌, Option, Some, None, Result, Ok, Err, ◌⊎◌, inl, inr, refl, ap, sym, ◌∙◌, subst, append_assoc, append-nil}
 use Rattle.std.proofs.KnownBytes.{Appends-nil, Appends-trans}
 use Rattle.std.specs.Io.KnownBytes.{Appends}
 use Rattle.msg_admin.specs.Response.{response, IsTooLong}
@@ -21,14 +21,14 @@ use Rattle.session_pool.specs.Turns.{Comes, Lacks, Says, Meant, Sends, Finishes,
 use Rattle.session_pool.specs.Sessions.{is_cause, is_broken, HasCause, Served, Stands, Ended, Goes, Turned, TurnsOn, SessionOf}
 
 -- what the session has by itself leaves the receipts
-pub said : (step : Step) (rs : List ReceiptValue) (o : Outcome) → Says step o → Meant step rs rs o
-said step rs (outcome.Tells b t) h = (h, refl)
-said step rs (outcome.Answers b k) h = absurd h
-said step rs (outcome.Refuses b) h = (h, refl)
-said step rs outcome.Garbled h = (h, refl)
-said step rs outcome.Fails h = refl
-said step rs (outcome.Stopped s) h = absurd h
-said step rs (outcome.Unsent f) h = absurd h
+pub said : (may_stop : Event → Stop → Bool) (step : Step) (rs : List ReceiptValue) (o : Outcome) → Says step o → Meant may_stop step rs rs o
+said may_stop step rs (outcome.Tells b t) h = (h, refl)
+said may_stop step rs (outcome.Answers b k) h = absurd h
+said may_stop step rs (outcome.Refuses b) h = (h, refl)
+said may_stop step rs outcome.Garbled h = (h, refl)
+said may_stop step rs outcome.Fails h = refl
+said may_stop step rs (outcome.Stopped s) h = absurd h
+said may_stop step rs (outcome.Unsent f) h = absurd h
 
 -- ---- a frame comes
 
@@ -126,11 +126,11 @@ garbled g n limit s input frame rest e is = record {
 }
 
 stopped_at : (g : Setting) (n limit : ℕ) (s : State) (input frame rest : List ℕ) (c : ℤ) (v : Event) (t : State) (x : Stop) → front_of limit input ≡ Whole frame rest → step_of g s frame ≡ Submits c v t
-    → Served g (suc n) limit s input [] [] (why.Stopped x)
-stopped_at g n limit s input frame rest c v t x e is = record {
+    → g.may_stop v x ≡ true → Served g (suc n) limit s input [] [] (why.Stopped x)
+stopped_at g n limit s input frame rest c v t x e is may = record {
   later = v ∷ asks g n limit t rest;
   asked = asks_at g n limit s input frame rest (Submits c v t) e is;
-  cause = tt;
+  cause = may;
   left = [];
   wrote = text_at g n limit s input frame rest (Submits c v t) [] e is;
   whole = λ h. refl;
@@ -242,7 +242,7 @@ silent g limit s p rest held held' old new added w r same is grown served =
     (added, [], grown, subst (λ x. Appends held x []) (sym same) (Appends-nil held), subst (Turned g limit s p rest added []) (sym is) served)
 
 turned : (g : Setting) (limit : ℕ) (s : State) (frame p rest : List ℕ) (held held' : Option (List ℕ)) (old new : List ReceiptValue) (o : Outcome) (r : Result State Why)
-    → Comes limit frame p rest → Meant (step_of g s frame) old new o → Finishes held held' o r → TurnsOn g limit s held held' old new r p rest
+    → Comes limit frame p rest → Meant g.may_stop (step_of g s frame) old new o → Finishes held held' o r → TurnsOn g limit s held held' old new r p rest
 turned g limit s frame p rest held held' old new (outcome.Tells b t) r e meant fin =
     sent g limit s p rest held held' old new [] b t r (meant.1 ∙ sym (append-nil old)) (λ tail. tells_on g limit s (p ++ tail) frame tail b t (e tail) meant.0) fin
 turned g limit s frame p rest held held' old new (outcome.Answers b k) r e (c, x, is, spelled, grown) fin =
@@ -270,9 +270,9 @@ turned g limit s frame p rest held held' old new outcome.Garbled r e meant fin =
 turned g limit s frame p rest held held' old new outcome.Fails r e meant fin =
     silent g limit s p rest held held' old new [] why.NoMemory r fin.0 fin.1 (meant ∙ sym (append-nil old))
     (λ n. ended_of g (suc n) limit s p rest [] [] why.NoMemory (λ tail. undone g (suc n) limit s (p ++ tail)))
-turned g limit s frame p rest held held' old new (outcome.Stopped x) r e (c, v, t, is, same) fin =
+turned g limit s frame p rest held held' old new (outcome.Stopped x) r e (c, v, t, is, same, may) fin =
     silent g limit s p rest held held' old new [] (why.Stopped x) r fin.0 fin.1 (same ∙ sym (append-nil old))
-    (λ n. ended_of g (suc n) limit s p rest [] [] (why.Stopped x) (λ tail. stopped_at g n limit s (p ++ tail) frame tail c v t x (e tail) is))
+    (λ n. ended_of g (suc n) limit s p rest [] [] (why.Stopped x) (λ tail. stopped_at g n limit s (p ++ tail) frame tail c v t x (e tail) is may))
 turned g limit s frame p rest held held' old new (outcome.Unsent f) r e (c, x, t, is, grown, long) fin =
     silent g limit s p rest held held' old new (x ∷ []) (why_of f) r fin.0 fin.1 grown
     (λ n. ended_of g (suc n) limit s p rest (x ∷ []) [] (why_of f)
@@ -281,7 +281,7 @@ turned g limit s frame p rest held held' old new (outcome.Unsent f) r e (c, x, t
 
 -- with what is known of a reader's bytes
 pub turned_on : (g : Setting) (limit : ℕ) (s : State) (a b held held' : Option (List ℕ)) (frame : List ℕ) (old new : List ReceiptValue) (o : Outcome) (r : Result State Why)
-    → Took a b (Comes limit frame) → Meant (step_of g s frame) old new o → Finishes held held' o r → Took a b (TurnsOn g limit s held held' old new r)
+    → Took a b (Comes limit frame) → Meant g.may_stop (step_of g s frame) old new o → Finishes held held' o r → Took a b (TurnsOn g limit s held held' old new r)
 turned_on g limit s None b held held' frame old new o r h meant fin = tt
 turned_on g limit s (Some input) b held held' frame old new o r (p, rest, whole, after, e) meant fin = (p, rest, whole, after, turned g limit s frame p rest held held' old new o r e meant fin)
 

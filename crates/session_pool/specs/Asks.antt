@@ -1,5 +1,5 @@
 -- What a session asks and writes, and why it ends: functions of the bytes that come in.
-use Rattle.std.specs.Prelude.{ℕ, ℤ, List, [], ◌∷◌, ◌++◌, map, Option, Some, None, Result, Ok, Err, if◌then◌else◌}
+use Rattle.std.specs.Prelude.{ℕ, ℤ, Bool, List, [], ◌∷◌, ◌++◌, map, Option, Some, None, Result, Ok, Err, if◌then◌else◌}
 use Rattle.wire_types.specs.declared.fault.Malformed.{Malformed}
 use Rattle.wire_types.specs.declared.error_code.ErrorCode.TheVariants as codes
 use Rattle.msg_login.specs.SaslHandshake.{handshake_reply}
@@ -13,6 +13,7 @@ use Rattle.msg_admin.specs.Response.{response}
 use Rattle.msg_admin.specs.Versions.{versions_reply, unsupported_at, unsupported_response}
 use Rattle.audit_trail.specs.declared.event.Event.{Event}
 use Rattle.audit_trail.specs.declared.event.Event.TheVariants.{Ask}
+use Rattle.request_handlers.specs.declared.stop.Stop.{Stop}
 use Rattle.request_handlers.specs.Receipt.{ReceiptValue}
 use Rattle.settings_text.specs.declared.document.User.{User}
 use Rattle.session_pool.specs.declared.login.State.{State}
@@ -22,10 +23,11 @@ use Rattle.session_pool.specs.declared.why.Why.TheVariants.{Malformed as IsMalfo
 use Rattle.session_pool.specs.Frames.{cut}
 use Rattle.session_logins.specs.Login.{is_plain, login_of}
 
--- the users who may log in, and the host that calls
+-- the users who may log in, the host that calls, and whether the desk may answer an event by a stop
 pub record Setting : Type 0 where
   pub users : List User
   pub host : List ℕ
+  pub may_stop : Event → Stop → Bool
 
 -- ---- one frame (Kafka protocol guide, "SASL Authentication Sequence")
 

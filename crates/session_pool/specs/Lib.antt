@@ -1,7 +1,9 @@
 pub mod Asks
+pub mod Desks
 pub mod Frames
 pub mod Logins
 pub mod Own
 pub mod Reads
 pub mod Sessions
+pub mod Steps
 pub mod Turns

@@ -3,6 +3,7 @@ use Rattle.std.specs.Prelude.{◌≡◌, ℕ, ℤ, suc, Bool, true, false, List,
 use Rattle.std.specs.Io.KnownBytes.{Appends}
 use Rattle.msg_admin.specs.Response.{IsTooLong}
 use Rattle.audit_trail.specs.declared.event.Event.{Event}
+use Rattle.request_handlers.specs.declared.stop.Stop.{Stop}
 use Rattle.request_handlers.specs.Receipt.{ReceiptValue}
 use Rattle.session_pool.specs.declared.login.State.{State}
 use Rattle.session_pool.specs.declared.why.Why.{Why}
@@ -26,10 +27,10 @@ is_broken why.NoMemory = true
 is_broken why.TooLong = true
 is_broken _ = false
 
--- an event was asked that has no receipt
-abbrev pub AsksMore : List Event → Type 0
-AsksMore [] = ⊥
-AsksMore (e ∷ es) = Unit {0}
+-- the first of the events without a receipt is one that the desk may answer so
+abbrev pub IsStopped : (Event → Stop → Bool) → List Event → Stop → Type 0
+IsStopped may_stop [] stop = ⊥
+IsStopped may_stop (e ∷ es) stop = may_stop e stop ≡ true
 
 -- the last receipt's reply is too long to be sent
 abbrev pub EndsTooLong : List ReceiptValue → Type 0
@@ -40,7 +41,7 @@ EndsTooLong receipts = (front : List ReceiptValue) × (r : ReceiptValue) × (c :
 abbrev pub HasCause : Setting → ℕ → ℕ → State → List ℕ → List ReceiptValue → List Event → Why → Type 0
 HasCause g n limit s read receipts later why.ReadFault = (later ≡ []) × ((ends g n limit s read ≡ why.Closed) ⊎ (ends g n limit s read ≡ why.Cut))
 HasCause g n limit s read receipts later why.WriteFault = Unit {0}
-HasCause g n limit s read receipts later (why.Stopped x) = AsksMore later
+HasCause g n limit s read receipts later (why.Stopped x) = IsStopped g.may_stop later x
 HasCause g n limit s read receipts later why.NoMemory = Unit {0}
 HasCause g n limit s read receipts later why.TooLong = EndsTooLong receipts
 HasCause g n limit s read receipts later w = (later ≡ []) × (ends g n limit s read ≡ w)

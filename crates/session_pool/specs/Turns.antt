@@ -1,10 +1,11 @@
 -- What one frame comes to.
-use Rattle.std.specs.Prelude.{◌≡◌, ℕ, ℤ, List, [], ◌∷◌, ◌++◌, Option, Result, Ok, Err, ◌⊎◌}
+use Rattle.std.specs.Prelude.{◌≡◌, ℕ, ℤ, Bool, true, List, [], ◌∷◌, ◌++◌, Option, Result, Ok, Err, ◌⊎◌}
 use Rattle.std.specs.Io.KnownBytes.{Appends}
 use Rattle.wire_types.specs.declared.fault.WriteFault.{WriteFault}
 use Rattle.wire_types.specs.declared.fault.WriteFault.TheVariants as faults
 use Rattle.msg_admin.specs.Response.{response, IsTooLong}
 use Rattle.audit_trail.specs.declared.event.Event.{Event}
+use Rattle.request_handlers.specs.declared.stop.Stop.{Stop}
 use Rattle.request_handlers.specs.Receipt.{ReceiptValue}
 use Rattle.session_pool.specs.declared.login.State.{State}
 use Rattle.session_pool.specs.declared.login.State.TheVariants.{Known}
@@ -38,15 +39,15 @@ Says step outcome.Garbled = step ≡ Garbles
 Says step outcome.Fails = Unit {0}
 Says step _ = ⊥
 
--- an outcome of a step that leaves these receipts
-abbrev pub Meant : Step → List ReceiptValue → List ReceiptValue → Outcome → Type 0
-Meant step old new (outcome.Tells b t) = (step ≡ Tells b t) × (new ≡ old)
-Meant step old new (outcome.Answers b k) = (c : ℤ) × (r : ReceiptValue) × (step ≡ Submits c r.event (Known k)) × (b ≡ response c r.reply) × (new ≡ old ++ r ∷ [])
-Meant step old new (outcome.Refuses b) = (step ≡ Refuses b) × (new ≡ old)
-Meant step old new outcome.Garbled = (step ≡ Garbles) × (new ≡ old)
-Meant step old new outcome.Fails = new ≡ old
-Meant step old new (outcome.Stopped s) = (c : ℤ) × (e : Event) × (t : State) × (step ≡ Submits c e t) × (new ≡ old)
-Meant step old new (outcome.Unsent f) = (c : ℤ) × (r : ReceiptValue) × (t : State) × (step ≡ Submits c r.event t) × (new ≡ old ++ r ∷ []) × (f ≡ faults.TooLong → IsTooLong c r.reply)
+-- an outcome of a step that leaves these receipts, at a desk that may stop an event so
+abbrev pub Meant : (Event → Stop → Bool) → Step → List ReceiptValue → List ReceiptValue → Outcome → Type 0
+Meant may_stop step old new (outcome.Tells b t) = (step ≡ Tells b t) × (new ≡ old)
+Meant may_stop step old new (outcome.Answers b k) = (c : ℤ) × (r : ReceiptValue) × (step ≡ Submits c r.event (Known k)) × (b ≡ response c r.reply) × (new ≡ old ++ r ∷ [])
+Meant may_stop step old new (outcome.Refuses b) = (step ≡ Refuses b) × (new ≡ old)
+Meant may_stop step old new outcome.Garbled = (step ≡ Garbles) × (new ≡ old)
+Meant may_stop step old new outcome.Fails = new ≡ old
+Meant may_stop step old new (outcome.Stopped s) = (c : ℤ) × (e : Event) × (t : State) × (step ≡ Submits c e t) × (new ≡ old) × (may_stop e s ≡ true)
+Meant may_stop step old new (outcome.Unsent f) = (c : ℤ) × (r : ReceiptValue) × (t : State) × (step ≡ Submits c r.event t) × (new ≡ old ++ r ∷ []) × (f ≡ faults.TooLong → IsTooLong c r.reply)
 
 -- ---- what is written of it
 

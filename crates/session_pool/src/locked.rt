@@ -1,34 +1,43 @@
 //! A core under a lock.
 
-ghost use Rattle.std.specs.Prelude.{◌≡◌, ◌+◌, ◌≤◌, [], Some, IfOk, IfSome, OnOk, OnErr};
+ghost use Rattle.std.specs.Prelude.{◌≡◌, ◌+◌, ◌≤◌, [], true, Some, IfOk, IfErr, IfSome, OnOk, OnErr};
 ghost use Rattle.std.specs.Fn.{FnOnceReturnsAt};
 ghost use Rattle.api_dispatch.specs.Bounds.{EventFits};
-ghost use Rattle.request_handlers.specs.Core.{CoreValue};
+ghost use Rattle.request_handlers.specs.Core.{CoreValue, IsHistory};
 ghost use Rattle.request_handlers.specs.Seats.{fresh_seat, most_seats};
+ghost use Rattle.session_pool.specs.Desks.{IsDeskCore};
 
-use crate::desk::Desk;
-use crate::witness::Witness;
+use crate::desk::{Desk, DeskLedger};
+use crate::kept::Kept;
+use crate::steps::Steps;
 use audit_trail::Event;
 use request_handlers::{Booked, Core, Receipt, Seat, Stop};
 use std::marker::Model;
 use std::sync::ledger::{Blank, Ledger};
 use std::sync::{Mutex, Wait};
+use std::thread::Parker;
+use std::time::Duration;
 
-/// A core with seats under a lock, and the handle by which callers wait for it.
+/// A core with seats under a lock, and the handle by which callers wait for it. Whoever keeps the core's time can rest at the
+/// desk until markers are owed.
 #[derive(Drop)]
-pub struct LockedDesk<L: Ledger, R: Wait> {
-    booked: Mutex<Booked<L>>,
+pub struct LockedDesk<L: DeskLedger, R: Wait> {
+    kept: Mutex<Kept<L>>,
+    keeper: Parker,
     rt: R,
 }
 
-impl<L: Ledger, R: Wait> LockedDesk<L, R> {
-    /// The desk of a core that has answered nothing. The blank's parts are one for each seat, and one more.
+impl<L: DeskLedger, R: Wait> LockedDesk<L, R> {
+    /// The desk of a core that has answered nothing. The blank's parts are one for each seat, and one more. Whatever is done
+    /// under the lock, the core's settings stay those that the ledger names.
     pub fn new(core: Core, blank: Blank, rt: R) -> LockedDesk<L, R>
+        requires settings { core.settings ≡ L.settings }
         requires empty { core.trail ≡ [] }
         requires ledger { (blank.name ≡ L.name) × (blank.parts ≡ L.parts) × (blank.parts ≡ most_seats + 1) }
     {
         LockedDesk {
-            booked: Mutex::new(Booked::new(core, blank)),
+            kept: Mutex::new(Kept::new(core, blank)),
+            keeper: Parker::new(),
             rt,
         }
     }
@@ -37,24 +46,39 @@ impl<L: Ledger, R: Wait> LockedDesk<L, R> {
     pub fn seat(&self) -> Option<Seat<L>>
         ensures { IfSome result (λ seat. seat ≡ fresh_seat) }
     {
-        self.booked.lock(&self.rt).seat()
+        self.kept.lock(&self.rt).seat()
     }
 
     /// Looks at the core while it is locked.
     pub fn look<T, F: FnOnce(&Core) -> T>(&self, look: F) -> T
         requires { F.IsAlwaysCallable look }
-        ensures { (core : CoreValue) × FnOnceReturnsAt F.FnOnce look core result }
+        ensures { (core : CoreValue) × IsDeskCore L.settings core × FnOnceReturnsAt F.FnOnce look core result }
     {
-        let booked = self.booked.lock(&self.rt);
-        look(booked.core())
+        let kept = self.kept.lock(&self.rt);
+        let core = kept.booked.core();
+        let _history = core.trail();
+        look(core)
     }
 
-    /// As `submit`, while someone looks.
-    pub fn submit_seen<W: Witness>(
+    /// Rests until a step leaves markers owed where none were owed before, or the time is over. A step that did so since the
+    /// last rest ends it at once. It may end early.
+    pub fn rest<T: Wait>(&self, rt: &T, most: Duration) {
+        self.keeper.park_timeout(rt, most);
+    }
+
+    /// Ends a rest, where markers are owed that weren't before.
+    fn wake(&self, before: usize, after: usize) {
+        if before == 0 && after > 0 {
+            self.keeper.unpark();
+        }
+    }
+
+    /// As `submit`, while whoever told the step looks. It doesn't wake whoever rests, who submits itself.
+    pub fn submit_seen<K: Steps>(
         &self,
         seat: Seat<L>,
         event: Event,
-        witness: &mut W,
+        steps: &mut K,
     ) -> (Seat<L>, Result<Receipt, Stop>)
         requires { EventFits event }
         ensures event { IfOk result.1 (λ r. r.event ≡ event) }
@@ -62,27 +86,29 @@ impl<L: Ledger, R: Wait> LockedDesk<L, R> {
         ensures last { IfOk result.1 (λ r. result.0.last ≡ Some r) }
         ensures err { OnErr result.1 (result.0 ≡ seat) }
         ensures place { IfOk result.1 (λ r. seat.count ≤ r.place) }
+        ensures owed { K.owed steps.new ≡ K.owed steps.old }
     {
-        let mut booked = self.booked.lock(&self.rt);
-        witness.before(booked.core());
-        let told = booked.step(seat, event);
-        witness.behind(booked.core());
-        told
+        let mut kept = self.kept.lock(&self.rt);
+        steps.before(kept.booked.core());
+        let seen = kept.step(seat, event);
+        steps.after(kept.booked.core());
+        seen
     }
 }
 
-impl<L: Ledger, R: Wait> Desk<Seat<L>> for LockedDesk<L, R> {
+impl<L: DeskLedger, R: Wait> Desk<Seat<L>> for LockedDesk<L, R> {
     ghost view = { λ seat. seat };
 
-    fn submit(&self, seat: Seat<L>, event: Event) -> (Seat<L>, Result<Receipt, Stop>)
-        requires { EventFits event }
-        ensures event { IfOk result.1 (λ r. r.event ≡ event) }
-        ensures count { OnOk result.1 (result.0.count ≡ seat.count + 1) }
-        ensures last { IfOk result.1 (λ r. result.0.last ≡ Some r) }
-        ensures err { OnErr result.1 (result.0 ≡ seat) }
-        ensures place { IfOk result.1 (λ r. seat.count ≤ r.place) }
-    {
-        self.booked.lock(&self.rt).step(seat, event)
+    ghost may_stop = { λ _ _. true };
+
+    fn submit(&self, seat: Seat<L>, event: Event) -> (Seat<L>, Result<Receipt, Stop>) {
+        let mut kept = self.kept.lock(&self.rt);
+        let before = kept.owed();
+        let told = kept.step(seat, event);
+        let after = kept.owed();
+        drop(kept);
+        self.wake(before, after);
+        told
     }
 }
 
@@ -93,6 +119,8 @@ pub struct Quiet<L: Ledger> {
 }
 
 impl<L: Ledger> Model for Quiet<L> {
+    ghost use Rattle.request_handlers.specs.Core.{CoreValue};
+
     ghost Value = { CoreValue };
 
     ghost view = { λ quiet. quiet.booked.core };
@@ -104,14 +132,25 @@ impl<L: Ledger> Quiet<L> {
     {
         self.booked.core()
     }
+
+    /// The core and its trail, of which it is told that it is the history of its events.
+    fn told(self) -> Quiet<L>
+        ensures same { result ≡ self }
+        ensures history { IsHistory result }
+    {
+        let _history = self.core().trail();
+        self
+    }
 }
 
-impl<L: Ledger, R: Wait + Drop> LockedDesk<L, R> {
-    /// The core, once no thread shares the desk.
-    pub fn close(self) -> Quiet<L> {
-        let LockedDesk { booked, rt: _ } = self;
-        Quiet {
-            booked: booked.into_inner(),
-        }
+impl<L: DeskLedger, R: Wait + Drop> LockedDesk<L, R> {
+    /// The core, once no thread shares the desk. It has the settings with which the desk was opened, and its trail is the
+    /// history of its events.
+    pub fn close(self) -> Quiet<L>
+        ensures { IsDeskCore L.settings result }
+    {
+        let LockedDesk { kept, .. } = self;
+        let Kept { booked } = kept.into_inner();
+        Quiet { booked }.told()
     }
 }

@@ -11,16 +11,22 @@ use audit_trail::Event;
 use msg_admin::{Header, Request};
 use session_logins::{Users, principal_of, user_of};
 use std::alloc::{AllocError, Global};
+use thiserror::Error;
 use wire_types::{ErrorCode, Text};
 
 /// The code with which a session is closed.
-#[derive(Clone, Copy, Debug, PartialEq, Eq)]
+#[derive(Clone, Copy, Debug, PartialEq, Eq, Error)]
+#[error("the session is closed, since the login failed")]
 pub struct Closed(pub ErrorCode);
 
 /// Why a login didn't come off.
-#[derive(Clone, Copy, Debug, PartialEq, Eq)]
+#[derive(Clone, Copy, Debug, PartialEq, Eq, Error)]
 pub enum LoginFault {
+    /// The message names no user with the right password.
+    #[error(transparent)]
     Closed(Closed),
+    /// Memory was refused for the principal's name.
+    #[error("there is not enough memory for the principal's name")]
     NoMemory,
 }
 

@@ -144,7 +144,7 @@ fn submit<S, D: Desk<S>>(
 ) -> (S, Outcome)
     requires { EventFits event }
     ensures risen { (D.view result.0).count + vec_len receipts.old ≡ (D.view seat).count + vec_len receipts.new }
-    ensures meant { Meant (Submits correlation event (state.Known known)) receipts.old.items receipts.new.items result.1 }
+    ensures meant { Meant D.may_stop (Submits correlation event (state.Known known)) receipts.old.items receipts.new.items result.1 }
 {
     if receipts.reserve(1).is_err() {
         return (seat, Outcome::Fails);
@@ -176,7 +176,7 @@ fn ask<S, D: Desk<S>>(
 ) -> (S, Outcome)
     requires { Fits request }
     ensures risen { (D.view result.0).count + vec_len receipts.old ≡ (D.view seat).count + vec_len receipts.new }
-    ensures meant { Meant (submits known.who host.now header request) receipts.old.items receipts.new.items result.1 }
+    ensures meant { Meant D.may_stop (submits known.who host.now header request) receipts.old.items receipts.new.items result.1 }
 {
     let correlation = header.correlation;
     match known.ask(host, header, request) {
@@ -200,7 +200,7 @@ fn lead<S, D: Desk<S>>(
 ) -> (S, Outcome)
     requires { Fits request }
     ensures risen { (D.view result.0).count + vec_len receipts.old ≡ (D.view seat).count + vec_len receipts.new }
-    ensures meant { Meant (leads (record { users = users.now; host = host.now }) state header request) receipts.old.items receipts.new.items result.1 }
+    ensures meant { Meant D.may_stop (leads (record { users = users.now; host = host.now; may_stop = D.may_stop }) state header request) receipts.old.items receipts.new.items result.1 }
 {
     match state {
         State::Fresh(fresh) => (seat, greet(alloc, header.correlation, fresh, &request)),
@@ -235,7 +235,7 @@ pub(crate) fn respond<S, D: Desk<S>>(
 ) -> (S, Outcome)
     requires { length frame.now ≤ LIMIT }
     ensures risen { (D.view result.0).count + vec_len receipts.old ≡ (D.view seat).count + vec_len receipts.new }
-    ensures meant { Meant (step_of (record { users = users.now; host = host.now }) state frame.now) receipts.old.items receipts.new.items result.1 }
+    ensures meant { Meant D.may_stop (step_of (record { users = users.now; host = host.now; may_stop = D.may_stop }) state frame.now) receipts.old.items receipts.new.items result.1 }
 {
     if let Some(correlation) = unsupported_versions(frame) {
         return (seat, tell_served(alloc, correlation, state));

@@ -98,7 +98,7 @@ fn turn<S, Rd: Read, Wr: Write, D: Desk<S>>(
 ) -> (S, Result<State, Why>)
     requires { limit ≤ LIMIT }
     ensures risen { (D.view result.0).count + vec_len receipts.old ≡ (D.view seat).count + vec_len receipts.new }
-    ensures turns { Took (Rd.remaining reader.old) (Rd.remaining reader.new) (TurnsOn (record { users = users.now; host = host.now }) limit state (Wr.contents writer.old) (Wr.contents writer.new) receipts.old.items receipts.new.items result.1) }
+    ensures turns { Took (Rd.remaining reader.old) (Rd.remaining reader.new) (TurnsOn (record { users = users.now; host = host.now; may_stop = D.may_stop }) limit state (Wr.contents writer.old) (Wr.contents writer.new) receipts.old.items receipts.new.items result.1) }
 {
     let frame = match read_frame(alloc, reader, room, limit) {
         Ok(frame) => frame,
@@ -124,7 +124,7 @@ fn serve<S, Rd: Read, Wr: Write, D: Desk<S>, G: Gate>(
 ) -> SessionEnd<S>
     requires { limits.frame ≤ LIMIT }
     ensures risen { (D.view result.seat).count ≡ (D.view seat).count + vec_len result.receipts }
-    ensures session { Took (Rd.remaining reader.old) (Rd.remaining reader.new) (SessionOf (record { users = users.now; host = host.now }) limits.frames limits.frame (Wr.contents writer.old) (Wr.contents writer.new) result.receipts.items result.why) }
+    ensures session { Took (Rd.remaining reader.old) (Rd.remaining reader.new) (SessionOf (record { users = users.now; host = host.now; may_stop = D.may_stop }) limits.frames limits.frame (Wr.contents writer.old) (Wr.contents writer.new) result.receipts.items result.why) }
 {
     let mut seat = seat;
     let mut room = Vec::new(alloc);
@@ -182,7 +182,7 @@ pub fn serve_session<S, Rd: Read + Drop, Wr: Write, D: Desk<S>, G: Gate>(
 ) -> SessionEnd<S>
     requires { limits.frame ≤ LIMIT }
     ensures risen { (D.view result.seat).count ≡ (D.view seat).count + vec_len result.receipts }
-    ensures session { TookLast (Rd.remaining reader) (SessionOf (record { users = users.now; host = host.now }) limits.frames limits.frame (Wr.contents writer.old) (Wr.contents writer.new) result.receipts.items result.why) }
+    ensures session { TookLast (Rd.remaining reader) (SessionOf (record { users = users.now; host = host.now; may_stop = D.may_stop }) limits.frames limits.frame (Wr.contents writer.old) (Wr.contents writer.new) result.receipts.items result.why) }
 {
     match BufReader::new(alloc, reader) {
         Ok(mut reader) => {

@@ -1,0 +1,34 @@
+-- The steps of a keeper that goes by how many markers are owed.
+use Rattle.std.specs.Prelude.{◌≡◌, ◌<◌, ℕ, Option, Some, None, Result, Ok, Err, ⊤}
+use Rattle.audit_trail.specs.declared.event.Event.{Event}
+use Rattle.audit_trail.specs.declared.event.Event.TheVariants.{Ask, Mark, Tick}
+use Rattle.session_pool.specs.declared.why.Why.{Why}
+use Rattle.session_pool.specs.declared.steps.Step.{Step}
+use Rattle.session_pool.specs.declared.steps.Step.TheVariants as steps
+
+-- the event of a step
+abbrev pub step_event : Step → Event
+step_event (steps.Tick moment) = Tick moment
+step_event steps.Mark = Mark
+
+-- where so many are owed: a tick where none is, and else a mark
+abbrev pub IsDueAt : ℕ → Event → Type 0
+IsDueAt left (Ask caller client request) = ⊥
+IsDueAt left Mark = 0 < left
+IsDueAt left (Tick moment) = left ≡ 0
+
+-- the event is due; where the keeper doesn't go by what is owed, each is
+abbrev pub IsDue : Option ℕ → Event → Type 0
+IsDue None e = ⊤
+IsDue (Some left) e = IsDueAt left e
+
+-- how many are owed after a step that left so many
+abbrev pub told : Option ℕ → ℕ → Option ℕ
+told None left = None
+told (Some before) left = Some left
+
+-- ... and after one that was taken or wasn't
+abbrev pub noted : Option ℕ → Result ℕ Why → Option ℕ
+noted None outcome = None
+noted (Some before) (Ok left) = Some left
+noted (Some before) (Err why) = Some before
