@@ -1,13 +1,14 @@
 -- What contracts say of the ends of sessions, and of the keeper's.
-use Rattle.std.specs.Prelude.{◌≡◌, ℕ, List, [], ◌∷◌, ◌++◌, vec_len, All}
+use Rattle.std.specs.Prelude.{◌≡◌, ℕ, List, [], ◌∷◌, ◌++◌, Option, Result, Ok, Err, vec_len, All}
 use Rattle.msg_admin.specs.declared.reply.Reply.{Reply}
 use Rattle.msg_admin.specs.declared.reply.Reply.TheVariants.{Marked, Ticked}
 use Rattle.audit_trail.specs.declared.event.Event.{Event}
 use Rattle.audit_trail.specs.declared.event.Event.TheVariants.{Ask, Mark, Tick}
+use Rattle.request_handlers.specs.Receipt.{ReceiptValue}
 use Rattle.request_handlers.specs.Seats.{SeatValue}
 use Rattle.session_pool.specs.declared.session.SessionEnd.{SessionEnd}
-use Rattle.session_pool.specs.declared.steps.Step.{Step}
-use Rattle.session_pool.specs.declared.steps.Step.TheVariants as steps
+use Rattle.session_pool.specs.declared.why.Why.{Why}
+use Rattle.session_pool.specs.Steps.{IsDue, told}
 
 -- a seat that was fresh has risen by the number of the end's receipts
 abbrev pub HasRisen : SessionEnd SeatValue → Type 0
@@ -19,25 +20,36 @@ IsOfKeeper (Ask caller client request) = ⊥
 IsOfKeeper Mark = Unit {0}
 IsOfKeeper (Tick moment) = Unit {0}
 
--- the event of a step
-abbrev pub step_event : Step → Event
-step_event (steps.Tick moment) = Tick moment
-step_event steps.Mark = Mark
-
--- the keeper's end: its seat has risen as any, and each receipt is of a tick or a mark
-abbrev pub IsKept : SessionEnd SeatValue → Type 0
-IsKept end = HasRisen end × All (λ r. IsOfKeeper r.event) end.receipts.items
-
--- the ends of sessions, and behind them the keeper's
-pub record AreEnds (ends : List (SessionEnd SeatValue)) : Type 0 where
-  pub sessions : List (SessionEnd SeatValue)
-  pub keeper : SessionEnd SeatValue
-  pub are : ends ≡ sessions ++ keeper ∷ []
-  pub risen : All HasRisen sessions
-  pub kept : IsKept keeper
-
 -- how many markers a reply says to be owed still
 abbrev pub markers_left : Reply → ℕ
 markers_left (Marked left) = left
 markers_left (Ticked left) = left
 markers_left reply = 0
+
+-- how many are owed after these receipts, as a keeper knows that goes by it
+abbrev pub owed_after : Option ℕ → List ReceiptValue → Option ℕ
+owed_after owed [] = owed
+owed_after owed (r ∷ rs) = owed_after (told owed (markers_left r.reply)) rs
+
+-- Each receipt is of a tick or a mark. Where the keeper goes by what is owed, it is of a mark as long as the reply before
+-- left markers owed, and else of a tick.
+abbrev pub Keeps : Option ℕ → List ReceiptValue → Type 0
+Keeps owed [] = Unit {0}
+Keeps owed (r ∷ rs) = IsOfKeeper r.event × IsDue owed r.event × Keeps (told owed (markers_left r.reply)) rs
+
+-- a step that was taken adds the receipt of an event that was due, and tells what it left; another adds none
+abbrev pub Adds : Option ℕ → List ReceiptValue → List ReceiptValue → Result ℕ Why → Type 0
+Adds owed old new (Ok left) = (r : ReceiptValue) × (new ≡ old ++ r ∷ []) × IsOfKeeper r.event × IsDue owed r.event × (left ≡ markers_left r.reply)
+Adds owed old new (Err why) = new ≡ old
+
+-- the keeper's end: its seat has risen as any, and its receipts are those of its steps
+abbrev pub IsKept : Option ℕ → SessionEnd SeatValue → Type 0
+IsKept owed end = HasRisen end × Keeps owed end.receipts.items
+
+-- the ends of sessions, and after them that of the keeper, which goes by what is owed or doesn't
+pub record AreEnds (owed : Option ℕ) (ends : List (SessionEnd SeatValue)) : Type 0 where
+  pub sessions : List (SessionEnd SeatValue)
+  pub keeper : SessionEnd SeatValue
+  pub are : ends ≡ sessions ++ keeper ∷ []
+  pub risen : All HasRisen sessions
+  pub kept : IsKept owed keeper

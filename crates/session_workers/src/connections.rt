@@ -4,14 +4,13 @@ ghost use Rattle.std.specs.Prelude.{IfOk};
 ghost use Rattle.session_workers.specs.Ends.{AreEnds};
 
 use crate::accept::accept_all;
-use crate::workers::{PoolFault, serve_all};
+use crate::workers::{PoolFault, serve_all_stepped};
 use request_handlers::Seat;
 use session_logins::Users;
-use session_pool::{Closing, Gate, LockedDesk, SessionEnd, Steps, Witness};
+use session_pool::{Closing, DeskLedger, Gate, LockedDesk, SessionEnd, Steps};
 use std::alloc::Global;
 use std::net::{Net, TcpListener, TcpStream};
 use std::sync::Wait;
-use std::sync::ledger::Ledger;
 use std::thread::Threads;
 use std::time::Duration;
 use std::{thread, time};
@@ -38,9 +37,9 @@ const WAITING: usize = 1;
 pub fn serve_connections<
     'x,
     'r,
-    L: Ledger + Send + Sync,
+    L: DeskLedger + Send + Sync,
     R: Net<Listener = TcpListener, Stream = TcpStream> + Threads + Wait + time::Clock + Sync,
-    K: Steps + Witness + Drop,
+    K: Steps + Drop,
     G: Gate + Sync,
 >(
     rt: &'x R,
@@ -53,14 +52,14 @@ pub fn serve_connections<
     steps: K,
     gate: &'x G,
 ) -> Result<Vec<SessionEnd<Seat<L>>>, PoolFault>
-    ensures { IfOk result (λ ends. AreEnds ends.items) }
+    ensures { IfOk result (λ ends. AreEnds (K.owed steps) ends.items) }
 {
     let (to, from) = crossbeam_channel::bounded(alloc, WAITING).map_err(|_| PoolFault::NoMemory)?;
     thread::scope(
         thread::scope_env(),
         rt,
         move |scope| -> Result<Vec<SessionEnd<Seat<L>>>, PoolFault>
-            ensures { IfOk result (λ ends. AreEnds ends.items) }
+            ensures { IfOk result (λ ends. AreEnds (K.owed steps) ends.items) }
         {
             let accepting = scope.spawn(move || accept_all(
                 rt, alloc, listener, users, options, closing, to,
@@ -68,7 +67,7 @@ pub fn serve_connections<
             if accepting.is_err() {
                 return Err(PoolFault::NoThread);
             }
-            let ends = serve_all(rt, alloc, desk, from, options.workers, steps, gate);
+            let ends = serve_all_stepped(rt, alloc, desk, from, options.workers, steps, gate);
             // Without workers nobody reads the lines' end.
             if let Some(closing) = closing {
                 closing.close();

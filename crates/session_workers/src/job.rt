@@ -7,7 +7,7 @@ ghost use Rattle.session_workers.specs.Ends.{HasRisen};
 use audit_trail::Event;
 use request_handlers::{Receipt, Seat};
 use session_logins::Users;
-use session_pool::{Gate, Limits, LockedDesk, SessionEnd, serve_session};
+use session_pool::{DeskLedger, Gate, Limits, LockedDesk, SessionEnd, serve_session};
 use std::alloc::Global;
 use std::io::{Read, Write};
 use std::sync::Wait;
@@ -42,7 +42,7 @@ fn who_asked(receipts: &[Receipt]) -> Option<&Text> {
 }
 
 /// Serves a job. None where no seat is left: then the job is let go.
-pub(crate) fn serve_job<L: Ledger, R: Wait, Rd: Read + Drop, Wr: Write + Drop, G: Gate>(
+pub(crate) fn serve_job<L: DeskLedger, R: Wait, Rd: Read + Drop, Wr: Write + Drop, G: Gate>(
     alloc: Global,
     desk: &LockedDesk<L, R>,
     job: Job<Rd, Wr>,

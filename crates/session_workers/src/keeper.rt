@@ -1,16 +1,16 @@
 //! The keeper, which submits ticks and marks.
 
-ghost use Rattle.std.specs.Prelude.{◌≡◌, ◌+◌, [], vec_len, All};
-ghost use Rattle.session_workers.specs.Ends.{IsKept, IsOfKeeper, markers_left, step_event};
+ghost use Rattle.std.specs.Prelude.{◌≡◌, ◌+◌, vec_len};
+ghost use Rattle.session_pool.specs.Steps.{IsDue, step_event};
+ghost use Rattle.session_workers.specs.Ends.{Keeps, Adds, markers_left};
 
 use audit_trail::Event;
 use msg_admin::Reply;
 use request_handlers::{Receipt, Seat};
-use session_pool::{LockedDesk, SessionEnd, Step, Steps, Why, Witness};
+use session_pool::{DeskLedger, LockedDesk, SessionEnd, Step, Steps, Why};
 use std::alloc::Global;
 use std::sync::Wait;
 use std::sync::atomic::{AtomicU64, Ordering};
-use std::sync::ledger::Ledger;
 
 /// How many markers are still owed, as the keeper is told.
 fn markers_left(reply: &Reply) -> u64
@@ -24,8 +24,7 @@ fn markers_left(reply: &Reply) -> u64
 
 /// The event of a step.
 fn event_of(step: Step) -> Event
-    ensures event { result ≡ step_event step }
-    ensures own { IsOfKeeper result }
+    ensures { result ≡ step_event step }
 {
     match step {
         Step::Tick(moment) => Event::Tick(moment),
@@ -33,24 +32,25 @@ fn event_of(step: Step) -> Event
     }
 }
 
-/// Hands an event to the desk, while someone looks, keeps its receipt, for which room is made first, and gives how many markers
-/// are still owed.
-fn submit<L: Ledger, R: Wait, W: Witness>(
+/// Hands the event of a step to the desk, while whoever told the step looks, keeps its receipt, for which room is made first,
+/// and gives how many markers are still owed.
+#[tactic(auto, using(crate::proofs::Keeping::one_more))]
+fn submit<L: DeskLedger, R: Wait, K: Steps>(
     desk: &LockedDesk<L, R>,
     seat: Seat<L>,
-    event: Event,
-    witness: &mut W,
+    step: Step,
+    steps: &mut K,
     receipts: &mut Vec<Receipt>,
 ) -> (Seat<L>, Result<u64, Why>)
-    requires own { IsOfKeeper event }
-    requires kept { All (λ r. IsOfKeeper r.event) receipts.old.items }
+    requires { IsDue (K.owed steps.old) (step_event step) }
     ensures risen { result.0.count + vec_len receipts.old ≡ seat.count + vec_len receipts.new }
-    ensures kept { All (λ r. IsOfKeeper r.event) receipts.new.items }
+    ensures added { Adds (K.owed steps.old) receipts.old.items receipts.new.items result.1 }
+    ensures owed { K.owed steps.new ≡ K.owed steps.old }
 {
     if receipts.reserve(1).is_err() {
         return (seat, Err(Why::NoMemory));
     }
-    let (seat, answer) = desk.submit_seen(seat, event, witness);
+    let (seat, answer) = desk.submit_seen(seat, event_of(step), steps);
     match answer {
         Ok(receipt) => {
             let left = markers_left(receipt.reply());
@@ -61,7 +61,7 @@ fn submit<L: Ledger, R: Wait, W: Witness>(
     }
 }
 
-/// Why the keeper ends that doesn't go on behind a step.
+/// Why the keeper ends that doesn't go on after a step.
 fn why_of(outcome: Result<u64, Why>) -> Why {
     match outcome {
         Ok(_) => Why::Closed,
@@ -70,7 +70,7 @@ fn why_of(outcome: Result<u64, Why>) -> Why {
 }
 
 /// Submits the event of each step, one after the other, until there is none or what tells them has the keeper end.
-pub(crate) fn keep<L: Ledger, R: Wait, K: Steps + Witness, T: Wait>(
+pub(crate) fn keep<L: DeskLedger, R: Wait, K: Steps, T: Wait>(
     rt: &T,
     alloc: Global,
     desk: &LockedDesk<L, R>,
@@ -79,7 +79,7 @@ pub(crate) fn keep<L: Ledger, R: Wait, K: Steps + Witness, T: Wait>(
     running: &AtomicU64,
 ) -> SessionEnd<Seat<L>>
     ensures risen { result.seat.count ≡ seat.count + vec_len result.receipts }
-    ensures kept { All (λ r. IsOfKeeper r.event) result.receipts.items }
+    ensures kept { Keeps (K.owed steps.old) result.receipts.items }
 {
     let mut seat = seat;
     let mut receipts = Vec::new(alloc);
@@ -88,7 +88,7 @@ pub(crate) fn keep<L: Ledger, R: Wait, K: Steps + Witness, T: Wait>(
         let Some(step) = steps.next(done) else {
             break;
         };
-        let (back, outcome) = submit(desk, seat, event_of(step), steps, &mut receipts);
+        let (back, outcome) = submit(desk, seat, step, steps, &mut receipts);
         seat = back;
         if !steps.came(outcome) {
             return SessionEnd {

@@ -2,8 +2,8 @@
 //! and has it write the markers it owes.
 //!
 //! `serve_all` starts the workers, each of which takes one job after the other from a channel and serves it at a locked desk,
-//! and keeps on the calling thread until all of them have ended. What the keeper does next it is told by its
-//! `session_pool::Steps`.
+//! and keeps the core's time on the calling thread until all of them have ended: a tick at each moment of a clock, and marks
+//! after it. `serve_all_stepped` does the same with a keeper that is told each of its steps.
 #![tactic(auto)]
 
 mod accept;
@@ -14,4 +14,4 @@ mod workers;
 
 pub use connections::{ConnectionOptions, serve_connections};
 pub use job::Job;
-pub use workers::{PoolFault, serve_all};
+pub use workers::{PoolFault, serve_all, serve_all_stepped};

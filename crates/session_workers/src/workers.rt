@@ -1,14 +1,15 @@
 //! Worker threads, which take jobs from a channel.
 
-ghost use Rattle.std.specs.Prelude.{◌≡◌, ◌+◌, ◌∷◌, ◌++◌, [], vec_len, All, IfOk, OnOk};
-ghost use Rattle.session_workers.specs.Ends.{HasRisen, IsKept, AreEnds};
+ghost use Rattle.std.specs.Prelude.{◌≡◌, ◌+◌, Some, vec_len, All, IfOk, OnOk};
+ghost use Rattle.request_handlers.specs.Seats.{fresh_seat};
+ghost use Rattle.session_workers.specs.Ends.{HasRisen, AreEnds};
 ghost use Rattle.session_workers.specs.Faults.{fault_name};
 
 use crate::job::{Done, Job, serve_job};
 use crate::keeper::keep;
 use crossbeam_channel::Receiver;
 use request_handlers::Seat;
-use session_pool::{Gate, LockedDesk, SessionEnd, Steps, Witness};
+use session_pool::{Clock, Clocked, DeskLedger, Gate, LockedDesk, SessionEnd, Steps};
 use std::alloc::{AllocError, Global};
 use std::io::{Read, Write};
 use std::sync::Wait;
@@ -49,7 +50,7 @@ impl PoolFault {
 type Worker<L> = JoinHandle<Result<Vec<Done<L>>, AllocError>>;
 
 /// Serves jobs until the channel is closed.
-fn work<L: Ledger, R: Wait, Rd: Read + Drop, Wr: Write + Drop, G: Gate, T: Wait>(
+fn work<L: DeskLedger, R: Wait, Rd: Read + Drop, Wr: Write + Drop, G: Gate, T: Wait>(
     rt: &T,
     alloc: Global,
     desk: &LockedDesk<L, R>,
@@ -68,7 +69,7 @@ fn work<L: Ledger, R: Wait, Rd: Read + Drop, Wr: Write + Drop, G: Gate, T: Wait>
     Ok(ends)
 }
 
-/// Takes the ends out of what a worker hands back, behind those that are there.
+/// Takes the ends out of what a worker hands back, after those that are there.
 fn collect<L: Ledger>(
     ends: &mut Vec<SessionEnd<Seat<L>>>,
     done: Vec<Done<L>>,
@@ -83,35 +84,56 @@ fn collect<L: Ledger>(
     Ok(())
 }
 
-/// Joins all workers, and puts the keeper's end behind theirs.
-fn join_all<L: Ledger, T: Threads>(
+/// Joins all workers, and gives their ends.
+fn join_all<L: DeskLedger, T: Threads>(
     rt: &T,
     alloc: Global,
     workers: Vec<Worker<L>>,
-    kept: SessionEnd<Seat<L>>,
 ) -> Result<Vec<SessionEnd<Seat<L>>>, PoolFault>
-    requires { IsKept kept }
-    ensures { IfOk result (λ ends. AreEnds ends.items) }
+    ensures { IfOk result (λ ends. All HasRisen ends.items) }
 {
     let mut ends = Vec::new(alloc);
     for worker in workers {
         let done = worker.join(rt).map_err(|_| PoolFault::NoMemory)?;
         collect(&mut ends, done).map_err(|_| PoolFault::NoMemory)?;
     }
+    Ok(ends)
+}
+
+/// Keeps the core's time until all workers have ended, joins them, and puts the keeper's end after theirs.
+#[tactic(auto, using(crate::proofs::Keeping::are_ends))]
+fn keep_and_join<L: DeskLedger, R: Wait, K: Steps + Drop, T: Threads + Wait>(
+    rt: &T,
+    alloc: Global,
+    desk: &LockedDesk<L, R>,
+    seat: Seat<L>,
+    steps: K,
+    running: &AtomicU64,
+    workers: Vec<Worker<L>>,
+) -> Result<Vec<SessionEnd<Seat<L>>>, PoolFault>
+    requires { seat ≡ fresh_seat }
+    ensures { IfOk result (λ ends. AreEnds (K.owed steps) ends.items) }
+{
+    let mut steps = steps;
+    let kept = keep(rt, alloc, desk, seat, &mut steps, running);
+    let mut ends = match join_all(rt, alloc, workers) {
+        Ok(ends) => ends,
+        Err(fault) => return Err(fault),
+    };
     match ends.push(kept) {
         Ok(()) => Ok(ends),
         Err(_) => Err(PoolFault::NoMemory),
     }
 }
 
-/// As `serve_all`, with what the threads share lent at one lifetime.
+/// As `serve_all_stepped`, with what the threads share lent at one lifetime.
 fn serve_lent<
     'x,
-    L: Ledger + Send + Sync,
+    L: DeskLedger + Send + Sync,
     R: Wait + Sync,
     Rd: Read + Drop + Send,
     Wr: Write + Drop + Send,
-    K: Steps + Witness + Drop,
+    K: Steps + Drop,
     G: Gate + Sync,
     T: Threads + Wait + Sync,
 >(
@@ -124,15 +146,14 @@ fn serve_lent<
     steps: K,
     gate: &'x G,
 ) -> Result<Vec<SessionEnd<Seat<L>>>, PoolFault>
-    ensures { IfOk result (λ ends. AreEnds ends.items) }
+    ensures { IfOk result (λ ends. AreEnds (K.owed steps) ends.items) }
 {
     thread::scope(
         thread::scope_env(),
         rt,
         move |scope| -> Result<Vec<SessionEnd<Seat<L>>>, PoolFault>
-            ensures { IfOk result (λ ends. AreEnds ends.items) }
+            ensures { IfOk result (λ ends. AreEnds (K.owed steps) ends.items) }
         {
-            let mut steps = steps;
             let Some(seat) = desk.seat() else {
                 return Err(PoolFault::NoSeat);
             };
@@ -157,20 +178,20 @@ fn serve_lent<
             if handles.is_empty() {
                 return Err(PoolFault::NoThread);
             }
-            let kept = keep(rt, alloc, desk, seat, &mut steps, running);
-            join_all(rt, alloc, handles, kept)
+            keep_and_join(rt, alloc, desk, seat, steps, running, handles)
         },
     )
 }
 
 /// Serves the jobs of the channel by so many worker threads, until the channel is closed and all of them are served, while the
-/// keeper does its steps on the calling thread. The keeper's end is the last. After a fault the ends are given up.
-pub fn serve_all<
-    L: Ledger + Send + Sync,
+/// keeper does the steps that it is told on the calling thread. The keeper's end is the last. After a fault the ends are given
+/// up.
+pub fn serve_all_stepped<
+    L: DeskLedger + Send + Sync,
     R: Wait + Sync,
     Rd: Read + Drop + Send,
     Wr: Write + Drop + Send,
-    K: Steps + Witness + Drop,
+    K: Steps + Drop,
     G: Gate + Sync,
     T: Threads + Wait + Sync,
 >(
@@ -182,8 +203,32 @@ pub fn serve_all<
     steps: K,
     gate: &G,
 ) -> Result<Vec<SessionEnd<Seat<L>>>, PoolFault>
-    ensures { IfOk result (λ ends. AreEnds ends.items) }
+    ensures { IfOk result (λ ends. AreEnds (K.owed steps) ends.items) }
 {
     let running = AtomicU64::new(0);
     serve_lent(rt, alloc, desk, &jobs, &running, workers, steps, gate)
+}
+
+/// The same by a clock: the keeper tells the core each of its moments, and after each has markers written as long as some are
+/// owed.
+pub fn serve_all<
+    L: DeskLedger + Send + Sync,
+    R: Wait + Sync,
+    Rd: Read + Drop + Send,
+    Wr: Write + Drop + Send,
+    C: Clock + Drop,
+    G: Gate + Sync,
+    T: Threads + Wait + Sync,
+>(
+    rt: &T,
+    alloc: Global,
+    desk: &LockedDesk<L, R>,
+    jobs: Receiver<Job<Rd, Wr>>,
+    workers: usize,
+    clock: C,
+    gate: &G,
+) -> Result<Vec<SessionEnd<Seat<L>>>, PoolFault>
+    ensures { IfOk result (λ ends. AreEnds (Some 0) ends.items) }
+{
+    serve_all_stepped(rt, alloc, desk, jobs, workers, Clocked::new(clock), gate)
 }
