@@ -1,14 +1,18 @@
 //! The keeper's steps, by lines of whoever steers the broker.
 
+ghost use Rattle.std.specs.Prelude.{None};
+
+use crate::news::{lines_of, refusals_since};
 use crate::said::{Said, parse_said};
-use crate::standing::{front_text, moment_text, open_ones, state_lines};
-use crate::watch::lines_since;
+use crate::standing::{Moment, front_of, moment_of, open_ones, standing_of};
+use crate::state_text::{front_text, moment_text, state_text};
+use authorizer::Refusal;
 use request_handlers::{Core, Stop};
-use session_pool::{Closing, LockedDesk, Step, Steps, Why, Witness};
+use session_pool::{Closing, DeskLedger, LockedDesk, Step, Steps, Why};
 use std::alloc::{AllocError, Global};
 use std::io::{BufRead, Write};
 use std::sync::Wait;
-use std::sync::ledger::Ledger;
+use transactions::OwedMarker;
 use wire_types::write_whole;
 
 /// Lines that steer a broker, and where each is answered.
@@ -28,6 +32,19 @@ enum Doing {
     Marks(u64),
 }
 
+/// What was seen of a step while the core was locked.
+#[derive(Drop)]
+enum Seen {
+    /// Nothing, since memory was refused.
+    Nothing,
+    /// The marker that was owed first before it.
+    Front(Option<OwedMarker>),
+    /// Which transactions were open before it.
+    Open(Vec<bool>),
+    /// What a moment came to.
+    Moment(Moment),
+}
+
 /// What a line comes to.
 enum Turn {
     /// A step of the keeper, which is told once it is done.
@@ -40,7 +57,7 @@ enum Turn {
 
 /// Reads lines, and answers each once its step is done. Nothing happens between two lines but what clients ask.
 #[derive(Drop)]
-pub struct Control<'d, 'r, L: Ledger, R: Wait, I: BufRead, O: Write> {
+pub struct Control<'d, 'r, L: DeskLedger, R: Wait, I: BufRead, O: Write> {
     rt: &'r R,
     alloc: Global,
     desk: &'d LockedDesk<L, &'r R>,
@@ -49,40 +66,52 @@ pub struct Control<'d, 'r, L: Ledger, R: Wait, I: BufRead, O: Write> {
     doing: Doing,
     /// How many markers are owed.
     left: u64,
-    /// Which transactions were open before a tick; none where memory was refused.
-    open: Option<Vec<bool>>,
-    /// What is told of the step; none where memory was refused.
-    told: Option<String>,
-    /// How many entries of the trail, and how many refusals in them, were told.
-    seen: usize,
-    refused: u64,
+    /// What is to be told of the step.
+    seen: Seen,
+    /// How many entries of the trail were told of.
+    told: usize,
 }
 
-/// What is told of the refusals since the last time, and how far that goes.
+/// The refusals since the last time, and how many entries the trail has.
 #[derive(Drop)]
 struct Refused {
-    text: String,
-    seen: usize,
-    refused: u64,
+    refusals: Vec<Refusal>,
+    len: usize,
 }
 
-/// The refusals of the entries from a place on, and at last `refusals N`: how many they are.
-fn refused_since(
-    alloc: Global,
-    core: &Core,
-    since: usize,
-    before: u64,
-) -> Result<Refused, AllocError> {
+/// The refusals of the entries from a place on.
+fn refused_since(alloc: Global, core: &Core, since: usize) -> Result<Refused, AllocError> {
     let trail = core.trail();
-    let (seen, refused) = (trail.len(), trail.refusals());
-    let count = refused.saturating_sub(before);
-    let mut text = lines_since(alloc, trail, since)?;
-    text.push_str(format!(in alloc; "refusals {count}\n")?.as_str())?;
     Ok(Refused {
-        text,
-        seen,
-        refused,
+        refusals: refusals_since(alloc, trail, since)?,
+        len: trail.len(),
     })
+}
+
+/// A line for each refusal, and at last `refusals N`: how many they are.
+fn refused_text(alloc: Global, refusals: &[Refusal]) -> Result<String, AllocError> {
+    let count = refusals.len();
+    let mut text = lines_of(alloc, refusals)?;
+    text.push_str(format!(in alloc; "refusals {count}\n")?.as_str())?;
+    Ok(text)
+}
+
+/// What is told of a step that was taken: the marker that was written, or the moment and what it aborted.
+fn seen_text(alloc: Global, seen: &Seen) -> Result<String, AllocError> {
+    match seen {
+        Seen::Front(front) => front_text(alloc, front),
+        Seen::Moment(moment) => moment_text(alloc, moment),
+        Seen::Nothing | Seen::Open(_) => Err(AllocError),
+    }
+}
+
+/// What is to be seen before a step.
+fn seen_before(alloc: Global, core: &Core, doing: Doing) -> Seen {
+    match doing {
+        Doing::Tick => open_ones(alloc, core).map_or(Seen::Nothing, Seen::Open),
+        Doing::Mark | Doing::Marks(_) => front_of(core).map_or(Seen::Nothing, Seen::Front),
+        Doing::Nothing => Seen::Nothing,
+    }
 }
 
 /// The line of a step that wasn't taken.
@@ -93,7 +122,7 @@ fn stop_line(why: Why) -> &'static str {
     }
 }
 
-impl<'d, 'r, L: Ledger, R: Wait, I: BufRead, O: Write> Control<'d, 'r, L, R, I, O> {
+impl<'d, 'r, L: DeskLedger, R: Wait, I: BufRead, O: Write> Control<'d, 'r, L, R, I, O> {
     /// Before the first line.
     pub fn new(
         rt: &'r R,
@@ -110,10 +139,8 @@ impl<'d, 'r, L: Ledger, R: Wait, I: BufRead, O: Write> Control<'d, 'r, L, R, I, 
             steering,
             doing: Doing::Nothing,
             left: 0,
-            open: None,
-            told: None,
-            seen: 0,
-            refused: 0,
+            seen: Seen::Nothing,
+            told: 0,
         }
     }
 
@@ -145,32 +172,29 @@ impl<'d, 'r, L: Ledger, R: Wait, I: BufRead, O: Write> Control<'d, 'r, L, R, I, 
 
     fn tell_state(&mut self) {
         let alloc = self.alloc;
-        let lines = self.desk.look(|core| state_lines(alloc, core));
+        let lines = match self.desk.look(|core| standing_of(alloc, core)) {
+            Ok(standing) => state_text(alloc, &standing),
+            Err(error) => Err(error),
+        };
         self.say_or_stop(lines);
     }
 
     fn tell_refusals(&mut self) {
-        let (alloc, seen, refused) = (self.alloc, self.seen, self.refused);
-        let told = self
-            .desk
-            .look(|core| refused_since(alloc, core, seen, refused));
-        match told {
-            Ok(
-                Refused {
-                    text,
-                    seen,
-                    refused,
-                },
-            ) => {
-                self.seen = seen;
-                self.refused = refused;
-                self.say(text.as_str());
+        let (alloc, told) = (self.alloc, self.told);
+        let lines = match self.desk.look(|core| refused_since(alloc, core, told)) {
+            Ok(Refused { refusals, len }) => {
+                let text = refused_text(alloc, refusals.as_slice());
+                if text.is_ok() {
+                    self.told = len;
+                }
+                text
             }
-            Err(_) => self.say(Stop::NoMemory.line()),
-        }
+            Err(error) => Err(error),
+        };
+        self.say_or_stop(lines);
     }
 
-    /// `markers N` behind the last of them.
+    /// `markers N` after the last of them.
     fn tell_markers(&mut self, count: u64) {
         self.doing = Doing::Nothing;
         let line = format!(in self.alloc; "markers {count}\n");
@@ -202,10 +226,11 @@ impl<'d, 'r, L: Ledger, R: Wait, I: BufRead, O: Write> Control<'d, 'r, L, R, I, 
     fn tell_step(&mut self, left: u64) {
         self.left = left;
         let alloc = self.alloc;
-        let line = match self.told.take() {
-            Some(told) => format!(in alloc; "{told} owed {left}\n"),
-            None => Err(AllocError),
+        let line = match seen_text(alloc, &self.seen) {
+            Ok(told) => format!(in alloc; "{told} owed {left}\n"),
+            Err(error) => Err(error),
         };
+        self.seen = Seen::Nothing;
         self.say_or_stop(line);
         self.doing = match self.doing {
             Doing::Marks(count) => Doing::Marks(count.saturating_add(1)),
@@ -214,7 +239,25 @@ impl<'d, 'r, L: Ledger, R: Wait, I: BufRead, O: Write> Control<'d, 'r, L, R, I, 
     }
 }
 
-impl<'d, 'r, L: Ledger, R: Wait, I: BufRead, O: Write> Steps for Control<'d, 'r, L, R, I, O> {
+impl<'d, 'r, L: DeskLedger, R: Wait, I: BufRead, O: Write> Steps for Control<'d, 'r, L, R, I, O> {
+    /// Whoever steers the broker says when a marker is written.
+    ghost owed = { λ _. None };
+
+    fn before(&mut self, core: &Core) {
+        self.seen = seen_before(self.alloc, core, self.doing);
+    }
+
+    fn after(&mut self, core: &Core) {
+        let moment = match &self.seen {
+            Seen::Open(open) => moment_of(self.alloc, core, open.as_slice()),
+            _ => return,
+        };
+        self.seen = match moment {
+            Ok(moment) => Seen::Moment(moment),
+            Err(_) => Seen::Nothing,
+        };
+    }
+
     fn next(&mut self, _done: bool) -> Option<Step> {
         if let Doing::Marks(count) = self.doing {
             if self.left > 0 {
@@ -250,24 +293,5 @@ impl<'d, 'r, L: Ledger, R: Wait, I: BufRead, O: Write> Steps for Control<'d, 'r,
             }
         }
         true
-    }
-}
-
-impl<'d, 'r, L: Ledger, R: Wait, I: BufRead, O: Write> Witness for Control<'d, 'r, L, R, I, O> {
-    fn before(&mut self, core: &Core) {
-        match self.doing {
-            Doing::Tick => self.open = open_ones(self.alloc, core).ok(),
-            Doing::Mark | Doing::Marks(_) => self.told = front_text(self.alloc, core).ok(),
-            Doing::Nothing => {}
-        }
-    }
-
-    fn behind(&mut self, core: &Core) {
-        if self.doing == Doing::Tick {
-            self.told = match self.open.take() {
-                Some(open) => moment_text(self.alloc, core, open.as_slice()).ok(),
-                None => None,
-            };
-        }
     }
 }

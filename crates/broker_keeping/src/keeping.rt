@@ -1,53 +1,52 @@
-//! What tells the keeper its steps: the clock, or whoever steers the broker.
+//! The steps of the clock, after each of which it is told what is new.
 
-use crate::control::Control;
+ghost use Rattle.std.specs.Prelude.{Some};
+
 use crate::ticks::Ticks;
+use crate::watch::Watch;
 use request_handlers::Core;
-use session_pool::{Clocked, Step, Steps, Why, Witness};
-use std::io::{BufRead, Write};
+use session_pool::{Clocked, DeskLedger, Step, Steps, Why};
+use std::io::Write;
 use std::sync::Wait;
-use std::sync::ledger::Ledger;
 use std::time;
 
-/// What tells the keeper its steps.
+/// Tells the keeper its steps by the clock, and after each tells an operator what is new in the trail.
 #[derive(Drop)]
-pub enum Keeping<'d, 'r, L: Ledger, R: Wait + time::Clock, E: Write, I: BufRead, O: Write> {
-    /// The clock, which looks at what is new in the trail.
-    Clock(Clocked<Ticks<'d, 'r, L, R, E>>),
-    /// The lines of whoever steers the broker.
-    Lines(Control<'d, 'r, L, R, I, O>),
+pub struct Timekeeper<'d, 'r, L: DeskLedger, R: Wait + time::Clock, E: Write> {
+    clock: Clocked<Ticks<'d, 'r, L, R>>,
+    watch: Watch<'d, 'r, L, R, E>,
 }
 
-impl<'d, 'r, L: Ledger, R: Wait + time::Clock, E: Write, I: BufRead, O: Write> Steps
-    for Keeping<'d, 'r, L, R, E, I, O> {
-    fn next(&mut self, done: bool) -> Option<Step> {
-        match self {
-            Keeping::Clock(clock) => clock.next(done),
-            Keeping::Lines(control) => control.next(done),
+impl<'d, 'r, L: DeskLedger, R: Wait + time::Clock, E: Write> Timekeeper<'d, 'r, L, R, E> {
+    pub fn new(
+        clock: Ticks<'d, 'r, L, R>,
+        watch: Watch<'d, 'r, L, R, E>,
+    ) -> Timekeeper<'d, 'r, L, R, E> {
+        Timekeeper {
+            clock: Clocked::new(clock),
+            watch,
         }
+    }
+}
+
+impl<'d, 'r, L: DeskLedger, R: Wait + time::Clock, E: Write> Steps for Timekeeper<'d, 'r, L, R, E> {
+    ghost owed = { λ keeper. Some keeper.clock };
+
+    fn next(&mut self, done: bool) -> Option<Step> {
+        if done {
+            self.watch.look();
+        }
+        self.clock.next(done)
+    }
+
+    fn before(&mut self, _core: &Core) {}
+
+    fn after(&mut self, core: &Core) {
+        self.watch.note(core);
     }
 
     fn came(&mut self, outcome: Result<u64, Why>) -> bool {
-        match self {
-            Keeping::Clock(clock) => clock.came(outcome),
-            Keeping::Lines(control) => control.came(outcome),
-        }
-    }
-}
-
-impl<'d, 'r, L: Ledger, R: Wait + time::Clock, E: Write, I: BufRead, O: Write> Witness
-    for Keeping<'d, 'r, L, R, E, I, O> {
-    fn before(&mut self, core: &Core) {
-        match self {
-            Keeping::Clock(clock) => clock.before(core),
-            Keeping::Lines(control) => control.before(core),
-        }
-    }
-
-    fn behind(&mut self, core: &Core) {
-        match self {
-            Keeping::Clock(clock) => clock.behind(core),
-            Keeping::Lines(control) => control.behind(core),
-        }
+        self.watch.tell();
+        self.clock.came(outcome)
     }
 }

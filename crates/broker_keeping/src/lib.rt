@@ -3,14 +3,16 @@
 
 mod control;
 mod keeping;
+mod news;
 mod said;
 mod sentences;
 mod standing;
+mod state_text;
 mod ticks;
 mod watch;
 
 pub use control::{Control, Steering};
-pub use keeping::Keeping;
+pub use keeping::Timekeeper;
 pub use sentences::Sentences;
 pub use ticks::Ticks;
 pub use watch::Watch;

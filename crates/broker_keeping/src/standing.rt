@@ -1,186 +1,169 @@
-//! What is told of how things stand, a line for each thing.
+//! How things stand in a core, as plain values. They are taken while it is locked, and laid out as text afterwards.
 
-use audit_trail::push_word;
 use broker_world::{Slot, State};
 use offset_tables::Group;
-use record_batch::Outcome;
 use request_handlers::Core;
 use std::alloc::{AllocError, Global};
-use transactions::{OwedMarker, Phase, Target, TopicPartition, Transaction};
+use transactions::{OwedMarker, Phase, Transaction};
+use wire_types::Text;
 
-fn push_partition(
-    alloc: Global,
-    text: &mut String,
-    topic: &str,
-    index: i32,
-) -> Result<(), AllocError> {
-    push_word(text, topic)?;
-    text.push_str(format!(in alloc; " {index}")?.as_str())
+/// The log end offset and the last stable offset of a partition.
+#[derive(Clone, Copy, Debug, PartialEq, Eq)]
+pub(crate) struct LogEnds {
+    pub(crate) end: i64,
+    pub(crate) stable: i64,
 }
 
-/// `partition TOPIC INDEX end OFFSET stable OFFSET`: its log end offset and its last stable offset.
-fn push_topic(alloc: Global, text: &mut String, slot: &Slot) -> Result<(), AllocError> {
+/// A topic, and where each of its partitions ends.
+#[derive(Drop)]
+pub(crate) struct TopicStanding {
+    pub(crate) name: Text,
+    pub(crate) partitions: Vec<LogEnds>,
+}
+
+/// The committed offset of a partition.
+#[derive(Drop)]
+pub(crate) struct CommittedOffset {
+    pub(crate) topic: Text,
+    pub(crate) index: i32,
+    pub(crate) offset: i64,
+}
+
+/// A group, its member, and what is committed.
+#[derive(Drop)]
+pub(crate) struct GroupStanding {
+    pub(crate) name: Text,
+    pub(crate) generation: i32,
+    pub(crate) member: Option<Text>,
+    pub(crate) committed: Vec<CommittedOffset>,
+}
+
+/// How things stand.
+#[derive(Drop)]
+pub(crate) struct Standing {
+    pub(crate) moment: u64,
+    /// How many markers are owed.
+    pub(crate) owed: usize,
+    pub(crate) topics: Vec<TopicStanding>,
+    /// Those that are open or prepared.
+    pub(crate) transactions: Vec<Transaction>,
+    pub(crate) groups: Vec<GroupStanding>,
+    /// How many entries the trail has.
+    pub(crate) events: usize,
+}
+
+/// What a moment came to.
+#[derive(Drop)]
+pub(crate) struct Moment {
+    pub(crate) milliseconds: u64,
+    /// The transactions that it aborted.
+    pub(crate) aborted: Vec<Text>,
+}
+
+fn topic_of(alloc: Global, slot: &Slot) -> Result<TopicStanding, AllocError> {
+    let mut partitions = Vec::new(alloc);
     for index in 0..slot.partitions.len() {
-        let index = index as i32;
-        if let Some(log) = slot.partitions.get(index) {
-            let (end, stable) = (log.end(), log.stable());
-            text.push_str("partition")?;
-            push_partition(alloc, text, slot.name.as_str(), index)?;
-            text.push_str(format!(in alloc; " end {end} stable {stable}\n")?.as_str())?;
+        if let Some(log) = slot.partitions.get(index as i32) {
+            partitions.push(LogEnds {
+                end: log.end(),
+                stable: log.stable(),
+            })?;
         }
     }
-    Ok(())
+    Ok(TopicStanding {
+        name: slot.name.clone()?,
+        partitions,
+    })
 }
 
-/// The transaction's state by its name in KIP-98, where it is open or prepared.
-fn phase_name(phase: Phase) -> Option<&'static str> {
-    match phase {
-        Phase::Ongoing => Some("Ongoing"),
-        Phase::PrepareCommit => Some("PrepareCommit"),
-        Phase::PrepareAbort => Some("PrepareAbort"),
-        Phase::Empty | Phase::CompleteCommit | Phase::CompleteAbort => None,
-    }
-}
-
-/// `added ID topic TOPIC INDEX` for each partition, and `added ID group GROUP` for each group.
-fn push_added(
-    alloc: Global,
-    text: &mut String,
-    transaction: &Transaction,
-) -> Result<(), AllocError> {
-    for TopicPartition { topic, index } in transaction.partitions.as_slice() {
-        text.push_str("added")?;
-        push_word(text, transaction.id.as_str())?;
-        text.push_str(" topic")?;
-        push_partition(alloc, text, topic.as_str(), *index)?;
-        text.push_str("\n")?;
-    }
-    for group in transaction.groups.as_slice() {
-        text.push_str("added")?;
-        push_word(text, transaction.id.as_str())?;
-        text.push_str(" group")?;
-        push_word(text, group.as_str())?;
-        text.push_str("\n")?;
-    }
-    Ok(())
-}
-
-/// `transaction ID STATE producer ID epoch EPOCH began MOMENT timeout MILLISECONDS`, and what was added to it.
-fn push_transaction(
-    alloc: Global,
-    text: &mut String,
-    transaction: &Transaction,
-) -> Result<(), AllocError> {
-    let Some(phase) = phase_name(transaction.phase) else {
-        return Ok(());
-    };
-    let (producer, epoch) = (transaction.pair.producer, transaction.pair.epoch);
-    let (start, timeout) = (transaction.start, transaction.timeout);
-    text.push_str("transaction")?;
-    push_word(text, transaction.id.as_str())?;
-    text.push_str(format!(in alloc; " {phase} producer {producer} epoch {epoch}")?.as_str())?;
-    text.push_str(format!(in alloc; " began {start} timeout {timeout}\n")?.as_str())?;
-    push_added(alloc, text, transaction)
-}
-
-/// `committed GROUP TOPIC INDEX OFFSET` for each partition of a topic of which an offset is committed.
 fn push_committed(
-    alloc: Global,
-    text: &mut String,
+    committed: &mut Vec<CommittedOffset>,
     group: &Group,
     slot: &Slot,
 ) -> Result<(), AllocError> {
     for index in 0..slot.partitions.len() {
         let index = index as i32;
-        if let Some(committed) = group.offsets.committed(&slot.name, index) {
-            let offset = committed.offset;
-            text.push_str("committed")?;
-            push_word(text, group.name.as_str())?;
-            push_partition(alloc, text, slot.name.as_str(), index)?;
-            text.push_str(format!(in alloc; " {offset}\n")?.as_str())?;
+        if let Some(found) = group.offsets.committed(&slot.name, index) {
+            committed.push(CommittedOffset {
+                topic: slot.name.clone()?,
+                index,
+                offset: found.offset,
+            })?;
         }
     }
     Ok(())
 }
 
-/// `group GROUP generation GENERATION`, and ` member MEMBER` where it has one; and its committed offsets.
-fn push_group(
-    alloc: Global,
-    text: &mut String,
-    group: &Group,
-    slots: &[Slot],
-) -> Result<(), AllocError> {
-    let generation = group.generation;
-    text.push_str("group")?;
-    push_word(text, group.name.as_str())?;
-    text.push_str(format!(in alloc; " generation {generation}")?.as_str())?;
-    if let Some(member) = &group.member {
-        text.push_str(" member")?;
-        push_word(text, member.id.as_str())?;
-    }
-    text.push_str("\n")?;
+fn group_of(alloc: Global, group: &Group, slots: &[Slot]) -> Result<GroupStanding, AllocError> {
+    let mut committed = Vec::new(alloc);
     for slot in slots {
-        push_committed(alloc, text, group, slot)?;
+        push_committed(&mut committed, group, slot)?;
     }
-    Ok(())
+    let member = match &group.member {
+        Some(member) => Some(member.id.clone()?),
+        None => None,
+    };
+    Ok(GroupStanding {
+        name: group.name.clone()?,
+        generation: group.generation,
+        member,
+        committed,
+    })
 }
 
-fn push_world(alloc: Global, text: &mut String, world: &State) -> Result<(), AllocError> {
-    let moment = world.moment.milliseconds();
-    let owed = world.coordinator.owed();
-    text.push_str(format!(in alloc; "moment {moment}\nowed {owed}\n")?.as_str())?;
+fn topics_of(alloc: Global, slots: &[Slot]) -> Result<Vec<TopicStanding>, AllocError> {
+    let mut topics = Vec::new(alloc);
+    for slot in slots {
+        topics.push(topic_of(alloc, slot)?)?;
+    }
+    Ok(topics)
+}
+
+/// Whether a transaction in this phase is open or prepared.
+fn is_shown(phase: Phase) -> bool {
+    matches!(
+        phase,
+        Phase::Ongoing | Phase::PrepareCommit | Phase::PrepareAbort
+    )
+}
+
+fn shown_of(alloc: Global, all: &[Transaction]) -> Result<Vec<Transaction>, AllocError> {
+    let mut shown = Vec::new(alloc);
+    for transaction in all {
+        if is_shown(transaction.phase) {
+            shown.push(transaction.copied()?)?;
+        }
+    }
+    Ok(shown)
+}
+
+fn groups_of(alloc: Global, world: &State) -> Result<Vec<GroupStanding>, AllocError> {
     let slots = world.topics.slots();
-    for slot in slots {
-        push_topic(alloc, text, slot)?;
-    }
-    for transaction in world.coordinator.transactions() {
-        push_transaction(alloc, text, transaction)?;
-    }
+    let mut groups = Vec::new(alloc);
     for group in world.groups.as_slice() {
-        push_group(alloc, text, group, slots)?;
+        groups.push(group_of(alloc, group, slots)?)?;
     }
-    Ok(())
+    Ok(groups)
 }
 
-/// How things stand, and at last `events N`: how many entries the trail has.
-pub(crate) fn state_lines(alloc: Global, core: &Core) -> Result<String, AllocError> {
-    let mut text = String::new(alloc);
-    push_world(alloc, &mut text, core.world())?;
-    let events = core.trail().len();
-    text.push_str(format!(in alloc; "events {events}\n")?.as_str())?;
-    Ok(text)
+/// How things stand in a core.
+pub(crate) fn standing_of(alloc: Global, core: &Core) -> Result<Standing, AllocError> {
+    let world = core.world();
+    Ok(Standing {
+        moment: world.moment.milliseconds(),
+        owed: world.coordinator.owed(),
+        topics: topics_of(alloc, world.topics.slots())?,
+        transactions: shown_of(alloc, world.coordinator.transactions())?,
+        groups: groups_of(alloc, world)?,
+        events: core.trail().len(),
+    })
 }
 
-fn outcome_name(outcome: Outcome) -> &'static str {
-    match outcome {
-        Outcome::Commit => "commit",
-        Outcome::Abort => "abort",
-    }
-}
-
-/// `marker commit producer ID epoch EPOCH topic TOPIC INDEX`, or `abort` and `group GROUP`.
-fn marker_text(alloc: Global, marker: &OwedMarker) -> Result<String, AllocError> {
-    let outcome = outcome_name(marker.outcome);
-    let (producer, epoch) = (marker.pair.producer, marker.pair.epoch);
-    let mut text = format!(in alloc; "marker {outcome} producer {producer} epoch {epoch}")?;
-    match &marker.target {
-        Target::Partition(partition) => {
-            text.push_str(" topic")?;
-            push_partition(alloc, &mut text, partition.topic.as_str(), partition.index)?;
-        }
-        Target::Group(group) => {
-            text.push_str(" group")?;
-            push_word(&mut text, group.as_str())?;
-        }
-    }
-    Ok(text)
-}
-
-/// The front marker; `marker none` where none is owed.
-pub(crate) fn front_text(alloc: Global, core: &Core) -> Result<String, AllocError> {
+/// The marker that is owed first, if one is.
+pub(crate) fn front_of(core: &Core) -> Result<Option<OwedMarker>, AllocError> {
     match core.world().coordinator.front() {
-        Some(marker) => marker_text(alloc, marker),
-        None => String::from_str(alloc, "marker none"),
+        Some(marker) => Ok(Some(marker.clone()?)),
+        None => Ok(None),
     }
 }
 
@@ -193,16 +176,17 @@ pub(crate) fn open_ones(alloc: Global, core: &Core) -> Result<Vec<bool>, AllocEr
     Ok(open)
 }
 
-/// ` aborted ID` for each of these that is open no more, behind `moment MOMENT`.
-pub(crate) fn moment_text(alloc: Global, core: &Core, open: &[bool]) -> Result<String, AllocError> {
+/// The moment, and those of the open transactions that are open no more.
+pub(crate) fn moment_of(alloc: Global, core: &Core, open: &[bool]) -> Result<Moment, AllocError> {
     let world = core.world();
-    let moment = world.moment.milliseconds();
-    let mut text = format!(in alloc; "moment {moment}")?;
+    let mut aborted = Vec::new(alloc);
     for (transaction, was_open) in world.coordinator.transactions().iter().zip(open.iter()) {
         if *was_open && transaction.phase != Phase::Ongoing {
-            text.push_str(" aborted")?;
-            push_word(&mut text, transaction.id.as_str())?;
+            aborted.push(transaction.id.clone()?)?;
         }
     }
-    Ok(text)
+    Ok(Moment {
+        milliseconds: world.moment.milliseconds(),
+        aborted,
+    })
 }

@@ -1,0 +1,171 @@
+//! What is told of how things stand, a line for each thing.
+
+use crate::standing::{CommittedOffset, GroupStanding, Moment, Standing, TopicStanding};
+use audit_trail::push_word;
+use record_batch::Outcome;
+use std::alloc::{AllocError, Global};
+use transactions::{OwedMarker, Phase, Target, TopicPartition, Transaction};
+
+fn push_partition(
+    alloc: Global,
+    text: &mut String,
+    topic: &str,
+    index: i32,
+) -> Result<(), AllocError> {
+    push_word(text, topic)?;
+    text.push_str(format!(in alloc; " {index}")?.as_str())
+}
+
+/// `partition TOPIC INDEX end OFFSET stable OFFSET`: its log end offset and its last stable offset.
+fn push_topic(alloc: Global, text: &mut String, topic: &TopicStanding) -> Result<(), AllocError> {
+    for (index, ends) in topic.partitions.iter().enumerate() {
+        let (end, stable) = (ends.end, ends.stable);
+        text.push_str("partition")?;
+        push_word(text, topic.name.as_str())?;
+        text.push_str(format!(in alloc; " {index} end {end} stable {stable}\n")?.as_str())?;
+    }
+    Ok(())
+}
+
+/// The transaction's state by its name in KIP-98, where it is open or prepared.
+fn phase_name(phase: Phase) -> Option<&'static str> {
+    match phase {
+        Phase::Ongoing => Some("Ongoing"),
+        Phase::PrepareCommit => Some("PrepareCommit"),
+        Phase::PrepareAbort => Some("PrepareAbort"),
+        Phase::Empty | Phase::CompleteCommit | Phase::CompleteAbort => None,
+    }
+}
+
+/// `added ID topic TOPIC INDEX` for each partition, and `added ID group GROUP` for each group.
+fn push_added(
+    alloc: Global,
+    text: &mut String,
+    transaction: &Transaction,
+) -> Result<(), AllocError> {
+    for TopicPartition { topic, index } in transaction.partitions.as_slice() {
+        text.push_str("added")?;
+        push_word(text, transaction.id.as_str())?;
+        text.push_str(" topic")?;
+        push_partition(alloc, text, topic.as_str(), *index)?;
+        text.push_str("\n")?;
+    }
+    for group in transaction.groups.as_slice() {
+        text.push_str("added")?;
+        push_word(text, transaction.id.as_str())?;
+        text.push_str(" group")?;
+        push_word(text, group.as_str())?;
+        text.push_str("\n")?;
+    }
+    Ok(())
+}
+
+/// `transaction ID STATE producer ID epoch EPOCH began MOMENT timeout MILLISECONDS`, and what was added to it.
+fn push_transaction(
+    alloc: Global,
+    text: &mut String,
+    transaction: &Transaction,
+) -> Result<(), AllocError> {
+    let Some(phase) = phase_name(transaction.phase) else {
+        return Ok(());
+    };
+    let (producer, epoch) = (transaction.pair.producer, transaction.pair.epoch);
+    let (start, timeout) = (transaction.start, transaction.timeout);
+    text.push_str("transaction")?;
+    push_word(text, transaction.id.as_str())?;
+    text.push_str(format!(in alloc; " {phase} producer {producer} epoch {epoch}")?.as_str())?;
+    text.push_str(format!(in alloc; " began {start} timeout {timeout}\n")?.as_str())?;
+    push_added(alloc, text, transaction)
+}
+
+/// `committed GROUP TOPIC INDEX OFFSET`.
+fn push_committed(
+    alloc: Global,
+    text: &mut String,
+    group: &str,
+    committed: &CommittedOffset,
+) -> Result<(), AllocError> {
+    let offset = committed.offset;
+    text.push_str("committed")?;
+    push_word(text, group)?;
+    push_partition(alloc, text, committed.topic.as_str(), committed.index)?;
+    text.push_str(format!(in alloc; " {offset}\n")?.as_str())
+}
+
+/// `group GROUP generation GENERATION`, and ` member MEMBER` where it has one; and its committed offsets.
+fn push_group(alloc: Global, text: &mut String, group: &GroupStanding) -> Result<(), AllocError> {
+    let generation = group.generation;
+    text.push_str("group")?;
+    push_word(text, group.name.as_str())?;
+    text.push_str(format!(in alloc; " generation {generation}")?.as_str())?;
+    if let Some(member) = &group.member {
+        text.push_str(" member")?;
+        push_word(text, member.as_str())?;
+    }
+    text.push_str("\n")?;
+    for committed in &group.committed {
+        push_committed(alloc, text, group.name.as_str(), committed)?;
+    }
+    Ok(())
+}
+
+/// How things stand, and at last `events N`: how many entries the trail has.
+pub(crate) fn state_text(alloc: Global, standing: &Standing) -> Result<String, AllocError> {
+    let (moment, owed, events) = (standing.moment, standing.owed, standing.events);
+    let mut text = format!(in alloc; "moment {moment}\nowed {owed}\n")?;
+    for topic in &standing.topics {
+        push_topic(alloc, &mut text, topic)?;
+    }
+    for transaction in &standing.transactions {
+        push_transaction(alloc, &mut text, transaction)?;
+    }
+    for group in &standing.groups {
+        push_group(alloc, &mut text, group)?;
+    }
+    text.push_str(format!(in alloc; "events {events}\n")?.as_str())?;
+    Ok(text)
+}
+
+fn outcome_name(outcome: Outcome) -> &'static str {
+    match outcome {
+        Outcome::Commit => "commit",
+        Outcome::Abort => "abort",
+    }
+}
+
+/// `marker commit producer ID epoch EPOCH topic TOPIC INDEX`, or `abort` and `group GROUP`.
+fn marker_text(alloc: Global, marker: &OwedMarker) -> Result<String, AllocError> {
+    let outcome = outcome_name(marker.outcome);
+    let (producer, epoch) = (marker.pair.producer, marker.pair.epoch);
+    let mut text = format!(in alloc; "marker {outcome} producer {producer} epoch {epoch}")?;
+    match &marker.target {
+        Target::Partition(partition) => {
+            text.push_str(" topic")?;
+            push_partition(alloc, &mut text, partition.topic.as_str(), partition.index)?;
+        }
+        Target::Group(group) => {
+            text.push_str(" group")?;
+            push_word(&mut text, group.as_str())?;
+        }
+    }
+    Ok(text)
+}
+
+/// The front marker; `marker none` where none is owed.
+pub(crate) fn front_text(alloc: Global, front: &Option<OwedMarker>) -> Result<String, AllocError> {
+    match front {
+        Some(marker) => marker_text(alloc, marker),
+        None => String::from_str(alloc, "marker none"),
+    }
+}
+
+/// `moment MOMENT`, and ` aborted ID` for each transaction that it aborted.
+pub(crate) fn moment_text(alloc: Global, moment: &Moment) -> Result<String, AllocError> {
+    let milliseconds = moment.milliseconds;
+    let mut text = format!(in alloc; "moment {milliseconds}")?;
+    for id in &moment.aborted {
+        text.push_str(" aborted")?;
+        push_word(&mut text, id.as_str())?;
+    }
+    Ok(text)
+}
