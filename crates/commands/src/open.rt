@@ -9,16 +9,17 @@ ghost use Rattle.commands.specs.Opened.{Opens, OpensOr};
 use crate::cause::Early;
 use crate::run::{Place, end_early, explain, refuse};
 use request_handlers::Core;
+use session_logins::Users;
 use settings_text::{Document, SettingsFault, User, document_of_text};
 use std::alloc::Global;
 use std::io::{Read, Write};
-use wire_types::{InputFault, Items, read_input};
+use wire_types::{InputFault, Items, Shared, read_input};
 
 /// What a server is started with: a core that has answered nothing, and who may log in.
 #[derive(Drop)]
 pub struct Opened {
     pub core: Core,
-    pub users: Items<User>,
+    pub users: Shared<Users>,
 }
 
 /// Why there is no core.
@@ -41,6 +42,15 @@ impl From<Early> for Unopened {
     }
 }
 
+/// These users, for all sessions; none where memory was refused, or they have a fault.
+#[tactic(auto, using(crate::proofs::OpenLemmas::admitted))]
+fn share_users(alloc: Global, users: Items<User>) -> Option<Shared<Users>>
+    ensures { IfSome result (λ shared. shared ≡ users) }
+{
+    let users = Users::new(alloc, users).ok()?;
+    Shared::new(alloc, users).ok()
+}
+
 /// Opens a core with settings, or prints that they are refused.
 fn open_settings<W: Write, E: Write>(
     alloc: Global,
@@ -60,6 +70,9 @@ fn open_settings<W: Write, E: Write>(
         }
     };
     // The settings have no fault, so only memory can be refused.
+    let Some(users) = share_users(alloc, users) else {
+        return Err(Unopened::Early(Early::Settings));
+    };
     match Core::open(alloc, settings) {
         Ok(core) => Ok(Opened { core, users }),
         Err(_) => Err(Unopened::Early(Early::Settings)),
