@@ -1,14 +1,10 @@
 //! The broker's program.
 #![tactic(auto)]
 
-mod lines;
-mod server;
-
-use crate::server::{ServeOptions, serve};
 use arguments::{Job, Serving, arguments};
 use broker_keeping::Steering;
+use broker_server::{ServeOptions, serve};
 use commands::{Opened, check_and_explain, open_and_explain, replay_and_explain};
-use session_logins::Users;
 use session_workers::ConnectionOptions;
 use show::{explain, show_and_explain};
 use std::alloc::{AllocError, Global};
@@ -80,16 +76,6 @@ fn serve_connections<
         Ok(opened) => opened,
         Err(status) => return status,
     };
-    // The settings have no fault, so only memory can be refused.
-    let Ok(users) = Users::new(alloc, users) else {
-        explain(
-            alloc,
-            &mut errors,
-            "settings",
-            "there is not enough memory for the users",
-        );
-        return FAILED;
-    };
     let Ok(listener) = TcpListener::bind(rt, serving.listen) else {
         return fail(
             alloc,
@@ -102,7 +88,7 @@ fn serve_connections<
     };
     let options = options_of(serving);
     serve(
-        rt, alloc, core, users, &listener, options, steering, writer, errors,
+        rt, alloc, core, &users, &listener, options, steering, writer, errors,
     )
 }
 

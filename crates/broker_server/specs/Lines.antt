@@ -3,8 +3,15 @@ use Rattle.std.specs.Prelude.{ℕ, ◌++◌, List, codes, decimal}
 use Rattle.settlement.specs.declared.books.Settled.{Settled}
 use Rattle.settlement.specs.Settle.{fault_name as settle_fault_name}
 use Rattle.session_workers.specs.Faults.{fault_name as pool_fault_name}
-use Rattle.kbroker.specs.declared.lines.Failure.{Failure}
-use Rattle.kbroker.specs.declared.lines.Failure.TheVariants.{Pool, Settle}
+use Rattle.broker_server.specs.declared.lines.Unbegun.{Unbegun}
+use Rattle.broker_server.specs.declared.lines.Unbegun.TheVariants.{NoAddress, NoMemory}
+use Rattle.broker_server.specs.declared.lines.Failure.{Failure}
+use Rattle.broker_server.specs.declared.lines.Failure.TheVariants.{Pool, Settle}
+
+-- the only line of a server that isn't begun
+abbrev pub unbegun_line : Unbegun → List ℕ
+unbegun_line NoAddress = codes "listen failed\n"
+unbegun_line NoMemory = codes "settings refused: NoMemory\n"
 
 -- the first line, of where it listens
 abbrev pub listening_line : List ℕ → List ℕ

@@ -1,12 +1,35 @@
 //! What the server prints.
 
 ghost use Rattle.std.specs.Prelude.{◌≡◌, IfOk, string_bytes};
-ghost use Rattle.kbroker.specs.Lines.{listening_line, settled_line, failure_line};
+ghost use Rattle.broker_server.specs.Lines.{unbegun_line, listening_line, settled_line, failure_line};
 
 use session_workers::PoolFault;
 use settlement::{SettleFault, Settled};
 use std::alloc::{AllocError, Global};
 use thiserror::Error;
+
+/// Why a server isn't begun.
+#[derive(Clone, Copy, Debug, PartialEq, Eq, Error)]
+pub(crate) enum Unbegun {
+    /// The listener can't tell its address.
+    #[error("the listener can't tell where it listens")]
+    NoAddress,
+    /// Memory was refused for the first line.
+    #[error("there is not enough memory for the first line")]
+    NoMemory,
+}
+
+impl Unbegun {
+    /// The only line of a server that isn't begun.
+    pub(crate) fn line(self) -> &'static str
+        ensures { result.now ≡ unbegun_line self }
+    {
+        match self {
+            Unbegun::NoAddress => "listen failed\n",
+            Unbegun::NoMemory => "settings refused: NoMemory\n",
+        }
+    }
+}
 
 /// Why the books are not settled.
 #[derive(Clone, Copy, Debug, PartialEq, Eq, Error)]

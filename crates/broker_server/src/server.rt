@@ -1,0 +1,278 @@
+//! Serves the connections of a listener, and settles the books.
+
+ghost use Rattle.std.specs.Prelude.{◌≡◌, ℕ, Option, ◌+◌, List, [], length, IfOk, IfSome, string_bytes};
+ghost use Rattle.settings.specs.declared.settings.Settings.{Settings};
+ghost use Rattle.broker_server.specs.Counted.{receipts_of, IsCounted};
+ghost use Rattle.broker_server.specs.Lines.{listening_line};
+ghost use Rattle.broker_server.specs.Serves.{IsLast, Serves};
+ghost use Rattle.request_handlers.specs.Seats.{most_seats};
+ghost use Rattle.session_workers.specs.Ends.{AreEnds};
+
+use crate::lines::{Failure, Unbegun, failure_line, listening_line, settled_line};
+use broker_keeping::{Control, Sentences, Steering, Ticks, Timekeeper, Watch};
+use request_handlers::{Core, MOST_SEATS, Receipt, Seat};
+use session_logins::Users;
+use session_pool::{Closing, DeskLedger, LockedDesk, SessionEnd};
+use session_workers::{ConnectionOptions, PoolFault, serve_connections};
+use settlement::{SettleFault, Settled, settle};
+use std::alloc::{AllocError, Global};
+use std::io::{BufRead, Write};
+use std::marker::Brand;
+use std::net::{Net, TcpListener, TcpStream};
+use std::sync::Wait;
+use std::sync::ledger::Blank;
+use std::thread::Threads;
+use std::time;
+use wire_types::{Shared, write_whole};
+
+/// The exit status where all is served and settled.
+const SETTLED: u8 = 0;
+
+/// The exit status where it isn't.
+const FAILED: u8 = 1;
+
+/// How a broker serves.
+#[derive(Clone, Copy, Debug, PartialEq, Eq)]
+pub struct ServeOptions {
+    pub connections: ConnectionOptions,
+    /// Whether each refusal is told.
+    pub audit: bool,
+}
+
+/// The receipts of each end.
+fn receipts_of<L: DeskLedger>(
+    alloc: Global,
+    ends: Vec<SessionEnd<Seat<L>>>,
+) -> Result<Vec<Vec<Receipt>>, AllocError>
+    ensures { IfOk result (λ receipts. receipts.items ≡ receipts_of ends.items) }
+{
+    ends.into_iter().map(|end| end.receipts).collect(alloc)
+}
+
+/// How many sessions ended, the keeper's end left out.
+#[tactic(auto, using(crate::proofs::Counting::ends_at_least))]
+fn sessions_of<L: DeskLedger>(ends: &[SessionEnd<Seat<L>>]) -> usize
+    requires { (owed : Option ℕ) × AreEnds owed ends.now }
+    ensures { result + 1 ≡ length ends.now }
+{
+    ends.len() - 1
+}
+
+/// Settles the ends with the core of a desk.
+fn settle_ends<L: DeskLedger, R: Wait + Drop>(
+    alloc: Global,
+    desk: LockedDesk<L, R>,
+    ends: Vec<SessionEnd<Seat<L>>>,
+) -> Result<(usize, Settled), Failure>
+    requires { (owed : Option ℕ) × AreEnds owed ends.items }
+    ensures { IfOk result (λ told. IsCounted L.settings told.0 told.1) }
+{
+    let sessions = sessions_of(ends.as_slice());
+    let Ok(receipts) = receipts_of(alloc, ends) else {
+        return Err(Failure::Settle(SettleFault::NoMemory));
+    };
+    match settle(alloc, &desk.close(), receipts.as_slice()) {
+        Ok(settled) => Ok((sessions, settled)),
+        Err(fault) => Err(Failure::Settle(fault)),
+    }
+}
+
+/// Serves a listener's connections while the keeper does its steps: those of the lines where they steer the broker, and else
+/// those of the clock.
+fn serve_kept<
+    'x,
+    'r,
+    L: DeskLedger + Send + Sync,
+    R: Net<Listener = TcpListener, Stream = TcpStream> + Threads + Wait + time::Clock + Sync,
+    E: Write + Drop + Send,
+    I: BufRead + Drop,
+    O: Write + Drop,
+>(
+    rt: &'r R,
+    alloc: Global,
+    desk: &'x LockedDesk<L, &'r R>,
+    users: &'x Shared<Users>,
+    listener: &'x TcpListener,
+    options: ServeOptions,
+    steering: Option<Steering<I, O>>,
+    closing: &'x Closing,
+    sentences: &'x Sentences<'r, R, E>,
+) -> Result<Vec<SessionEnd<Seat<L>>>, PoolFault>
+    ensures { IfOk result (λ ends. (owed : Option ℕ) × AreEnds owed ends.items) }
+{
+    let ServeOptions { connections, audit } = options;
+    match steering {
+        None => {
+            let watch = Watch::new(alloc, desk, sentences, audit);
+            let keeper = Timekeeper::new(Ticks::new(rt, desk), watch);
+            serve_connections(
+                rt,
+                alloc,
+                desk,
+                users,
+                listener,
+                connections,
+                None,
+                keeper,
+                sentences,
+            )
+        }
+        Some(steering) => {
+            let keeper = Control::new(rt, alloc, desk, closing, steering);
+            let closing = Some(closing);
+            serve_connections(
+                rt,
+                alloc,
+                desk,
+                users,
+                listener,
+                connections,
+                closing,
+                keeper,
+                sentences,
+            )
+        }
+    }
+}
+
+/// Serves connections at a desk, and gives how many sessions there were and what the settled core did.
+fn serve_at<
+    'r,
+    L: DeskLedger + Send + Sync,
+    R: Net<Listener = TcpListener, Stream = TcpStream> + Threads + Wait + time::Clock + Sync,
+    E: Write + Drop + Send,
+    I: BufRead + Drop,
+    O: Write + Drop,
+>(
+    rt: &'r R,
+    alloc: Global,
+    blank: Blank,
+    core: Core,
+    users: &Shared<Users>,
+    listener: &TcpListener,
+    options: ServeOptions,
+    steering: Option<Steering<I, O>>,
+    sentences: &Sentences<'r, R, E>,
+) -> Result<(usize, Settled), Failure>
+    requires settings { core.settings ≡ L.settings }
+    requires empty { core.trail ≡ [] }
+    requires ledger { (blank.name ≡ L.name) × (blank.parts ≡ L.parts) × (blank.parts ≡ most_seats + 1) }
+    ensures { IfOk result (λ told. IsCounted L.settings told.0 told.1) }
+{
+    let desk: LockedDesk<L, &'r R> = LockedDesk::new(core, blank, rt);
+    let closing = Closing::new();
+    match serve_kept(
+        rt, alloc, &desk, users, listener, options, steering, &closing, sentences,
+    ) {
+        Ok(ends) => settle_ends(alloc, desk, ends),
+        Err(fault) => Err(Failure::Pool(fault)),
+    }
+}
+
+/// Serves connections with a ledger of its own.
+fn serve_booked<
+    'r,
+    R: Net<Listener = TcpListener, Stream = TcpStream> + Threads + Wait + time::Clock + Sync,
+    E: Write + Drop + Send,
+    I: BufRead + Drop,
+    O: Write + Drop,
+>(
+    rt: &'r R,
+    alloc: Global,
+    core: Core,
+    users: &Shared<Users>,
+    listener: &TcpListener,
+    options: ServeOptions,
+    steering: Option<Steering<I, O>>,
+    sentences: &Sentences<'r, R, E>,
+) -> Result<(usize, Settled), Failure>
+    requires { core.trail ≡ [] }
+    ensures { IfOk result (λ told. IsCounted core.settings told.0 told.1) }
+{
+    serve_at::<Brand, R, E, I, O>(
+        rt,
+        alloc,
+        Blank::new(MOST_SEATS + 1),
+        core,
+        users,
+        listener,
+        options,
+        steering,
+        sentences,
+    )
+}
+
+/// The first line, of where a listener listens.
+fn first_line(alloc: Global, listener: &TcpListener) -> Result<String, Unbegun>
+    ensures { IfOk result (λ text. (address : List ℕ) × (string_bytes text ≡ listening_line address)) }
+{
+    let Ok(address) = listener.local_addr() else {
+        return Err(Unbegun::NoAddress);
+    };
+    let Ok(address) = format!(in alloc; "{address}") else {
+        return Err(Unbegun::NoMemory);
+    };
+    match listening_line(alloc, address.as_str()) {
+        Ok(line) => Ok(line),
+        Err(_) => Err(Unbegun::NoMemory),
+    }
+}
+
+/// The last line, and the exit status.
+fn last_line(alloc: Global, outcome: Result<(usize, Settled), Failure>) -> Option<(String, u8)>
+    ensures { (settings : Settings) → IfOk outcome (λ told. IsCounted settings told.0 told.1) → IfSome result (λ told. IsLast settings told.1 (string_bytes told.0)) }
+{
+    match outcome {
+        Ok((sessions, settled)) => Some((settled_line(alloc, sessions, settled).ok()?, SETTLED)),
+        Err(failure) => Some((failure_line(alloc, failure).ok()?, FAILED)),
+    }
+}
+
+/// Prints where it listens, serves connections until so many were served or no more are taken, settles the books and prints
+/// how that went. Gives the exit status. Where the listener can't tell its address, or memory is refused before anything is
+/// printed, it prints that and serves nothing. To `errors` it says in a sentence why a session ended, where it didn't end between two
+/// requests, and the line of each refusal, where that is asked for. Where lines steer it, there is no clock: a tick or a marker
+/// step comes only by a line, and connections are taken until the lines end or have it end.
+pub fn serve<
+    R: Net<Listener = TcpListener, Stream = TcpStream> + Threads + Wait + time::Clock + Sync,
+    W: Write,
+    E: Write + Drop + Send,
+    I: BufRead + Drop,
+    O: Write + Drop,
+>(
+    rt: &R,
+    alloc: Global,
+    core: Core,
+    users: &Shared<Users>,
+    listener: &TcpListener,
+    options: ServeOptions,
+    steering: Option<Steering<I, O>>,
+    writer: &mut W,
+    errors: E,
+) -> u8
+    requires { core.trail ≡ [] }
+    ensures { Serves core.settings (W.contents writer.old) (W.contents writer.new) result }
+{
+    let first = match first_line(alloc, listener) {
+        Ok(first) => first,
+        Err(unbegun) => {
+            let _ = write_whole(writer, unbegun.line().as_bytes());
+            return FAILED;
+        }
+    };
+    match write_whole(writer, first.as_bytes()) {
+        Ok(()) => {}
+        Err(_) => return FAILED,
+    }
+    let sentences = Sentences::new(rt, alloc, errors);
+    let outcome = serve_booked(
+        rt, alloc, core, users, listener, options, steering, &sentences,
+    );
+    let Some((last, status)) = last_line(alloc, outcome) else {
+        return FAILED;
+    };
+    match write_whole(writer, last.as_bytes()) {
+        Ok(()) => status,
+        Err(_) => FAILED,
+    }
+}
