@@ -1,18 +1,18 @@
 //! Whoever connects: the frames that are sent, the answers that are due, and one session over any reader and writer.
 
-ghost use Rattle.std.specs.Prelude.{◌≡◌, ◌+◌, ◌≤◌};
+ghost use Rattle.std.specs.Prelude.{◌≡◌, ◌+◌, ◌≤◌, []};
 ghost use Rattle.msg_admin.specs.declared.request.TheConstants.{FRAME_LIMIT as LIMIT};
 ghost use Rattle.request_handlers.specs.Seats.{most_seats};
 
 use request_handlers::{Core, MOST_SEATS};
 use session_logins::Users;
-use session_pool::{Gate, Limits, LockedDesk, SessionEnd, Why, serve_session};
+use session_pool::{DeskLedger, Gate, Limits, LockedDesk, SessionEnd, Why, serve_session};
 use settings_text::{Document, document_of_text};
 use std::alloc::Global;
 use std::io::{Read, Write};
 use std::marker::Brand;
 use std::sync::Wait;
-use std::sync::ledger::{Blank, Ledger};
+use std::sync::ledger::Blank;
 use std::test::Fail;
 use wire_types::Text;
 
@@ -50,23 +50,22 @@ pub(crate) struct End {
 }
 
 /// Serves one session, of the number 7, at a desk of its own.
-fn serve_on<L: Ledger, R: Wait + Drop, Rd: Read + Drop, Wr: Write, G: Gate>(
+fn serve_on<L: DeskLedger, R: Wait + Drop, Rd: Read + Drop, Wr: Write, G: Gate>(
     rt: R,
     alloc: Global,
+    core: Core,
+    users: &Users,
     blank: Blank,
     reader: Rd,
     writer: &mut Wr,
     limits: Limits,
     gate: &G,
 ) -> Result<End, Fail>
+    requires settings { core.settings ≡ L.settings }
+    requires empty { core.trail ≡ [] }
     requires ledger { (blank.name ≡ L.name) × (blank.parts ≡ L.parts) × (blank.parts ≡ most_seats + 1) }
     requires within { limits.frame ≤ LIMIT }
 {
-    let Document { users, settings } = document_of_text(alloc, SETTINGS.as_bytes())
-        .ok()
-        .ok_or("settings")?;
-    let users = Users::new(alloc, users).ok().ok_or("users")?;
-    let core = Core::open(alloc, settings).ok().ok_or("core")?;
     let desk: LockedDesk<L, R> = LockedDesk::new(core, blank, rt);
     let seat = desk.seat().ok_or("seat")?;
     let host = Text::of(alloc, "10.0.0.5")?;
@@ -75,7 +74,7 @@ fn serve_on<L: Ledger, R: Wait + Drop, Rd: Read + Drop, Wr: Write, G: Gate>(
         seat,
         why,
     } = serve_session(
-        alloc, 7, reader, writer, &host, &users, &desk, seat, limits, gate,
+        alloc, 7, reader, writer, &host, users, &desk, seat, limits, gate,
     );
     Ok(End {
         why,
@@ -95,9 +94,16 @@ pub(crate) fn serve_gated<R: Wait + Drop, Rd: Read + Drop, Wr: Write, G: Gate>(
 ) -> Result<End, Fail>
     requires { limits.frame ≤ LIMIT }
 {
+    let Document { users, settings } = document_of_text(alloc, SETTINGS.as_bytes())
+        .ok()
+        .ok_or("settings")?;
+    let users = Users::new(alloc, users).ok().ok_or("users")?;
+    let core = Core::open(alloc, settings).ok().ok_or("core")?;
     serve_on::<Brand, R, Rd, Wr, G>(
         rt,
         alloc,
+        core,
+        &users,
         Blank::new(MOST_SEATS + 1),
         reader,
         writer,

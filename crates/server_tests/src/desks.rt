@@ -1,17 +1,17 @@
 //! A desk's seats, and who is called round each frame.
 
-ghost use Rattle.std.specs.Prelude.{◌≡◌, ◌+◌};
+ghost use Rattle.std.specs.Prelude.{◌≡◌, ◌+◌, []};
 ghost use Rattle.request_handlers.specs.Seats.{most_seats};
 
 use crate::clients::{HANDSHAKE, LOGIN, METADATA, bytes_of, serve_gated};
 use request_handlers::{Core, MOST_SEATS};
-use session_pool::{Gate, Limits, LockedDesk, Why};
+use session_pool::{DeskLedger, Gate, Limits, LockedDesk, Why};
 use settings_text::{Document, document_of_text};
 use std::alloc::Global;
 use std::marker::Brand;
 use std::sync::Wait;
 use std::sync::atomic::{AtomicU64, Ordering};
-use std::sync::ledger::{Blank, Ledger};
+use std::sync::ledger::Blank;
 use std::test::Fail;
 
 /// Counts its calls, and adds up the frames that it was called with.
@@ -77,17 +77,16 @@ fn round_each_frame(rt: HostRuntime) -> Result<(), Fail> {
 }
 
 /// How many seats a desk gives, asked for so many.
-fn given_on<L: Ledger, R: Wait + Drop>(
+fn given_on<L: DeskLedger, R: Wait + Drop>(
     rt: R,
-    alloc: Global,
+    core: Core,
     blank: Blank,
     asked: u64,
 ) -> Result<u64, Fail>
+    requires settings { core.settings ≡ L.settings }
+    requires empty { core.trail ≡ [] }
     requires ledger { (blank.name ≡ L.name) × (blank.parts ≡ L.parts) × (blank.parts ≡ most_seats + 1) }
 {
-    let text = b"node_id = 1\nhost = \"h\"\nport = 1\n".as_slice();
-    let Document { settings, .. } = document_of_text(alloc, text).ok().ok_or("settings")?;
-    let core = Core::open(alloc, settings).ok().ok_or("core")?;
     let desk: LockedDesk<L, R> = LockedDesk::new(core, blank, rt);
     let mut given = 0u64;
     for _ in 0..asked {
@@ -97,7 +96,10 @@ fn given_on<L: Ledger, R: Wait + Drop>(
 }
 
 fn given<R: Wait + Drop>(rt: R, alloc: Global, asked: u64) -> Result<u64, Fail> {
-    given_on::<Brand, R>(rt, alloc, Blank::new(MOST_SEATS + 1), asked)
+    let text = b"node_id = 1\nhost = \"h\"\nport = 1\n".as_slice();
+    let Document { settings, .. } = document_of_text(alloc, text).ok().ok_or("settings")?;
+    let core = Core::open(alloc, settings).ok().ok_or("core")?;
+    given_on::<Brand, R>(rt, core, Blank::new(MOST_SEATS + 1), asked)
 }
 
 /// A desk gives 1,048,576 seats, and then none.

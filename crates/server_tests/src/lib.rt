@@ -1,6 +1,6 @@
 //! Tests of what stands round the core: readers and writers that fail, are interrupted or give one byte at a time; a desk's
 //! seats, the gate that is called round each frame, and how many frames are served; that sessions run at once, what is
-//! settled and what isn't; and of what no script of `tests/` can show of settings, since no line prints it.
+//! settled and what isn't; a server over loopback; and of what no script of `tests/` can show of settings, since no line prints it.
 #![tactic(auto)]
 
 #[cfg(test)]
@@ -15,6 +15,8 @@ mod desks;
 mod hold;
 #[cfg(test)]
 mod limits;
+#[cfg(test)]
+mod served;
 #[cfg(test)]
 mod session_devices;
 #[cfg(test)]

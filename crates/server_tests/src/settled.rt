@@ -3,10 +3,10 @@
 ghost use Rattle.std.specs.Prelude.{◌≡◌, ◌+◌, []};
 ghost use Rattle.request_handlers.specs.Seats.{most_seats};
 
-use crate::talk::{METADATA, core, event_of, other_core};
+use crate::talk::{METADATA, core as equal_core, event_of, other_core};
 use audit_trail::Event;
 use request_handlers::{Core, MOST_SEATS, Receipt, Stop};
-use session_pool::{Desk, LockedDesk, Quiet};
+use session_pool::{Desk, DeskLedger, LockedDesk, Quiet};
 use settlement::{SettleFault, Settled, settle};
 use std::alloc::Global;
 use std::marker::Brand;
@@ -35,12 +35,13 @@ fn receipts_of(
 }
 
 /// Two seats take turns: ann asks for all topics, two ticks are told, and a marker is to be written.
-fn keep_books<L: Ledger, R: Wait + Drop>(
+fn keep_books<L: DeskLedger, R: Wait + Drop>(
     rt: R,
     alloc: Global,
     core: Core,
     blank: Blank,
 ) -> Result<Books<L>, Fail>
+    requires settings { core.settings ≡ L.settings }
     requires empty { core.trail ≡ [] }
     requires ledger { (blank.name ≡ L.name) × (blank.parts ≡ L.parts) × (blank.parts ≡ most_seats + 1) }
 {
@@ -71,12 +72,13 @@ struct Settling {
 }
 
 /// The receipts of the first end.
-fn first_receipts_at<L: Ledger, R: Wait + Drop>(
+fn first_receipts_at<L: DeskLedger, R: Wait + Drop>(
     rt: R,
     alloc: Global,
     core: Core,
     blank: Blank,
 ) -> Result<Vec<Receipt>, Fail>
+    requires settings { core.settings ≡ L.settings }
     requires empty { core.trail ≡ [] }
     requires ledger { (blank.name ≡ L.name) × (blank.parts ≡ L.parts) × (blank.parts ≡ most_seats + 1) }
 {
@@ -91,21 +93,19 @@ fn first_receipts<R: Wait + Drop>(rt: R, alloc: Global, core: Core) -> Result<Ve
     first_receipts_at::<Brand, R>(rt, alloc, core, Blank::new(MOST_SEATS + 1))
 }
 
-fn settle_each_at<L: Ledger, R: Wait + Drop + Copy>(
+fn settle_each_at<L: DeskLedger, R: Wait + Drop + Copy>(
     rt: R,
     alloc: Global,
+    core: Core,
     blank: Blank,
 ) -> Result<Settling, Fail>
+    requires settings { core.settings ≡ L.settings }
+    requires empty { core.trail ≡ [] }
     requires ledger { (blank.name ≡ L.name) × (blank.parts ≡ L.parts) × (blank.parts ≡ most_seats + 1) }
 {
-    let equal = first_receipts(rt, alloc, core(alloc).ok_or("core")?)?;
+    let equal = first_receipts(rt, alloc, equal_core(alloc).ok_or("core")?)?;
     let another = first_receipts(rt, alloc, other_core(alloc).ok_or("core")?)?;
-    let Books { quiet, one, two } = keep_books::<L, R>(
-        rt,
-        alloc,
-        core(alloc).ok_or("core")?,
-        blank,
-    )?;
+    let Books { quiet, one, two } = keep_books::<L, R>(rt, alloc, core, blank)?;
     let ends = vec![in alloc; one, two, equal, another]?;
     Ok(Settling {
         of_one: settle(alloc, &quiet, &ends[..1]),
@@ -116,7 +116,8 @@ fn settle_each_at<L: Ledger, R: Wait + Drop + Copy>(
 }
 
 fn settle_each<R: Wait + Drop + Copy>(rt: R, alloc: Global) -> Result<Settling, Fail> {
-    settle_each_at::<Brand, R>(rt, alloc, Blank::new(MOST_SEATS + 1))
+    let core = equal_core(alloc).ok_or("core")?;
+    settle_each_at::<Brand, R>(rt, alloc, core, Blank::new(MOST_SEATS + 1))
 }
 
 #[test]

@@ -1,6 +1,6 @@
 //! That sessions run at once: session 1 is held until session 2 has logged in, produced a record and fetched it back.
 
-ghost use Rattle.std.specs.Prelude.{◌≡◌, ◌+◌};
+ghost use Rattle.std.specs.Prelude.{◌≡◌, ◌+◌, []};
 ghost use Rattle.request_handlers.specs.Seats.{most_seats};
 
 use crate::clients::bytes_of;
@@ -10,9 +10,9 @@ use acl_binding::Caller;
 use audit_trail::{Event, Trail};
 use crossbeam_channel::Sender;
 use msg_admin::Request;
-use request_handlers::{MOST_SEATS, Receipt, Seat};
+use request_handlers::{Core, MOST_SEATS, Receipt, Seat};
 use session_logins::Users;
-use session_pool::{Clock, Clocked, Limits, LockedDesk, Quiet, SessionEnd, Why};
+use session_pool::{Clock, DeskLedger, Limits, LockedDesk, Quiet, SessionEnd, Why};
 use session_workers::{Job, serve_all};
 use settlement::settle;
 use std::alloc::Global;
@@ -106,7 +106,7 @@ fn send_both<R: Wait + time::Clock + Copy>(
 }
 
 /// Serves two sessions by so many workers.
-fn serve_both<L: Ledger + Send + Sync, R: Threads + Wait + time::Clock + Copy + Send + Sync>(
+fn serve_both<L: DeskLedger + Send + Sync, R: Threads + Wait + time::Clock + Copy + Send + Sync>(
     rt: R,
     alloc: Global,
     desk: &LockedDesk<L, R>,
@@ -123,8 +123,8 @@ fn serve_both<L: Ledger + Send + Sync, R: Threads + Wait + time::Clock + Copy + 
     let (to, from) = crossbeam_channel::unbounded(alloc)?;
     send_both(rt, alloc, &to, flags, place)?;
     drop(to);
-    let steps = Clocked::new(Ticks { rt, moment: 0 });
-    match serve_all(&rt, alloc, desk, from, workers, steps, &gate) {
+    let clock = Ticks { rt, moment: 0 };
+    match serve_all(&rt, alloc, desk, from, workers, clock, &gate) {
         Ok(ends) => Ok(ends),
         Err(_) => Err(Fail::from("served")),
     }
@@ -211,17 +211,19 @@ fn came_of<L: Ledger>(
     })
 }
 
-fn run_at<L: Ledger + Send + Sync, R: Threads + Wait + time::Clock + Copy + Send + Sync>(
+fn run_at<L: DeskLedger + Send + Sync, R: Threads + Wait + time::Clock + Copy + Send + Sync>(
     rt: R,
     alloc: Global,
+    core: Core,
     blank: Blank,
     place: Place,
     workers: usize,
 ) -> Result<Came, Fail>
+    requires settings { core.settings ≡ L.settings }
+    requires empty { core.trail ≡ [] }
     requires ledger { (blank.name ≡ L.name) × (blank.parts ≡ L.parts) × (blank.parts ≡ most_seats + 1) }
 {
     let flags = Shared::new(alloc, Flags::new()).ok().ok_or("flags")?;
-    let core = core(alloc).ok_or("core")?;
     let desk: LockedDesk<L, R> = LockedDesk::new(core, blank, rt);
     let ends = serve_both(rt, alloc, &desk, &flags, place, workers)?;
     let late = flags.value().late.load(Ordering::SeqCst) != 0;
@@ -234,7 +236,8 @@ fn run<R: Threads + Wait + time::Clock + Copy + Send + Sync>(
     place: Place,
     workers: usize,
 ) -> Result<Came, Fail> {
-    run_at::<Brand, R>(rt, alloc, Blank::new(MOST_SEATS + 1), place, workers)
+    let core = core(alloc).ok_or("core")?;
+    run_at::<Brand, R>(rt, alloc, core, Blank::new(MOST_SEATS + 1), place, workers)
 }
 
 #[test]

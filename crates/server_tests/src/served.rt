@@ -1,0 +1,181 @@
+//! A server over a bound listener: two clients log in on loopback, and each asks for all topics. And what ends the rest of whoever
+//! keeps a core's time.
+
+ghost use Rattle.std.specs.Prelude.{◌≡◌, ◌+◌, []};
+ghost use Rattle.request_handlers.specs.Seats.{most_seats};
+
+use crate::clients::{HANDSHAKE_TOLD, LOGIN_TOLD, bytes_of};
+use crate::talk::{HANDSHAKE, LOGIN, METADATA, core, event_of, users};
+use broker_keeping::Steering;
+use broker_server::{ServeOptions, serve};
+use request_handlers::{Core, MOST_SEATS};
+use session_logins::Users;
+use session_pool::{Desk, DeskLedger, LockedDesk};
+use session_workers::ConnectionOptions;
+use settings_text::{Document, document_of_text};
+use std::alloc::Global;
+use std::io::{Cursor, Read, Write};
+use std::marker::Brand;
+use std::net::{Net, Shutdown, SocketAddr, TcpListener, TcpStream};
+use std::sync::Wait;
+use std::sync::ledger::Blank;
+use std::test::Fail;
+use std::thread::Threads;
+use std::time::{Duration, Instant};
+use std::{thread, time};
+use wire_types::Shared;
+
+/// Broker 1 at `h` and port 9092, which is the controller, and the topic `b` with its one partition.
+const METADATA_TOLD: &str = "00000041000000030000000100000001000168\
+    00002384ffff0000000100000001000000016200000000010000000000000000000100000001000000010000000100000001";
+
+/// So long each wait lasts at most, in seconds.
+const PATIENCE: u64 = 20;
+
+/// Serves two connections, both at once, and gives the exit status and what was printed.
+fn serve_two<
+    R: Net<Listener = TcpListener, Stream = TcpStream> + Threads + Wait + time::Clock + Sync,
+>(rt: &R, alloc: Global, core: Core, users: &Shared<Users>, listener: &TcpListener) -> (u8, Vec<u8>)
+    requires { core.trail ≡ [] }
+{
+    let patience = Some(Duration::from_secs(PATIENCE));
+    let options = ServeOptions {
+        connections: ConnectionOptions {
+            workers: 2,
+            connections: 2,
+            open: patience,
+            idle: patience,
+        },
+        audit: false,
+    };
+    let steering: Option<Steering<Cursor<Vec<u8>>, Vec<u8>>> = None;
+    let mut printed = Vec::new(alloc);
+    let errors = Vec::new(alloc);
+    let status = serve(
+        rt,
+        alloc,
+        core,
+        users,
+        listener,
+        options,
+        steering,
+        &mut printed,
+        errors,
+    );
+    (status, printed)
+}
+
+/// Connects, and says what a client says that logs in, asks for all topics and has nothing more to say.
+fn begin<R: Net<Stream = TcpStream>>(
+    rt: &R,
+    alloc: Global,
+    address: SocketAddr,
+) -> Result<TcpStream, Fail> {
+    let mut stream = TcpStream::connect(rt, address)?;
+    stream.set_read_timeout(Some(Duration::from_secs(PATIENCE)))?;
+    stream.write_all(bytes_of(alloc, &[HANDSHAKE, LOGIN, METADATA])?.as_slice())?;
+    stream.shutdown(Shutdown::Write)?;
+    Ok(stream)
+}
+
+/// All that a client is told.
+fn told(alloc: Global, mut stream: TcpStream) -> Result<Vec<u8>, Fail> {
+    let mut bytes = Vec::new(alloc);
+    stream.read_to_end(&mut bytes)?;
+    Ok(bytes)
+}
+
+/// What each of two clients is told, both of which have said all before the first is heard.
+fn ask_twice<R: Net<Stream = TcpStream>>(
+    rt: &R,
+    alloc: Global,
+    address: SocketAddr,
+) -> Result<(Vec<u8>, Vec<u8>), Fail> {
+    let one = begin(rt, alloc, address)?;
+    let two = begin(rt, alloc, address)?;
+    Ok((told(alloc, one)?, told(alloc, two)?))
+}
+
+#[test]
+fn two_clients_on_loopback(rt: HostRuntime) -> Result<(), Fail> {
+    let alloc = rt.alloc();
+    let users = Shared::new(alloc, users(alloc)?).ok().ok_or("users")?;
+    let core = core(alloc).ok_or("core")?;
+    let listener = TcpListener::bind(&rt, "127.0.0.1:0")?;
+    let address = listener.local_addr()?;
+    let (handle, people, door) = (&rt, &users, &listener);
+    let ((status, printed), answers) = thread::join(
+        handle,
+        move ||
+            requires { core.trail ≡ [] }
+        { serve_two(handle, alloc, core, people, door) },
+        move || ask_twice(handle, alloc, address),
+    );
+    let (one, two) = answers?;
+    let due = bytes_of(alloc, &[HANDSHAKE_TOLD, LOGIN_TOLD, METADATA_TOLD])?;
+    assert!(rt; one == due && two == due);
+    let printed = String::from_utf8(printed).ok().ok_or("text")?;
+    let first = format!(in alloc; "listening on {address}\nsessions 2 events ")?;
+    assert!(rt; printed.starts_with(first.as_str()), "{printed}");
+    assert!(rt; printed.ends_with(" refusals 0\n"), "{printed}");
+    assert_eq!(rt; status, 0);
+    Ok(())
+}
+
+/// Ann may do all.
+const OF_ANN: &str = "node_id = 1\nhost = \"h\"\nport = 9092\nsupers = [\"User:ann\"]\n\
+    [[topic]]\nname = \"b\"\npartitions = 1\n";
+
+/// The transactional id `t` gets producer id 0 and epoch 0.
+const INIT: &str = "000000110016000000000003ffff0001740000ea60";
+
+/// It takes in partition 0 of `b`.
+const ADD: &str = "000000260018000000000004ffff000174000000000000000000000000000100016200000001\
+    00000000";
+
+/// It commits.
+const COMMIT: &str = "00000018001a000000000005ffff0001740000000000000000000001";
+
+/// Whether a rest of 20 seconds ends in the first ten, where it comes after these requests of ann.
+fn is_woken_on<L: DeskLedger, R: Wait + time::Clock + Copy>(
+    rt: R,
+    alloc: Global,
+    core: Core,
+    blank: Blank,
+    frames: &[&str],
+) -> Result<bool, Fail>
+    requires settings { core.settings ≡ L.settings }
+    requires empty { core.trail ≡ [] }
+    requires ledger { (blank.name ≡ L.name) × (blank.parts ≡ L.parts) × (blank.parts ≡ most_seats + 1) }
+{
+    let desk: LockedDesk<L, R> = LockedDesk::new(core, blank, rt);
+    let mut seat = desk.seat().ok_or("seat")?;
+    for frame in frames {
+        let event = event_of(alloc, *frame).ok_or("event")?;
+        let (back, answer) = desk.submit(seat, event);
+        answer.ok().ok_or("answer")?;
+        seat = back;
+    }
+    let start = Instant::now(&rt)?;
+    desk.rest(&rt, Duration::from_secs(PATIENCE));
+    Ok(start.elapsed(&rt)? < Duration::from_secs(10))
+}
+
+fn is_woken<R: Wait + time::Clock + Copy>(
+    rt: R,
+    alloc: Global,
+    frames: &[&str],
+) -> Result<bool, Fail> {
+    let Document { settings, .. } = document_of_text(alloc, OF_ANN.as_bytes())
+        .ok()
+        .ok_or("settings")?;
+    let core = Core::open(alloc, settings).ok().ok_or("core")?;
+    is_woken_on::<Brand, R>(rt, alloc, core, Blank::new(MOST_SEATS + 1), frames)
+}
+
+/// The commit leaves a marker owed.
+#[test]
+fn a_rest_ends_once_a_marker_is_owed(rt: HostRuntime) -> Result<(), Fail> {
+    assert!(rt; is_woken(rt, rt.alloc(), &[INIT, ADD, COMMIT])?);
+    Ok(())
+}
