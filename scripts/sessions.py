@@ -1,5 +1,5 @@
 #!/usr/bin/env python3
-"""Sessions over TCP, byte for byte: which messages log in, what is answered before a login and behind it, why a session
+"""Sessions over TCP, byte for byte: which messages log in, what is answered before a login and after it, why a session
 ends, and how many events it was. Lines steer the brokers, so nothing happens but what is asked."""
 
 import os
@@ -43,8 +43,10 @@ VERSIONS_TOLD = (
 )
 VERSIONS_IN_THREE = "000000110012000300000007000163000261023100"
 VERSIONS_IN_THREE_TOLD = "0000001000000007002300000001001200000000"
+# The same with nothing after the correlation id, of which no more is read.
+BARE_VERSIONS_IN_THREE = "000000080012000300000007"
 
-# A handshake that chooses SCRAM; another password; a handshake and a login behind a login.
+# A handshake that chooses SCRAM; another password; a handshake and a login after a login.
 SCRAM = "000000110011000100000001ffff0005534352414d"
 SCRAM_TOLD = "00000011000000010021000000010005504c41494e"
 WRONG = "000000150024000000000002ffff0000000700616e6e007078"
@@ -89,6 +91,10 @@ ROWS = (
     Row(("0000000a0003000000000001ffff",), why=MALFORMED),
     Row(("000000080012000000000001",), why=MALFORMED),
     Row(("0000000b0012000000000001ffff00",), why=MALFORMED),
+    # Metadata that counts more topics than there are bytes, one with a byte after its body, and one without a client's name
+    Row(("000000100003000100000001ffff7fffffff0000",), why=MALFORMED),
+    Row(("0000000f0003000100000001ffffffffffff00",), why=MALFORMED),
+    Row(("000000080003000100000001",), why=MALFORMED),
     # logins
     Row((HANDSHAKE, LOGIN, METADATA), (HANDSHAKE_TOLD, LOGIN_TOLD, METADATA_TOLD), 1),
     Row((HANDSHAKE, WRONG, METADATA), (HANDSHAKE_TOLD, WRONG_TOLD), why=NO_LOGIN),
@@ -106,7 +112,7 @@ ROWS = (
     ),
     # a Produce that wants no answer
     Row((HANDSHAKE, LOGIN, SILENT_PRODUCE, PRODUCE), (HANDSHAKE_TOLD, LOGIN_TOLD, PRODUCE_TOLD), 2),
-    # ApiVersions before the handshake, behind it, and behind the login
+    # ApiVersions before the handshake, after it, and after the login
     Row(
         (VERSIONS, HANDSHAKE, VERSIONS, LOGIN, VERSIONS),
         (VERSIONS_TOLD, HANDSHAKE_TOLD, VERSIONS_TOLD, LOGIN_TOLD, VERSIONS_TOLD),
@@ -114,6 +120,10 @@ ROWS = (
     ),
     Row(
         (VERSIONS_IN_THREE, HANDSHAKE, VERSIONS_IN_THREE, LOGIN, VERSIONS_IN_THREE),
+        (VERSIONS_IN_THREE_TOLD, HANDSHAKE_TOLD, VERSIONS_IN_THREE_TOLD, LOGIN_TOLD, VERSIONS_IN_THREE_TOLD),
+    ),
+    Row(
+        (BARE_VERSIONS_IN_THREE, HANDSHAKE, BARE_VERSIONS_IN_THREE, LOGIN, BARE_VERSIONS_IN_THREE),
         (VERSIONS_IN_THREE_TOLD, HANDSHAKE_TOLD, VERSIONS_IN_THREE_TOLD, LOGIN_TOLD, VERSIONS_IN_THREE_TOLD),
     ),
 )

@@ -31,7 +31,7 @@ def acl(kind="Topic", name="logs", principal="User:ann", host="*", operation="RE
     return f'[[acl]]\n{words}host = "{host}"\noperation = "{operation}"\npermission = "ALLOW"\n'
 
 
-# What stands behind the required keys, and the fault that is named, if there is one.
+# What stands after the required keys, and the fault that is named, if there is one.
 SETTINGS = (
     ("", None),
     ("max_batch = 61", None),
@@ -46,7 +46,7 @@ SETTINGS = (
     *((acl(operation=it), None) for it in OPERATIONS),
     (acl(kind="Cluster", name="kafka-cluster", principal="User:*", pattern="LITERAL"), None),
     ("=", "Toml"),
-    ("racks = 1", "Key"),
+    ("x = 1", "Key"),
     ('trail_limit = "1"', "Key"),
     ('[[user]]\nname = "ann"\n', "Key"),
     (acl(kind="topic"), "Key"),
@@ -94,6 +94,7 @@ WHOLE = (
     (b'node_id = 1\nhost = "broker"\n', "Key"),
     (b'node_id = 1\nhost = "\xff"\nport = 9092\n', "Toml"),
     (b'node_id = 1\nhost = "broker"\nport = 0\n', "Range"),
+    (b'node_id = 1\nhost = "broker"\nport = 0\n' + 2 * topic().encode(), "Range"),
     (b'node_id = 1\nhost = "broker"\nport = 65535\n', None),
     (b'node_id = 1\nhost = "broker"\nport = 65536\n', "Range"),
     (b'node_id = -1\nhost = "broker"\nport = 1\n', "Range"),

@@ -1,6 +1,6 @@
 //! Vectors from outside: checksums of RFC 3720, and batches that another encoder made, in hexadecimal digits.
 
-use record_batch::{Batch, BatchHeader, Outcome, RecordAt, crc32c};
+use record_batch::{Batch, BatchFault, BatchHeader, Outcome, RecordAt, crc32c};
 use std::alloc::{AllocError, Global};
 use std::test::Fail;
 use wire_types::{Bytes, Items, write_varint};
@@ -111,7 +111,7 @@ fn records_of(alloc: Global, batch: &Batch) -> Result<Items<RecordAt>, AllocErro
     }
 }
 
-/// Offset, time behind the batch's, key, value, and how many headers.
+/// Offset, time after the batch's, key, value, and how many headers.
 type Told<'a> = (i64, i64, Option<&'a [u8]>, Option<&'a [u8]>, usize);
 
 fn slice_of(bytes: &Option<Bytes>) -> Option<&[u8]> {
@@ -182,4 +182,59 @@ fn markers(rt: HostRuntime) -> Result<(), Fail> {
         assert_eq!(rt; marker.marker(), Some(outcome));
     }
     Ok(())
+}
+
+/// The same batch at offset 5: its bytes 0 to 7 alone are others, and it is a batch again, as its leader epoch was 0.
+#[test]
+fn at_another_offset(rt: HostRuntime) -> Result<(), Fail> {
+    let bytes = hex::decode(rt.alloc(), ONE)?;
+    let moved = batch_of(rt.alloc(), ONE)?.write_at(rt.alloc(), 5)?;
+    let (front, rest) = bytes.as_slice().split_at(8);
+    let (moved_front, moved_rest) = moved.bytes().as_slice().split_at(8);
+    assert!(rt; front == b"\x00\x00\x00\x00\x00\x00\x00\x00".as_slice());
+    assert!(rt; moved_front == b"\x00\x00\x00\x00\x00\x00\x00\x05".as_slice());
+    assert!(rt; rest.len() == 61 && moved_rest == rest);
+    let Ok(again) = Batch::check(moved.bytes().clone()?, 10_000) else {
+        return Err(Fail::from("no batch"));
+    };
+    assert!(rt; again.header().base_offset == 5 && again.header().crc == 0xdbe9_c876);
+    Ok(())
+}
+
+/// The fault of bytes that may be at most so many.
+fn fault_of(bytes: Vec<u8>, max: u32) -> Result<Option<BatchFault>, AllocError> {
+    Ok(Batch::check(Bytes::from_vec(bytes)?, max).err())
+}
+
+/// The batch of 69 bytes with its last byte changed, with that one cut off, and where a batch may have one byte less.
+#[test]
+fn faults_of_one_byte(rt: HostRuntime) -> Result<(), Fail> {
+    let alloc = rt.alloc();
+    let mut changed = hex::decode(alloc, ONE)?;
+    assert!(rt; changed.len() == 69 && changed.pop() == Some(0));
+    let cut = changed.clone()?;
+    changed.push(1)?;
+    let whole = hex::decode(alloc, ONE)?;
+    assert_eq!(rt; fault_of(changed, 69)?, Some(BatchFault::Crc));
+    assert_eq!(rt; fault_of(cut, 69)?, Some(BatchFault::Length));
+    assert_eq!(rt; fault_of(whole.clone()?, 68)?, Some(BatchFault::TooLarge));
+    assert_eq!(rt; fault_of(whole, 69)?, None);
+    Ok(())
+}
+
+/// Each fault's number, and the code that a producer is answered.
+#[test]
+fn numbers_and_codes_of_faults(rt: HostRuntime) {
+    for (fault, number, code) in [
+        (BatchFault::Length, 1, 2),
+        (BatchFault::Magic, 2, 87),
+        (BatchFault::Crc, 3, 2),
+        (BatchFault::Compressed, 4, 76),
+        (BatchFault::Invalid, 5, 87),
+        (BatchFault::Timestamp, 6, 32),
+        (BatchFault::TooLarge, 7, 10),
+    ] {
+        assert_eq!(rt; fault as i32, number);
+        assert_eq!(rt; fault.code().number(), code, "{fault:?}");
+    }
 }

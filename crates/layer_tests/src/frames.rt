@@ -1,13 +1,10 @@
 //! Whole frames, as they travel.
 
-use msg_admin::{
-    Api, Header, Reply, fits_is_writable, found_is_request, one_reply, one_request, one_response,
-    read_fits, read_request, sendable_is_short, write_reply, write_request, written_is_read,
-    written_reply_is_read,
-};
+use msg_admin::{Api, Header, Reply, read_request, write_reply, write_request};
 use msg_data::ProduceReply;
 use std::alloc::Global;
-use wire_types::{Bytes, Items};
+use std::test::Fail;
+use wire_types::{Bytes, Items, Malformed, ReadFault};
 
 /// Asks for all topics.
 const ALL_TOPICS: &[u8] =
@@ -73,15 +70,28 @@ fn apis(rt: HostRuntime) {
     assert_eq!(rt; Api::Metadata.version(), 1);
 }
 
+/// The fault of a frame without its size field, in hexadecimal digits.
+fn fault_of(alloc: Global, digits: &str) -> Result<Option<ReadFault>, Fail> {
+    let frame = Bytes::from_vec(hex::decode(alloc, digits)?)?;
+    Ok(read_request(alloc, &frame).err())
+}
+
+/// Metadata that counts more topics than there are bytes, or has a byte after its body, or ends before its client's name; and
+/// a key of no api.
 #[test]
-fn laws(_rt: HostRuntime) {
-    one_request();
-    found_is_request();
-    written_is_read();
-    read_fits(ALL_TOPICS);
-    fits_is_writable();
-    one_reply();
-    one_response();
-    written_reply_is_read();
-    sendable_is_short();
+fn frames_that_are_no_requests(rt: HostRuntime) -> Result<(), Fail> {
+    for (digits, fault) in [
+        ("0003000100000001ffff7fffffff0000", Malformed::Short),
+        ("0003000100000001ffffffffffff00", Malformed::Rest),
+        ("0003000100000001", Malformed::Short),
+        ("0063000100000001ffff", Malformed::Unknown),
+        ("0003000200000001ffffffffffff", Malformed::Unknown),
+    ] {
+        assert!(rt;
+            fault_of(rt.alloc(), digits)? == Some(ReadFault::Malformed(fault)),
+            "{digits}"
+        );
+    }
+    assert!(rt; fault_of(rt.alloc(), "0003000100000001ffffffffffff")?.is_none());
+    Ok(())
 }

@@ -1,7 +1,9 @@
 //! Logs of batches that another encoder made.
 
+mod long_log;
 mod plain;
 mod small_logs;
+mod views;
 
 // One record with the value `a`.
 const ONE: [u8; 69] = [

@@ -45,6 +45,8 @@ pub(crate) const METADATA_TOLD: &str = "00000041000000010000000100000001000168\
 pub(crate) struct End {
     pub(crate) why: Why,
     pub(crate) receipts: usize,
+    /// The place of the first of them.
+    pub(crate) place: Option<u64>,
     /// What its seat counts.
     pub(crate) count: u64,
 }
@@ -56,6 +58,7 @@ fn serve_on<L: DeskLedger, R: Wait + Drop, Rd: Read + Drop, Wr: Write, G: Gate>(
     core: Core,
     users: &Users,
     blank: Blank,
+    host: &str,
     reader: Rd,
     writer: &mut Wr,
     limits: Limits,
@@ -68,7 +71,7 @@ fn serve_on<L: DeskLedger, R: Wait + Drop, Rd: Read + Drop, Wr: Write, G: Gate>(
 {
     let desk: LockedDesk<L, R> = LockedDesk::new(core, blank, rt);
     let seat = desk.seat().ok_or("seat")?;
-    let host = Text::of(alloc, "10.0.0.5")?;
+    let host = Text::of(alloc, host)?;
     let SessionEnd {
         receipts,
         seat,
@@ -79,14 +82,16 @@ fn serve_on<L: DeskLedger, R: Wait + Drop, Rd: Read + Drop, Wr: Write, G: Gate>(
     Ok(End {
         why,
         receipts: receipts.len(),
+        place: receipts.first().map(|receipt| receipt.place()),
         count: seat.count(),
     })
 }
 
-/// Serves one session, and calls the gate round each of its frames.
+/// Serves one session of a peer at a host, and calls the gate round each of its frames.
 pub(crate) fn serve_gated<R: Wait + Drop, Rd: Read + Drop, Wr: Write, G: Gate>(
     rt: R,
     alloc: Global,
+    host: &str,
     reader: Rd,
     writer: &mut Wr,
     limits: Limits,
@@ -105,6 +110,7 @@ pub(crate) fn serve_gated<R: Wait + Drop, Rd: Read + Drop, Wr: Write, G: Gate>(
         core,
         &users,
         Blank::new(MOST_SEATS + 1),
+        host,
         reader,
         writer,
         limits,
@@ -122,10 +128,10 @@ pub(crate) fn serve<R: Wait + Drop, Rd: Read + Drop, Wr: Write>(
 ) -> Result<End, Fail>
     requires { limits.frame ≤ LIMIT }
 {
-    serve_gated(rt, alloc, reader, writer, limits, &())
+    serve_gated(rt, alloc, "10.0.0.5", reader, writer, limits, &())
 }
 
-/// The bytes of texts in hexadecimal digits, one behind the other.
+/// The bytes of texts in hexadecimal digits, one after the other.
 pub(crate) fn bytes_of(alloc: Global, parts: &[&str]) -> Result<Vec<u8>, Fail> {
     let mut bytes = Vec::new(alloc);
     for part in parts {

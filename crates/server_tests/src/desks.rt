@@ -66,6 +66,7 @@ fn round_each_frame(rt: HostRuntime) -> Result<(), Fail> {
     let end = serve_gated(
         rt,
         alloc,
+        "10.0.0.5",
         input.as_slice(),
         &mut written,
         Limits::default(),

@@ -1,8 +1,9 @@
 //! A session that is held until another one was served.
 
 use session_pool::Gate;
-use std::io::{Cursor, Read};
+use std::io::{Cursor, Read, Write};
 use std::sync::atomic::{AtomicU64, Ordering};
+use std::sync::{Mutex, Wait};
 use std::time::Duration;
 use std::{io, thread, time};
 use wire_types::Shared;
@@ -104,5 +105,23 @@ impl<R: time::Clock + Drop> Read for Talk<R> {
             self.flags.value().hold(&self.rt);
         }
         self.bytes.read(piece)
+    }
+}
+
+/// Keeps what a session is answered, for whoever shares the bytes.
+#[derive(Drop)]
+pub(crate) struct Answers<R: Wait + Drop> {
+    pub(crate) rt: R,
+    pub(crate) bytes: Shared<Mutex<Vec<u8>>>,
+}
+
+impl<R: Wait + Drop> Write for Answers<R> {
+    fn write(&mut self, bytes: &[u8]) -> io::Result<usize> {
+        self.bytes.value().lock(&self.rt).extend_from_slice(bytes)?;
+        Ok(bytes.len())
+    }
+
+    fn flush(&mut self) -> io::Result<()> {
+        Ok(())
     }
 }

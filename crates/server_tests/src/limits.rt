@@ -3,7 +3,10 @@
 ghost use Rattle.std.specs.Prelude.{◌≤◌};
 ghost use Rattle.msg_admin.specs.declared.request.TheConstants.{FRAME_LIMIT as LIMIT};
 
-use crate::clients::{End, HANDSHAKE, LOGIN, METADATA, bytes_of, serve};
+use crate::clients::{
+    End, HANDSHAKE, HANDSHAKE_TOLD, LOGIN, LOGIN_TOLD, METADATA, METADATA_TOLD, bytes_of, serve,
+    serve_gated,
+};
 use session_pool::{Limits, Why};
 use std::alloc::Global;
 use std::sync::Wait;
@@ -23,7 +26,7 @@ fn end_of<R: Wait + Drop>(
     serve(rt, alloc, input.as_slice(), &mut written, limits)
 }
 
-/// As many frames are served as the limit says, and the input isn't looked at behind them.
+/// As many frames are served as the limit says, and the input isn't looked at after them.
 #[test]
 fn as_many_frames_as_are_served(rt: HostRuntime) -> Result<(), Fail> {
     for frames in 0..5u64 {
@@ -39,6 +42,33 @@ fn as_many_frames_as_are_served(rt: HostRuntime) -> Result<(), Fail> {
             end.receipts as u64 == asked && end.count == asked,
             "{frames}"
         );
+    }
+    Ok(())
+}
+
+/// The login and one request are answered at any host, and the receipt of the request is at place 0.
+#[test]
+fn the_first_receipt(rt: HostRuntime) -> Result<(), Fail> {
+    let input = bytes_of(rt.alloc(), &[HANDSHAKE, LOGIN, METADATA])?;
+    let told = bytes_of(rt.alloc(), &[HANDSHAKE_TOLD, LOGIN_TOLD, METADATA_TOLD])?;
+    for host in ["10.0.0.5", "192.168.7.1", "::1"] {
+        let mut written = Vec::new(rt.alloc());
+        let limits = Limits::default();
+        let end = serve_gated(
+            rt,
+            rt.alloc(),
+            host,
+            input.as_slice(),
+            &mut written,
+            limits,
+            &(),
+        )?;
+        assert!(rt;
+            end.why == Why::Closed && end.receipts == 1 && end.count == 1,
+            "{host}"
+        );
+        assert_eq!(rt; end.place, Some(0), "{host}");
+        assert!(rt; written.as_slice() == told.as_slice(), "{host}");
     }
     Ok(())
 }

@@ -116,41 +116,38 @@ fn told<R: Wait + Drop, Rd: Read + Drop>(
     Ok((end.why, written))
 }
 
-/// The same, with how many bytes it wrote.
-fn count<R: Wait + Drop, Rd: Read + Drop>(
-    rt: R,
-    alloc: Global,
-    reader: Rd,
-) -> Result<(Why, usize), Fail> {
-    let (why, written) = told(rt, alloc, reader)?;
-    Ok((why, written.len()))
-}
-
+/// What comes at once and what comes a byte at a time, with an interruption before each, is answered the same.
 #[test]
 fn one_byte_at_a_time(rt: HostRuntime) -> Result<(), Fail> {
     let input = bytes_of(rt.alloc(), &[HANDSHAKE, LOGIN, METADATA])?;
-    let at_once = told(rt, rt.alloc(), input.as_slice())?;
+    let whole = bytes_of(rt.alloc(), &[HANDSHAKE_TOLD, LOGIN_TOLD, METADATA_TOLD])?;
+    let (why, written) = told(rt, rt.alloc(), input.as_slice())?;
+    assert!(rt; why == Why::Closed && written == whole);
     let slow = Slow::new(input.as_slice(), 1, usize::MAX);
-    assert!(rt; told(rt, rt.alloc(), slow)? == at_once);
-    assert_eq!(rt; at_once.1.len(), 21 + 16 + 69);
+    let (why, written) = told(rt, rt.alloc(), slow)?;
+    assert!(rt; why == Why::Closed && written == whole);
     Ok(())
 }
 
-/// Each read fails in turn: what came before is answered.
+/// Each read fails in turn: the whole frames before are answered as if none had failed, and nothing else is.
 #[test]
 fn failing_reads(rt: HostRuntime) -> Result<(), Fail> {
-    let input = bytes_of(rt.alloc(), &[HANDSHAKE, LOGIN])?;
+    let input = bytes_of(rt.alloc(), &[HANDSHAKE, LOGIN, METADATA])?;
+    let whole = bytes_of(rt.alloc(), &[HANDSHAKE_TOLD, LOGIN_TOLD, METADATA_TOLD])?;
     for reads in 0..input.len() + 1 {
         let answered = match reads {
             0..=20 => 0,
             21..=45 => 21,
-            _ => 37,
+            46..=63 => 37,
+            _ => 106,
         };
         let slow = Slow::new(input.as_slice(), 0, reads);
+        let (why, written) = told(rt, rt.alloc(), slow)?;
         assert!(rt;
-            count(rt, rt.alloc(), slow)? == (Why::ReadFault, answered),
+            why == Why::ReadFault && written.len() == answered,
             "{reads}"
         );
+        assert!(rt; whole.as_slice().starts_with(written.as_slice()), "{reads}");
     }
     Ok(())
 }
@@ -161,7 +158,7 @@ fn interrupted_reads(rt: HostRuntime) -> Result<(), Fail> {
     let input = bytes_of(rt.alloc(), &[HANDSHAKE])?;
     for (interruptions, why) in [(1_000, Why::Closed), (1_001, Why::ReadFault)] {
         let slow = Slow::new(input.as_slice(), interruptions, usize::MAX);
-        assert!(rt; count(rt, rt.alloc(), slow)?.0 == why, "{interruptions}");
+        assert!(rt; told(rt, rt.alloc(), slow)?.0 == why, "{interruptions}");
     }
     Ok(())
 }
@@ -223,7 +220,7 @@ fn reads_of<R: Wait + Drop>(rt: R, alloc: Global, bytes: &[u8]) -> Result<(Why, 
         bytes,
         reads: &reads,
     };
-    let (why, _) = count(rt, alloc, counted)?;
+    let (why, _) = told(rt, alloc, counted)?;
     Ok((why, reads.load(Ordering::SeqCst)))
 }
 

@@ -3,7 +3,7 @@
 ghost use Rattle.std.specs.Prelude.{◌≡◌, ◌+◌, []};
 ghost use Rattle.request_handlers.specs.Seats.{most_seats};
 
-use crate::talk::{METADATA, core as equal_core, event_of, other_core};
+use crate::talk::{ONE_REFUSED, TWO_REFUSED, core as equal_core, event_of, other_core};
 use audit_trail::Event;
 use request_handlers::{Core, MOST_SEATS, Receipt, Stop};
 use session_pool::{Desk, DeskLedger, LockedDesk, Quiet};
@@ -34,7 +34,8 @@ fn receipts_of(
     }
 }
 
-/// Two seats take turns: ann asks for all topics, two ticks are told, and a marker is to be written.
+/// Two seats take turns: ann asks for two topics of which none is hers, and for two of which one isn't, which makes three
+/// refusals; after each the other seat tells a tick.
 fn keep_books<L: DeskLedger, R: Wait + Drop>(
     rt: R,
     alloc: Global,
@@ -45,14 +46,15 @@ fn keep_books<L: DeskLedger, R: Wait + Drop>(
     requires empty { core.trail ≡ [] }
     requires ledger { (blank.name ≡ L.name) × (blank.parts ≡ L.parts) × (blank.parts ≡ most_seats + 1) }
 {
-    let asked = event_of(alloc, METADATA).ok_or("event")?;
+    let asked = event_of(alloc, TWO_REFUSED).ok_or("event")?;
+    let asked_more = event_of(alloc, ONE_REFUSED).ok_or("event")?;
     let desk: LockedDesk<L, R> = LockedDesk::new(core, blank, rt);
     let (Some(one), Some(two)) = (desk.seat(), desk.seat()) else {
         return Err(Fail::from("seats"));
     };
     let (one, first) = desk.submit(one, asked);
     let (two, second) = desk.submit(two, Event::Tick(5));
-    let (_, third) = desk.submit(one, Event::Mark);
+    let (_, third) = desk.submit(one, asked_more);
     let (_, fourth) = desk.submit(two, Event::Tick(6));
     let quiet = desk.close();
     Ok(Books {
@@ -62,7 +64,7 @@ fn keep_books<L: DeskLedger, R: Wait + Drop>(
     })
 }
 
-/// What settling says of the receipts of one or of both ends, and of those of another desk behind them.
+/// What settling says of the receipts of one or of both ends, and of those of another desk after them.
 #[derive(Clone, Copy, Debug, PartialEq, Eq)]
 struct Settling {
     of_both: Result<Settled, SettleFault>,
@@ -125,7 +127,7 @@ fn receipts_of_two_ends(rt: HostRuntime) -> Result<(), Fail> {
     let told = settle_each(rt, rt.alloc())?;
     let settled = Settled {
         events: 4,
-        refusals: 0,
+        refusals: 3,
     };
     assert!(rt; told.of_both == Ok(settled));
     assert!(rt; told.of_one == Err(SettleFault::Missing));

@@ -28,10 +28,18 @@ pub(crate) const HANDSHAKE: &str = "000000110011000100000001ffff0005504c41494e";
 
 pub(crate) const LOGIN: &str = "000000150024000000000002ffff0000000700616e6e007077";
 
-/// All topics are asked for.
+/// All topics are asked for, of which `b` is described to ann.
 pub(crate) const METADATA: &str = "0000000e0003000100000003ffffffffffff";
 
-/// One record is produced to `b`, and fetched.
+pub(crate) const METADATA_TOLD: &str = "00000041000000030000000100000001000168\
+    00002384ffff0000000100000001000000016200000000010000000000000000000100000001000000010000000100000001";
+
+/// Topics of these names are asked for: `a` and `x`, and `a` and `b`.
+pub(crate) const TWO_REFUSED: &str = "000000140003000100000003ffff00000002000161000178";
+
+pub(crate) const ONE_REFUSED: &str = "000000140003000100000003ffff00000002000161000162";
+
+/// One record is produced to `b`, where it gets offset 0, and fetched.
 pub(crate) const PRODUCE: &str =
     "0000006a0000000300000004ffffffff0001000000000000000100016200000001000000000000004500000000000000\
     00000000390000000002dbe9c87600000000000000000000000000000000000000000000ffffffffffffffffffffffff\
@@ -41,8 +49,16 @@ pub(crate) const FETCH: &str =
     "000000360001000400000005ffffffffffff0000000000000001000003e8000000000100016200000001000000000000\
     0000000000000000008a";
 
+pub(crate) const PRODUCE_TOLD: &str =
+    "000000290000000400000001000162000000010000000000000000000000000000ffffffffffffffff00000000";
+
+pub(crate) const FETCH_TOLD: &str =
+    "000000760000000500000000000000010001620000000100000000000000000000000000010000000000000001ffffff\
+    ff000000450000000000000000000000390000000002dbe9c87600000000000000000000000000000000000000000000\
+    ffffffffffffffffffffffffffff000000010e00000001026100";
+
 /// A core of these settings.
-fn core_of(alloc: Global, settings: &str) -> Option<Core>
+pub(crate) fn core_of(alloc: Global, settings: &str) -> Option<Core>
     ensures { IfSome result (λ core. core.trail ≡ []) }
 {
     let Document { settings, .. } = document_of_text(alloc, settings.as_bytes()).ok()?;
@@ -72,6 +88,13 @@ pub(crate) fn users(alloc: Global) -> Result<Users, Fail> {
 pub(crate) fn event_of(alloc: Global, digits: &str) -> Option<Event>
     ensures { IfSome result EventFits }
 {
+    event_by(alloc, "User:ann", digits)
+}
+
+/// The event that somebody's frame is.
+pub(crate) fn event_by(alloc: Global, who: &str, digits: &str) -> Option<Event>
+    ensures { IfSome result EventFits }
+{
     let frame = Bytes::from_vec(hex::decode(alloc, digits).ok()?).ok()?;
     if frame.len() < 4 {
         return None;
@@ -83,7 +106,7 @@ pub(crate) fn event_of(alloc: Global, digits: &str) -> Option<Event>
     let (header, request) = read_request(alloc, &frame).ok()?;
     Some(Event::Ask {
         caller: Caller {
-            who: Text::of(alloc, "User:ann").ok()?,
+            who: Text::of(alloc, who).ok()?,
             host: Text::of(alloc, "10.0.0.5").ok()?,
         },
         client: header.client,

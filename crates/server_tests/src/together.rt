@@ -3,9 +3,12 @@
 ghost use Rattle.std.specs.Prelude.{◌≡◌, ◌+◌, []};
 ghost use Rattle.request_handlers.specs.Seats.{most_seats};
 
-use crate::clients::bytes_of;
-use crate::hold::{Flags, Hold, Place, Talk};
-use crate::talk::{FETCH, HANDSHAKE, LOGIN, METADATA, PRODUCE, core, event_of, users};
+use crate::clients::{HANDSHAKE_TOLD, LOGIN_TOLD, bytes_of};
+use crate::hold::{Answers, Flags, Hold, Place, Talk};
+use crate::talk::{
+    FETCH, FETCH_TOLD, HANDSHAKE, LOGIN, METADATA, METADATA_TOLD, PRODUCE, PRODUCE_TOLD, core,
+    event_of, users,
+};
 use acl_binding::Caller;
 use audit_trail::{Event, Trail};
 use crossbeam_channel::Sender;
@@ -18,9 +21,9 @@ use settlement::settle;
 use std::alloc::Global;
 use std::io::Cursor;
 use std::marker::Brand;
-use std::sync::Wait;
 use std::sync::atomic::Ordering;
 use std::sync::ledger::{Blank, Ledger};
+use std::sync::{Mutex, Wait};
 use std::test::Fail;
 use std::thread::Threads;
 use std::time::Duration;
@@ -59,50 +62,106 @@ struct Came {
     late: bool,
     /// The trail's requests are those that session 2 sent, and then that of session 1.
     told: bool,
+    /// Each session was answered what is due, byte for byte.
+    answered: bool,
 }
 
-/// Hands over a job that says these frames.
-fn send<R: Wait + time::Clock + Copy>(
+/// What both sessions are answered, as it was written to each.
+#[derive(Drop)]
+struct Written {
+    one: Shared<Mutex<Vec<u8>>>,
+    two: Shared<Mutex<Vec<u8>>>,
+}
+
+impl Written {
+    fn new(alloc: Global) -> Result<Written, Fail> {
+        Ok(Written {
+            one: nothing(alloc)?,
+            two: nothing(alloc)?,
+        })
+    }
+
+    /// Whether session 1 was told of the topic, and session 2 that its record was produced at offset 0 and what it fetched.
+    fn is_due<R: Wait>(&self, rt: &R, alloc: Global) -> Result<bool, Fail> {
+        let one = [HANDSHAKE_TOLD, LOGIN_TOLD, METADATA_TOLD];
+        let two = [HANDSHAKE_TOLD, LOGIN_TOLD, PRODUCE_TOLD, FETCH_TOLD];
+        Ok(
+            are(rt, &self.one, &bytes_of(alloc, &one)?)
+                && are(rt, &self.two, &bytes_of(alloc, &two)?),
+        )
+    }
+}
+
+/// Bytes to which nothing was written yet.
+fn nothing(alloc: Global) -> Result<Shared<Mutex<Vec<u8>>>, Fail> {
+    Ok(
+        Shared::new(alloc, Mutex::new(Vec::new(alloc)))
+            .ok()
+            .ok_or("answers")?,
+    )
+}
+
+/// Whether the written bytes are these.
+fn are<R: Wait>(rt: &R, written: &Shared<Mutex<Vec<u8>>>, due: &[u8]) -> bool {
+    written.value().lock(rt).as_slice() == due
+}
+
+/// A session's input, which says these frames.
+fn talk<R: Wait + time::Clock + Copy>(
     rt: R,
     alloc: Global,
-    to: &Sender<Job<Talk<R>, Vec<u8>>>,
-    session: u64,
     frames: &[&str],
-    users: &Shared<Users>,
     flags: &Shared<Flags>,
     holds: bool,
-) -> Result<(), Fail> {
-    let job = Job {
+) -> Result<Talk<R>, Fail> {
+    Ok(Talk {
+        rt,
+        flags: flags.share()?,
+        holds,
+        bytes: Cursor::new(bytes_of(alloc, frames)?),
+    })
+}
+
+/// The job of a session.
+fn job<R: Wait + time::Clock + Copy>(
+    rt: R,
+    alloc: Global,
+    session: u64,
+    reader: Talk<R>,
+    written: &Shared<Mutex<Vec<u8>>>,
+    users: &Shared<Users>,
+) -> Result<Job<Talk<R>, Answers<R>>, Fail> {
+    Ok(Job {
         session,
-        reader: Talk {
+        reader,
+        writer: Answers {
             rt,
-            flags: flags.share()?,
-            holds,
-            bytes: Cursor::new(bytes_of(alloc, frames)?),
+            bytes: written.share()?,
         },
-        writer: Vec::new(alloc),
         host: Text::of(alloc, "10.0.0.5")?,
         users: users.share()?,
         limits: Limits::default(),
-    };
-    to.send(&rt, job).ok().ok_or("send")?;
-    Ok(())
+    })
 }
 
 /// Hands over both jobs: session 1 asks for all topics, and session 2 produces a record and fetches it.
 fn send_both<R: Wait + time::Clock + Copy>(
     rt: R,
     alloc: Global,
-    to: &Sender<Job<Talk<R>, Vec<u8>>>,
+    to: &Sender<Job<Talk<R>, Answers<R>>>,
     flags: &Shared<Flags>,
+    written: &Written,
     place: Place,
 ) -> Result<(), Fail> {
     let users = Shared::new(alloc, users(alloc)?).ok().ok_or("users")?;
-    let one = [HANDSHAKE, LOGIN, METADATA];
-    let two = [HANDSHAKE, LOGIN, PRODUCE, FETCH];
     let holds = place == Place::Read;
-    send(rt, alloc, to, 1, &one, &users, flags, holds)?;
-    send(rt, alloc, to, 2, &two, &users, flags, false)
+    let one = talk(rt, alloc, &[HANDSHAKE, LOGIN, METADATA], flags, holds)?;
+    let two = talk(rt, alloc, &[HANDSHAKE, LOGIN, PRODUCE, FETCH], flags, false)?;
+    let one = job(rt, alloc, 1, one, &written.one, &users)?;
+    let two = job(rt, alloc, 2, two, &written.two, &users)?;
+    to.send(&rt, one).ok().ok_or("send")?;
+    to.send(&rt, two).ok().ok_or("send")?;
+    Ok(())
 }
 
 /// Serves two sessions by so many workers.
@@ -111,6 +170,7 @@ fn serve_both<L: DeskLedger + Send + Sync, R: Threads + Wait + time::Clock + Cop
     alloc: Global,
     desk: &LockedDesk<L, R>,
     flags: &Shared<Flags>,
+    written: &Written,
     place: Place,
     workers: usize,
 ) -> Result<Vec<SessionEnd<Seat<L>>>, Fail> {
@@ -121,7 +181,7 @@ fn serve_both<L: DeskLedger + Send + Sync, R: Threads + Wait + time::Clock + Cop
         last: 3,
     };
     let (to, from) = crossbeam_channel::unbounded(alloc)?;
-    send_both(rt, alloc, &to, flags, place)?;
+    send_both(rt, alloc, &to, flags, written, place)?;
     drop(to);
     let clock = Ticks { rt, moment: 0 };
     match serve_all(&rt, alloc, desk, from, workers, clock, &gate) {
@@ -192,6 +252,7 @@ fn came_of<L: Ledger>(
     quiet: &Quiet<L>,
     ends: Vec<SessionEnd<Seat<L>>>,
     late: bool,
+    answered: bool,
 ) -> Result<Came, Fail> {
     let closed = closed_in(ends.as_slice());
     let (receipts, count) = receipts_of(alloc, ends)?;
@@ -208,6 +269,7 @@ fn came_of<L: Ledger>(
         settled,
         late,
         told: are_told(alloc, trail, &[PRODUCE, FETCH, METADATA]),
+        answered,
     })
 }
 
@@ -225,9 +287,11 @@ fn run_at<L: DeskLedger + Send + Sync, R: Threads + Wait + time::Clock + Copy + 
 {
     let flags = Shared::new(alloc, Flags::new()).ok().ok_or("flags")?;
     let desk: LockedDesk<L, R> = LockedDesk::new(core, blank, rt);
-    let ends = serve_both(rt, alloc, &desk, &flags, place, workers)?;
+    let written = Written::new(alloc)?;
+    let ends = serve_both(rt, alloc, &desk, &flags, &written, place, workers)?;
     let late = flags.value().late.load(Ordering::SeqCst) != 0;
-    came_of(alloc, &desk.close(), ends, late)
+    let answered = written.is_due(&rt, alloc)?;
+    came_of(alloc, &desk.close(), ends, late, answered)
 }
 
 fn run<R: Threads + Wait + time::Clock + Copy + Send + Sync>(
@@ -245,6 +309,7 @@ fn a_session_goes_on_while_another_is_held(rt: HostRuntime) -> Result<(), Fail> 
     for place in [Place::Frame, Place::Read] {
         let came = run(rt, rt.alloc(), place, 2)?;
         assert!(rt; !came.late && came.told, "{place:?}");
+        assert!(rt; came.answered, "{place:?}");
         assert!(rt; came.ends == 3 && came.closed == 3, "{place:?}");
         assert!(rt; came.receipts == came.entries, "{place:?}");
         assert!(rt; came.settled == Some(came.entries as u64), "{place:?}");

@@ -42,6 +42,12 @@ fn transactional_bytes(producer: u8, sequence: u8) -> [u8; 95] {
     bytes[50] = producer;
     bytes[52] = 0;
     bytes[56] = sequence;
+    signed(bytes)
+}
+
+/// The same bytes with their checksum.
+pub(crate) fn signed(bytes: [u8; 95]) -> [u8; 95] {
+    let mut bytes = bytes;
     let [a, b, c, d] = crc32c(&bytes[21..]).to_be_bytes();
     bytes[17] = a;
     bytes[18] = b;
@@ -66,7 +72,7 @@ fn sequence(entries: &[Entry], producer: u8) -> u8 {
 }
 
 /// Appends records, if they are the next ones of their producer.
-fn send(alloc: Global, log: &mut Log, bytes: &[u8]) -> Result<bool, AllocError> {
+pub(crate) fn send(alloc: Global, log: &mut Log, bytes: &[u8]) -> Result<bool, AllocError> {
     let bytes = Bytes::copy_from_slice(alloc, bytes)?;
     let Ok(batch) = Batch::check(bytes, 1000) else {
         return Ok(false);
@@ -83,7 +89,12 @@ fn send(alloc: Global, log: &mut Log, bytes: &[u8]) -> Result<bool, AllocError> 
     }
 }
 
-fn mark(alloc: Global, log: &mut Log, outcome: Outcome, producer: u8) -> Result<bool, AllocError> {
+pub(crate) fn mark(
+    alloc: Global,
+    log: &mut Log,
+    outcome: Outcome,
+    producer: u8,
+) -> Result<bool, AllocError> {
     if log.end() >= 1000 {
         return Ok(false);
     }
@@ -186,7 +197,7 @@ fn are_right(alloc: Global, small: &Small, offset: i64) -> Result<bool, AllocErr
     Ok(true)
 }
 
-/// From each offset on, and from one below the log and one behind its end.
+/// From each offset on, and from one below the log and one after its end.
 fn is_right_from_each(alloc: Global, small: &Small) -> Result<bool, AllocError> {
     for offset in -1..end(&small.entries).saturating_add(2) {
         if !are_right(alloc, small, offset)? {

@@ -1,0 +1,92 @@
+//! How often names are looked up for a verdict, over a policy that holds such names.
+
+ghost use Rattle.std.specs.Prelude.{◌+◌, ◌<◌, ◌≤◌};
+
+use acl_binding::{Binding, Caller, Kind, Operation, Pattern, Permission, Question, Verdict};
+use authorizer::Policy;
+use std::alloc::{AllocError, Global};
+use std::test::Fail;
+use wire_types::{Items, Text};
+
+/// Lets Ann write to the topic of this name, or to those whose names begin so, or forbids it.
+fn bind(
+    alloc: Global,
+    policy: &mut Policy,
+    name: &str,
+    pattern: Pattern,
+    permission: Permission,
+) -> Result<(), Fail>
+    requires { policy.old.book.next < 100 }
+    ensures { policy.new.book.next ≤ policy.old.book.next + 1 }
+{
+    if name.is_empty() {
+        return Err(Fail::from("no name"));
+    }
+    let binding = Binding {
+        kind: Kind::Topic,
+        name: Text::of(alloc, name)?,
+        pattern,
+        principal: Text::of(alloc, "User:ann")?,
+        host: Text::of(alloc, "*")?,
+        operation: Operation::Write,
+        permission,
+    };
+    policy.add(alloc, binding)?;
+    Ok(())
+}
+
+/// Root may do everything; Ann may write to what begins with `pay.`, but not to `pay.x`, and to `zoë`.
+fn policy_of(alloc: Global) -> Result<Policy, Fail> {
+    let supers = vec![in alloc; Text::of(alloc, "User:root")?]?;
+    let mut policy = Policy::new(alloc, Items::from(supers));
+    bind(
+        alloc,
+        &mut policy,
+        "pay.",
+        Pattern::Prefixed,
+        Permission::Allow,
+    )?;
+    bind(
+        alloc,
+        &mut policy,
+        "pay.x",
+        Pattern::Literal,
+        Permission::Deny,
+    )?;
+    bind(
+        alloc,
+        &mut policy,
+        "zoë",
+        Pattern::Literal,
+        Permission::Allow,
+    )?;
+    Ok(policy)
+}
+
+/// Whether somebody may write to a topic.
+fn asked(alloc: Global, who: &str, topic: &str) -> Result<Question, AllocError> {
+    let caller = Caller {
+        who: Text::of(alloc, who)?,
+        host: Text::of(alloc, "10.0.0.5")?,
+    };
+    caller.asks(Operation::Write, Kind::Topic, &Text::of(alloc, topic)?)
+}
+
+/// At most two look-ups and one for each character of the name, of which `zoë` has three in four bytes; none for a super user.
+#[test]
+fn few_look_ups(rt: HostRuntime) -> Result<(), Fail> {
+    let policy = policy_of(rt.alloc())?;
+    for (who, topic, verdict, most) in [
+        ("User:ann", "pay.x", Verdict::Denied(2), 7),
+        ("User:ann", "pay.y", Verdict::Yes, 7),
+        ("User:ann", "zoë", Verdict::Yes, 5),
+        ("User:ann", "zoe", Verdict::Nothing, 5),
+        ("User:ann", "", Verdict::Nothing, 2),
+        ("User:root", "pay.x", Verdict::Yes, 0),
+    ] {
+        let (found, looked) = policy.verdict_counted(&asked(rt.alloc(), who, topic)?);
+        assert_eq!(rt; found, verdict, "{who} {topic}");
+        assert!(rt; looked <= most, "{who} {topic}");
+    }
+    Ok(())
+}

@@ -1,0 +1,49 @@
+//! What the words of the command line ask for, where the numbers aren't given or are out of their range.
+
+use arguments::{Job, Serving, arguments};
+use std::test::Fail;
+
+/// `serve` with an address alone: four workers, a million connections, and nothing else that is asked for.
+#[test]
+fn serve_with_an_address_alone(rt: HostRuntime) -> Result<(), Fail> {
+    let usual = Serving {
+        listen: "127.0.0.1:0",
+        workers: 4,
+        connections: 1_000_000,
+        open_seconds: None,
+        idle_seconds: None,
+        audit: false,
+        settings: None,
+        control: false,
+    };
+    let words = ["kbroker", "serve", "--listen", "127.0.0.1:0"];
+    let job = arguments(rt.alloc(), &words).ok().ok_or("refused")?;
+    assert!(rt; job == Job::Serve(usual));
+    Ok(())
+}
+
+/// As many workers as there may be, and one too few and one too many, and the same of connections.
+#[test]
+fn numbers_at_their_limits(rt: HostRuntime) {
+    for (option, number, is_served) in [
+        ("--workers", "1", true),
+        ("--workers", "64", true),
+        ("--workers", "0", false),
+        ("--workers", "65", false),
+        ("--connections", "1", true),
+        ("--connections", "1000000", true),
+        ("--connections", "0", false),
+        ("--connections", "1000001", false),
+    ] {
+        let words = [
+            "kbroker",
+            "serve",
+            "--listen",
+            "127.0.0.1:0",
+            option,
+            number,
+        ];
+        let is_taken = arguments(rt.alloc(), &words).is_ok();
+        assert!(rt; is_taken == is_served, "{option} {number}");
+    }
+}

@@ -1,0 +1,206 @@
+//! What a core answers to one event after the other: how many markers are owed, and what it does when its trail is full.
+
+ghost use Rattle.api_dispatch.specs.Bounds.{EventFits};
+
+use crate::talk::{core_of, event_by};
+use audit_trail::{Event, Trail, is_same_event, is_same_reply, push_audit_lines};
+use msg_admin::{Reply, write_reply};
+use request_handlers::{Core, Receipt, Stop};
+use std::alloc::Global;
+use std::test::Fail;
+
+/// Ann may do all with the id `t`, the topic `b` and the group `g`.
+const SETTINGS: &str = "node_id = 1\nhost = \"h\"\nport = 9092\nsupers = [\"User:root\"]\n\
+    [[topic]]\nname = \"b\"\npartitions = 1\n\
+    [[acl]]\nkind = \"TransactionalId\"\nname = \"t\"\npattern = \"LITERAL\"\nprincipal = \"User:ann\"\nhost = \"*\"\n\
+    operation = \"ALL\"\npermission = \"ALLOW\"\n\
+    [[acl]]\nkind = \"Topic\"\nname = \"b\"\npattern = \"LITERAL\"\nprincipal = \"User:ann\"\nhost = \"*\"\n\
+    operation = \"ALL\"\npermission = \"ALLOW\"\n\
+    [[acl]]\nkind = \"Group\"\nname = \"g\"\npattern = \"LITERAL\"\nprincipal = \"User:ann\"\nhost = \"*\"\n\
+    operation = \"ALL\"\npermission = \"ALLOW\"\n";
+
+/// The trail takes three events.
+const SHORT_SETTINGS: &str =
+    "node_id = 1\nhost = \"h\"\nport = 9092\nsupers = [\"User:root\"]\ntrail_limit = 3\n\
+    [[topic]]\nname = \"b\"\npartitions = 1\n";
+
+/// What ann is refused there.
+const REFUSED: &str = "unmatched DESCRIBE Topic b User:ann 10.0.0.5\n\
+    unmatched WRITE TransactionalId t User:ann 10.0.0.5\n\
+    unmatched WRITE TransactionalId t User:ann 10.0.0.5\n";
+
+const ANN: &str = "User:ann";
+
+const ROOT: &str = "User:root";
+
+/// The id `t` is initialized with a timeout of a minute, or of a second, and gets producer 0 in epoch 0.
+const INIT: &str = "000000110016000000000007ffff0001740000ea60";
+
+const INIT_FOR_A_SECOND: &str = "000000110016000000000007ffff000174000003e8";
+
+const INIT_TOLD: &str = "000000140000000700000000000000000000000000000000";
+
+/// The partition 0 of `b` is added to its transaction, which is answered 0; later 53.
+const ADD_PARTITION: &str =
+    "000000260018000000000007ffff00017400000000000000000000000000010001620000000100000000";
+
+const ADD_PARTITION_TOLD: &str = "0000001900000007000000000000000100016200000001000000000000";
+
+const ADD_PARTITION_REFUSED: &str = "0000001900000007000000000000000100016200000001000000000035";
+
+/// The group `g` is added, and offset 5 of `b` is staged.
+const ADD_GROUP: &str = "0000001a0019000000000007ffff00017400000000000000000000000167";
+
+const ADD_GROUP_TOLD: &str = "0000000a00000007000000000000";
+
+const STAGE: &str =
+    "00000037001c000300000007ffff000274026700000000000000000000ffffffff0100020262020000000000000000\
+    00000005ffffffff00000000";
+
+const STAGE_TOLD: &str = "0000001600000007000000000002026202000000000000000000";
+
+/// The transaction is committed; of another epoch that is answered 47.
+const COMMIT: &str = "00000018001a000000000007ffff0001740000000000000000000001";
+
+const COMMIT_TOLD: &str = "0000000a00000007000000000000";
+
+const COMMIT_LATE: &str = "0000000a0000000700000000002f";
+
+/// Root denies ann everything with the id `t`.
+const DENY: &str = "00000022001e000100000007ffff0000000105000174030008557365723a616e6e00012a0202";
+
+const DENY_TOLD: &str = "000000100000000700000000000000010000ffff";
+
+/// Where `b` ends for whoever reads committed records, and which offset the group has there.
+const END: &str =
+    "000000260002000200000007ffffffffffff01000000010001620000000100000000ffffffffffffffff";
+
+const END_AT_0: &str =
+    "0000002900000007000000000000000100016200000001000000000000ffffffffffffffff0000000000000000";
+
+const END_AT_1: &str =
+    "0000002900000007000000000000000100016200000001000000000000ffffffffffffffff0000000000000001";
+
+const OFFSET: &str = "000000180009000700000007ffff0002670202620200000000000100";
+
+const OFFSET_UNSTABLE: &str =
+    "000000250000000700000000000202620200000000ffffffffffffffffffffffff0100580000000000";
+
+const OFFSET_5: &str =
+    "0000002500000007000000000002026202000000000000000000000005ffffffff0100000000000000";
+
+/// What a core answers to somebody's frame, in hexadecimal digits, under the frame's correlation id, which is 7.
+fn told(alloc: Global, core: &mut Core, who: &str, frame: &str) -> Result<String, Fail> {
+    let event = event_by(alloc, who, frame).ok_or("event")?;
+    let receipt = core.step(event).ok().ok_or("stopped")?;
+    let written = write_reply(alloc, 7, receipt.reply()).ok().ok_or("unsent")?;
+    Ok(hex::encode(alloc, written.as_slice())?)
+}
+
+/// Whether a step is answered by this reply, which isn't sent.
+fn replies(core: &mut Core, event: Event, reply: Reply) -> bool
+    requires { EventFits event }
+{
+    match core.step(event) {
+        Ok(receipt) => *receipt.reply() == reply,
+        Err(_) => false,
+    }
+}
+
+/// A transaction of one partition and one group is committed; then its owner is denied the id.
+fn denied_owner(alloc: Global) -> Result<Core, Fail> {
+    let mut core = core_of(alloc, SETTINGS).ok_or("core")?;
+    for (who, frame, answer) in [
+        (ANN, INIT, INIT_TOLD),
+        (ANN, ADD_PARTITION, ADD_PARTITION_TOLD),
+        (ANN, ADD_GROUP, ADD_GROUP_TOLD),
+        (ANN, STAGE, STAGE_TOLD),
+        (ANN, COMMIT, COMMIT_TOLD),
+        (ROOT, DENY, DENY_TOLD),
+    ] {
+        if told(alloc, &mut core, who, frame)?.as_str() != answer {
+            return Err(Fail::from(frame));
+        }
+    }
+    Ok(core)
+}
+
+/// The marker and then the decision of the transaction leave 1 and 0 owed and show what was committed, though its owner is
+/// denied the id; with none owed the core is idle.
+#[test]
+fn markers_owed_by_a_denied_owner(rt: HostRuntime) -> Result<(), Fail> {
+    let alloc = rt.alloc();
+    let mut core = denied_owner(alloc)?;
+    assert!(rt; told(alloc, &mut core, ROOT, END)?.as_str() == END_AT_0);
+    assert!(rt; replies(&mut core, Event::Mark, Reply::Marked { left: 1 }));
+    assert!(rt; told(alloc, &mut core, ROOT, END)?.as_str() == END_AT_1);
+    assert!(rt; told(alloc, &mut core, ROOT, OFFSET)?.as_str() == OFFSET_UNSTABLE);
+    assert!(rt; replies(&mut core, Event::Mark, Reply::Marked { left: 0 }));
+    assert!(rt; told(alloc, &mut core, ROOT, OFFSET)?.as_str() == OFFSET_5);
+    let added = told(alloc, &mut core, ANN, ADD_PARTITION)?;
+    assert!(rt; added.as_str() == ADD_PARTITION_REFUSED);
+    assert!(rt; replies(&mut core, Event::Mark, Reply::Idle));
+    assert!(rt; told(alloc, &mut core, ROOT, END)?.as_str() == END_AT_1);
+    Ok(())
+}
+
+/// A second after its beginning a transaction isn't over; a millisecond later its marker is owed, and its producer fenced.
+#[test]
+fn a_marker_owed_when_time_is_over(rt: HostRuntime) -> Result<(), Fail> {
+    let alloc = rt.alloc();
+    let mut core = core_of(alloc, SETTINGS).ok_or("core")?;
+    assert!(rt; told(alloc, &mut core, ANN, INIT_FOR_A_SECOND)?.as_str() == INIT_TOLD);
+    assert!(rt; told(alloc, &mut core, ANN, ADD_PARTITION)?.as_str() == ADD_PARTITION_TOLD);
+    assert!(rt; replies(&mut core, Event::Tick(1000), Reply::Ticked { left: 0 }));
+    assert!(rt; replies(&mut core, Event::Tick(1001), Reply::Ticked { left: 1 }));
+    assert!(rt; replies(&mut core, Event::Mark, Reply::Marked { left: 0 }));
+    assert!(rt; told(alloc, &mut core, ANN, COMMIT)?.as_str() == COMMIT_LATE);
+    assert!(rt; replies(&mut core, Event::Tick(5), Reply::Ticked { left: 0 }));
+    Ok(())
+}
+
+/// Whether a trail's entries are those of these receipts, in order.
+fn is_of(trail: &Trail, receipts: &[Receipt]) -> bool {
+    for (place, receipt) in receipts.iter().enumerate() {
+        match trail.entry(place) {
+            Some(entry)
+                if is_same_event(entry.event.value(), receipt.event())
+                    && is_same_reply(entry.reply.value(), receipt.reply()) => {}
+            _ => return false,
+        }
+    }
+    trail.len() == receipts.len()
+}
+
+/// The lines that tell of a trail's refusals, entry by entry.
+fn refused(alloc: Global, trail: &Trail) -> Result<String, Fail> {
+    let mut text = String::new(alloc);
+    for place in 0..trail.len() {
+        let entry = trail.entry(place).ok_or("entry")?;
+        push_audit_lines(alloc, &mut text, entry.refusals.as_slice())?;
+    }
+    Ok(text)
+}
+
+/// The trail takes three events. The fourth is stopped, and whatever is asked after it, and the trail stays as it was.
+#[test]
+fn a_full_trail(rt: HostRuntime) -> Result<(), Fail> {
+    let alloc = rt.alloc();
+    let mut core = core_of(alloc, SHORT_SETTINGS).ok_or("core")?;
+    let mut receipts = Vec::new(alloc);
+    for frame in [END, INIT, COMMIT] {
+        let event = event_by(alloc, ANN, frame).ok_or("event")?;
+        receipts.push(core.step(event).ok().ok_or("stopped")?)?;
+    }
+    let lines = refused(alloc, core.trail())?;
+    assert!(rt; lines.as_str() == REFUSED && is_of(core.trail(), receipts.as_slice()));
+    for frame in [END, END, INIT] {
+        let event = event_by(alloc, ROOT, frame).ok_or("event")?;
+        assert!(rt; core.step(event).err() == Some(Stop::TrailFull));
+        assert!(rt; core.step(Event::Mark).err() == Some(Stop::TrailFull));
+        assert!(rt; core.step(Event::Tick(9)).err() == Some(Stop::TrailFull));
+        let lines = refused(alloc, core.trail())?;
+        assert!(rt; lines.as_str() == REFUSED && is_of(core.trail(), receipts.as_slice()));
+    }
+    Ok(())
+}

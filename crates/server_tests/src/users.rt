@@ -1,0 +1,42 @@
+//! Who may log in at all.
+
+use session_logins::Users;
+use settings_text::{SettingsFault, User};
+use std::alloc::{AllocError, Global};
+use std::test::Fail;
+use wire_types::{Items, Text};
+
+/// Users of these names and passwords.
+fn users_of(alloc: Global, users: &[(&str, &str)]) -> Result<Items<User>, AllocError> {
+    let mut list = Items::new(alloc);
+    for (name, password) in users {
+        list.push(User {
+            name: Text::of(alloc, name)?,
+            password: Text::of(alloc, password)?,
+        })?;
+    }
+    Ok(list)
+}
+
+/// The fault of users of these names and passwords, if they have one.
+fn fault_of(alloc: Global, users: &[(&str, &str)]) -> Result<Option<SettingsFault>, AllocError> {
+    Ok(Users::new(alloc, users_of(alloc, users)?).err())
+}
+
+/// No name stands twice, whatever its password, and neither a name nor a password is empty or holds a NUL.
+#[test]
+fn who_may_log_in(rt: HostRuntime) -> Result<(), Fail> {
+    let fault = Some(SettingsFault::User);
+    let two = [("ann", "pw"), ("bob", "pw")];
+    assert_eq!(rt; fault_of(rt.alloc(), &two)?, None);
+    assert_eq!(rt;
+        fault_of(rt.alloc(), &[("ann", "pw"), ("ann", "pw")])?,
+        fault
+    );
+    let apart = [("ann", "pw"), ("bob", "pw"), ("ann", "other")];
+    assert_eq!(rt; fault_of(rt.alloc(), &apart)?, fault);
+    for user in [("", "pw"), ("ann", ""), ("a\0", "pw"), ("ann", "p\0w")] {
+        assert_eq!(rt; fault_of(rt.alloc(), &[user])?, fault, "{user:?}");
+    }
+    Ok(())
+}
