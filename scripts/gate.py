@@ -22,6 +22,7 @@ LOG = ROOT / "out/gate.log"
 TIMES = ROOT / "out/gate.json"
 SCRIPTS = (
     "answers.py",
+    "plain_answers.py",
     "shown.py",
     "lines.py",
     "settings.py",

@@ -101,8 +101,8 @@ fn is(record: &RecordAt, value: u8) -> bool {
     }
 }
 
-/// What is seen from an offset on.
-fn seen(alloc: Global, log: &Log, offset: i64, room: u64, forced: bool) -> Result<Seen, Fail> {
+/// What a fetch from an offset on shows.
+fn look(alloc: Global, log: &Log, offset: i64, room: u64, forced: bool) -> Result<Seen, Fail> {
     match log.fetch(alloc, offset, Isolation::ReadCommitted, room, forced) {
         Ok(served) => {
             let shown = consumer_view(alloc, &served, offset)?;
@@ -117,11 +117,11 @@ fn seen(alloc: Global, log: &Log, offset: i64, room: u64, forced: bool) -> Resul
 fn committed_records_alone_are_shown(rt: HostRuntime) -> Result<(), Fail> {
     let log = aborted_and_committed(rt.alloc())?;
     let committed = [(4, b'd'), (5, b'e')].as_slice();
-    let from_one = seen(rt.alloc(), &log, 1, AMPLE, false)?;
+    let from_one = look(rt.alloc(), &log, 1, AMPLE, false)?;
     assert!(rt; from_one.serves(4, &[(0, 0)]) && from_one.shows(committed));
-    let from_three = seen(rt.alloc(), &log, 3, AMPLE, false)?;
+    let from_three = look(rt.alloc(), &log, 3, AMPLE, false)?;
     assert!(rt; from_three.serves(3, &[(0, 0)]) && from_three.shows(committed));
-    let from_four = seen(rt.alloc(), &log, 4, AMPLE, false)?;
+    let from_four = look(rt.alloc(), &log, 4, AMPLE, false)?;
     assert!(rt; from_four.serves(2, &[]) && from_four.shows(committed));
     Ok(())
 }
@@ -131,10 +131,10 @@ fn committed_records_alone_are_shown(rt: HostRuntime) -> Result<(), Fail> {
 #[test]
 fn nothing_of_an_aborted_or_an_open_transaction_is_shown(rt: HostRuntime) -> Result<(), Fail> {
     let mut log = aborted_and_committed(rt.alloc())?;
-    let forced = seen(rt.alloc(), &log, 1, 1, true)?;
+    let forced = look(rt.alloc(), &log, 1, 1, true)?;
     assert!(rt; forced.serves(1, &[(0, 0)]) && forced.shows(&[]));
     append(rt.alloc(), &mut log, TWO_MORE)?;
-    let open = seen(rt.alloc(), &log, 7, AMPLE, true)?;
+    let open = look(rt.alloc(), &log, 7, AMPLE, true)?;
     assert!(rt; open.serves(0, &[]) && open.shows(&[]));
     assert!(rt; open.served.stable == 7 && open.served.high == 9);
     let past = log.fetch(rt.alloc(), 10, Isolation::ReadCommitted, AMPLE, true);
@@ -151,9 +151,9 @@ fn two_aborted_transactions_show_nothing(rt: HostRuntime) -> Result<(), Fail> {
     append(rt.alloc(), &mut log, OF_SECOND)?;
     end(rt.alloc(), &mut log, Outcome::Abort, 1)?;
     end(rt.alloc(), &mut log, Outcome::Abort, 0)?;
-    let whole = seen(rt.alloc(), &log, 0, AMPLE, false)?;
+    let whole = look(rt.alloc(), &log, 0, AMPLE, false)?;
     assert!(rt; whole.serves(4, &[(1, 1), (0, 0)]) && whole.shows(&[]));
-    let last = seen(rt.alloc(), &log, 3, AMPLE, false)?;
+    let last = look(rt.alloc(), &log, 3, AMPLE, false)?;
     assert!(rt; last.serves(1, &[(0, 0)]) && last.shows(&[]));
     Ok(())
 }
