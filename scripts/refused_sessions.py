@@ -1,16 +1,22 @@
 #!/usr/bin/env python3
-"""Refuses each allocation of `kbroker serve` in turn, while a client logs in, produces, fetches and ends a transaction.
+"""Refuses each allocation in turn of a session that logs in and asks for all topics, and then of `kbroker serve`, while a client
+logs in, produces, fetches and ends a transaction.
 
-Whatever is refused, the program ends by itself, with status 0 and the line of settled books or with status 1; what it
-prints is a front of a line that says where it listens and of a last line that is told; and what the client is answered
-before its connection ends is what it is answered where nothing is refused. Over another connection it then asks once more
-what got no answer: what only reads is answered as if nothing had been refused, and anything else may have put the broker
-down. Both have to be seen.
+The session alone is served over bytes, by the program `refused_runs`. Wherever memory is refused to it, it ends for that
+reason, or since the core stopped for it, and what was written is a front of what is written where nothing is refused, byte
+for byte.
+
+Of the server, whatever is refused, the program ends by itself, with status 0 and the line of settled books or with status 1;
+what it prints is a front of a line that says where it listens and of a last line that is told; the bytes that the client is
+answered are a front of those where nothing is refused; and a session that was begun and ended early says that there was not
+enough memory. Over another connection the client then asks once more what got no answer: what only reads is answered as if
+nothing had been refused, and anything else may have put the broker down. Both have to be seen.
 """
 
 import contextlib
 import os
 import re
+import struct
 import subprocess
 import sys
 import tempfile
@@ -18,11 +24,21 @@ from concurrent.futures import ThreadPoolExecutor
 from pathlib import Path
 
 import refusing
+import sessions
 import wire
-from program import PROGRAM
+from program import PROGRAM, ROOT
 from serving import OF_ROOT, topic
 
 SETTINGS = OF_ROOT + topic("b")
+
+# A session over bytes: its program, its settings and frames, what is written to it, and what may come of it.
+OVER_BYTES = ROOT / "crates/refused_runs/out/refused_runs"
+FRAMES = (sessions.HANDSHAKE, sessions.LOGIN, sessions.METADATA)
+SESSION = "\n".join((sessions.SETTINGS.format(1_000) + "---", *FRAMES, ""))
+WRITTEN = sessions.HANDSHAKE_TOLD + sessions.LOGIN_TOLD + sessions.METADATA_TOLD
+CAME = re.compile(r"receipts (\d+)\nwritten ([0-9a-f]*)\nend (\S+)\n")
+FOR_MEMORY = ("NoMemory", "Stopped(NoMemory)")
+NOT_BEGUN, FAILED = 3, 1
 
 WORDS = ("serve", "--listen", "127.0.0.1:0", "--workers", "1", "--connections", "2")
 FIRST = re.compile(rb"listening on (\S+)\n")
@@ -37,16 +53,82 @@ ENDS_EARLY = (
 GIVEN = "settings"
 WANT_OF_MEMORY = "there is not enough memory"
 DOWN = "an earlier event put the broker down"
+# A session is cut short for want of memory of its own or of its event; and where the keeper's event had none, by the next one.
+CUT_SHORT = (WANT_OF_MEMORY, DOWN)
 READING = ("Metadata", "Fetch")
 CLOSED = contextlib.suppress(EOFError, OSError)
 FEWEST = 100
+
+
+class OverBytes:
+    """The session over bytes, in which this allocation is refused, or none for 0."""
+
+    def __init__(self, folder, refused_at):
+        environment = refusing.environment(folder / refusing.LIBRARY, refused_at)
+        # a file, since a pipe takes more reads or fewer by chance, and each of them allocates
+        with tempfile.TemporaryFile() as given:
+            given.write(SESSION.encode())
+            given.seek(0)
+            ran = subprocess.run(
+                [OVER_BYTES, "session"], stdin=given, capture_output=True, env=environment, timeout=60
+            )
+        self.status, self.text, self.told = ran.returncode, ran.stdout.decode(), ran.stderr.decode()
+        found = CAME.fullmatch(self.text)
+        self.receipts, self.written, self.end = (int(found[1]), *found.groups()[1:]) if found else (None, None, None)
+
+
+def came_of(run, whole):
+    """What came of a refused allocation of a session over bytes, or None where that must not be."""
+    if run.text == whole.text and run.status == 0:
+        return "nothing"
+    if run.status == NOT_BEGUN and not run.text:
+        return "not begun"
+    if run.status == FAILED and whole.text.startswith(run.text):
+        return "not told"
+    is_front = run.status == 0 and run.end in FOR_MEMORY and whole.written.startswith(run.written)
+    return run.end if is_front and run.receipts <= whole.receipts else None
+
+
+def over_bytes(folder):
+    """Refuses each allocation in turn of a session over bytes, and gives how often the session ended for that."""
+    whole = OverBytes(folder, 0)
+    count = refusing.counted(whole.told)
+    if (whole.status, whole.receipts, whole.written, whole.end) != (0, 1, WRITTEN, "Closed") or count is None:
+        sys.exit(f"refused sessions: the whole session failed: {vars(whole)}")
+    with ThreadPoolExecutor(os.cpu_count()) as workers:
+        seen = []
+        for at, run in enumerate(workers.map(lambda it: OverBytes(folder, it), range(1, count + 1)), 1):
+            seen.append(came_of(run, whole))
+            if seen[-1] is None:
+                sys.exit(f"refused sessions: where allocation {at} of {count} of a session is refused: {vars(run)}")
+    ended = [seen.count(it) for it in FOR_MEMORY]
+    if 0 in ended:
+        sys.exit(f"refused sessions: a session ended so often with {FOR_MEMORY}: {ended}")
+    return sum(ended)
+
+
+class Recorded(wire.Connection):
+    """A connection that keeps all bytes that it is answered."""
+
+    def __init__(self, address):
+        super().__init__(address)
+        self.heard = b""
+
+    def receive(self, api):
+        size = self.input.read(4)
+        self.heard += size
+        frame = self.input.read(struct.unpack(">i", size)[0]) if len(size) == 4 else b""
+        self.heard += frame
+        if len(size) < 4 or len(frame) < struct.unpack(">i", size)[0]:
+            raise EOFError("the broker has closed the connection")
+        return wire.response_of(api, frame)
 
 
 class Run:
     """The program with a client, in which this allocation is refused, or none for 0."""
 
     def __init__(self, folder, refused_at):
-        self.answers, self.left, self.again = [], None, None
+        self.answers, self.left, self.again, self.heard = [], None, None, b""
         environment = refusing.environment(folder / refusing.LIBRARY, refused_at)
         with open(folder / GIVEN, "rb") as given:
             pipes = {"stdin": given, "stdout": subprocess.PIPE, "stderr": subprocess.PIPE}
@@ -64,11 +146,14 @@ class Run:
 
     def talk(self, address):
         """Asks one thing after the other as long as the connection is there, and over another one what is left."""
-        with CLOSED, wire.Connection(address) as broker:
-            for self.left in self.asked():
-                api, fields = self.left
-                self.answers.append(broker.ask(api, **fields))
-            self.left = None
+        with CLOSED, Recorded(address) as broker:
+            try:
+                for self.left in self.asked():
+                    api, fields = self.left
+                    self.answers.append(broker.ask(api, **fields))
+                self.left = None
+            finally:
+                self.heard = broker.heard
         with CLOSED, wire.Connection(address) as broker:
             if self.left:
                 api, fields = self.left
@@ -107,8 +192,11 @@ class Run:
 
 def fault_of(run, whole):
     """What is wrong with a run, or None."""
-    if run.answers != whole.answers[: len(run.answers)]:
+    if not whole.heard.startswith(run.heard) or run.answers != whole.answers[: len(run.answers)]:
         return "is answered something else"
+    was_begun = run.heard or run.why(0)
+    if run.status == 0 and run.left and was_begun and run.why(0) not in CUT_SHORT:
+        return f"ends a session otherwise: {run.why(0)}"
     if run.is_asked_again() and run.again != whole.answers[len(run.answers)]:
         return "is not answered what only reads when it is asked again"
     if run.status == 0 and (not run.first or not LAST.fullmatch(run.last)):
@@ -123,6 +211,7 @@ def main():
         folder = Path(made)
         (folder / GIVEN).write_text(SETTINGS)
         refusing.library(folder)
+        ended = over_bytes(folder)
         whole = Run(folder, 0)
         count = refusing.counted(whole.told)
         if fault_of(whole, whole) or len(whole.answers) != 9 or count is None:
@@ -140,8 +229,9 @@ def main():
     if not of_reading or not of_others:
         sys.exit(f"refused sessions: {of_reading} were asked again, and {of_others} put the broker down")
     print(
-        f"refused sessions: each of {count} allocations of a server was refused in turn; {of_reading} times what only"
-        f" reads was asked again, and {of_others} times the broker was down"
+        f"refused sessions: a session ended {ended} times for want of memory, in each place; each of {count} allocations of a"
+        f" server was refused in turn; {of_reading} times what only reads was asked again, and {of_others} times the broker was"
+        " down"
     )
 
 

@@ -1,15 +1,18 @@
-//! Hands the events of a script to a core, and asks once more for the one that was stopped. It is for
-//! `scripts/refused_runs.py`, which refuses each of its allocations in turn.
+//! Hands the events of a script to a core, and asks once more for the one that was stopped; or serves a session. It is for
+//! `scripts/refused_runs.py` and `scripts/refused_sessions.py`, which refuse each of its allocations in turn.
 //!
 //! Standard input is settings, a line `---`, and a line for each event: `mark`, `tick N`, or `USER HOST FRAME`, the frame in
 //! hexadecimal digits and without its size field. The argument says whether the core is handed them as a list (`run`) or
-//! one by one (`step`).
+//! one by one (`step`). With `session` each line is a frame with its size field, and all are one session's.
 #![tactic(auto)]
+
+mod session;
 
 ghost use Rattle.std.specs.Prelude.{IfSome};
 ghost use Rattle.std.specs.List.{AllByRecursion};
 ghost use Rattle.api_dispatch.specs.Bounds.{EventFits};
 
+use crate::session::Script;
 use acl_binding::Caller;
 use audit_trail::Event;
 use msg_admin::{FRAME_LIMIT, read_request, write_reply};
@@ -159,10 +162,31 @@ fn open(alloc: Global, settings: &str) -> Option<Core> {
     Core::open(alloc, document.settings).ok()
 }
 
+/// Hands the events of a script to a core, all at once or one by one.
+fn hand_in<W: Write>(
+    alloc: Global,
+    settings: &str,
+    script: &str,
+    at_once: bool,
+    writer: &mut W,
+) -> io::Result<ExitCode> {
+    let (Some(mut core), Some(events)) = (open(alloc, settings), events_of(alloc, script)) else {
+        return Ok(ExitCode::from(NOT_BEGUN));
+    };
+    let (receipts, stop) = if at_once {
+        core.run(events)
+    } else {
+        step_each(alloc, &mut core, script, events.len())?
+    };
+    tell(alloc, &mut core, script, receipts, stop, writer)?;
+    Ok(ExitCode::SUCCESS)
+}
+
 fn main(rt: HostRuntime) -> io::Result<ExitCode> {
     let alloc = rt.alloc();
     let words: Vec<String> = std::env::args(&rt)?.collect(alloc)?;
     let at_once = words.iter().any(|word| word.as_str() == "run");
+    let in_session = words.iter().any(|word| word.as_str() == "session");
     let Ok(input) = read_input(alloc, &mut rt.reader()) else {
         return Ok(ExitCode::from(NOT_BEGUN));
     };
@@ -172,21 +196,13 @@ fn main(rt: HostRuntime) -> io::Result<ExitCode> {
     let Some((settings, script)) = text.split_once("---\n") else {
         return Ok(ExitCode::from(NOT_BEGUN));
     };
-    let (Some(mut core), Some(events)) = (open(alloc, settings), events_of(alloc, script)) else {
+    let mut writer = io::writer(&rt);
+    if !in_session {
+        return hand_in(alloc, settings, script, at_once, &mut writer);
+    }
+    let Some(script) = Script::of(alloc, settings, script) else {
         return Ok(ExitCode::from(NOT_BEGUN));
     };
-    let (receipts, stop) = if at_once {
-        core.run(events)
-    } else {
-        step_each(alloc, &mut core, script, events.len())?
-    };
-    tell(
-        alloc,
-        &mut core,
-        script,
-        receipts,
-        stop,
-        &mut io::writer(&rt),
-    )?;
+    session::tell(rt, alloc, script, &mut writer)?;
     Ok(ExitCode::SUCCESS)
 }

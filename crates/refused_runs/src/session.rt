@@ -1,0 +1,133 @@
+//! One session at a desk of its own, whose frames come from a script.
+
+ghost use Rattle.std.specs.Prelude.{◌≡◌, ◌+◌, [], IfSome};
+ghost use Rattle.request_handlers.specs.Seats.{most_seats};
+
+use request_handlers::{Core, MOST_SEATS};
+use session_logins::Users;
+use session_pool::{Limits, LockedDesk, SessionEnd, Why, serve_session};
+use settings_text::{Document, document_of_text};
+use std::alloc::{AllocError, Global};
+use std::io;
+use std::io::Write;
+use std::marker::Brand;
+use std::sync::Wait;
+use std::sync::ledger::{Blank, Ledger};
+use wire_types::Text;
+
+/// How many bytes may be written in a session without more memory for them.
+const ROOM: usize = 4_096;
+
+/// Who asks and is answered, and what a session needs of its own before it begins.
+#[derive(Drop)]
+pub(crate) struct Script {
+    core: Core,
+    users: Users,
+    host: Text,
+    /// All frames, one after the other.
+    input: Vec<u8>,
+    /// What is written.
+    output: Vec<u8>,
+}
+
+/// What a session came to.
+#[derive(Drop)]
+struct Came {
+    receipts: usize,
+    why: Why,
+    output: Vec<u8>,
+}
+
+/// The bytes of lines of hexadecimal digits.
+fn bytes_of(alloc: Global, lines: &str) -> Option<Vec<u8>> {
+    let mut bytes = Vec::new(alloc);
+    for line in lines.lines() {
+        let decoded = hex::decode(alloc, line).ok()?;
+        bytes.extend_from_slice(decoded.as_slice()).ok()?;
+    }
+    Some(bytes)
+}
+
+impl Script {
+    /// The script of these settings and these frames.
+    pub(crate) fn of(alloc: Global, settings: &str, frames: &str) -> Option<Script>
+        ensures { IfSome result (λ script. script.core.trail ≡ []) }
+    {
+        let Document { users, settings } = document_of_text(alloc, settings.as_bytes()).ok()?;
+        Some(Script {
+            users: Users::new(alloc, users).ok()?,
+            host: Text::of(alloc, "10.0.0.5").ok()?,
+            input: bytes_of(alloc, frames)?,
+            output: Vec::with_capacity(alloc, ROOM).ok()?,
+            core: Core::open(alloc, settings).ok()?,
+        })
+    }
+}
+
+/// Serves the session at a desk of these seats.
+fn serve_at<L: Ledger, R: Wait + Drop>(
+    rt: R,
+    alloc: Global,
+    blank: Blank,
+    script: Script,
+) -> Option<Came>
+    requires empty { script.core.trail ≡ [] }
+    requires ledger { (blank.name ≡ L.name) × (blank.parts ≡ L.parts) × (blank.parts ≡ most_seats + 1) }
+{
+    let Script {
+        core,
+        users,
+        host,
+        input,
+        mut output,
+    } = script;
+    let desk: LockedDesk<L, R> = LockedDesk::new(core, blank, rt);
+    let seat = desk.seat()?;
+    let limits = Limits::default();
+    let SessionEnd { receipts, why, .. } = serve_session(
+        alloc,
+        0,
+        input.as_slice(),
+        &mut output,
+        &host,
+        &users,
+        &desk,
+        seat,
+        limits,
+        &(),
+    );
+    Some(Came {
+        receipts: receipts.len(),
+        why,
+        output,
+    })
+}
+
+fn serve<R: Wait + Drop>(rt: R, alloc: Global, script: Script) -> Option<Came>
+    requires { script.core.trail ≡ [] }
+{
+    serve_at::<Brand, R>(rt, alloc, Blank::new(MOST_SEATS + 1), script)
+}
+
+/// Serves the session, and prints how many receipts it has, what was written to it and why it ended.
+pub(crate) fn tell<R: Wait + Drop, W: Write>(
+    rt: R,
+    alloc: Global,
+    script: Script,
+    writer: &mut W,
+) -> io::Result<()>
+    requires { script.core.trail ≡ [] }
+{
+    let Some(came) = serve(rt, alloc, script) else {
+        return Err(AllocError.into());
+    };
+    let Came {
+        receipts,
+        why,
+        output,
+    } = came;
+    let written = hex::encode(alloc, output.as_slice())?;
+    writer.write_all(format!(in alloc; "receipts {receipts}\n")?.as_bytes())?;
+    writer.write_all(format!(in alloc; "written {written}\n")?.as_bytes())?;
+    writer.write_all(format!(in alloc; "end {why:?}\n")?.as_bytes())
+}
