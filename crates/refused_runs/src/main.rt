@@ -14,7 +14,7 @@ ghost use Rattle.api_dispatch.specs.Bounds.{EventFits};
 
 use crate::session::Script;
 use acl_binding::Caller;
-use audit_trail::Event;
+use audit_trail::{Event, is_same_event, is_same_reply};
 use msg_admin::{FRAME_LIMIT, read_request, write_reply};
 use request_handlers::{Core, Receipt, Stop};
 use settings_text::document_of_text;
@@ -129,7 +129,22 @@ fn told(alloc: Global, outcome: &Result<Receipt, Stop>) -> Result<String, AllocE
     }
 }
 
-/// Prints what came of the events, how many the trail has, and what the one that was stopped comes to now.
+/// Whether the trail has an entry for each of these receipts and no other, of its event and its reply.
+fn is_history(core: &Core, receipts: &[Receipt]) -> bool {
+    let trail = core.trail();
+    for (place, receipt) in receipts.iter().enumerate() {
+        match trail.entry(place) {
+            Some(entry)
+                if is_same_event(entry.event.value(), receipt.event())
+                    && is_same_reply(entry.reply.value(), receipt.reply()) => {}
+            _ => return false,
+        }
+    }
+    trail.len() == receipts.len()
+}
+
+/// Prints what came of the events, how many the trail has where it has just those, and what the one that was stopped comes to
+/// now.
 fn tell<W: Write>(
     alloc: Global,
     core: &mut Core,
@@ -139,13 +154,18 @@ fn tell<W: Write>(
     writer: &mut W,
 ) -> io::Result<()> {
     let count = receipts.len();
+    let is_told = is_history(core, receipts.as_slice());
     for receipt in receipts {
         writer.write_all(told(alloc, &Ok(receipt))?.as_bytes())?;
     }
     if let Some(stop) = stop {
         writer.write_all(told(alloc, &Err(stop))?.as_bytes())?;
     }
-    writer.write_all(format!(in alloc; "trail {}\n", core.trail().len())?.as_bytes())?;
+    if is_told {
+        writer.write_all(format!(in alloc; "trail {count}\n")?.as_bytes())?;
+    } else {
+        writer.write_all(b"another trail\n")?;
+    }
     if stop.is_some() {
         let Some(event) = event_at(alloc, script, count) else {
             return Ok(());

@@ -1,0 +1,138 @@
+#!/usr/bin/env python3
+"""Tries the edits that no contract can refuse, and that a test has to: crates/NAME/failing-tests/*.edit.
+
+No clause says that two sessions run at once, or that an event is ever taken. So a pool that serves one session after the
+other, one that holds a second lock over each, and a desk that takes nothing are proved as well as ours; they must fail the test
+that the first line of an edit names, `test: PATH`. The files that an edit names stand below crates/. Each edit is applied to
+a copy of the sources, whose tests run without a proof, beside a copy with no edit, in which that test has to pass. Other
+tests of the crate stand aside in the copies.
+"""
+
+import re
+import shutil
+import subprocess
+import sys
+import tempfile
+from concurrent.futures import ThreadPoolExecutor
+from pathlib import Path
+from typing import NamedTuple
+
+from program import PARTS, ROOT, crates_list, crates_of
+
+AT_ONCE = 3
+SECONDS = 120  # a test's, with the checks of `rt try`; a wait for another session takes at most a tenth of it
+LIMIT = 900  # a copy's, with its compilation
+PART = re.compile(r"^(test|file|old|new):(?: |$)")
+RAN = re.compile(r"^test (\S+) \.\.\. (ok|FAILED)$", re.M)
+TESTS = re.compile(r"#\[cfg\(test\)\]\nmod (\w+);\n")
+USED = re.compile(r"^use crate::(\w+)", re.M)
+
+
+class Trial(NamedTuple):
+    """A copy of a crate, with an edit or none, and the test that has to fail there, or to pass."""
+
+    crate: str
+    test: str
+    edit: Path | None
+
+    @property
+    def name(self):
+        return self.edit.stem if self.edit else "no edit"
+
+
+def parts_of(edit):
+    """The lines of an edit, each its kind and its text."""
+    parts = []
+    for line in edit.read_text().splitlines():
+        found = PART.match(line)
+        if found is None:
+            sys.exit(f"failing tests: {edit.relative_to(ROOT)} has a line that isn't understood")
+        parts.append((found[1], line[found.end() :]))
+    return parts
+
+
+def apply(edit, crates):
+    """Applies an edit to a copy."""
+    file = old = None
+    for kind, text in parts_of(edit):
+        if kind == "file":
+            file = crates / text
+        elif kind == "old":
+            old = text
+        elif kind == "new":
+            source = file.read_text()
+            if source.count(old) != 1:
+                sys.exit(f"failing tests: {edit.relative_to(ROOT)} names what doesn't stand there once: {old}")
+            file.write_text(source.replace(old, text))
+
+
+def needed(source, module):
+    """The modules of a crate's tests that one of them uses, and itself."""
+    found, left = set(), [module]
+    while left:
+        found.add(left[-1])
+        text = (source / f"{left.pop()}.rt").read_text()
+        left += {*USED.findall(text)} - found
+    return found
+
+
+def copy(room, crate, test):
+    """Copies the sources of a crate and of those below it. Of its modules of tests those stay that the test needs."""
+    names = crates_of([crate])
+    lines = (ROOT / "crates.txt").read_text().splitlines(keepends=True)
+    kept = [it for it in lines if {*it.partition(":")[0].split()[:1]} & {*names}]
+    (room / "crates").mkdir(parents=True)
+    (room / "crates.txt").write_text("".join(kept))
+    for name in names:
+        for part in PARTS:
+            if (ROOT / "crates" / name / part).is_dir():
+                shutil.copytree(ROOT / "crates" / name / part, room / "crates" / name / part)
+    source = room / "crates" / crate / "src"
+    modules, top = needed(source, test.partition("::")[0]), source / "lib.rt"
+    for module in {*TESTS.findall(top.read_text())} - modules:
+        (source / f"{module}.rt").unlink()
+    top.write_text(TESTS.sub(lambda it: it[0] if it[1] in modules else "", top.read_text()))
+
+
+def run(trial, folder):
+    """What the tests of a copy come to: each test's end by its name, and all that is said."""
+    room = folder / trial.name.replace(" ", "_")
+    copy(room, trial.crate, trial.test)
+    if trial.edit:
+        apply(trial.edit, room / "crates")
+    words = ["rt", "try", "--test", "--seconds", str(SECONDS)]
+    said = {"stdout": subprocess.PIPE, "stderr": subprocess.STDOUT, "stdin": subprocess.DEVNULL}
+    try:
+        ran = subprocess.run(words, cwd=room / "crates" / trial.crate, text=True, timeout=LIMIT, **said)
+    except subprocess.TimeoutExpired:
+        return {}, f"not done after {LIMIT} seconds"
+    return dict(RAN.findall(ran.stdout)), ran.stdout
+
+
+def trials():
+    """Each edit, and for each test that is named a copy with none."""
+    found = []
+    for name in crates_list():
+        edits = sorted((ROOT / "crates" / name / "failing-tests").glob("*.edit"))
+        of_edits = [Trial(name, dict(parts_of(it))["test"], it) for it in edits]
+        found += [Trial(name, test, None) for test in sorted({it.test for it in of_edits})] + of_edits
+    return found
+
+
+def main():
+    tried, failed = trials(), 0
+    with tempfile.TemporaryDirectory(prefix="failing-tests-") as made:
+        with ThreadPoolExecutor(AT_ONCE) as workers:
+            told = list(workers.map(lambda it: run(it, Path(made)), tried))
+    for trial, (ends, said) in zip(tried, told):
+        due = "FAILED" if trial.edit else "ok"
+        if ends.get(trial.test) != due:
+            failed += 1
+            print(f"failing tests: {trial.name}: {trial.test} is {ends.get(trial.test)} in place of {due}\n{said[-1500:]}")
+    edits = sum(it.edit is not None for it in tried)
+    print(f"failing tests: {len(tried) - failed} of {len(tried)} copies come out as they should, {edits} of them with an edit")
+    sys.exit(1 if failed or not edits else 0)
+
+
+if __name__ == "__main__":
+    main()
