@@ -5,7 +5,7 @@ No clause says that two sessions run at once, or that an event is ever taken. So
 other, one that holds a second lock over each, and a desk that takes nothing are proved as well as ours; they must fail the test
 that the first line of an edit names, `test: PATH`. The files that an edit names stand below crates/. Each edit is applied to
 a copy of the sources, whose tests run without a proof, beside a copy with no edit, in which that test has to pass. Other
-tests of the crate stand aside in the copies.
+tests of the crate stand aside in the copies. With names as its words these edits alone are tried.
 """
 
 import re
@@ -23,7 +23,8 @@ AT_ONCE = 3
 SECONDS = 120  # a test's, with the checks of `rt try`; a wait for another session takes at most a tenth of it
 LIMIT = 900  # a copy's, with its compilation
 PART = re.compile(r"^(test|file|old|new):(?: |$)")
-RAN = re.compile(r"^test (\S+) \.\.\. (ok|FAILED)$", re.M)
+RAN = re.compile(r"^test (\S+) \.\.\. (ok|FAILED)$((?:\n    .*)*)", re.M)
+ASSERTED = re.compile(r"^    src/\S+\.rt:\d+:\d+: the test was killed by signal 6", re.M)
 TESTS = re.compile(r"#\[cfg\(test\)\]\nmod (\w+);\n")
 USED = re.compile(r"^use crate::(\w+)", re.M)
 
@@ -106,7 +107,9 @@ def run(trial, folder):
         ran = subprocess.run(words, cwd=room / "crates" / trial.crate, text=True, timeout=LIMIT, **said)
     except subprocess.TimeoutExpired:
         return {}, f"not done after {LIMIT} seconds"
-    return dict(RAN.findall(ran.stdout)), ran.stdout
+    # a test that is cut off in place of an assertion that doesn't hold says nothing
+    ran_to_end = [(test, end) for test, end, why in RAN.findall(ran.stdout) if end == "ok" or ASSERTED.search(why)]
+    return dict(ran_to_end), ran.stdout
 
 
 def trials():
@@ -120,7 +123,8 @@ def trials():
 
 
 def main():
-    tried, failed = trials(), 0
+    named, failed = sys.argv[1:], 0
+    tried = [it for it in trials() if not named or it.edit and it.name in named]
     with tempfile.TemporaryDirectory(prefix="failing-tests-") as made:
         with ThreadPoolExecutor(AT_ONCE) as workers:
             told = list(workers.map(lambda it: run(it, Path(made)), tried))

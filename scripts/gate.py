@@ -41,6 +41,7 @@ SCRIPTS = (
     "steered.py",
     "lesson.py",
     "must_not_compile.py",
+    "failing_tests.py",
 )
 # rt gives a proof only the processors that no other one waits for, also where all the others could wait. So what all the
 # rest waits for comes by itself, and has two: the crate below all others. Behind it comes the core with what that stands on,

@@ -39,7 +39,7 @@ fn thousand(alloc: Global) -> Result<Log, Fail> {
 fn is_found(alloc: Global, log: &Log, offset: i64) -> bool {
     let (base, size) = match offset % 4 {
         0 => (offset, 69),
-        behind => (offset.saturating_sub(behind).saturating_add(1), 95),
+        after => (offset.saturating_sub(after).saturating_add(1), 95),
     };
     let Ok(served) = log.fetch(alloc, offset, Isolation::ReadUncommitted, ROOM, false) else {
         return false;
