@@ -89,6 +89,16 @@ const OFFSET_UNSTABLE: &str =
 const OFFSET_5: &str =
     "0000002500000007000000000002026202000000000000000000000005ffffffff0100000000000000";
 
+/// All that `b` holds, which is an abort marker of epoch 1 at the moment 1001.
+const FETCH: &str =
+    "000000360001000400000007ffffffffffff0000000000000001000010000000000001000162000000010000000000\
+    0000000000000000001000";
+
+const FETCHED_MARKER: &str =
+    "0000007f0000000700000000000000010001620000000100000000000000000000000000010000000000000001ffff\
+    ffff0000004e000000000000000000000042000000000215a1776500300000000000000000000003e9000000000000\
+    03e900000000000000000001ffffffff000000012000000008000000000c00000000000000";
+
 /// What a core answers to somebody's frame, in hexadecimal digits, under the frame's correlation id, which is 7.
 fn told(alloc: Global, core: &mut Core, who: &str, frame: &str) -> Result<String, Fail> {
     let event = event_by(alloc, who, frame).ok_or("event")?;
@@ -154,6 +164,7 @@ fn a_marker_owed_when_time_is_over(rt: HostRuntime) -> Result<(), Fail> {
     assert!(rt; replies(&mut core, Event::Tick(1000), Reply::Ticked { left: 0 }));
     assert!(rt; replies(&mut core, Event::Tick(1001), Reply::Ticked { left: 1 }));
     assert!(rt; replies(&mut core, Event::Mark, Reply::Marked { left: 0 }));
+    assert!(rt; told(alloc, &mut core, ROOT, FETCH)?.as_str() == FETCHED_MARKER);
     assert!(rt; told(alloc, &mut core, ANN, COMMIT)?.as_str() == COMMIT_LATE);
     assert!(rt; replies(&mut core, Event::Tick(5), Reply::Ticked { left: 0 }));
     Ok(())

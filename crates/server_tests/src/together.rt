@@ -107,7 +107,7 @@ fn are<R: Wait>(rt: &R, written: &Shared<Mutex<Vec<u8>>>, due: &[u8]) -> bool {
 }
 
 /// A session's input, which says these frames.
-fn talk<R: Wait + time::Clock + Copy>(
+fn talk_of<R: Wait + time::Clock + Copy>(
     rt: R,
     alloc: Global,
     frames: &[&str],
@@ -123,7 +123,7 @@ fn talk<R: Wait + time::Clock + Copy>(
 }
 
 /// The job of a session.
-fn job<R: Wait + time::Clock + Copy>(
+fn job_of<R: Wait + time::Clock + Copy>(
     rt: R,
     alloc: Global,
     session: u64,
@@ -155,10 +155,10 @@ fn send_both<R: Wait + time::Clock + Copy>(
 ) -> Result<(), Fail> {
     let users = Shared::new(alloc, users(alloc)?).ok().ok_or("users")?;
     let holds = place == Place::Read;
-    let one = talk(rt, alloc, &[HANDSHAKE, LOGIN, METADATA], flags, holds)?;
-    let two = talk(rt, alloc, &[HANDSHAKE, LOGIN, PRODUCE, FETCH], flags, false)?;
-    let one = job(rt, alloc, 1, one, &written.one, &users)?;
-    let two = job(rt, alloc, 2, two, &written.two, &users)?;
+    let one = talk_of(rt, alloc, &[HANDSHAKE, LOGIN, METADATA], flags, holds)?;
+    let two = talk_of(rt, alloc, &[HANDSHAKE, LOGIN, PRODUCE, FETCH], flags, false)?;
+    let one = job_of(rt, alloc, 1, one, &written.one, &users)?;
+    let two = job_of(rt, alloc, 2, two, &written.two, &users)?;
     to.send(&rt, one).ok().ok_or("send")?;
     to.send(&rt, two).ok().ok_or("send")?;
     Ok(())
