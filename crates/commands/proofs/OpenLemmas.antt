@@ -1,7 +1,9 @@
 -- Settings that were read whole are those of the input.
-use Rattle.std.proofs.Common.{◌≡◌, ◌≤◌, ℕ, Bool, true, false, List, [], length, Option, Some, None, Result, Ok, Err, IfSome, ap, arith, subst, sym, if◌then◌else◌, nat_lt}
+use Rattle.std.proofs.Common.{◌≡◌, ◌≤◌, ℕ, Bool, true, false, List, [], length, Option, Some, None, Result, Ok, Err, IfSome, ap, arith, subst, sym, ◌∙◌, if◌then◌else◌, nat_lt}
 use Rattle.std.proofs.lemmas.Bool.Decides.{nat_tests}
 use Rattle.wire_types.specs.declared.device.TheConstants.{INPUT_LIMIT}
+use Rattle.settings.specs.declared.settings.Settings.{Settings}
+use Rattle.settings_text.specs.Document.{document_of_text}
 use Rattle.settings_text.specs.declared.document.User.{User}
 use Rattle.settings_text.specs.declared.fault.SettingsFault.{SettingsFault}
 use Rattle.commands.specs.declared.open.Opened.{Opened}
@@ -27,3 +29,11 @@ opens_whole (Some input) u v slice bytes r same is small opens =
 pub admitted : (b : Bool) (users let_in : List User) (fault : SettingsFault) → (if b then Ok users else Err fault) ≡ Ok let_in → let_in ≡ users
 admitted true users let_in fault is = grind
 admitted false users let_in fault is = absurd cc
+
+-- a core with the settings of a text, and its users
+pub is_of : (old new : Option (List ℕ)) (text : List ℕ) (answer : Answer) (users : List User) (settings : Settings) (o : Opened) → document_of_text text ≡ Ok (record { users = users; settings = settings })
+    → o.users ≡ users → o.core.settings ≡ settings → new ≡ old → Opens old new text answer (Ok o)
+is_of old new text answer users settings o is same own quiet = (
+  is ∙ ap (λ (u : List User). Ok (record { users = u; settings = settings })) (sym same) ∙ ap (λ (s : Settings). Ok (record { users = o.users; settings = s })) (sym own),
+  quiet,
+)

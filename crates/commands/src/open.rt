@@ -52,6 +52,7 @@ fn share_users(alloc: Global, users: Items<User>) -> Option<Shared<Users>>
 }
 
 /// Opens a core with settings, or prints that they are refused.
+#[tactic(auto, using(crate::proofs::OpenLemmas::is_of))]
 fn open_settings<W: Write, E: Write>(
     alloc: Global,
     input: &[u8],
