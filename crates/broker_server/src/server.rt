@@ -59,6 +59,7 @@ fn sessions_of<L: DeskLedger>(ends: &[SessionEnd<Seat<L>>]) -> usize
 }
 
 /// Settles the ends with the core of a desk.
+#[tactic(auto, using(crate::proofs::Counting::counted))]
 fn settle_ends<L: DeskLedger, R: Wait + Drop>(
     alloc: Global,
     desk: LockedDesk<L, R>,
@@ -233,6 +234,7 @@ fn last_line(alloc: Global, outcome: Result<(usize, Settled), Failure>) -> Optio
 /// printed, it prints that and serves nothing. To `errors` it says in a sentence why a session ended, where it didn't end between two
 /// requests, and the line of each refusal, where that is asked for. Where lines steer it, there is no clock: a tick or a marker
 /// step comes only by a line, and connections are taken until the lines end or have it end.
+#[tactic(auto, using(crate::proofs::Served::unbegun_said, crate::proofs::Served::first_said, crate::proofs::Served::both_said))]
 pub fn serve<
     R: Net<Listener = TcpListener, Stream = TcpStream> + Threads + Wait + time::Clock + Sync,
     W: Write,
