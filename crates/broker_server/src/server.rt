@@ -102,12 +102,14 @@ fn serve_kept<
     ensures { IfOk result (λ ends. (owed : Option ℕ) × AreEnds owed ends.items) }
 {
     let ServeOptions { connections, audit } = options;
+    let here: &'x R = rt;
     match steering {
         None => {
             let watch = Watch::new(alloc, desk, sentences, audit);
-            let keeper = Timekeeper::new(Ticks::new(rt, desk), watch);
+            let ticks = Ticks::new(rt, desk);
+            let keeper = Timekeeper::new(ticks, watch);
             serve_connections(
-                rt,
+                here,
                 alloc,
                 desk,
                 users,
@@ -122,7 +124,7 @@ fn serve_kept<
             let keeper = Control::new(rt, alloc, desk, closing, steering);
             let closing = Some(closing);
             serve_connections(
-                rt,
+                here,
                 alloc,
                 desk,
                 users,
@@ -234,7 +236,7 @@ fn last_line(alloc: Global, outcome: Result<(usize, Settled), Failure>) -> Optio
 /// printed, it prints that and serves nothing. To `errors` it says in a sentence why a session ended, where it didn't end between two
 /// requests, and the line of each refusal, where that is asked for. Where lines steer it, there is no clock: a tick or a marker
 /// step comes only by a line, and connections are taken until the lines end or have it end.
-#[tactic(auto, using(crate::proofs::Served::unbegun_said, crate::proofs::Served::first_said, crate::proofs::Served::both_said))]
+#[tactic(auto, using(crate::proofs::Served::unbegun_said))]
 pub fn serve<
     R: Net<Listener = TcpListener, Stream = TcpStream> + Threads + Wait + time::Clock + Sync,
     W: Write,

@@ -27,7 +27,7 @@ opens_whole (Some input) u v slice bytes r same is small opens =
 
 -- users that were let in are those that were given
 pub admitted : (b : Bool) (users let_in : List User) (fault : SettingsFault) → (if b then Ok users else Err fault) ≡ Ok let_in → let_in ≡ users
-admitted true users let_in fault is = grind
+admitted true users let_in fault is = cc
 admitted false users let_in fault is = absurd cc
 
 -- a core with the settings of a text, and its users
