@@ -5,14 +5,14 @@ ghost use Rattle.request_handlers.specs.Seats.{most_seats};
 
 use request_handlers::{Core, MOST_SEATS};
 use session_logins::Users;
-use session_pool::{Limits, LockedDesk, SessionEnd, Why, serve_session};
+use session_pool::{DeskLedger, Limits, LockedDesk, SessionEnd, Why, serve_session};
 use settings_text::{Document, document_of_text};
 use std::alloc::{AllocError, Global};
 use std::io;
 use std::io::Write;
 use std::marker::Brand;
 use std::sync::Wait;
-use std::sync::ledger::{Blank, Ledger};
+use std::sync::ledger::Blank;
 use wire_types::Text;
 
 /// How many bytes may be written in a session without more memory for them.
@@ -65,12 +65,13 @@ impl Script {
 }
 
 /// Serves the session at a desk of these seats.
-fn serve_at<L: Ledger, R: Wait + Drop>(
+fn serve_at<L: DeskLedger, R: Wait + Drop>(
     rt: R,
     alloc: Global,
     blank: Blank,
     script: Script,
 ) -> Option<Came>
+    requires settings { script.core.settings ≡ L.settings }
     requires empty { script.core.trail ≡ [] }
     requires ledger { (blank.name ≡ L.name) × (blank.parts ≡ L.parts) × (blank.parts ≡ most_seats + 1) }
 {

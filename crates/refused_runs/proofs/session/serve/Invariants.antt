@@ -1,4 +1,7 @@
 use Rattle.refused_runs.proofs.session.serve.Given as goal
 
-abbrev pub ghosts-serve_at : goal.ghosts-serve_at
-ghosts-serve_at g a = record { name = a.blank.name; parts = a.blank.parts }
+abbrev pub ghosts-serve_at-L-DeskLedger : goal.ghosts-serve_at-L-DeskLedger
+ghosts-serve_at-L-DeskLedger g a = record { settings = a.script.core.settings }
+
+abbrev pub ghosts-serve_at-L-Ledger : goal.ghosts-serve_at-L-Ledger
+ghosts-serve_at-L-Ledger g a = record { name = a.blank.name; parts = a.blank.parts }
