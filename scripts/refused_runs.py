@@ -1,7 +1,7 @@
 #!/usr/bin/env python3
 """Refuses each allocation in turn of a core that is handed events: at once, by `Core::run`, and one by one.
 
-Whatever is refused, the receipts are a front of those of the whole run, the stop is want of memory, and the trail has just the
+Whatever is refused, the receipts are a front of those of the whole run, the stop is allocation failure, and the trail has just the
 entries of these receipts. The event that was stopped, handed in once more, is answered as in the whole run where it only
 reads, and where it was not begun since there was no room for the receipts; after any other the core is down. The
 scripts are a transaction with what is read of it, and those of examples/.

@@ -51,10 +51,10 @@ ENDS_EARLY = (
     b"settle failed: NoThread\n",
 )
 GIVEN = "settings"
-WANT_OF_MEMORY = "there is not enough memory"
+ALLOCATION_FAILED = "there is not enough memory"
 DOWN = "an earlier event put the broker down"
-# A session is cut short for want of memory of its own or of its event; and where the keeper's event had none, by the next one.
-CUT_SHORT = (WANT_OF_MEMORY, DOWN)
+# A session is cut short by an allocation failure of its own or its event, and after one of the keeper's by its next event.
+CUT_SHORT = (ALLOCATION_FAILED, DOWN)
 READING = ("Metadata", "Fetch")
 CLOSED = contextlib.suppress(EOFError, OSError)
 FEWEST = 100
@@ -185,9 +185,9 @@ class Run:
         return found and found[1]
 
     def is_asked_again(self):
-        """Whether what only reads was left unanswered for want of memory, and the program served another session."""
+        """Whether what only reads was left unanswered for allocation failure, and the program served another session."""
         reads = self.left is not None and self.left[0] in READING
-        return reads and self.status == 0 and self.why(0) == WANT_OF_MEMORY
+        return reads and self.status == 0 and self.why(0) == ALLOCATION_FAILED
 
 
 def fault_of(run, whole):
@@ -225,11 +225,11 @@ def main():
                 if fault:
                     sys.exit(f"refused sessions: where allocation {at} of {count} is refused, a run {fault}: {vars(run)}")
                 of_reading += run.is_asked_again()
-                of_others += run.why(0) == WANT_OF_MEMORY and run.why(1) == DOWN
+                of_others += run.why(0) == ALLOCATION_FAILED and run.why(1) == DOWN
     if not of_reading or not of_others:
         sys.exit(f"refused sessions: {of_reading} were asked again, and {of_others} put the broker down")
     print(
-        f"refused sessions: a session ended {ended} times for want of memory, in each place; each of {count} allocations of a"
+        f"refused sessions: a session ended {ended} times for allocation failure, in each place; each of {count} allocations of a"
         f" server was refused in turn; {of_reading} times what only reads was asked again, and {of_others} times the broker was"
         " down"
     )
