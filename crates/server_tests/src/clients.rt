@@ -56,9 +56,9 @@ fn serve_on<L: DeskLedger, R: Wait + Drop, Rd: Read + Drop, Wr: Write, G: Gate>(
     rt: R,
     alloc: Global,
     core: Core,
-    users: &Users,
+    users: Users,
     blank: Blank,
-    host: &str,
+    host: Text,
     reader: Rd,
     writer: &mut Wr,
     limits: Limits,
@@ -71,13 +71,12 @@ fn serve_on<L: DeskLedger, R: Wait + Drop, Rd: Read + Drop, Wr: Write, G: Gate>(
 {
     let desk: LockedDesk<L, R> = LockedDesk::new(core, blank, rt);
     let seat = desk.seat().ok_or("seat")?;
-    let host = Text::of(alloc, host)?;
     let SessionEnd {
         receipts,
         seat,
         why,
     } = serve_session(
-        alloc, 7, reader, writer, &host, users, &desk, seat, limits, gate,
+        alloc, 7, reader, writer, &host, &users, &desk, seat, limits, gate,
     );
     Ok(End {
         why,
@@ -104,11 +103,12 @@ pub(crate) fn serve_gated<R: Wait + Drop, Rd: Read + Drop, Wr: Write, G: Gate>(
         .ok_or("settings")?;
     let users = Users::new(alloc, users).ok().ok_or("users")?;
     let core = Core::open(alloc, settings).ok().ok_or("core")?;
+    let host = Text::of(alloc, host)?;
     serve_on::<Brand, R, Rd, Wr, G>(
         rt,
         alloc,
         core,
-        &users,
+        users,
         Blank::new(MOST_SEATS + 1),
         host,
         reader,
