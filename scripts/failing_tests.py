@@ -17,12 +17,12 @@ from concurrent.futures import ThreadPoolExecutor
 from pathlib import Path
 from typing import NamedTuple
 
+import edits
 from program import PARTS, ROOT, crates_list, crates_of
 
 AT_ONCE = 3
 SECONDS = 120  # a test's, with the checks of `rt try`; a wait for another session takes at most a tenth of it
 LIMIT = 900  # a copy's, with its compilation
-PART = re.compile(r"^(test|file|old|new):(?: |$)")
 RAN = re.compile(r"^test (\S+) \.\.\. (ok|FAILED)$((?:\n    .*)*)", re.M)
 ASSERTED = re.compile(r"^    src/\S+\.rt:\d+:\d+: the test was killed by signal 6", re.M)
 TESTS = re.compile(r"#\[cfg\(test\)\]\nmod (\w+);\n")
@@ -39,32 +39,6 @@ class Trial(NamedTuple):
     @property
     def name(self):
         return self.edit.stem if self.edit else "no edit"
-
-
-def parts_of(edit):
-    """The lines of an edit, each its kind and its text."""
-    parts = []
-    for line in edit.read_text().splitlines():
-        found = PART.match(line)
-        if found is None:
-            sys.exit(f"failing tests: {edit.relative_to(ROOT)} has a line that isn't understood")
-        parts.append((found[1], line[found.end() :]))
-    return parts
-
-
-def apply(edit, crates):
-    """Applies an edit to a copy."""
-    file = old = None
-    for kind, text in parts_of(edit):
-        if kind == "file":
-            file = crates / text
-        elif kind == "old":
-            old = text
-        elif kind == "new":
-            source = file.read_text()
-            if source.count(old) != 1:
-                sys.exit(f"failing tests: {edit.relative_to(ROOT)} names what doesn't stand there once: {old}")
-            file.write_text(source.replace(old, text))
 
 
 def needed(source, module):
@@ -100,7 +74,7 @@ def run(trial, folder):
     room = folder / trial.name.replace(" ", "_")
     copy(room, trial.crate, trial.test)
     if trial.edit:
-        apply(trial.edit, room / "crates")
+        edits.apply(trial.edit, "test", room / "crates")
     words = ["rt", "try", "--test", "--seconds", str(SECONDS)]
     said = {"stdout": subprocess.PIPE, "stderr": subprocess.STDOUT, "stdin": subprocess.DEVNULL}
     try:
@@ -116,8 +90,8 @@ def trials():
     """Each edit, and for each test that is named a copy with none."""
     found = []
     for name in crates_list():
-        edits = sorted((ROOT / "crates" / name / "failing-tests").glob("*.edit"))
-        of_edits = [Trial(name, dict(parts_of(it))["test"], it) for it in edits]
+        files = sorted((ROOT / "crates" / name / "failing-tests").glob("*.edit"))
+        of_edits = [Trial(name, edits.due(it, "test"), it) for it in files]
         found += [Trial(name, test, None) for test in sorted({it.test for it in of_edits})] + of_edits
     return found
 
@@ -133,9 +107,9 @@ def main():
         if ends.get(trial.test) != due:
             failed += 1
             print(f"failing tests: {trial.name}: {trial.test} is {ends.get(trial.test)} in place of {due}\n{said[-1500:]}")
-    edits = sum(it.edit is not None for it in tried)
-    print(f"failing tests: {len(tried) - failed} of {len(tried)} copies come out as they should, {edits} of them with an edit")
-    sys.exit(1 if failed or not edits else 0)
+    of_edits = sum(it.edit is not None for it in tried)
+    print(f"failing tests: {len(tried) - failed} of {len(tried)} copies come out as they should, {of_edits} of them with an edit")
+    sys.exit(1 if failed or not of_edits else 0)
 
 
 if __name__ == "__main__":

@@ -9,7 +9,6 @@ scripts are a transaction with what is read of it, and those of examples/.
 
 import os
 import re
-import subprocess
 import sys
 import tempfile
 from concurrent.futures import ThreadPoolExecutor
@@ -21,9 +20,7 @@ import wire
 from program import ROOT
 from serving import OF_ROOT, topic
 
-PROGRAM = ROOT / "crates/refused_runs/out/refused_runs"
 RECEIPT = re.compile(r"\d+ [0-9a-f]*")
-NOT_BEGUN, FAILED = 3, 1
 READING = ("Metadata", "Fetch", "ListOffsets", "OffsetFetch", "FindCoordinator", "DescribeAcls", "ApiVersions")
 
 
@@ -85,39 +82,27 @@ def of_example(file):
     return Script(file.stem, settings, events)
 
 
-class Run:
+class Run(refusing.Run):
     """The program over a script, in which this allocation is refused, or none for 0."""
 
     def __init__(self, library, script, way, refused_at):
-        where = refusing.environment(library, refused_at)
-        # a file, since a pipe takes more reads or fewer by chance, and each of them allocates
-        with tempfile.TemporaryFile() as given:
-            given.write(script.text.encode())
-            given.seek(0)
-            ran = subprocess.run(
-                [PROGRAM, way], stdin=given, capture_output=True, env=where, timeout=60
-            )
-        self.status, self.text, self.told = ran.returncode, ran.stdout.decode(), ran.stderr.decode()
+        super().__init__(library, way, script.text, refused_at)
         lines = self.text.splitlines()
         count = next((at for at, it in enumerate(lines) if not RECEIPT.fullmatch(it)), len(lines))
-        self.receipts, self.behind = lines[:count], lines[count:]
+        self.receipts, self.after = lines[:count], lines[count:]
 
 
 def came_of(script, way, run, whole):
     """What came of a refused allocation, or None where that must not be."""
-    if run.text == whole.text and run.status == 0:
-        return "nothing"
-    if run.status == NOT_BEGUN and not run.text:
-        return "not begun"
-    if run.status == FAILED and whole.text.startswith(run.text):
-        return "not told"
+    if outside := run.outside(whole):
+        return outside
     count = len(run.receipts)
     is_front = run.status == 0 and run.receipts == whole.receipts[:count] and count < len(whole.receipts)
-    if not is_front or run.behind[:2] != ["stop 1", f"trail {count}"] or len(run.behind) != 3:
+    if not is_front or run.after[:2] != ["stop 1", f"trail {count}"] or len(run.after) != 3:
         return None
-    if run.behind[2] == whole.receipts[count]:
+    if run.after[2] == whole.receipts[count]:
         return "answered" if script.reads(count) else "no room" if way == "run" and count == 0 else None
-    return "down" if run.behind[2] == "stop 3" and not script.reads(count) else None
+    return "down" if run.after[2] == "stop 3" and not script.reads(count) else None
 
 
 def refuse_each(library, script, way):

@@ -26,19 +26,17 @@ from pathlib import Path
 import refusing
 import sessions
 import wire
-from program import PROGRAM, ROOT
+from program import PROGRAM
 from serving import OF_ROOT, topic
 
 SETTINGS = OF_ROOT + topic("b")
 
-# A session over bytes: its program, its settings and frames, what is written to it, and what may come of it.
-OVER_BYTES = ROOT / "crates/refused_runs/out/refused_runs"
+# A session over bytes: its settings and frames, what is written to it, and what may come of it.
 FRAMES = (sessions.HANDSHAKE, sessions.LOGIN, sessions.METADATA)
 SESSION = "\n".join((sessions.SETTINGS.format(1_000) + "---", *FRAMES, ""))
 WRITTEN = sessions.HANDSHAKE_TOLD + sessions.LOGIN_TOLD + sessions.METADATA_TOLD
 CAME = re.compile(r"receipts (\d+)\nwritten ([0-9a-f]*)\nend (\S+)\n")
 FOR_MEMORY = ("NoMemory", "Stopped(NoMemory)")
-NOT_BEGUN, FAILED = 3, 1
 
 WORDS = ("serve", "--listen", "127.0.0.1:0", "--workers", "1", "--connections", "2")
 FIRST = re.compile(rb"listening on (\S+)\n")
@@ -60,31 +58,19 @@ CLOSED = contextlib.suppress(EOFError, OSError)
 FEWEST = 100
 
 
-class OverBytes:
+class OverBytes(refusing.Run):
     """The session over bytes, in which this allocation is refused, or none for 0."""
 
     def __init__(self, folder, refused_at):
-        environment = refusing.environment(folder / refusing.LIBRARY, refused_at)
-        # a file, since a pipe takes more reads or fewer by chance, and each of them allocates
-        with tempfile.TemporaryFile() as given:
-            given.write(SESSION.encode())
-            given.seek(0)
-            ran = subprocess.run(
-                [OVER_BYTES, "session"], stdin=given, capture_output=True, env=environment, timeout=60
-            )
-        self.status, self.text, self.told = ran.returncode, ran.stdout.decode(), ran.stderr.decode()
+        super().__init__(folder / refusing.LIBRARY, "session", SESSION, refused_at)
         found = CAME.fullmatch(self.text)
         self.receipts, self.written, self.end = (int(found[1]), *found.groups()[1:]) if found else (None, None, None)
 
 
 def came_of(run, whole):
     """What came of a refused allocation of a session over bytes, or None where that must not be."""
-    if run.text == whole.text and run.status == 0:
-        return "nothing"
-    if run.status == NOT_BEGUN and not run.text:
-        return "not begun"
-    if run.status == FAILED and whole.text.startswith(run.text):
-        return "not told"
+    if outside := run.outside(whole):
+        return outside
     is_front = run.status == 0 and run.end in FOR_MEMORY and whole.written.startswith(run.written)
     return run.end if is_front and run.receipts <= whole.receipts else None
 
