@@ -1,11 +1,14 @@
 -- One part more: what is answered for it comes first, and then what the rest gives.
-use Rattle.std.proofs.Common.{◌≡◌, ℕ, suc, ◌+◌, ◌<◌, List, [], ◌∷◌, ◌++◌, length, get_or, drop, drop-cons, add-one, Bool, true, false, ◌&&◌, Some, sym, ap, ◌∙◌, append_assoc}
+use Rattle.std.proofs.Common.{◌≡◌, ℕ, suc, ◌+◌, ◌<◌, List, [], ◌∷◌, ◌++◌, length, get_or, drop, drop-cons, add-one, Bool, true, false, ◌&&◌, Some, refl, sym, ap, ◌∙◌, append_assoc, arith}
 use Rattle.std.specs.Prelude.{slice_get}
 use Rattle.std.specs.List.{list_all}
 use Rattle.std.specs.Option.{option_map}
 use Rattle.std.proofs.lemmas.Option.{slice_get_within, get_or_from_slice_get, slice_get-map, slice_get-get_or}
 use Rattle.acl_binding.specs.declared.binding.Binding.{Binding}
+use Rattle.acl_binding.specs.declared.words.Kind.{Kind}
+use Rattle.acl_binding.specs.declared.words.Kind.TheVariants.{Topic, Group, Cluster, TransactionalId}
 use Rattle.acl_binding.specs.Book.{BookValue, added}
+use Rattle.acl_binding.specs.Creatable.{is_creatable, is_resource_name}
 use Rattle.authorizer.specs.Policy.{PolicyValue, policy_added}
 use Rattle.broker_world.specs.First.{with_bindings}
 use Rattle.broker_world.specs.World.{TopicValue, topic_names}
@@ -34,6 +37,23 @@ pub all_rest : {A : Type 0} (p : A → Bool) (xs : List A) (i : ℕ) (x : A) →
 all_rest p xs i x lt is all = and_second (p x) (list_all p (drop (i + 1) xs)) (sym (ap (list_all p) (drop_at xs i x lt is)) ∙ all)
 
 -- ---- bindings in their order
+
+and_first : (a b : Bool) → (a && b) ≡ true → a ≡ true
+and_first true b h = refl
+and_first false b h = absurd cc
+
+resource_named : (kind : Kind) (name : List ℕ) → is_resource_name kind name ≡ true → 0 < length name
+resource_named kind (c ∷ cs) h = omega arith
+resource_named Topic [] h = absurd cc
+resource_named Group [] h = absurd cc
+resource_named Cluster [] h = absurd cc
+resource_named TransactionalId [] h = absurd cc
+
+-- a binding that may be created has a name
+pub next_named : (acls : List Binding) (i : ℕ) (b : Binding) → i < length acls → b ≡ get_or acls i b → list_all is_creatable (drop i acls) ≡ true → 0 < length b.name
+next_named acls i b lt is all =
+    let next : is_creatable b ≡ true = and_first (is_creatable b) (list_all is_creatable (drop (i + 1) acls)) (sym (ap (list_all is_creatable) (drop_at acls i b lt is)) ∙ all) in
+    resource_named b.kind b.name (and_first (is_resource_name b.kind b.name) _ next)
 
 -- one more binding was added
 pub book_goes_on : (acls : List Binding) (i : ℕ) (b copy : Binding) (policy new : PolicyValue) (whole : BookValue) → i < length acls → b ≡ get_or acls i b → copy ≡ b → new ≡ policy_added policy copy

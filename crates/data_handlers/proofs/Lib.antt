@@ -1,3 +1,2 @@
 pub mod Topics
 pub mod Rows
-pub mod Alone

@@ -19,7 +19,7 @@ use partition_log::{FetchFault, Log, Served};
 use record_batch::Batch;
 use std::alloc::{AllocError, Global};
 use walk::{Part, PartApi, refusal_code, walk};
-use wire_types::{Bytes, ErrorCode, Items, Text};
+use wire_types::{ErrorCode, Items, Pieces, Text};
 
 /// Who fetches, what that reader sees of transactions, and from what.
 #[derive(Drop)]
@@ -55,7 +55,7 @@ impl<'a> PartApi<FetchPartition, FetchedRecords, Room> for Fetching<'a> {
                 Ok(Part::served(answer, paid))
             }
             Err(refusal) => {
-                let answer = fetched_error(refusal_code(&refusal), part);
+                let answer = fetched_error(alloc, refusal_code(&refusal), part);
                 Ok(Part::refused(answer, refusal))
             }
         }
@@ -129,7 +129,7 @@ impl Room {
     }
 }
 
-fn fetched_error(error: ErrorCode, part: &FetchPartition) -> FetchedRecords
+fn fetched_error(alloc: Global, error: ErrorCode, part: &FetchPartition) -> FetchedRecords
     ensures { result ≡ fetched_error error part.now }
 {
     FetchedRecords {
@@ -138,7 +138,7 @@ fn fetched_error(error: ErrorCode, part: &FetchPartition) -> FetchedRecords
         high_watermark: -1,
         last_stable_offset: -1,
         aborted: None,
-        records: Bytes::new(),
+        records: Pieces::new(alloc),
     }
 }
 
@@ -160,7 +160,7 @@ fn fetched(
             records: joined(alloc, served.batches.as_slice())?,
             aborted: list_told(isolation, served.aborted),
         }),
-        Err(code) => Ok(fetched_error(code, part)),
+        Err(code) => Ok(fetched_error(alloc, code, part)),
     }
 }
 
@@ -177,35 +177,15 @@ fn list_told(
     }
 }
 
-/// The batches, one behind the other. One alone shares its bytes with the log.
-#[tactic(auto, using(crate::proofs::Alone::alone))]
-fn joined(alloc: Global, batches: &[Batch]) -> Result<Bytes, AllocError>
+/// The batches, one behind the other. They share their bytes with the log.
+fn joined(alloc: Global, batches: &[Batch]) -> Result<Pieces, AllocError>
     ensures { IfOk result (λ bytes. bytes ≡ batch_bytes batches.now) }
 {
-    match batches {
-        [batch] => batch.bytes().clone(),
-        _ => copied(alloc, batches),
-    }
-}
-
-/// Copies of the batches, one behind the other.
-fn copied(alloc: Global, batches: &[Batch]) -> Result<Bytes, AllocError>
-    ensures { IfOk result (λ bytes. bytes ≡ batch_bytes batches.now) }
-{
-    let mut out = Vec::with_capacity(alloc, room_for_all(batches))?;
+    let mut out = Pieces::new(alloc);
     for batch in batches {
-        out.extend_from_slice(batch.bytes().as_slice())?;
+        out.push(batch.bytes().clone()?)?;
     }
-    Ok(Bytes::from_vec(out)?)
-}
-
-/// How many bytes they have.
-fn room_for_all(batches: &[Batch]) -> usize {
-    let mut room = 0usize;
-    for batch in batches {
-        room = room.saturating_add(batch.bytes().len());
-    }
-    room
+    Ok(out)
 }
 
 /// What a Fetch is answered.

@@ -44,7 +44,7 @@ impl<'a> PartApi<ProducedRecords, ProducedOffset, Topics> for Producing<'a> {
 
     fn serve(
         &self,
-        alloc: Global,
+        _alloc: Global,
         policy: &Policy,
         topics: &mut Topics,
         name: &Text,
@@ -60,7 +60,7 @@ impl<'a> PartApi<ProducedRecords, ProducedOffset, Topics> for Producing<'a> {
             Ok(given) => {
                 let (given, permit) = given.last(policy);
                 let (spent, answer) = self.grant(
-                    alloc, policy, permit, topics, name, part, &target, records,
+                    policy, permit, topics, name, part, &target, records,
                 )?;
                 Ok(Part::served(answer, Paid::given(given, spent)))
             }
@@ -76,7 +76,6 @@ impl<'a> Producing<'a> {
     /// Serves a part that was granted, whose target and records are also handed in.
     fn grant(
         &self,
-        alloc: Global,
         policy: &Policy,
         permit: Permit,
         topics: &mut Topics,
@@ -94,7 +93,7 @@ impl<'a> Producing<'a> {
         ensures answer { IfOk result (λ r. r.1 ≡ produced (judged self.now.most self.now.coordinator.now self.now.id.now self.now.acks (partition_at name.now part.now.index) part.now.records) topics.old name.now part.now) }
     {
         let batch = self.judge(target, records);
-        produce(alloc, policy, permit, topics, name, part, batch)
+        produce(policy, permit, topics, name, part, batch)
     }
 
     /// The batch to be appended to a partition, or why none is, whether or not the partition is there.
@@ -110,7 +109,6 @@ impl<'a> Producing<'a> {
 
 /// What was judged good is appended, if the partition is there.
 fn produce(
-    alloc: Global,
     policy: &Policy,
     permit: Permit,
     topics: &mut Topics,
@@ -126,7 +124,7 @@ fn produce(
 {
     match batch {
         Ok(batch) => {
-            let (spent, offset) = topics.append(alloc, policy, permit, name, part.index, batch);
+            let (spent, offset) = topics.append(policy, permit, name, part.index, batch);
             let offset = offset?;
             Ok((spent, produced_to(part, offset)))
         }

@@ -340,7 +340,7 @@ impl Groups {
         ensures ok { OnOk result (self.new ≡ self.old ++ group ∷ []) }
         ensures err { OnErr result (self.new ≡ self.old) }
     {
-        let name = group.name.clone()?;
+        let name = group.name.to_owned(*self.groups.allocator())?;
         self.groups.reserve(1)?;
         self.names.reserve()?;
         self.names.push(name, self.groups.len());

@@ -172,13 +172,20 @@ fn thousand_records(rt: HostRuntime) -> Result<(), Fail> {
     Ok(())
 }
 
+/// The bytes of a batch, which may be in two pieces.
+fn written(alloc: Global, batch: &Batch) -> Result<Vec<u8>, AllocError> {
+    let mut out = Vec::new(alloc);
+    batch.bytes().push_to(&mut out)?;
+    Ok(out)
+}
+
 /// Of producer 7 in epoch 1 at the moment 1000.
 #[test]
 fn markers(rt: HostRuntime) -> Result<(), Fail> {
     for (outcome, digits) in [(Outcome::Commit, COMMIT), (Outcome::Abort, ABORT)] {
         let marker = Batch::control(rt.alloc(), outcome, 7, 1, 1_000)?;
         let bytes = hex::decode(rt.alloc(), digits)?;
-        assert!(rt; marker.bytes().as_slice() == bytes.as_slice());
+        assert!(rt; written(rt.alloc(), &marker)?.as_slice() == bytes.as_slice());
         assert_eq!(rt; marker.marker(), Some(outcome));
     }
     Ok(())
@@ -188,17 +195,43 @@ fn markers(rt: HostRuntime) -> Result<(), Fail> {
 #[test]
 fn at_another_offset(rt: HostRuntime) -> Result<(), Fail> {
     let bytes = hex::decode(rt.alloc(), ONE)?;
-    let moved = batch_of(rt.alloc(), ONE)?.write_at(rt.alloc(), 5)?;
-    assert!(rt; bytes.len() == 69 && moved.bytes().len() == 69);
+    let moved = batch_of(rt.alloc(), ONE)?.write_at(5)?;
+    let written = written(rt.alloc(), &moved)?;
+    assert!(rt; bytes.len() == 69 && written.len() == 69);
     let (front, rest) = bytes.as_slice().split_at(8);
-    let (moved_front, moved_rest) = moved.bytes().as_slice().split_at(8);
+    let (moved_front, moved_rest) = written.as_slice().split_at(8);
     assert!(rt; front == b"\x00\x00\x00\x00\x00\x00\x00\x00".as_slice());
     assert!(rt; moved_front == b"\x00\x00\x00\x00\x00\x00\x00\x05".as_slice());
     assert!(rt; moved_rest == rest);
-    let Ok(again) = Batch::check(moved.bytes().clone()?, 10_000) else {
+    let Ok(again) = Batch::check(Bytes::from_vec(written)?, 10_000) else {
         return Err(Fail::from("no batch"));
     };
     assert!(rt; again.header().base_offset == 5 && again.header().crc == 0xdbe9_c876);
+    Ok(())
+}
+
+/// A batch of another encoder's leader epoch, at its own offset and at another: the epoch is 0 in both, and all else but the
+/// offset stays.
+#[test]
+fn leader_epoch_of_a_stored_batch(rt: HostRuntime) -> Result<(), Fail> {
+    let batch = batch_of(rt.alloc(), RICH)?;
+    for (offset, front) in [
+        (
+            40,
+            b"\x00\x00\x00\x00\x00\x00\x00\x28\x00\x00\x00\x53\x00\x00\x00\x00".as_slice(),
+        ),
+        (
+            258,
+            b"\x00\x00\x00\x00\x00\x00\x01\x02\x00\x00\x00\x53\x00\x00\x00\x00",
+        ),
+    ] {
+        let written = written(rt.alloc(), &batch.write_at(offset)?)?;
+        let sent = hex::decode(rt.alloc(), RICH)?;
+        assert!(rt; written.len() == 95 && sent.len() == 95);
+        let (_, rest) = sent.as_slice().split_at(16);
+        let (written_front, written_rest) = written.as_slice().split_at(16);
+        assert!(rt; written_front == front && written_rest == rest);
+    }
     Ok(())
 }
 

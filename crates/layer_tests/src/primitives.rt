@@ -3,4 +3,5 @@
 mod devices;
 mod lists;
 mod numbers;
+mod pieces;
 mod texts;

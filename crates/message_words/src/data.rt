@@ -103,7 +103,8 @@ impl Fields for FetchedRecords {
         sheet.push("high_watermark", self.high_watermark)?;
         sheet.push("last_stable_offset", self.last_stable_offset)?;
         sheet.push_nullable_list("aborted_transactions", &self.aborted)?;
-        push_records(sheet, &self.records)
+        let records = self.records.to_bytes(sheet.alloc())?;
+        push_records(sheet, &records)
     }
 }
 

@@ -3,9 +3,9 @@
 use crate::isolation::Isolation;
 use std::alloc::Global;
 use wire_types::{
-    Bytes, Cursor, ErrorCode, Items, ReadFault, Topic, Wire, WriteFault, array_room, bytes_room,
-    nullable_array_room, read_array, read_nullable_array, room_behind, write_array, write_bytes,
-    write_i32, write_i64, write_nullable_array,
+    Cursor, ErrorCode, Items, Pieces, ReadFault, Topic, Wire, WriteFault, array_room,
+    nullable_array_room, pieces_room, read_array, read_nullable_array, room_behind, write_array,
+    write_i32, write_i64, write_nullable_array, write_pieces,
 };
 
 /// A partition, and the offset and the number of bytes that are wanted.
@@ -45,7 +45,7 @@ pub struct FetchedRecords {
     pub high_watermark: i64,
     pub last_stable_offset: i64,
     pub aborted: Option<Items<AbortedTransaction>>,
-    pub records: Bytes,
+    pub records: Pieces,
 }
 
 /// The records, in the request's order.
@@ -164,7 +164,7 @@ impl Wire for FetchedRecords {
         let high_watermark = cursor.read_i64()?;
         let last_stable_offset = cursor.read_i64()?;
         let aborted = read_nullable_array(alloc, cursor)?;
-        let records = cursor.read_bytes(alloc)?;
+        let records = cursor.read_pieces(alloc)?;
         Ok(FetchedRecords {
             index,
             error,
@@ -181,7 +181,7 @@ impl Wire for FetchedRecords {
         write_i64(out, self.high_watermark)?;
         write_i64(out, self.last_stable_offset)?;
         write_nullable_array(out, &self.aborted)?;
-        write_bytes(out, &self.records)?;
+        write_pieces(out, &self.records)?;
         Ok(())
     }
 
@@ -191,7 +191,7 @@ impl Wire for FetchedRecords {
         let room = room_behind(8, room)?;
         let room = room_behind(8, room)?;
         let room = nullable_array_room(&self.aborted, room)?;
-        bytes_room(&self.records, room)
+        pieces_room(&self.records, room)
     }
 }
 

@@ -1,6 +1,6 @@
 //! Where the names of a list stand.
 
-ghost use Rattle.std.specs.Prelude.{◌≡◌, ◌<◌, ◌++◌, ◌∷◌, [], List, ℕ, length, IfSome, OnOk};
+ghost use Rattle.std.specs.Prelude.{◌≡◌, ◌<◌, ◌++◌, ◌∷◌, [], List, ℕ, length, string_bytes, IfSome, OnOk};
 ghost use Rattle.name_places.specs.Places.{place_in, room_for, ArePlaces};
 
 use std::alloc::{AllocError, Global};
@@ -47,11 +47,10 @@ impl Places {
 
     /// One more name at the end of the list, where there must be room for it: its place is the number of names before
     /// it. It takes no memory.
-    pub fn push(&mut self, name: Text, place: usize)
+    pub fn push(&mut self, name: String, place: usize)
         requires { 0 < room_for self.old }
-        ensures { (names : List (List ℕ)) → ArePlaces self.old names → place ≡ length names → ArePlaces self.new (names ++ name ∷ []) }
+        ensures { (names : List (List ℕ)) → ArePlaces self.old names → place ≡ length names → ArePlaces self.new (names ++ string_bytes name ∷ []) }
     {
-        let name = String::from(name);
         if !self.table.contains_key(name.as_str()) {
             let _entered = self.table.insert(name, place);
         }

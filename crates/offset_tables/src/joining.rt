@@ -133,7 +133,7 @@ fn member_id(alloc: Global, member: &Text, place: u64) -> Result<Text, AllocErro
     ensures { IfOk result (λ id. id ≡ member_id member.now place) }
 {
     if member.as_bytes().is_empty() {
-        Ok(Text::from(format!(in alloc; "m-{place}")?))
+        Text::from_string(format!(in alloc; "m-{place}")?)
     } else {
         member.clone()
     }

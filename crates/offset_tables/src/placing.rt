@@ -36,6 +36,6 @@ pub(crate) fn enter_place(
     }
     let mut of_topic = HashMap::new(alloc);
     of_topic.insert(index, place)?;
-    places.insert(String::from(topic.clone()?), of_topic)?;
+    places.insert(topic.to_owned(alloc)?, of_topic)?;
     Ok(())
 }

@@ -2,7 +2,7 @@
 use Rattle.std.proofs.Common.{◌≡◌, ℕ, ℤ, pos, ◌+◌, ◌-◌, ◌≤◌, List, [], ◌++◌, length, take, drop, Option, Some, None, refl, sym, ap, subst, ◌∙◌, append_assoc, arith, lit<}
 use Rattle.std.specs.Prelude.{slice_range, FitsSigned}
 use Rattle.std.specs.Int.{w32, w64, cast_unsigned}
-use Rattle.std.proofs.lemmas.List.{take_at, drop_at, length-append, drop-drop}
+use Rattle.std.proofs.lemmas.List.{take_at, drop_at, length-append, drop-drop, drop-take, take-take}
 use Rattle.wire_types.specs.NumberLaws.{wide32, wide64, int-canonical}
 use Rattle.wire_types.specs.Spelling.{int_written}
 use Rattle.wire_types.specs.Schema.{int32, int64}
@@ -157,10 +157,12 @@ written_at-is offset b fits is =
 
 -- ---- what the code makes
 
-pub gathered : (offset o : ℤ) (bytes none first second third fourth new : List ℕ) → o ≡ offset → none ≡ [] → first ≡ none ++ int64.written o → second ≡ first ++ slice_range bytes 8 12
-    → third ≡ second ++ int32.written (pos 0) → fourth ≡ third ++ slice_range bytes 16 (length bytes) → new ≡ fourth → new ≡ renumbered offset bytes
-gathered offset o bytes none first second third fourth new same e0 e1 e2 e3 e4 e5 =
-    rw (e5, e4, e3, e2, e1, e0, same, rest_is 16 bytes) (simp append_assoc)
+pub gathered : (o : ℤ) (bytes front moved new : List ℕ) → front ≡ take 16 bytes → moved ≡ int64.written o ++ (slice_range front 8 12 ++ int32.written (pos 0)) → new ≡ moved ++ drop 16 bytes
+    → new ≡ renumbered o bytes
+gathered o bytes front moved new e0 e1 e2 =
+    let inner : take 4 (drop 8 (take 16 bytes)) ≡ take 4 (drop 8 bytes) = ap (take 4) (drop-take 8 8 bytes) ∙ take-take 4 8 (drop 8 bytes) (omega arith) in
+    let size : slice_range front 8 12 ≡ slice_range bytes 8 12 = ap (λ (t : List ℕ). slice_range t 8 12) e0 ∙ inner in
+    rw (e2, e1, size) (simp append_assoc)
 
 -- the values of a call that moves a batch
 pub record IsMoved (offset o : ℤ) (h new : BatchHeader) (bytes seen moved : List ℕ) : Type 0 where

@@ -1,7 +1,8 @@
 //! Batches: bytes that were found to be one, with their header read once.
 
-ghost use Rattle.std.specs.Prelude.{◌≡◌, ◌↔◌, IsTrue, ◌+ℤ◌, ◌≤◌, pos, length, IfOk, None};
-ghost use Rattle.record_batch.specs.Batch.{BatchData, IsBatch, HasOffsets, next_offset, placed, renumbered, written_at};
+ghost use Rattle.std.specs.Prelude.{◌≡◌, ◌↔◌, IsTrue, ◌+ℤ◌, ◌++◌, pos, length, slice_range, IfOk, None};
+ghost use Rattle.wire_types.specs.Schema.{int32, int64};
+ghost use Rattle.record_batch.specs.Batch.{BatchData, IsBatch, HasOffsets, next_offset, placed, written_at};
 ghost use Rattle.record_batch.specs.Control.{control};
 ghost use Rattle.record_batch.specs.Faults.{first_fault, fault_in};
 
@@ -13,15 +14,14 @@ use crate::outcome::Outcome;
 use crate::record::{RecordAt, read_records};
 use std::alloc::{AllocError, Global};
 use std::marker::Model;
-use wire_types::{Bytes, Cursor, Items, ReadFault, write_i32, write_i64};
+use wire_types::{Bytes, Cursor, Items, Piece, ReadFault};
 
 /// A batch of records, or a control batch; seen as its header, its records, its outcome and its
 /// bytes.
-#[derive(Drop)]
 pub struct Batch {
     header: BatchHeader,
     marker: Option<Outcome>,
-    bytes: Bytes,
+    bytes: Piece,
 }
 
 impl Model for Batch {
@@ -32,6 +32,17 @@ impl Model for Batch {
     ghost view = { λ b. batch_of b.header b.marker b.bytes };
 
     ghost invariant = { λ b. IsBatch (batch_of b.header b.marker b.bytes) };
+}
+
+/// Written out, so that a proof above has one call where a batch is let go.
+impl Drop for Batch {
+    fn drop(self) {
+        let Batch {
+            header: _,
+            marker: _,
+            bytes: _bytes,
+        } = self;
+    }
 }
 
 impl Batch {
@@ -45,7 +56,7 @@ impl Batch {
         Ok(Batch {
             header,
             marker: None,
-            bytes,
+            bytes: Piece::of(bytes),
         })
     }
 
@@ -65,12 +76,12 @@ impl Batch {
         Ok(Batch {
             header,
             marker: Some(outcome),
-            bytes,
+            bytes: Piece::of(bytes),
         })
     }
 
     /// The batch's bytes.
-    pub fn bytes(&self) -> &Bytes
+    pub fn bytes(&self) -> &Piece
         ensures bytes { result.now ≡ self.now.bytes }
         ensures batch { IsBatch self.now }
     {
@@ -133,12 +144,13 @@ impl Batch {
         self.header.next_offset()
     }
 
-    /// The same batch at another offset, with the leader epoch 0. The checksum, which covers
-    /// neither, is still right.
-    pub fn write_at(&self, alloc: Global, offset: i64) -> Result<Batch, AllocError>
+    /// The same batch at another offset, with the leader epoch 0, which shares the bytes behind them. The checksum, which
+    /// covers neither, is still right.
+    pub fn write_at(&self, offset: i64) -> Result<Batch, AllocError>
         ensures { IfOk result (λ b. b ≡ written_at offset self.now) }
     {
-        let bytes = renumbered(alloc, offset, self.bytes.as_slice())?;
+        let front = front_at(offset, &self.bytes.front());
+        let bytes = self.bytes.with_front(front)?;
         let header = self.header.at(offset);
         Ok(Batch {
             header,
@@ -148,16 +160,13 @@ impl Batch {
     }
 }
 
-/// A batch's bytes with another base offset, and with the leader epoch 0.
+/// A batch's first 16 bytes with another base offset, and with the leader epoch 0.
 #[tactic(auto, unfolding(wire_types::specs::Spelling::int_written))]
-fn renumbered(alloc: Global, offset: i64, bytes: &[u8]) -> Result<Bytes, AllocError>
-    requires { 61 ≤ length bytes.now }
-    ensures { IfOk result (λ b. b ≡ renumbered offset bytes.now) }
+fn front_at(offset: i64, front: &[u8; 16]) -> [u8; 16]
+    ensures { result ≡ int64.written offset ++ (slice_range front.now 8 12 ++ int32.written (pos 0)) }
 {
-    let mut out = Vec::with_capacity(alloc, bytes.len())?;
-    write_i64(&mut out, offset)?;
-    out.extend_from_slice(&bytes[8..12])?;
-    write_i32(&mut out, 0)?;
-    out.extend_from_slice(&bytes[16..])?;
-    Ok(Bytes::from_vec(out)?)
+    let mut moved = [0; 16];
+    moved[..8].copy_from_slice(&offset.to_be_bytes());
+    moved[8..12].copy_from_slice(&front[8..12]);
+    moved
 }

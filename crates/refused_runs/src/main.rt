@@ -38,7 +38,7 @@ fn asked(alloc: Global, user: &str, host: &str, digits: &str) -> Option<Event>
     let (header, request) = read_request(alloc, &frame).ok()?;
     Some(Event::Ask {
         caller: Caller {
-            who: Text::from(format!(in alloc; "User:{user}").ok()?),
+            who: Text::from_string(format!(in alloc; "User:{user}").ok()?).ok()?,
             host: Text::of(alloc, host).ok()?,
         },
         client: header.client,

@@ -111,7 +111,7 @@ fn caller(alloc: Global, user: &str, host: &str) -> Result<Caller, AllocError>
     ensures { IfOk result (λ caller. caller ≡ caller_of user.now host.now) }
 {
     Ok(Caller {
-        who: Text::from(format!(in alloc; "User:{user}")?),
+        who: Text::from_string(format!(in alloc; "User:{user}")?)?,
         host: Text::of(alloc, host)?,
     })
 }

@@ -63,5 +63,5 @@ pub fn principal_of(alloc: Global, user: &User) -> Result<Text, AllocError>
     ensures { IfOk result (λ who. who ≡ principal_of user.now) }
 {
     let name = user.name.as_str();
-    Ok(Text::from(format!(in alloc; "User:{name}")?))
+    Text::from_string(format!(in alloc; "User:{name}")?)
 }

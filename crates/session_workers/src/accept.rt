@@ -98,7 +98,7 @@ fn job_of(
     reader.set_write_timeout(idle)?;
     let writer = reader.try_clone()?;
     let ip = peer.ip();
-    let host = Text::from(format!(in alloc; "{ip}")?);
+    let host = Text::from_string(format!(in alloc; "{ip}")?)?;
     Ok(Job {
         session,
         reader,

@@ -6,7 +6,7 @@ ghost use Rattle.transactions.specs.Warrants.{owes};
 ghost use Rattle.transactions.specs.Kept.{count_of, has_count, owed_of};
 
 use crate::marker::OwedMarker;
-use std::alloc::AllocError;
+use std::alloc::{AllocError, Global};
 use std::collections::HashMap;
 use wire_types::{Shared, Text};
 
@@ -23,24 +23,25 @@ pub(crate) fn owes_any(counts: &HashMap<String, usize>, id: &Text) -> bool
 /// Enters the ids of these markers that aren't there yet, none of which owes any. Raising them takes no memory then.
 pub(crate) fn enter_all(
     counts: &mut HashMap<String, usize>,
+    alloc: Global,
     owed: &[Shared<OwedMarker>],
 ) -> Result<(), AllocError>
     ensures same { (id : List ℕ) → count_of counts.new id ≡ count_of counts.old id }
     ensures entered { OnOk result ((id : List ℕ) → owes owed.now id ≡ true → has_count counts.new id ≡ true) }
 {
     for marker in owed {
-        enter(counts, &marker.value().id)?;
+        enter(counts, alloc, &marker.value().id)?;
     }
     Ok(())
 }
 
-fn enter(counts: &mut HashMap<String, usize>, id: &Text) -> Result<(), AllocError>
+fn enter(counts: &mut HashMap<String, usize>, alloc: Global, id: &Text) -> Result<(), AllocError>
     ensures same { (other : List ℕ) → count_of counts.new other ≡ count_of counts.old other }
     ensures kept { (other : List ℕ) → has_count counts.old other ≡ true → has_count counts.new other ≡ true }
     ensures entered { OnOk result (has_count counts.new id.now ≡ true) }
 {
     if !counts.contains_key(id.as_str()) {
-        counts.insert(String::from(id.clone()?), 0)?;
+        counts.insert(id.to_owned(alloc)?, 0)?;
     }
     Ok(())
 }

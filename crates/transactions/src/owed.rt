@@ -68,7 +68,8 @@ impl Owed {
         ensures err { OnErr result (self.new ≡ self.old) }
     {
         self.queue.reserve(more.len())?;
-        enter_all(&mut self.counts, more.as_slice())?;
+        let alloc = *self.queue.allocator();
+        enter_all(&mut self.counts, alloc, more.as_slice())?;
         raise_all(&mut self.counts, more.as_slice());
         let mut more = VecDeque::from_vec(Vec::from(more));
         self.queue.append(&mut more).unwrap();

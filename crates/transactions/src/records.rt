@@ -1,6 +1,6 @@
 //! The records of transactional ids, in the order of their creation.
 
-ghost use Rattle.std.specs.Prelude.{◌≡◌, ◌<◌, [], IfSome, OnOk, length, map};
+ghost use Rattle.std.specs.Prelude.{◌≡◌, ◌<◌, [], IfSome, OnOk, length, map, string_bytes};
 ghost use Rattle.std.specs.Option.{option_copied};
 ghost use Rattle.transactions.specs.Coordinator.{recorded, place_of, put};
 ghost use Rattle.transactions.specs.Expiry.{expired};
@@ -80,9 +80,9 @@ impl Records {
 
     /// Puts a record in place of that of the same id, or behind the others under this copy of its id, where there must
     /// be room. It takes no memory.
-    pub fn put(&mut self, id: Text, transaction: Transaction)
+    pub fn put(&mut self, id: String, transaction: Transaction)
         requires room { 0 < self.old.room }
-        requires named { id ≡ transaction.id }
+        requires named { string_bytes id ≡ transaction.id }
         ensures { self.new.list ≡ put self.old.list transaction }
     {
         match self.place_of(&transaction.id) {

@@ -464,7 +464,7 @@ impl Coordinator {
             Turn::Stays(code) => Ok(code),
             Turn::Puts(code, transaction, given, owed) => {
                 let mut given = Vec::from(given);
-                let id = transaction.id.clone()?;
+                let id = transaction.id.to_owned(*given.allocator())?;
                 self.records.reserve()?;
                 self.given.reserve(given.len())?;
                 self.owed.append(owed)?;

@@ -7,5 +7,5 @@ pub mod OneValue
 pub mod StringLaws
 pub mod Announced
 pub mod Taken
-pub mod Parts
 pub mod Fronts
+pub mod Runs

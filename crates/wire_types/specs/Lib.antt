@@ -16,7 +16,7 @@ pub mod ErrorCode
 pub mod Topic
 pub mod Writing
 pub mod Place
-pub mod SharedBytes
+pub mod Pieces
 pub mod Laws
 pub mod Device
 pub mod Strings

@@ -61,12 +61,16 @@ impl<T> Items<T> {
         self.vec.as_slice()
     }
 
+    /// Puts a value after the others. Room for the first one is for it alone: most lists of a message hold one value.
     pub fn push(&mut self, item: T) -> Result<(), AllocError>
     where
         T: Drop,
         ensures ok { OnOk result (self.new ≡ self.old ++ item ∷ []) }
         ensures err { OnErr result (self.new ≡ self.old) }
     {
+        if self.vec.is_empty() {
+            self.vec = Vec::with_capacity(*self.vec.allocator(), 1)?;
+        }
         self.vec.push(item)?;
         Ok(())
     }

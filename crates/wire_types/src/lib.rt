@@ -16,6 +16,7 @@ mod flexible;
 mod items;
 mod laws;
 mod numbers;
+mod pieces;
 mod room;
 mod shared;
 mod shared_bytes;
@@ -50,6 +51,7 @@ pub use flexible::{
 pub use items::Items;
 pub use laws::{found_is_spelled, one_value, read_fits, spelled_is_found, written_is_spelled};
 pub use numbers::{write_bool, write_i8, write_i16, write_i32, write_i64, write_u32};
+pub use pieces::{Piece, Pieces, pieces_room, write_pieces};
 pub use room::room_behind;
 pub use shared::Shared;
 pub use shared_bytes::Bytes;

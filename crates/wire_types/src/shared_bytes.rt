@@ -1,30 +1,31 @@
 //! Bytes that have several owners, which contracts see as the list of them.
 
-ghost use Rattle.std.specs.Prelude.{◌≡◌, ◌≤◌, ◌↔◌, [], IfOk, IsTrue, length, slice_range};
+ghost use Rattle.std.specs.Prelude.{◌≡◌, ◌^◌, ◌<◌, ◌≤◌, ◌↔◌, [], IfOk, IsTrue, drop, length, slice_range};
 
-use crate::shared::Shared;
+use bytes::Bytes as Part;
 use std::alloc::{AllocError, Global};
 use std::marker::Model;
 use std::ops::Range;
 
 /// A part of bytes that its owners share: a copy of it, or a part of it, is one more owner of the same bytes.
-#[derive(Drop, Debug)]
+#[derive(Debug, Clone)]
 pub struct Bytes {
-    /// What the part is cut from, or nothing where no byte is in it.
-    whole: Option<Shared<Vec<u8>>>,
-    start: usize,
-    end: usize,
+    part: Part,
 }
 
 impl Model for Bytes {
     ghost use Rattle.std.specs.Prelude.{List, ℕ};
-    ghost use Rattle.wire_types.specs.SharedBytes.{part_of, IsPartOf};
 
     ghost Value = { List ℕ };
 
-    ghost view = { λ b. part_of b.whole b.start b.end };
+    ghost view = { λ b. b.part };
+}
 
-    ghost invariant = { λ b. IsPartOf b.whole b.start b.end };
+/// Written out, so that a proof above has one call where bytes are let go.
+impl Drop for Bytes {
+    fn drop(self) {
+        let Bytes { part: _part } = self;
+    }
 }
 
 impl Bytes {
@@ -32,23 +33,15 @@ impl Bytes {
     pub fn new() -> Bytes
         ensures { result ≡ [] }
     {
-        Bytes {
-            whole: None,
-            start: 0,
-            end: 0,
-        }
+        Bytes { part: Part::new() }
     }
 
     /// The bytes of a vector, which aren't copied.
     pub fn from_vec(bytes: Vec<u8>) -> Result<Bytes, AllocError>
         ensures { IfOk result (λ b. b ≡ bytes.items) }
     {
-        let alloc = *bytes.allocator();
-        let end = bytes.len();
         Ok(Bytes {
-            whole: Some(Shared::new(alloc, bytes)?),
-            start: 0,
-            end,
+            part: Part::from_vec(bytes)?,
         })
     }
 
@@ -56,30 +49,35 @@ impl Bytes {
     pub fn copy_from_slice(alloc: Global, bytes: &[u8]) -> Result<Bytes, AllocError>
         ensures { IfOk result (λ b. b ≡ bytes.now) }
     {
-        let mut copy = Vec::new(alloc);
-        copy.extend_from_slice(bytes)?;
-        Bytes::from_vec(copy)
+        Ok(Bytes {
+            part: Part::copy_from_slice(alloc, bytes)?,
+        })
+    }
+
+    /// The same bytes, as the crate `bytes` has them.
+    pub(crate) fn into_part(self) -> Part
+        ensures { result ≡ self }
+    {
+        let Bytes { part } = self;
+        part
     }
 
     pub fn as_slice(&self) -> &[u8]
         ensures { result.now ≡ self.now }
     {
-        match &self.whole {
-            Some(whole) => &whole.value().as_slice()[self.start..self.end],
-            None => &[],
-        }
+        self.part.as_slice()
     }
 
     pub fn len(&self) -> usize
         ensures { result ≡ length self.now }
     {
-        self.as_slice().len()
+        self.part.len()
     }
 
     pub fn is_empty(&self) -> bool
         ensures { IsTrue result ↔ (self.now ≡ []) }
     {
-        self.as_slice().is_empty()
+        self.part.is_empty()
     }
 
     /// A part of these bytes, which isn't copied; it is refused only where the count of owners is full. Where no byte is in
@@ -88,22 +86,9 @@ impl Bytes {
         requires { (range.start ≤ range.end) × (range.end ≤ length self.now) }
         ensures { IfOk result (λ b. b ≡ slice_range self.now range.start range.end) }
     {
-        match &self.whole {
-            Some(whole) if range.start < range.end => Ok(Bytes {
-                whole: Some(whole.share()?),
-                start: self.start + range.start,
-                end: self.start + range.end,
-            }),
-            _ => Ok(Bytes::new()),
-        }
-    }
-}
-
-impl Clone for Bytes {
-    ghost is_clone = { λ b copy. copy ≡ b };
-
-    fn clone(&self) -> Result<Bytes, AllocError> {
-        self.slice(0..self.len())
+        Ok(Bytes {
+            part: self.part.slice(range)?,
+        })
     }
 }
 

@@ -1,23 +1,31 @@
 //! A UTF-8 text, which contracts see as its bytes.
 
-ghost use Rattle.std.specs.Prelude.{◌≡◌, ◌↔◌, [], IfOk, IsTrue, length};
+ghost use Rattle.std.specs.Prelude.{◌≡◌, ◌↔◌, [], IfOk, IsTrue, IsUtf8, MatchOption, length, string_bytes};
 
+use crate::shared_bytes::Bytes;
+use bytes::ByteStr;
 use std::alloc::{AllocError, Global};
 use std::marker::Model;
 
-/// A text, seen as its bytes.
-#[derive(Drop, Debug, Clone)]
+/// A text, seen as its bytes. A copy of it is one more owner of the same bytes.
+#[derive(Debug, Clone)]
 pub struct Text {
-    string: String,
+    shared: ByteStr,
 }
 
 impl Model for Text {
     ghost use Rattle.std.specs.Prelude.{List, ℕ};
-    ghost use Rattle.std.specs.String.{string_bytes};
 
     ghost Value = { List ℕ };
 
-    ghost view = { λ t. string_bytes t.string };
+    ghost view = { λ t. t.shared };
+}
+
+/// Written out, so that a proof above has one call where a text is let go.
+impl Drop for Text {
+    fn drop(self) {
+        let Text { shared: _shared } = self;
+    }
 }
 
 impl Text {
@@ -25,51 +33,59 @@ impl Text {
     pub fn of(alloc: Global, text: &str) -> Result<Text, AllocError>
         ensures { IfOk result (λ t. t ≡ text.now) }
     {
-        Ok(Text::from(String::from_str(alloc, text)?))
+        Ok(Text {
+            shared: ByteStr::copy_from_str(alloc, text)?,
+        })
+    }
+
+    /// The text of a string, which isn't copied.
+    pub fn from_string(string: String) -> Result<Text, AllocError>
+        ensures { IfOk result (λ t. t ≡ string_bytes string) }
+    {
+        Ok(Text {
+            shared: ByteStr::from_string(string)?,
+        })
+    }
+
+    /// The text that shared bytes are, which aren't copied, if they are one.
+    pub fn from_shared(bytes: Bytes) -> Option<Text>
+        ensures { MatchOption result (¬ (IsUtf8 bytes)) (λ t. (t ≡ bytes) × IsUtf8 bytes) }
+    {
+        match ByteStr::from_utf8(bytes.into_part()) {
+            Ok(shared) => Some(Text { shared }),
+            Err(_) => None,
+        }
+    }
+
+    /// A copy as a string of its own.
+    pub fn to_owned(&self, alloc: Global) -> Result<String, AllocError>
+        ensures { IfOk result (λ string. string_bytes string ≡ self.now) }
+    {
+        String::from_str(alloc, self.as_str())
     }
 
     pub fn as_str(&self) -> &str
         ensures { result.now ≡ self.now }
     {
-        self.string.as_str()
+        self.shared.as_str()
     }
 
     pub fn as_bytes(&self) -> &[u8]
         ensures { result.now ≡ self.now }
     {
-        self.string.as_bytes()
+        self.shared.as_bytes().as_slice()
     }
 
     pub fn len(&self) -> usize
         ensures { result ≡ length self.now }
     {
-        self.string.len()
+        self.shared.len()
     }
 
     pub fn is_empty(&self) -> bool
         ensures { IsTrue result ↔ (self.now ≡ []) }
     {
-        self.string.is_empty()
-    }
-}
-
-impl From<String> for Text {
-    ghost use Rattle.std.specs.String.{string_bytes};
-
-    ghost from_gives = { λ string text. text ≡ string_bytes string };
-
-    fn from(string: String) -> Text {
-        Text { string }
-    }
-}
-
-impl From<Text> for String {
-    ghost use Rattle.std.specs.String.{string_bytes};
-
-    ghost from_gives = { λ text string. string_bytes string ≡ text };
-
-    fn from(text: Text) -> String {
-        text.string
+        self.shared.is_empty()
     }
 }
 

@@ -17,18 +17,17 @@ use crate::room::room_behind;
 use crate::text::Text;
 use crate::wire::Wire;
 use std::alloc::Global;
-use std::str::from_utf8;
 
 impl<'a> Cursor<'a> {
-    /// The next `len` bytes, a text.
+    /// The next `len` bytes, a text, as a part of the shared bytes, or as a copy where there are none.
     #[tactic(auto, unfolding(crate::specs::Reading::utf8_at))]
     fn read_utf8(&mut self, alloc: Global, len: usize) -> Result<Text, ReadFault>
         ensures { Reads (utf8_at len self.old) result self.new }
     {
-        let front = self.read_front(len)?;
-        match from_utf8(front) {
-            Ok(text) => Ok(Text::of(alloc, text)?),
-            Err(_) => Err(ReadFault::Malformed(Malformed::Utf8)),
+        let front = self.read_shared(alloc, len)?;
+        match Text::from_shared(front) {
+            Some(text) => Ok(text),
+            None => Err(ReadFault::Malformed(Malformed::Utf8)),
         }
     }
 

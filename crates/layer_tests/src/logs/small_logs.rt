@@ -82,7 +82,7 @@ pub(crate) fn send(alloc: Global, log: &mut Log, bytes: &[u8]) -> Result<bool, A
     }
     match log.judge(&batch) {
         Judgment::Next => {
-            log.append(alloc, batch)?;
+            log.append(batch)?;
             Ok(true)
         }
         _ => Ok(false),

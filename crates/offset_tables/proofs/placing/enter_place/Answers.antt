@@ -34,7 +34,7 @@ returns-in-Some-clause-ok c = λ other number.
 
 pub returns-clause-ok : goal.returns-clause-ok
 returns-clause-ok c = λ other number.
-    let topic = string_bytes c.from.result in
+    let topic = string_bytes c.in_ok-to_owned.field-0 in
     let key : ℤ = to_z w32 (of_z w32 c.args.index) in
     let left = c.insert-2.new.self in
     let key_is : topic ≡ c.args.topic.now = search rules in

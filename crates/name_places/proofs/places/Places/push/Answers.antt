@@ -9,20 +9,18 @@ use Rattle.name_places.proofs.places.Places.push.Goals as goal
 
 pub returns-then-not-contains_key : goal.returns-then-not-contains_key
 returns-then-not-contains_key c = λ names are last other.
-    let key_is : string_bytes c.from-name.result ≡ c.args.name = search rules in
-    let asked : c.as_str.result.now ≡ c.args.name = search rules in
+    let asked : c.as_str.result.now ≡ string_bytes c.args.name = search rules in
     let none : is_some (get_by_text c.args.self.now.table c.as_str.result.now) ≡ false = search rules in
-    let absent : is_some (place_in names c.args.name) ≡ false = ap (λ (o : Option ℕ). is_some o) (sym (are c.args.name)) ∙ ap (λ (n : List ℕ). is_some (get_by_text c.args.self.now.table n)) (sym asked) ∙ none in
+    let absent : is_some (place_in names (string_bytes c.args.name)) ≡ false = ap (λ (o : Option ℕ). is_some o) (sym (are (string_bytes c.args.name))) ∙ ap (λ (n : List ℕ). is_some (get_by_text c.args.self.now.table n)) (sym asked) ∙ none in
     let updates = on_ok c.insert-entered.result _ (c.insert-entered.ensures.succeeds c.requires) c.insert-entered.ensures.updates in
-    hash_map_updates_text (string_bytes c.from-name.result) c.args.self.now.table c.insert-entered.new.self _ updates other
-    ∙ ap (λ (n : List ℕ). cond (bytes_eq n other) (Some c.args.place) (get_by_text c.args.self.now.table other)) key_is
-    ∙ ap (λ (o : Option ℕ). cond (bytes_eq c.args.name other) (Some c.args.place) o) (are other)
-    ∙ ap (λ (k : ℕ). cond (bytes_eq c.args.name other) (Some k) (place_in names other)) last
-    ∙ entered_more names c.args.name other absent
+    hash_map_updates_text (string_bytes c.args.name) c.args.self.now.table c.insert-entered.new.self _ updates other
+    ∙ ap (λ (o : Option ℕ). cond (bytes_eq (string_bytes c.args.name) other) (Some c.args.place) o) (are other)
+    ∙ ap (λ (k : ℕ). cond (bytes_eq (string_bytes c.args.name) other) (Some k) (place_in names other)) last
+    ∙ entered_more names (string_bytes c.args.name) other absent
 
 pub returns-else-not-contains_key : goal.returns-else-not-contains_key
 returns-else-not-contains_key c = λ names are last other.
-    let asked : c.as_str.result.now ≡ c.args.name = search rules in
+    let asked : c.as_str.result.now ≡ string_bytes c.args.name = search rules in
     let some : is_some (get_by_text c.args.self.now.table c.as_str.result.now) ≡ true = search rules in
-    let there : is_some (place_in names c.args.name) ≡ true = ap (λ (o : Option ℕ). is_some o) (sym (are c.args.name)) ∙ ap (λ (n : List ℕ). is_some (get_by_text c.args.self.now.table n)) (sym asked) ∙ some in
-    are other ∙ kept_more names c.args.name other there
+    let there : is_some (place_in names (string_bytes c.args.name)) ≡ true = ap (λ (o : Option ℕ). is_some o) (sym (are (string_bytes c.args.name))) ∙ ap (λ (n : List ℕ). is_some (get_by_text c.args.self.now.table n)) (sym asked) ∙ some in
+    are other ∙ kept_more names (string_bytes c.args.name) other there

@@ -3,7 +3,7 @@ use Rattle.record_batch.proofs.Kept.{batch_long, IsRead, read_is, recs_placed, n
 use Rattle.record_batch.proofs.batch.Batch.recs.Goals as goal
 
 pub slice-requires : goal.slice-requires
-slice-requires c = rw c.len.ensures (batch_long _ c.self.invariant, omega arith)
+slice-requires c = rw c.len.ensures (record { start = (omega arith, batch_long _ c.self.invariant); end = omega arith })
 
 pub returns-in-Ok : goal.returns-in-Ok
 returns-in-Ok c =

@@ -1,0 +1,354 @@
+//! Bytes in pieces that share them: a batch's bytes, and those of several batches.
+
+ghost use Rattle.std.specs.Prelude.{◌≡◌, ◌==◌, ◌^◌, ◌+◌, ◌-◌, ◌<◌, ◌≤◌, ◌++◌, [], IfOk, OnOk, OnErr, drop, length, slice_range, take};
+ghost use Rattle.std.specs.Cmp.Lexicographic.{pointwise};
+ghost use Rattle.std.specs.Io.{StartsWith};
+ghost use Rattle.std.specs.List.{concat};
+ghost use Rattle.wire_types.specs.Reading.{Reads};
+ghost use Rattle.wire_types.specs.Writing.{Puts};
+ghost use Rattle.wire_types.specs.Schema.{bytes};
+
+use crate::counts::{count_room, write_count};
+use crate::cursor::Cursor;
+use crate::fault::{ReadFault, WriteFault};
+use crate::room::room_behind;
+use crate::shared_bytes::Bytes;
+use std::alloc::{AllocError, Global};
+use std::marker::Model;
+use std::ops::Range;
+
+/// Shared bytes, of which the first 16 may be the piece's own: a stored batch has its offset and its leader epoch there
+/// (https://kafka.apache.org/documentation/#recordbatch), and shares all else with the frame that brought it.
+pub struct Piece {
+    own: Option<[u8; 16]>,
+    shared: Bytes,
+}
+
+impl Model for Piece {
+    ghost use Rattle.std.specs.Prelude.{List, ℕ};
+    ghost use Rattle.wire_types.specs.Pieces.{piece_of, IsPiece};
+
+    ghost Value = { List ℕ };
+
+    ghost view = { λ p. piece_of p.own p.shared };
+
+    ghost invariant = { λ p. IsPiece p.own };
+}
+
+/// Written out, so that a proof above has one call where a piece is let go.
+impl Drop for Piece {
+    fn drop(self) {
+        let Piece {
+            own: _,
+            shared: _shared,
+        } = self;
+    }
+}
+
+impl Piece {
+    /// Shared bytes, none of which are the piece's own.
+    pub fn of(shared: Bytes) -> Piece
+        ensures { result ≡ shared }
+    {
+        Piece { own: None, shared }
+    }
+
+    pub fn len(&self) -> usize
+        ensures { result ≡ length self.now }
+    {
+        match self.own {
+            Some(_) => 16 + self.shared.as_slice().len(),
+            None => self.shared.len(),
+        }
+    }
+
+    /// The first 16 bytes.
+    pub fn front(&self) -> [u8; 16]
+        requires { 16 ≤ length self.now }
+        ensures { result ≡ take 16 self.now }
+    {
+        match self.own {
+            Some(own) => own,
+            None => first_of(self.shared.as_slice()),
+        }
+    }
+
+    /// The same bytes after other first 16, one more owner of those after them. It is refused only where the count of owners
+    /// is full.
+    pub fn with_front(&self, own: [u8; 16]) -> Result<Piece, AllocError>
+        requires { 16 ≤ length self.now }
+        ensures { IfOk result (λ p. p ≡ own ++ drop 16 self.now) }
+    {
+        let shared = self.slice(16..self.len())?;
+        Ok(Piece {
+            own: Some(own),
+            shared,
+        })
+    }
+
+    /// A part of the bytes after the first 16, which isn't copied. It is refused only where the count of owners is full.
+    pub fn slice(&self, range: Range<usize>) -> Result<Bytes, AllocError>
+        requires start { (16 ≤ range.start) × (range.start ≤ range.end) }
+        requires end { range.end ≤ length self.now }
+        ensures { IfOk result (λ b. b ≡ slice_range self.now range.start range.end) }
+    {
+        match self.own {
+            Some(_) => self.shared.slice(range.start - 16..range.end - 16),
+            None => self.shared.slice(range),
+        }
+    }
+
+    /// Appends the bytes to what is there. A refusal leaves that as it was.
+    pub fn push_to(&self, out: &mut Vec<u8>) -> Result<(), AllocError>
+        ensures ok { OnOk result (out.new.items ≡ out.old.items ++ self.now) }
+        ensures err { OnErr result (out.new.items ≡ out.old.items) }
+    {
+        let start = out.len();
+        if let Some(own) = &self.own {
+            out.extend_from_slice(own)?;
+        }
+        let rest = out.extend_from_slice(self.shared.as_slice());
+        if rest.is_err() {
+            out.truncate(start);
+        }
+        rest
+    }
+
+    /// The bytes, as two runs.
+    fn runs(&self) -> (&[u8], &[u8])
+        ensures { result.0.now ++ result.1.now ≡ self.now }
+    {
+        match &self.own {
+            Some(own) => (own, self.shared.as_slice()),
+            None => (self.shared.as_slice(), &[]),
+        }
+    }
+}
+
+/// The first 16 of these bytes.
+fn first_of(bytes: &[u8]) -> [u8; 16]
+    requires { 16 ≤ length bytes.now }
+    ensures { result ≡ take 16 bytes.now }
+{
+    let mut first = [0; 16];
+    first.copy_from_slice(&bytes[..16]);
+    first
+}
+
+impl Clone for Piece {
+    ghost is_clone = { λ p copy. copy ≡ p };
+
+    fn clone(&self) -> Result<Piece, AllocError> {
+        Ok(Piece {
+            own: self.own,
+            shared: self.shared.clone()?,
+        })
+    }
+}
+
+/// Pieces in order, seen as the bytes of all, one after the other.
+pub struct Pieces {
+    pieces: Vec<Piece>,
+    len: usize,
+}
+
+impl Model for Pieces {
+    ghost use Rattle.std.specs.Prelude.{◌≡◌, List, ℕ, length};
+    ghost use Rattle.std.specs.List.{concat};
+
+    ghost Value = { List ℕ };
+
+    ghost view = { λ p. concat p.pieces.items };
+
+    ghost invariant = { λ p. p.len ≡ length (concat p.pieces.items) };
+}
+
+/// Written out, so that a proof above has one call where pieces are let go.
+impl Drop for Pieces {
+    fn drop(self) {
+        let Pieces {
+            pieces: _pieces,
+            len: _,
+        } = self;
+    }
+}
+
+impl Pieces {
+    pub fn new(alloc: Global) -> Pieces
+        ensures { result ≡ [] }
+    {
+        Pieces {
+            pieces: Vec::new(alloc),
+            len: 0,
+        }
+    }
+
+    /// Shared bytes alone.
+    pub fn of(alloc: Global, bytes: Bytes) -> Result<Pieces, AllocError>
+        ensures { IfOk result (λ p. p ≡ bytes) }
+    {
+        let len = bytes.len();
+        let mut pieces = Vec::with_capacity(alloc, 1)?;
+        pieces.push(Piece::of(bytes))?;
+        Ok(Pieces { pieces, len })
+    }
+
+    pub fn len(&self) -> usize
+        ensures { result ≡ length self.now }
+    {
+        self.len
+    }
+
+    /// Puts a piece after the others. It is refused too where `usize` can't count so many bytes.
+    #[tactic(auto, using(crate::proofs::Runs::concat_more, crate::proofs::Runs::length_more))]
+    pub fn push(&mut self, piece: Piece) -> Result<(), AllocError>
+        ensures ok { OnOk result (self.new ≡ self.old ++ piece) }
+        ensures err { OnErr result (self.new ≡ self.old) }
+    {
+        let Some(len) = self.len.checked_add(piece.len()) else {
+            return Err(AllocError);
+        };
+        self.pieces.push(piece)?;
+        self.len = len;
+        Ok(())
+    }
+
+    /// Appends the bytes to what is there. A refusal leaves that as it was.
+    pub fn push_to(&self, out: &mut Vec<u8>) -> Result<(), AllocError>
+        ensures ok { OnOk result (out.new.items ≡ out.old.items ++ self.now) }
+        ensures err { OnErr result (out.new.items ≡ out.old.items) }
+    {
+        let start = out.len();
+        for piece in &self.pieces {
+            if let Err(fault) = piece.push_to(out) {
+                out.truncate(start);
+                return Err(fault);
+            }
+        }
+        Ok(())
+    }
+
+    /// A copy of all the bytes, in one part.
+    pub fn to_bytes(&self, alloc: Global) -> Result<Bytes, AllocError>
+        ensures { IfOk result (λ b. b ≡ self.now) }
+    {
+        let mut out = Vec::with_capacity(alloc, self.len)?;
+        self.push_to(&mut out)?;
+        Bytes::from_vec(out)
+    }
+}
+
+/// What is left of pieces that are read from left to right: a run of bytes, the next run, and the pieces after them. Only at
+/// the end is the run empty.
+#[derive(Drop)]
+struct Unread<'a> {
+    run: &'a [u8],
+    next: &'a [u8],
+    pieces: &'a [Piece],
+}
+
+impl<'a> Model for Unread<'a> {
+    ghost use Rattle.std.specs.Prelude.{◌≡◌, List, ℕ, ◌++◌, [], length};
+    ghost use Rattle.std.specs.List.{concat};
+
+    ghost Value = { List ℕ };
+
+    ghost view = { λ p. p.run.now ++ (p.next.now ++ concat p.pieces.now) };
+
+    ghost invariant = { λ p. length p.run.now ≡ 0 → (p.next.now ++ concat p.pieces.now) ≡ [] };
+}
+
+impl<'a> Unread<'a> {
+    /// All of these runs and pieces.
+    fn of(run: &'a [u8], next: &'a [u8], pieces: &'a [Piece]) -> Unread<'a>
+        ensures { result ≡ run.now ++ (next.now ++ concat pieces.now) }
+    {
+        if !run.is_empty() {
+            return Unread { run, next, pieces };
+        }
+        if !next.is_empty() {
+            return Unread {
+                run: next,
+                next: &[],
+                pieces,
+            };
+        }
+        match pieces.split_first() {
+            Some((piece, rest)) => {
+                let (run, next) = piece.runs();
+                Unread::of(run, next, rest)
+            }
+            None => Unread { run, next, pieces },
+        }
+    }
+}
+
+/// Whether two runs begin with the same bytes, so many of them.
+fn begin_alike(left: &[u8], right: &[u8], count: usize) -> bool
+    requires { (count ≤ length left.now) × (count ≤ length right.now) }
+    ensures { result ≡ pointwise ◌==◌ (take count left.now) (take count right.now) }
+{
+    left[..count] == right[..count]
+}
+
+impl PartialEq for Pieces {
+    ghost use Rattle.std.specs.Cmp.{partial_equiv_from_equiv};
+    ghost use Rattle.std.specs.Cmp.Lexicographic.{nat_list_eq_equiv};
+
+    ghost eq = { pointwise ◌==◌ };
+
+    ghost laws = { partial_equiv_from_equiv nat_list_eq_equiv };
+
+    fn eq(&self, other: &Pieces) -> bool {
+        let mut left = Unread::of(&[], &[], self.pieces.as_slice());
+        let mut right = Unread::of(&[], &[], other.pieces.as_slice());
+        while !left.run.is_empty() && !right.run.is_empty() {
+            let count = left.run.len().min(right.run.len());
+            if !begin_alike(left.run, right.run, count) {
+                return false;
+            }
+            left = Unread::of(&left.run[count..], left.next, left.pieces);
+            right = Unread::of(&right.run[count..], right.next, right.pieces);
+        }
+        left.run.is_empty() && right.run.is_empty()
+    }
+}
+
+impl Eq for Pieces {
+    ghost use Rattle.std.specs.Cmp.Lexicographic.{nat_list_eq_equiv};
+
+    ghost laws = { nat_list_eq_equiv };
+}
+
+impl<'a> Cursor<'a> {
+    /// BYTES, their number in four bytes and then they, as one piece.
+    pub fn read_pieces(&mut self, alloc: Global) -> Result<Pieces, ReadFault>
+        ensures { Reads (bytes.reading self.old) result self.new }
+    {
+        let bytes = self.read_bytes(alloc)?;
+        Ok(Pieces::of(alloc, bytes)?)
+    }
+}
+
+/// BYTES: their number in four bytes, and then they.
+#[tactic(auto, unfolding(crate::specs::Spelling::behind_fits))]
+pub fn write_pieces(out: &mut Vec<u8>, value: &Pieces) -> Result<(), WriteFault>
+    ensures spelled { Puts bytes value.now out.old.items result out.new.items }
+    ensures err { OnErr result (out.new.items ≡ out.old.items) }
+    ensures grown { StartsWith out.new.items out.old.items }
+{
+    let start = out.len();
+    write_count(out, value.len())?;
+    let rest = value.push_to(out);
+    if rest.is_err() {
+        out.truncate(start);
+    }
+    Ok(rest?)
+}
+
+pub fn pieces_room(value: &Pieces, room: usize) -> Option<usize>
+    ensures { result ≡ bytes.left value.now room }
+{
+    let room = count_room(value.len(), room)?;
+    room_behind(value.len(), room)
+}
