@@ -239,6 +239,27 @@ def refusals_are_told():
     assert (sessions, refusals, told) == (2, 2, refused), (sessions, refusals, told)
 
 
+def announced_frames_take_little():
+    """Clients that announce the longest frame and stop after a byte of it cost the broker no room for the rest."""
+    clients, longest = 64, struct.pack(">i", 104_857_600)
+    with Broker(SETTINGS, workers=clients, connections=clients + 1) as server:
+        host, _, port = server.address.rpartition(":")
+        address = host, int(port)
+        peers = [socket.create_connection(address) for _ in range(clients)]
+        for peer in peers:
+            peer.sendall(longest + b"\0")
+        for peer in peers:
+            peer.shutdown(socket.SHUT_WR)
+        cut = sorted(TOLD.format(number, "the connection was closed inside a request") for number in range(clients))
+        wait_until(lambda: sorted(server.told()) == cut, "the sessions are not cut")
+        assert server.peak_memory() < 16 << 20, server.peak_memory()
+        for peer in peers:
+            peer.close()
+        socket.create_connection(address).close()
+        (sessions, _, _), _ = server.settled()
+    assert sessions == clients + 1, sessions
+
+
 def time_is_over():
     """After its time no connection is taken any more, and the one that is open is served to its end."""
     with Broker(SETTINGS, connections=1000, more=("--for", "1")) as server:
@@ -282,6 +303,7 @@ def main():
         each_api,
         peers_that_vanish,
         refusals_are_told,
+        announced_frames_take_little,
         time_is_over,
         idle_peers_are_closed,
     )

@@ -56,6 +56,11 @@ class Broker:
         """The lines on standard error so far."""
         return os.pread(self.errors.fileno(), 1 << 20, 0).decode().splitlines()
 
+    def peak_memory(self):
+        """How many bytes of its memory were resident at once, at most, since it began."""
+        with open(f"/proc/{self.process.pid}/status", encoding="ascii") as status:
+            return next(int(line.split()[1]) << 10 for line in status if line.startswith("VmHWM:"))
+
     def end(self, timeout=30):
         """Waits for its end, and gives its status, what it said last, and what it said on standard error."""
         said, _ = self.process.communicate(timeout=timeout)

@@ -1,6 +1,7 @@
 //! The steps of the clock, after each of which it is told what is new.
 
-ghost use Rattle.std.specs.Prelude.{Some};
+ghost use Rattle.std.specs.Prelude.{◌≡◌, false, Some, IfSome, IsSome, is_ok};
+ghost use Rattle.session_pool.specs.Steps.{IsDue, step_event, noted};
 
 use crate::ticks::Ticks;
 use crate::watch::Watch;
@@ -30,9 +31,14 @@ impl<'d, 'r, L: DeskLedger, R: Wait + time::Clock, E: Write> Timekeeper<'d, 'r, 
 }
 
 impl<'d, 'r, L: DeskLedger, R: Wait + time::Clock, E: Write> Steps for Timekeeper<'d, 'r, L, R, E> {
-    ghost owed = { λ keeper. Some keeper.clock };
+    ghost owed = { λ keeper. Some keeper.clock.left };
 
-    fn next(&mut self, done: bool) -> Option<Step> {
+    /// Until all workers have ended there is a next step.
+    fn next(&mut self, done: bool) -> Option<Step>
+        ensures step { IfSome result (λ step. IsDue (Some self.old.clock.left) (step_event step)) }
+        ensures owed { self.new.clock.left ≡ self.old.clock.left }
+        ensures goes_on { done ≡ false → IsSome result }
+    {
         if done {
             self.watch.look();
         }
@@ -45,7 +51,10 @@ impl<'d, 'r, L: DeskLedger, R: Wait + time::Clock, E: Write> Steps for Timekeepe
         self.watch.note(core);
     }
 
-    fn came(&mut self, outcome: Result<u64, Why>) -> bool {
+    fn came(&mut self, outcome: Result<u64, Why>) -> bool
+        ensures owed { Some self.new.clock.left ≡ noted (Some self.old.clock.left) outcome }
+        ensures goes_on { result ≡ is_ok outcome }
+    {
         self.watch.tell();
         self.clock.came(outcome)
     }

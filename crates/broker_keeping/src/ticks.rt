@@ -1,5 +1,7 @@
 //! The keeper's clock.
 
+ghost use Rattle.std.specs.Prelude.{◌≡◌, is_some, not};
+
 use session_pool::{Clock, DeskLedger, LockedDesk};
 use std::sync::Wait;
 use std::time;
@@ -29,6 +31,9 @@ impl<'d, 'r, L: DeskLedger, R: Wait + time::Clock> Ticks<'d, 'r, L, R> {
 }
 
 impl<'d, 'r, L: DeskLedger, R: Wait + time::Clock> Clock for Ticks<'d, 'r, L, R> {
+    /// A moment until all workers have ended, and none then.
+    ghost gives = { λ _ done moment _. is_some moment ≡ not done };
+
     fn next(&mut self, done: bool) -> Option<u64> {
         if done {
             return None;

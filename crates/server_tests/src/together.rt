@@ -1,6 +1,6 @@
 //! That sessions run at once: session 1 is held until session 2 has logged in, produced a record and fetched it back.
 
-ghost use Rattle.std.specs.Prelude.{◌≡◌, ◌+◌, []};
+ghost use Rattle.std.specs.Prelude.{◌≡◌, ◌+◌, [], is_some, not};
 ghost use Rattle.request_handlers.specs.Seats.{most_seats};
 
 use crate::clients::{HANDSHAKE_TOLD, LOGIN_TOLD, bytes_of};
@@ -38,6 +38,9 @@ struct Ticks<R: time::Clock + Drop> {
 }
 
 impl<R: time::Clock + Drop> Clock for Ticks<R> {
+    /// A moment until all workers have ended, and none then.
+    ghost gives = { λ _ done moment _. is_some moment ≡ not done };
+
     fn next(&mut self, done: bool) -> Option<u64> {
         if done {
             return None;

@@ -1,5 +1,5 @@
 -- Known bytes over several reads.
-use Rattle.std.proofs.Common.{◌≡◌, ℕ, ◌+◌, ◌-◌, ◌<◌, ◌≤◌, List, [], ◌++◌, refl, Option, Some, None, ap, sym, ◌∙◌, length, take, arith, subst, le_refl, drop_at, slice_range, length-take-le, take-take, take_all, append_assoc, length-append}
+use Rattle.std.proofs.Common.{◌≡◌, ℕ, ◌+◌, ◌-◌, ◌<◌, ◌≤◌, List, [], ◌++◌, refl, Option, Some, None, ap, sym, ◌∙◌, length, take, arith, subst, le_refl, drop_at, slice_range, length-take-le, take_all, append_assoc, length-append}
 use Rattle.std.proofs.lemmas.Slice.{take-put_mid_below, take-put_mid}
 use Rattle.std.specs.Io.KnownBytes.{Consumes, IsAtEnd}
 use Rattle.std.proofs.KnownBytes.{Consumes-trans}
@@ -60,10 +60,10 @@ body_fault a b n size w all is short = subst (λ x. Took a b (BodyLacks size x))
 -- ---- a body in pieces
 
 -- there is no room for more
-pub front_unkept : (a b : Option (List ℕ)) (held size : ℕ) (room : List ℕ) → Consumes a b (take held room) → Took a b (BodyLacks size why.NoMemory)
-front_unkept None b held size room h = tt
-front_unkept (Some xs) None held size room h = absurd h
-front_unkept (Some xs) (Some ys) held size room h = (take held room, ys, h, refl, tt)
+pub unread : (a b : Option (List ℕ)) (size : ℕ) (front : List ℕ) → Consumes a b front → Took a b (BodyLacks size why.NoMemory)
+unread None b size front h = tt
+unread (Some xs) None size front h = absurd h
+unread (Some xs) (Some ys) size front h = (front, ys, h, refl, tt)
 
 lacks_more : (old m size : ℕ) (w : Why) (front read rest : List ℕ) → length front ≡ old → old + m ≤ size → BodyLacks m w read rest → BodyLacks size w (front ++ read) rest
 lacks_more old m size why.Cut front read rest is within h = let l = length-append front read in (omega (arith, l, h.0), h.1)
@@ -90,29 +90,21 @@ piece_lacks (Some xs) (Some ys) c m size front w within h (read, rest, whole, af
   lacks_more (length front) m size w front read rest refl within lacks,
 )
 
-put_mid_long : (a k end : ℕ) (xs ys : List ℕ) → end ≡ a + length ys → a ≤ length xs → end ≤ length (put_mid a k xs ys)
-put_mid_long a k end xs ys seam within =
-    omega (arith, seam, length-append (take a xs) (ys ++ post_of a k xs), length-append ys (post_of a k xs), length-take-le a xs within)
-
--- a piece that is read into its place
-pub piece_read : (b c : Option (List ℕ)) (len held end : ℕ) (xs ys rest : List ℕ) → length xs ≡ len → held ≤ end → end ≤ len → length ys ≡ end - held → Consumes b c ys
-    → ReadsOn b c (take held xs) (take end (take len (put_mid held (end - held) xs ys ++ rest)))
-piece_read b c len held end xs ys rest all order within fits read =
-    let seam : end ≡ held + length ys = omega (arith, order, fits) in
-    let before : held ≤ length xs = omega (arith, all, order, within) in
-    let front : take end (put_mid held (end - held) xs ys) ≡ take held xs ++ ys = take-put_mid held (end - held) xs ys end seam before in
-    let long : end ≤ length (put_mid held (end - held) xs ys) = put_mid_long held (end - held) end xs ys seam before in
-    (ys, take-take end len _ within ∙ take-append-le end _ rest long ∙ front, read)
+-- what is read from one place on stands behind what was there
+pub rest_read : (b c : Option (List ℕ)) (len held : ℕ) (xs ys rest : List ℕ) → length xs ≡ len → held ≤ len → length ys ≡ len - held → Consumes b c ys
+    → ReadsOn b c (take held xs) (take len (put_mid held (len - held) xs ys ++ rest))
+rest_read b c len held xs ys rest all within fits read =
+    let seam : len ≡ held + length ys = omega (arith, within, fits) in
+    let before : held ≤ length xs = omega (arith, all, within) in
+    let front : take len (put_mid held (len - held) xs ys) ≡ take held xs ++ ys = take-put_mid held (len - held) xs ys len seam before in
+    let long : len ≤ length (put_mid held (len - held) xs ys) =
+    omega (arith, seam, length-append (take held xs) (ys ++ post_of held (len - held) xs), length-append ys (post_of held (len - held) xs), length-take-le held xs before) in
+    (ys, take-append-le len _ rest long ∙ front, read)
 
 pub read_on : (a b c : Option (List ℕ)) (held more : List ℕ) → Consumes a b held → ReadsOn b c held more → Consumes a c more
 read_on a b c held more first (read, whole, next) = subst (Consumes a c) (sym whole) (Consumes-trans a b c held read first next)
 
--- what stood there stands there still
-pub front_kept : (n least : ℕ) (xs more : List ℕ) → n ≤ length xs → length xs < least → take n (take least xs ++ more) ≡ take n xs
-front_kept n least xs more within few = ap (λ l. take n (l ++ more)) (take_all least xs (omega (arith, few))) ∙ take-append-le n xs more within
-
--- a part lacks, and so the body does
-pub part_lacks : (a b c : Option (List ℕ)) (held end size : ℕ) (room : List ℕ) (w : Why) → held ≤ length room → held ≤ end → end ≤ size → Consumes a b (take held room) → Took b c (BodyLacks (end - held) w) → Took a c (BodyLacks size w)
-part_lacks a b c held end size room w within order most read lacks =
-    let front : length (take held room) ≡ held = length-take-le held room within in
-    piece_lacks a b c (end - held) size (take held room) w (omega (arith, front, order, most)) read lacks
+-- room for more is taken behind what is there
+pub front_kept : (n end : ℕ) (xs more : List ℕ) → length xs ≡ n → n ≤ end → take n (take end xs ++ more) ≡ xs
+front_kept n end xs more all within =
+    ap (λ l. take n (l ++ more)) (take_all end xs (omega (arith, all, within))) ∙ take-append-le n xs more (omega (arith, all)) ∙ take_all n xs (omega (arith, all))

@@ -11,6 +11,11 @@ abbrev pub step_event : Step → Event
 step_event (steps.Tick moment) = Tick moment
 step_event steps.Mark = Mark
 
+-- the moment of a tick
+abbrev pub moment_of : Option Step → Option ℕ
+moment_of (Some (steps.Tick moment)) = Some moment
+moment_of _ = None
+
 -- where so many are owed: a tick where none is, and else a mark
 abbrev pub IsDueAt : ℕ → Event → Type 0
 IsDueAt left (Ask caller client request) = ⊥

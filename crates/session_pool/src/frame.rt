@@ -1,6 +1,6 @@
 //! Frames from a reader.
 
-ghost use Rattle.std.specs.Prelude.{◌≡◌, ℕ, ◌-◌, ◌≤◌, ◌<◌, length, take, IfOk, IfErr, OnErr};
+ghost use Rattle.std.specs.Prelude.{◌≡◌, ◌+◌, ◌-◌, ◌≤◌, ◌<◌, length, max, take, IfOk, IfErr, OnOk, OnErr};
 ghost use Rattle.std.specs.Io.KnownBytes.{Consumes, Keeps, IsAtEnd};
 ghost use Rattle.session_pool.specs.declared.why.Why.TheVariants.{ReadFault, NoMemory};
 ghost use Rattle.session_pool.specs.Turns.{Lacks, Comes};
@@ -20,7 +20,7 @@ const SIZE_FIELD: usize = 4;
 /// The bytes of the shortest frame: api key, version, and correlation id.
 const LEAST: u32 = 8;
 
-/// For how many bytes room is taken before any of them came.
+/// For how many of a frame's bytes room is taken before any of them came.
 const PIECE: usize = 8_192;
 
 /// One read, made again where it was interrupted.
@@ -91,65 +91,78 @@ fn read_piece<R: Read>(reader: &mut R, piece: &mut [u8]) -> Result<(), Why>
     Ok(())
 }
 
-/// Takes room for so many bytes, if there is less.
+/// Takes room for exactly so many more bytes.
 #[tactic(auto, using(crate::proofs::Bytes::front_kept))]
-fn make_room(room: &mut Vec<u8>, least: usize) -> Result<(), Why>
-    ensures len { IfOk result (λ _. least ≤ length room.new.items) }
-    ensures kept { (n : ℕ) → n ≤ length room.old.items → take n room.new.items ≡ take n room.old.items }
-    ensures more { length room.old.items ≤ length room.new.items }
+fn make_room(body: &mut Vec<u8>, more: usize) -> Result<(), Why>
+    ensures len { OnOk result (length body.new.items ≡ length body.old.items + more) }
+    ensures kept { OnOk result (take (length body.old.items) body.new.items ≡ body.old.items) }
+    ensures err { OnErr result (body.new.items ≡ body.old.items) }
     ensures fault { IfErr result (λ why. why ≡ NoMemory) }
 {
-    if room.len() < least && room.resize(least, 0).is_err() {
+    if body.reserve_exact(more).is_err() {
         return Err(Why::NoMemory);
     }
-    Ok(())
+    let end = body.len() + more;
+    match body.resize(end, 0) {
+        Ok(()) => Ok(()),
+        Err(_) => Err(Why::NoMemory),
+    }
 }
 
-/// Reads what stands in the room from one place on to another.
-#[tactic(auto, using(crate::proofs::Bytes::piece_read))]
-fn read_part<R: Read>(
-    reader: &mut R,
-    room: &mut Vec<u8>,
-    held: usize,
-    end: usize,
-) -> Result<(), Why>
-    requires { (held ≤ end) × (end ≤ length room.old.items) }
-    ensures len { length room.new.items ≡ length room.old.items }
-    ensures ok { IfOk result (λ _. ReadsOn (R.remaining reader.old) (R.remaining reader.new) (take held room.old.items) (take end room.new.items)) }
-    ensures err { IfErr result (λ why. Took (R.remaining reader.old) (R.remaining reader.new) (BodyLacks (end - held) why)) }
+/// Reads what stands in the body from one place on.
+#[tactic(auto, using(crate::proofs::Bytes::rest_read))]
+fn read_rest<R: Read>(reader: &mut R, body: &mut Vec<u8>, held: usize) -> Result<(), Why>
+    requires { held ≤ length body.old.items }
+    ensures len { length body.new.items ≡ length body.old.items }
+    ensures ok { IfOk result (λ _. ReadsOn (R.remaining reader.old) (R.remaining reader.new) (take held body.old.items) body.new.items) }
+    ensures err { IfErr result (λ why. Took (R.remaining reader.old) (R.remaining reader.new) (BodyLacks (length body.old.items - held) why)) }
 {
-    match read_piece(reader, &mut room[held..end]) {
+    match read_piece(reader, &mut body[held..]) {
         Ok(()) => Ok(()),
         Err(why) => Err(why),
     }
 }
 
-/// Reads so many bytes to the front of the room, which grows by as much as has come.
-#[tactic(auto, using(crate::proofs::Bytes::piece_lacks, crate::proofs::Bytes::front_unkept, crate::proofs::Bytes::read_on))]
-fn read_body<R: Read>(reader: &mut R, room: &mut Vec<u8>, size: usize) -> Result<(), Why>
-    ensures len { IfOk result (λ _. size ≤ length room.new.items) }
-    ensures ok { IfOk result (λ _. Consumes (R.remaining reader.old) (R.remaining reader.new) (take size room.new.items)) }
+/// Reads so many bytes. Room is taken for the first 8,192 of them, or for as many as the longest frame before had, and then
+/// each time for as many more as have come, up to the size. So a size that announces bytes which never come costs at most
+/// 8,192 bytes, or as many as came at once before, or twice what came of these. The last room is exact: the block that is
+/// given back has none to spare.
+#[tactic(auto, using(crate::proofs::Bytes::unread, crate::proofs::Bytes::read_on))]
+fn read_body<R: Read>(
+    alloc: Global,
+    reader: &mut R,
+    longest: usize,
+    size: usize,
+) -> Result<Vec<u8>, Why>
+    ensures len { IfOk result (λ body. length body.items ≡ size) }
+    ensures ok { IfOk result (λ body. Consumes (R.remaining reader.old) (R.remaining reader.new) body.items) }
     ensures err { IfErr result (λ why. Took (R.remaining reader.old) (R.remaining reader.new) (BodyLacks size why)) }
 {
+    let mut body = Vec::new(alloc);
     let mut held = 0;
     while held < size {
-        if let Err(why) = make_room(room, held + PIECE.max(held).min(size - held)) {
+        let more = PIECE.max(longest).max(held).min(size - held);
+        if let Err(why) = make_room(&mut body, more) {
             return Err(why);
         }
-        let end = size.min(room.len());
-        if let Err(why) = read_part(reader, room, held, end) {
+        if let Err(why) = read_rest(reader, &mut body, held) {
             return Err(why);
         }
-        held = end;
+        held += more;
     }
-    Ok(())
+    Ok(body)
 }
 
-/// Reads a frame of at most so many bytes behind its size to the front of the room, and says how many they are.
+/// Reads a frame of at most so many bytes after its size field.
 #[tactic(auto, using(crate::proofs::Fronts::no_head, crate::proofs::Fronts::bad, crate::proofs::Fronts::no_body))]
-fn read_sized<R: Read>(reader: &mut R, room: &mut Vec<u8>, limit: u32) -> Result<usize, Why>
-    ensures within { IfOk result (λ size. (size ≤ limit) × (size ≤ length room.new.items)) }
-    ensures ok { IfOk result (λ size. Took (R.remaining reader.old) (R.remaining reader.new) (Comes limit (take size room.new.items))) }
+fn read_sized<R: Read>(
+    alloc: Global,
+    reader: &mut R,
+    longest: usize,
+    limit: u32,
+) -> Result<Vec<u8>, Why>
+    ensures within { IfOk result (λ frame. length frame.items ≤ limit) }
+    ensures ok { IfOk result (λ frame. Took (R.remaining reader.old) (R.remaining reader.new) (Comes limit frame.items)) }
     ensures err { IfErr result (λ why. Took (R.remaining reader.old) (R.remaining reader.new) (Lacks limit why)) }
 {
     let head = read_head(reader)?;
@@ -157,26 +170,31 @@ fn read_sized<R: Read>(reader: &mut R, room: &mut Vec<u8>, limit: u32) -> Result
     if size < LEAST || size > limit {
         return Err(Why::BadFrame);
     }
-    match read_body(reader, room, size as usize) {
-        Ok(()) => Ok(size as usize),
+    match read_body(alloc, reader, longest, size as usize) {
+        Ok(body) => Ok(body),
         Err(why) => Err(why),
     }
 }
 
-/// The next frame, without its size field. The room holds what came of a frame, and is kept for the next one.
+/// The next frame, without its size field. What was read becomes the frame, and isn't copied. The length of the session's
+/// longest frame counts what came alone, never what a size field announced.
 pub(crate) fn read_frame<R: Read>(
     alloc: Global,
     reader: &mut R,
-    room: &mut Vec<u8>,
+    longest: &mut usize,
     limit: u32,
 ) -> Result<Bytes, Why>
     ensures within { IfOk result (λ frame. length frame ≤ limit) }
     ensures ok { IfOk result (λ frame. Took (R.remaining reader.old) (R.remaining reader.new) (Comes limit frame)) }
     ensures err { IfErr result (λ why. Took (R.remaining reader.old) (R.remaining reader.new) (Lacks limit why)) }
+    ensures longest { IfOk result (λ frame. longest.new ≡ max longest.old (length frame)) }
+    ensures same { OnErr result (longest.new ≡ longest.old) }
 {
-    let size = read_sized(reader, room, limit)?;
-    match Bytes::copy_from_slice(alloc, &room[..size]) {
-        Ok(frame) => Ok(frame),
-        Err(_) => Err(Why::NoMemory),
-    }
+    let body = read_sized(alloc, reader, *longest, limit)?;
+    let came = body.len();
+    let Ok(frame) = Bytes::from_vec(body) else {
+        return Err(Why::NoMemory);
+    };
+    *longest = (*longest).max(came);
+    Ok(frame)
 }

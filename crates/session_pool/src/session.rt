@@ -86,7 +86,7 @@ fn finish<W: Write>(writer: &mut W, outcome: Outcome) -> Result<State, Why>
 fn turn<S, Rd: Read, Wr: Write, D: Desk<S>>(
     alloc: Global,
     reader: &mut Rd,
-    room: &mut Vec<u8>,
+    longest: &mut usize,
     writer: &mut Wr,
     host: &Text,
     users: &Users,
@@ -100,7 +100,7 @@ fn turn<S, Rd: Read, Wr: Write, D: Desk<S>>(
     ensures risen { (D.view result.0).count + vec_len receipts.old ≡ (D.view seat).count + vec_len receipts.new }
     ensures turns { Took (Rd.remaining reader.old) (Rd.remaining reader.new) (TurnsOn (record { users = users.now; host = host.now; may_stop = D.may_stop }) limit state (Wr.contents writer.old) (Wr.contents writer.new) receipts.old.items receipts.new.items result.1) }
 {
-    let frame = match read_frame(alloc, reader, room, limit) {
+    let frame = match read_frame(alloc, reader, longest, limit) {
         Ok(frame) => frame,
         Err(why) => return (seat, Err(why)),
     };
@@ -127,7 +127,7 @@ fn serve<S, Rd: Read, Wr: Write, D: Desk<S>, G: Gate>(
     ensures session { Took (Rd.remaining reader.old) (Rd.remaining reader.new) (SessionOf (record { users = users.now; host = host.now; may_stop = D.may_stop }) limits.frames limits.frame (Wr.contents writer.old) (Wr.contents writer.new) result.receipts.items result.why) }
 {
     let mut seat = seat;
-    let mut room = Vec::new(alloc);
+    let mut longest = 0;
     let mut receipts = Vec::new(alloc);
     let mut state = State::Fresh(Fresh::new());
     for frame in 0..limits.frames {
@@ -135,7 +135,7 @@ fn serve<S, Rd: Read, Wr: Write, D: Desk<S>, G: Gate>(
         let (back, outcome) = turn(
             alloc,
             reader,
-            &mut room,
+            &mut longest,
             writer,
             host,
             users,

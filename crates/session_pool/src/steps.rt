@@ -1,11 +1,11 @@
 //! Who tells the keeper what to do next.
 
-ghost use Rattle.std.specs.Prelude.{◌≡◌, ℕ, Option, Some, IfSome, is_ok};
-ghost use Rattle.session_pool.specs.Steps.{step_event, IsDue, noted};
+ghost use Rattle.std.specs.Prelude.{◌≡◌, ◌<◌, ℕ, Bool, Option, Some, IfSome, is_ok};
+ghost use Rattle.session_pool.specs.declared.steps.Step.TheVariants.{Mark};
+ghost use Rattle.session_pool.specs.Steps.{step_event, moment_of, IsDue, IsDueAt, noted};
 
 use crate::why::Why;
 use request_handlers::Core;
-use std::marker::Model;
 
 /// What the keeper does next.
 #[derive(Clone, Copy, Debug, PartialEq, Eq)]
@@ -39,40 +39,43 @@ pub trait Steps {
         ensures { owed self.new ≡ noted (owed self.old) outcome };
 }
 
-/// Tells the moments at which the core is to be told the time, in milliseconds. It is told whether all workers have ended.
+/// Tells the moments at which the core is to be told the time, in milliseconds.
 pub trait Clock {
-    fn next(&mut self, done: bool) -> Option<u64>;
+    /// That a clock of the first state, told whether all workers have ended, gives this and leaves the second state.
+    ghost gives: { Self → Bool → Option ℕ → Self → Type 0 };
+
+    /// The next moment, if there is one. It is told whether all workers have ended.
+    fn next(&mut self, done: bool) -> Option<u64>
+        ensures { gives self.old done result self.new };
 }
 
 /// Steps by a clock: a tick for each of its moments, and marks after each as long as some are owed. The keeper ends where the
-/// clock gives no moment, or the desk takes no more. It is seen as how many markers are owed.
+/// clock gives no moment, or the desk takes no more.
 #[derive(Drop)]
 pub struct Clocked<C: Clock> {
     clock: C,
+    /// How many markers are owed.
     left: u64,
-}
-
-impl<C: Clock> Model for Clocked<C> {
-    ghost use Rattle.std.specs.Prelude.{ℕ};
-
-    ghost Value = { ℕ };
-
-    ghost view = { λ c. c.left };
 }
 
 impl<C: Clock> Clocked<C> {
     /// Before the first moment, when none is owed.
     pub fn new(clock: C) -> Clocked<C>
-        ensures { result ≡ 0 }
+        ensures { (result.clock ≡ clock) × (result.left ≡ 0) }
     {
         Clocked { clock, left: 0 }
     }
 }
 
 impl<C: Clock> Steps for Clocked<C> {
-    ghost owed = { λ left. Some left };
+    ghost owed = { λ steps. Some steps.left };
 
-    fn next(&mut self, done: bool) -> Option<Step> {
+    fn next(&mut self, done: bool) -> Option<Step>
+        ensures step { IfSome result (λ step. IsDueAt self.old.left (step_event step)) }
+        ensures owed { self.new.left ≡ self.old.left }
+        ensures marked { 0 < self.old.left → result ≡ Some Mark }
+        ensures asked { self.old.left ≡ 0 → C.gives self.old.clock done (moment_of result) self.new.clock }
+    {
         if self.left > 0 {
             return Some(Step::Mark);
         }
@@ -88,7 +91,7 @@ impl<C: Clock> Steps for Clocked<C> {
     fn after(&mut self, _core: &Core) {}
 
     fn came(&mut self, outcome: Result<u64, Why>) -> bool
-        ensures owed { Some self.new ≡ noted (Some self.old) outcome }
+        ensures owed { Some self.new.left ≡ noted (Some self.old.left) outcome }
         ensures goes_on { result ≡ is_ok outcome }
     {
         match outcome {
