@@ -1,5 +1,5 @@
 -- What a policy keeps of its tables over an edit of the book.
-use Rattle.std.proofs.Common.{◌≡◌, true, false, Result, Ok, Err, IsOk, OnOk, ℕ, ◌+◌, List, [], ◌∷◌, ◌++◌, filter, None, Some, cond, refl, sym, ap, subst, ◌∙◌}
+use Rattle.std.proofs.Common.{◌≡◌, ℕ, ◌+◌, List, [], ◌∷◌, ◌++◌, filter, None, Some, cond, refl, sym, ap, subst, ◌∙◌}
 use Rattle.std.specs.Ordering.{nat_cmp}
 use Rattle.std.specs.BTreeMap.{insert_entry, is_at as is_key}
 use Rattle.std.specs.List.{AllByRecursion}
@@ -59,13 +59,13 @@ table_undone index contents table more undone next e kept added taken =
     taken ∙ ap (remove_entry (is_key (nat_cmp next))) (added ∙ ap (λ (t : List (ℕ × Numbered)). insert_entry nat_cmp t next e) kept.numbers ∙ numbered_last (values_of table) next e kept.book.below)
     ∙ last_undone (values_of table) next e kept.book.below ∙ sym kept.numbers
 
-pub kept_undone : (index same_index : Index) (contents same : List (Numbered × ℕ)) (table more undone : List (ℕ × Numbered)) (next : ℕ) (e : Numbered) → IsKept index contents table next → ((x : Numbered) → lookup (says_same x) same ≡ lookup (says_same x) contents) →
+pub kept_undone : (index same_index : Index) (contents same : List (Numbered × ℕ)) (table more undone : List (ℕ × Numbered)) (next : ℕ) (e : Numbered) → IsKept index contents table next → same ≡ contents →
     more ≡ insert_entry nat_cmp table next e → undone ≡ remove_entry (is_key (nat_cmp next)) more → IsIndexed same_index (values_of table) → IsKept same_index same undone next
 kept_undone index same_index contents same table more undone next e kept is added taken indexed =
     subst (λ (t : List (ℕ × Numbered)). IsKept same_index same t next) (sym (table_undone index contents table more undone next e kept added taken)) (record {
       book = kept.book;
       numbers = kept.numbers;
-      contents = λ x. is x ∙ kept.contents x;
+      contents = subst (λ (l : List (Numbered × ℕ)). IsContentsOf l (values_of table)) (sym is) kept.contents;
       indexed = indexed;
       named = kept.named;
     })
@@ -93,8 +93,3 @@ kept_less index less_index contents less_contents table less picked next f kept 
       },
       book,
     )
-
--- what a call says of its success, where it succeeds
-pub on_ok : {A E : Type 0} (r : Result A E) (P : Type 0) → IsOk r → OnOk r P → P
-on_ok (Ok x) P ok h = h
-on_ok (Err e) P ok h = absurd (let clash : false ≡ true = ok in cc)

@@ -17,8 +17,8 @@ use crate::looking::{Finding, look, look_prefixes};
 use crate::picking::{ByNumber, copies, forget, pick_from_all, take_out};
 use crate::place::{Place, places};
 use acl_binding::{Added, Binding, Filter, Numbered, Question, Verdict};
+use indexmap::IndexMap;
 use std::alloc::{AllocError, Global};
-use std::collections::HashMap;
 use std::marker::Model;
 use wire_types::{Items, Shared};
 
@@ -27,7 +27,7 @@ use wire_types::{Items, Shared};
 pub struct IndexedBook {
     entries: ByNumber,
     next: u64,
-    contents: HashMap<Content, u64>,
+    contents: IndexMap<Content, u64>,
     index: Index,
 }
 
@@ -61,7 +61,7 @@ impl IndexedBook {
         IndexedBook {
             entries: ByNumber::new(alloc),
             next: 1,
-            contents: HashMap::new(alloc),
+            contents: IndexMap::new(alloc),
             index: Index::new(alloc),
         }
     }
@@ -122,7 +122,7 @@ impl IndexedBook {
             self.entries.remove(&number);
             return Err(fault);
         }
-        let _told = self.contents.insert(content, number);
+        self.contents.insert(content, number).unwrap();
         self.next += 1;
         Ok(())
     }

@@ -10,8 +10,9 @@ ghost use Rattle.authorizer.specs.Picking.{entered, without, picks, stands_in, H
 
 use crate::content::Content;
 use acl_binding::{Binding, Filter, Numbered};
+use indexmap::IndexMap;
 use std::alloc::{AllocError, Global};
-use std::collections::{BTreeMap, HashMap};
+use std::collections::BTreeMap;
 use wire_types::{Items, Shared};
 
 /// Bindings by their creation numbers: one that is entered twice stands once.
@@ -71,10 +72,10 @@ pub(crate) fn take_out(entries: &mut ByNumber, picked: &ByNumber)
 }
 
 /// Takes what they say out of what the bindings say.
-pub(crate) fn forget(contents: &mut HashMap<Content, u64>, picked: &ByNumber)
+pub(crate) fn forget(contents: &mut IndexMap<Content, u64>, picked: &ByNumber)
     ensures { HasForgotten contents.old.entries contents.new.entries (values picked.now) }
 {
     for entry in picked.values() {
-        contents.remove(entry);
+        contents.swap_remove(entry);
     }
 }

@@ -4,5 +4,5 @@ pub mod Waiting
 pub mod Apart
 pub mod Reading
 pub mod Describing
-pub mod Topics
+pub mod Partitions
 pub mod Rows

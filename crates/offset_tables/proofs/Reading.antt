@@ -10,14 +10,13 @@ use Rattle.std.proofs.lemmas.Bool.{true≢false}
 use Rattle.std.proofs.lemmas.Bool.Decides.{Decides-int_eq, Decides-eqb}
 use Rattle.std.proofs.lemmas.List.{length-set}
 use Rattle.std.proofs.lemmas.List.Folds.{list_any-append, list_any_at}
-use Rattle.std.proofs.lemmas.Option.{slice_get-get_or}
 use Rattle.std.specs.declared.vec.Vec.{Vec}
 use Rattle.std.specs.declared.alloc.Global.{Global}
 use Rattle.std.specs.declared.alloc.AllocError.{AllocError}
 use Rattle.record_batch.specs.declared.outcome.Outcome.{Outcome}
 use Rattle.record_batch.specs.declared.outcome.Outcome.TheVariants.{Abort, Commit}
 use Rattle.offset_tables.specs.declared.row.Row.{Row}
-use Rattle.offset_tables.specs.Kept.{waits, committed_at, waiting_at, rows_of, has_row, AreOnce, IsTableOf, IsSameRow, IsStaged, decided, IsDecided, AreDecided, HasMore, HasLast}
+use Rattle.offset_tables.specs.Kept.{waits, committed_at, waiting_at, rows_of, has_row, AreOnce, IsTableOf, IsSameRow, IsStaged, decided, IsDecided, AreDecided, HasMore, HasSame, HasLast}
 
 -- ---- numbers
 
@@ -64,10 +63,6 @@ read_push f [] y h (suc n) = refl
 read_push f (x ∷ xs) y h zero = refl
 read_push f (x ∷ xs) y h (suc n) = read_push f xs y h n
 
--- the item that stood there
-pub read_here : {A : Type 0} (xs : List A) (at : ℕ) (x : A) → at < length xs → x ≡ get_or xs at x → slice_get xs at ≡ Some x
-read_here xs at x h is = slice_get-get_or xs at x h ∙ ap (λ y. Some y) (sym is)
-
 -- ---- rows that are the same but for their room
 
 pub record SameRows (old new : List Row) : Type 0 where
@@ -76,14 +71,14 @@ pub record SameRows (old new : List Row) : Type 0 where
   pub waiting : (p : ℤ) (n : ℕ) → waiting_at new p n ≡ waiting_at old p n
 
 -- what is read of the row at a place where it reads the same
-kept_at : {B : Type 0} (f : Row → Option B) (rows : List Row) (at : ℕ) (r new : Row) → at < length rows → r ≡ get_or rows at r → f new ≡ f r → (n : ℕ)
+kept_at : {B : Type 0} (f : Row → Option B) (rows : List Row) (at : ℕ) (r new : Row) → at < length rows → slice_get rows at ≡ Some r → f new ≡ f r → (n : ℕ)
     → option_and_then f (slice_get (set rows at new) n) ≡ option_and_then f (slice_get rows n)
 kept_at f rows at r new h is same n = read_set f rows at n new h ∙ by_test (nat_eq n at) refl where
   by_test : (b : Bool) → nat_eq n at ≡ b → cond b (f new) (option_and_then f (slice_get rows n)) ≡ option_and_then f (slice_get rows n)
-  by_test true e = same ∙ sym (ap (λ (m : ℕ). option_and_then f (slice_get rows m)) (same_place n at e) ∙ ap (option_and_then f) (read_here rows at r h is))
+  by_test true e = same ∙ sym (ap (λ (m : ℕ). option_and_then f (slice_get rows m)) (same_place n at e) ∙ ap (option_and_then f) is)
   by_test false e = refl
 
-pub same_set : (rows : List Row) (at : ℕ) (r new : Row) → at < length rows → r ≡ get_or rows at r → IsSameRow r new → SameRows rows (set rows at new)
+pub same_set : (rows : List Row) (at : ℕ) (r new : Row) → at < length rows → slice_get rows at ≡ Some r → IsSameRow r new → SameRows rows (set rows at new)
 same_set rows at r new h is same = record {
   each = length-set rows at new;
   committed = kept_at (λ (x : Row). x.committed) rows at r new h is same.committed;
@@ -98,16 +93,30 @@ same_table find rows new staged same t = record {
   once = t.once;
 }
 
+-- where nobody waits who didn't, or no longer
+pub commit_table : (find : List ℕ → ℤ → Option ℕ) (rows : List Row) (staged : List (ℤ × Vec ℕ Global)) (at : ℕ) (r new : Row) → at < length rows → slice_get rows at ≡ Some r → new.waiting.entries ≡ r.waiting.entries
+    → IsTableOf find rows staged → IsTableOf find (set rows at new) staged
+commit_table find rows staged at r new h is same t = record {
+  within = λ topic index n found. let k = t.within topic index n found in omega (arith, k, length-set rows at new);
+  apart = t.apart;
+  exact = λ p n. t.exact p n ∙ ap is_some (sym (kept_at (λ (x : Row). waits x p) rows at r new h is (ap (lookup (int_eq p)) same) n));
+  once = t.once;
+}
+
+-- where a producer has the same rows
+pub same_staged : (find : List ℕ → ℤ → Option ℕ) (rows : List Row) (staged more : List (ℤ × Vec ℕ Global)) → HasSame staged more → AreOnce more → IsTableOf find rows staged → IsTableOf find rows more
+same_staged find rows staged more same once t = record { within = t.within; apart = t.apart; exact = λ p n. same p n ∙ t.exact p n; once = once }
+
 -- ---- a producer that waits in one row more
 
-pub stage_table : (find : List ℕ → ℤ → Option ℕ) (rows : List Row) (staged more : List (ℤ × Vec ℕ Global)) (at : ℕ) (r new : Row) (producer : ℤ) (place : ℕ) → at < length rows → r ≡ get_or rows at r → IsStaged r new producer place
+pub stage_table : (find : List ℕ → ℤ → Option ℕ) (rows : List Row) (staged more : List (ℤ × Vec ℕ Global)) (at : ℕ) (r new : Row) (producer : ℤ) (place : ℕ) → at < length rows → slice_get rows at ≡ Some r → IsStaged r new producer place
     → HasMore staged more producer at → AreOnce more → IsTableOf find rows staged → IsTableOf find (set rows at new) more
 stage_table find rows staged more at r new producer place h is made has once t = record { within = within; apart = t.apart; exact = exact; once = once } where
   within : (topic : List ℕ) (index : ℤ) (n : ℕ) → find topic index ≡ Some n → n < length (set rows at new)
   within topic index n found = let k = t.within topic index n found in omega (arith, k, length-set rows at new)
 
   waited : (p : ℤ) → waiting_at rows p at ≡ waits r p
-  waited p = ap (option_and_then (λ (x : Row). waits x p)) (read_here rows at r h is)
+  waited p = ap (option_and_then (λ (x : Row). waits x p)) is
 
   same_sides : (n : ℕ) → nat_eq at n ≡ nat_eq n at
   same_sides n = nat_eq_equiv.symm at n
@@ -131,23 +140,14 @@ stage_table find rows staged more at r new producer place h is made has once t =
             ∙ own (int_eq producer p) (waits r p) ∙ ap is_some (sym (made.waiting p))
         by_place false e = other (int_eq producer p) (has_row staged p n) ∙ t.exact p n
 
--- a row in which it waits is one that it has
-pub has_already : (rows : List Row) (staged : List (ℤ × Vec ℕ Global)) (at : ℕ) (r : Row) (producer : ℤ) → at < length rows → r ≡ get_or rows at r → is_some (waits r producer) ≡ true
-    → ((n : ℕ) → has_row staged producer n ≡ is_some (waiting_at rows producer n)) → HasMore staged staged producer at
-has_already rows staged at r producer h is waiting exact p n = by_own (int_eq producer p) (nat_eq at n) refl refl where
-  there : has_row staged producer at ≡ true
-  there = exact at ∙ ap is_some (ap (option_and_then (λ (x : Row). waits x producer)) (read_here rows at r h is)) ∙ waiting
-
+-- a row that the producer has
+pub has_already : (staged : List (ℤ × Vec ℕ Global)) (at : ℕ) (producer : ℤ) → has_row staged producer at ≡ true → HasMore staged staged producer at
+has_already staged at producer there p n = by_own (int_eq producer p) (nat_eq at n) refl refl where
   by_own : (a b : Bool) → int_eq producer p ≡ a → nat_eq at n ≡ b → has_row staged p n ≡ cond (a && b) true (has_row staged p n)
   by_own true true e f = sym (ap (λ (q : ℤ). has_row staged q n) (same_number producer p e)) ∙ sym (ap (has_row staged producer) (same_place at n f)) ∙ there
   by_own true false e f = refl
   by_own false true e f = refl
   by_own false false e f = refl
-
--- a row in which it doesn't wait is behind those that it has
-pub waits_not : (rows : List Row) (staged : List (ℤ × Vec ℕ Global)) (at : ℕ) (r : Row) (producer : ℤ) → at < length rows → r ≡ get_or rows at r → is_some (waits r producer) ≡ false
-    → ((n : ℕ) → has_row staged producer n ≡ is_some (waiting_at rows producer n)) → has_row staged producer at ≡ false
-waits_not rows staged at r producer h is waiting exact = exact at ∙ ap is_some (ap (option_and_then (λ (x : Row). waits x producer)) (read_here rows at r h is)) ∙ waiting
 
 -- a number that a list hasn't stands behind it
 apart_from : (x y : ℕ) (xs : List ℕ) → nat_eq x y ≡ false → AllByRecursion (λ z. nat_eq x z ≡ false) xs → AllByRecursion (λ z. nat_eq x z ≡ false) (xs ++ y ∷ [])
@@ -187,12 +187,9 @@ pub decided_nothing : (producer : ℤ) (outcome : Outcome) (rows : List Row) →
 decided_nothing producer outcome rows = record { each = refl; committed = λ n. refl; waiting = λ p n. refl }
 
 -- one row more
-pub decided_more : (places : List ℕ) (producer : ℤ) (outcome : Outcome) (old mid : List Row) (at : ℕ) (r new : Row) → at < length mid → r ≡ get_or mid at r
+pub decided_more : (places : List ℕ) (producer : ℤ) (outcome : Outcome) (old mid : List Row) (at : ℕ) (r new : Row) → at < length mid → slice_get mid at ≡ Some r
     → IsDecided r new producer outcome → AreDecided places producer outcome old mid → AreDecided (places ++ at ∷ []) producer outcome old (set mid at new)
 decided_more places producer outcome old mid at r new h is made so = record { each = length-set mid at new ∙ so.each; committed = committed; waiting = waiting } where
-  there : slice_get mid at ≡ Some r
-  there = read_here mid at r h is
-
   among : (n : ℕ) → list_any (nat_eq n) (places ++ at ∷ []) ≡ (list_any (nat_eq n) places || (nat_eq n at || false))
   among n = list_any-append (nat_eq n) places (at ∷ [])
 
@@ -212,8 +209,8 @@ decided_more places producer outcome old mid at r new h is made so = record { ea
         here : n ≡ at → new.committed ≡ decided outcome (waiting_at mid producer n) (committed_at mid n)
         here e =
             made.committed
-            ∙ ap (λ (x : Option ℕ). decided outcome x r.committed) (sym (ap (option_and_then (λ (x : Row). waits x producer)) (ap (slice_get mid) e ∙ there)))
-            ∙ ap (decided outcome (waiting_at mid producer n)) (sym (ap (option_and_then (λ (x : Row). x.committed)) (ap (slice_get mid) e ∙ there)))
+            ∙ ap (λ (x : Option ℕ). decided outcome x r.committed) (sym (ap (option_and_then (λ (x : Row). waits x producer)) (ap (slice_get mid) e ∙ is)))
+            ∙ ap (decided outcome (waiting_at mid producer n)) (sym (ap (option_and_then (λ (x : Row). x.committed)) (ap (slice_get mid) e ∙ is)))
 
         or_true : (a : Bool) → (a || (true || false)) ≡ true
         or_true true = refl
@@ -245,7 +242,7 @@ decided_more places producer outcome old mid at r new h is made so = record { ea
         none false o w = refl
 
         here : n ≡ at → waits r p ≡ waiting_at mid p n
-        here e = sym (ap (option_and_then (λ (x : Row). waits x p)) (ap (slice_get mid) e ∙ there))
+        here e = sym (ap (option_and_then (λ (x : Row). waits x p)) (ap (slice_get mid) e ∙ is))
 
         by_test : (b : Bool) → nat_eq n at ≡ b → cond b (waits new p) (waiting_at mid p n) ≡ cond ((list_any (nat_eq n) places || (b || false)) && int_eq producer p) None (waiting_at old p n)
         by_test true e = made.waiting p ∙ ap (cond (int_eq producer p) None) (here (same_place n at e) ∙ so.waiting p n) ∙ all (list_any (nat_eq n) places) (int_eq producer p) (waiting_at old p n)
@@ -329,6 +326,6 @@ all_within find rows staged producer s found t k d h =
     waiting_within rows producer (get_or s.items k d)
     (sym (something_waits find rows staged producer s found t (get_or s.items k d)) ∙ list_any_at (nat_eq (get_or s.items k d)) s.items k d h ((Decides-eqb (get_or s.items k d) (get_or s.items k d)).1 refl))
 
--- a table whose rows are spelled in another way
-pub table_spelled : (find : List ℕ → ℤ → Option ℕ) (rows spelled : List Row) (staged : List (ℤ × Vec ℕ Global)) → spelled ≡ rows → IsTableOf find rows staged → IsTableOf find spelled staged
-table_spelled find rows spelled staged same t = subst (λ (l : List Row). IsTableOf find l staged) (sym same) t
+pub on_err : {A E P : Type 0} (r : Result A E) → P → OnErr r P
+on_err (Ok x) p = tt
+on_err (Err e) p = p

@@ -4,4 +4,5 @@ pub mod Group
 pub mod Joining
 pub mod Groups
 pub mod Laws
+pub mod Partitions
 pub mod Kept

@@ -10,7 +10,7 @@ mod joining;
 mod laws;
 mod member;
 mod offsets;
-mod placing;
+mod partition;
 mod row;
 mod staged;
 mod table;

@@ -1,7 +1,7 @@
 //! Of each producer the rows in which it waits.
 
-ghost use Rattle.std.specs.Prelude.{◌≡◌, ◌<◌, ℕ, ℤ, length, is_some, OnOk, OnErr};
-ghost use Rattle.offset_tables.specs.Kept.{rows_of, has_row, waiting_at, AreOnce, HasMore, HasSame, HasLast};
+ghost use Rattle.std.specs.Prelude.{◌≡◌, ℤ, is_some, OnOk, OnErr};
+ghost use Rattle.offset_tables.specs.Kept.{waits, rows_of, has_row, AreOnce, HasMore, HasSame, HasLast};
 
 use crate::row::Row;
 use std::alloc::{AllocError, Global};
@@ -10,22 +10,21 @@ use std::collections::HashMap;
 /// Of each producer the places of the rows in which it waits.
 pub(crate) type Staged = HashMap<i64, Vec<usize>>;
 
-/// The producer has the row at this place, which it may have already.
+/// The producer has the row that stands at this place, which it may have already.
 pub(crate) fn enter(
     staged: &mut Staged,
     alloc: Global,
     producer: i64,
-    rows: &[Row],
+    row: &Row,
     at: usize,
 ) -> Result<(), AllocError>
-    requires within { at < length rows.now }
-    requires exact { (n : ℕ) → has_row staged.old.entries producer n ≡ is_some (waiting_at rows.now producer n) }
+    requires exact { has_row staged.old.entries producer at ≡ is_some (waits row.now producer) }
     requires once { AreOnce staged.old.entries }
     ensures ok { OnOk result (HasMore staged.old.entries staged.new.entries producer at) }
     ensures err { OnErr result (HasSame staged.old.entries staged.new.entries) }
     ensures once { AreOnce staged.new.entries }
 {
-    if rows[at].waits(producer) {
+    if row.waits(producer) {
         return Ok(());
     }
     add(staged, alloc, producer, at)

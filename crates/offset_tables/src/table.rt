@@ -1,15 +1,17 @@
 //! The rows of a group's partitions.
 
-ghost use Rattle.std.specs.Prelude.{◌≡◌, ◌<◌, ℕ, [], Some, length, IfOk, OnOk, OnErr};
+ghost use Rattle.std.specs.Prelude.{◌≡◌, ◌<◌, ℕ, [], Some, IfOk, OnOk, OnErr};
 ghost use Rattle.std.specs.List.{All};
 ghost use Rattle.std.specs.Option.{option_copied};
+ghost use Rattle.indexmap.specs.IndexMap.{keys, values, index_map_len};
 ghost use Rattle.offset_tables.specs.declared.event.OffsetEvent.TheVariants as events;
 ghost use Rattle.offset_tables.specs.Kept.{place_in, row_in, committed_in, some_waits, AreDecided, IsTable, StillDescribes, DescribesNext, IsKept};
 
 use crate::event::{OffsetEvent, PartitionOffset};
-use crate::placing::{Places, enter_place, find_place};
+use crate::partition::{Partition, Wanted};
 use crate::row::Row;
 use crate::staged::{Staged, enter};
+use indexmap::IndexMap;
 use record_batch::Outcome;
 use std::alloc::{AllocError, Global};
 use std::collections::HashMap;
@@ -18,50 +20,53 @@ use wire_types::Text;
 /// A row for each partition of which an offset was committed or staged, and the rows in which each producer waits.
 #[derive(Drop)]
 pub struct Table {
-    /// The place of each partition's row.
-    pub places: Places,
-    pub rows: Vec<Row>,
-    /// Of each producer the rows in which it waits.
+    /// The rows by their partitions, in the order in which these came.
+    pub rows: IndexMap<Partition, Row>,
+    /// Of each producer the places of the rows in which it waits.
     pub staged: Staged,
     pub alloc: Global,
 }
 
 impl Table {
     /// No rows. It takes no memory.
-    #[tactic(auto, using(crate::proofs::Reading::distinct_none))]
     pub(crate) fn new(alloc: Global) -> Table
         ensures { IsKept result [] }
     {
         Table {
-            places: HashMap::new(alloc),
-            rows: Vec::new(alloc),
+            rows: IndexMap::new(alloc),
             staged: HashMap::new(alloc),
             alloc,
         }
     }
 
     fn place_of(&self, topic: &Text, index: i32) -> Option<usize>
-        ensures { result ≡ place_in self.now.places topic.now index }
+        ensures { result ≡ place_in self.now.rows.entries topic.now index }
     {
-        find_place(&self.places, topic, index)
+        self.rows.get_index_of(Wanted {
+            topic: topic.as_str(),
+            index,
+        })
     }
 
     fn row(&self, topic: &Text, index: i32) -> Option<&Row>
-        ensures { option_copied result ≡ row_in (place_in self.now.places) self.now.rows.items topic.now index }
+        ensures { option_copied result ≡ row_in (place_in self.now.rows.entries) (values self.now.rows) topic.now index }
     {
-        self.rows.get(self.place_of(topic, index)?)
+        self.rows.get(Wanted {
+            topic: topic.as_str(),
+            index,
+        })
     }
 
     /// The place of the event that tells a partition's committed offset.
     pub(crate) fn committed(&self, topic: &Text, index: i32) -> Option<usize>
-        ensures { result ≡ committed_in (place_in self.now.places) self.now.rows.items topic.now index }
+        ensures { result ≡ committed_in (place_in self.now.rows.entries) (values self.now.rows) topic.now index }
     {
         self.row(topic, index)?.committed
     }
 
     /// Whether some producer waits with an offset of the partition.
     pub(crate) fn is_staged(&self, topic: &Text, index: i32) -> bool
-        ensures { result ≡ some_waits (row_in (place_in self.now.places) self.now.rows.items topic.now index) }
+        ensures { result ≡ some_waits (row_in (place_in self.now.rows.entries) (values self.now.rows) topic.now index) }
     {
         match self.row(topic, index) {
             Some(row) => row.is_staged(),
@@ -111,7 +116,7 @@ impl Table {
         let at = self.row_for(offset)?;
         self.rows[at].reserve()?;
         // This is the first change, and the last call that may fail.
-        enter(&mut self.staged, self.alloc, producer, &self.rows, at)?;
+        enter(&mut self.staged, self.alloc, producer, &self.rows[at], at)?;
         self.rows[at].stage(producer, place);
         Ok(())
     }
@@ -131,30 +136,28 @@ impl Table {
         requires { IsTable self.old }
         ensures table { IsTable self.new }
         ensures same { StillDescribes self.old self.new }
-        ensures place { IfOk result (λ at. place_in self.new.places offset.now.topic offset.now.index ≡ Some at) }
-        ensures within { IfOk result (λ at. at < length self.new.rows.items) }
+        ensures place { IfOk result (λ at. place_in self.new.rows.entries offset.now.topic offset.now.index ≡ Some at) }
+        ensures within { IfOk result (λ at. at < index_map_len self.new.rows) }
     {
         if let Some(at) = self.place_of(&offset.topic, offset.index) {
             return Ok(at);
         }
-        self.rows.reserve(1)?;
-        let at = self.rows.len();
-        enter_place(
-            &mut self.places,
-            self.alloc,
-            &offset.topic,
-            offset.index,
-            at,
-        )?;
-        self.rows.push_reserved(Row::new(self.alloc));
+        let partition = Partition::of(self.alloc, offset)?;
+        let (at, _) = self.rows.insert_full(partition, Row::new(self.alloc))?;
         Ok(at)
     }
 }
 
 /// What the producer waits with in the rows at these places is decided.
-fn decide_rows(rows: &mut [Row], places: &[usize], producer: i64, outcome: Outcome)
-    requires { All (λ n. n < length rows.old) places.now }
-    ensures { AreDecided places.now producer outcome rows.old rows.new }
+fn decide_rows(
+    rows: &mut IndexMap<Partition, Row>,
+    places: &[usize],
+    producer: i64,
+    outcome: Outcome,
+)
+    requires { All (λ n. n < index_map_len rows.old) places.now }
+    ensures decided { AreDecided places.now producer outcome (values rows.old) (values rows.new) }
+    ensures same { keys rows.new ≡ keys rows.old }
 {
     for at in places {
         rows[*at].decide(producer, outcome);

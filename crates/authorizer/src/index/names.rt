@@ -14,8 +14,8 @@ ghost use Rattle.authorizer.specs.Looking.{IsTableOf};
 use crate::bucket::Bucket;
 use crate::indexed::IndexedBook;
 use acl_binding::{Filter, Numbered};
+use indexmap::IndexMap;
 use std::alloc::{AllocError, Global};
-use std::collections::HashMap;
 use std::marker::Model;
 use wire_types::{Shared, Text};
 
@@ -25,7 +25,7 @@ pub(crate) const ANY_NAME: &str = "*";
 /// Each name with its bindings in creation order, seen as a list of both. A name without bindings isn't in the table.
 #[derive(Drop)]
 pub struct Names {
-    buckets: HashMap<String, Bucket>,
+    buckets: IndexMap<String, Bucket>,
 }
 
 impl Model for Names {
@@ -43,7 +43,7 @@ impl Names {
         ensures { result ≡ [] }
     {
         Names {
-            buckets: HashMap::new(alloc),
+            buckets: IndexMap::new(alloc),
         }
     }
 
@@ -114,14 +114,14 @@ impl Names {
             return;
         };
         if !bucket.leave(filter) {
-            self.buckets.remove(name);
+            self.buckets.swap_remove(name);
         }
     }
 }
 
 /// A name that isn't in the table yet, with its first binding.
 fn add_name(
-    buckets: &mut HashMap<String, Bucket>,
+    buckets: &mut IndexMap<String, Bucket>,
     alloc: Global,
     name: &str,
     entry: Shared<Numbered>,

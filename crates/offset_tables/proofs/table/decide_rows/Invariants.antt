@@ -1,6 +1,10 @@
-use Rattle.std.proofs.Common.{take}
+use Rattle.std.proofs.Common.{◌≡◌, take}
+use Rattle.indexmap.specs.IndexMap.{keys, values}
 use Rattle.offset_tables.specs.Kept.{AreDecided}
 use Rattle.offset_tables.proofs.table.decide_rows.Given as goal
 
 abbrev pub invariant-loop-at : goal.invariant-loop-at
-invariant-loop-at l = AreDecided (take l.at-index l.places) l.producer l.outcome l.fn.rows l.rows
+invariant-loop-at l = record {
+  decided : AreDecided (take l.at-index l.places) l.producer l.outcome (values l.fn.rows) (values l.rows);
+  same : keys l.rows ≡ keys l.fn.rows;
+}

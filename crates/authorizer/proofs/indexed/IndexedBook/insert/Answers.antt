@@ -1,6 +1,5 @@
-use Rattle.std.proofs.Common.{◌≡◌, ◌<◌, arith, ℕ, List, ◌∷◌, [], ◌++◌, Some, None, cond, ap, ◌∙◌}
+use Rattle.std.proofs.Common.{◌≡◌, ℕ, List, ◌∷◌, [], ◌++◌, Some, None, cond, ap, ◌∙◌}
 use Rattle.std.specs.Map.{values_of, lookup}
-use Rattle.std.specs.HashMap.{spare}
 use Rattle.std.specs.Ordering.{nat_cmp}
 use Rattle.std.specs.BTreeMap.{insert_entry}
 use Rattle.acl_binding.specs.declared.binding.Numbered.{Numbered}
@@ -9,13 +8,13 @@ use Rattle.authorizer.specs.Contents.{says_same}
 use Rattle.authorizer.specs.Kept.{book_of}
 use Rattle.authorizer.specs.Looking.{IsNamed}
 use Rattle.authorizer.specs.Picking.{numbered}
-use Rattle.authorizer.proofs.Keeping.{on_ok, table_more, book_appended, kept_more, table_undone, kept_undone}
+use Rattle.authorizer.proofs.Keeping.{table_more, book_appended, kept_more, table_undone, kept_undone}
 use Rattle.authorizer.proofs.indexed.IndexedBook.insert.Goals as goal
 
 pub invariant_of-self-in-Err : goal.invariant_of-self-in-Err
 invariant_of-self-in-Err c =
     kept_undone c.self.inside.index c.add.new.self c.self.inside.contents.entries c.reserve.new.self.entries c.self.inside.entries.entries c.insert.new.self.entries c.remove.new.self.entries c.self.inside.next _
-    c.self.invariant c.in_ok-reserve.ensures.entries.2 c.in_ok-insert.ensures.entries c.remove.ensures.entries (c.in-Err.ensures.err _ c.self.invariant.indexed)
+    c.self.invariant c.in_ok-reserve.ensures.entries c.in_ok-insert.ensures.entries c.remove.ensures.entries (c.in-Err.ensures.err _ c.self.invariant.indexed)
 
 pub returns-in-Err-clause-err : goal.returns-in-Err-clause-err
 returns-in-Err-clause-err c =
@@ -31,11 +30,10 @@ invariant_of-self-2 c =
     ∙ table_more table c.self.inside.next c.self.inside.index c.self.inside.contents.entries c.args.entry.now c.self.invariant number in
     let named : IsNamed c.args.entry.now = record { text = c.add.ensures.text; some = c.requires.named } in
     let absent : number_of (values_of table) c.args.entry.now.binding ≡ None = rw (← c.self.view_is) at c.requires.absent in
-    let room : 0 < spare c.reserve.new.self = let r = c.in_ok-reserve.ensures.ok in omega arith in
-    let updates = on_ok c.insert-told.result _ (c.insert-told.ensures.succeeds room) c.insert-told.ensures.updates in
-    let said : (x : Numbered) → lookup (says_same x) c.insert-told.new.self.entries ≡ cond (says_same c.args.entry.now x) (Some c.self.inside.next) (lookup (says_same x) c.self.inside.contents.entries) =
-    λ x. updates.0 x ∙ (λ i. cond (says_same (c.requires.content i) x) (Some c.self.inside.next) (c.in_ok-reserve.ensures.entries.2 x i)) in
-    kept_more c.self.inside.index c.add.new.self c.self.inside.contents.entries c.insert-told.new.self.entries table c.insert.new.self.entries c.self.inside.next c.args.entry.now
+    let updates = rw c.unwrap.ensures at c.insert-2.ensures.updates in
+    let said : (x : Numbered) → lookup (says_same x) c.insert-2.new.self.entries ≡ cond (says_same c.args.entry.now x) (Some c.self.inside.next) (lookup (says_same x) c.self.inside.contents.entries) =
+    λ x. updates.0 x ∙ (λ i. cond (says_same (c.requires.content i) x) (Some c.self.inside.next) (lookup (says_same x) (c.in_ok-reserve.ensures.entries i))) in
+    kept_more c.self.inside.index c.add.new.self c.self.inside.contents.entries c.insert-2.new.self.entries table c.insert.new.self.entries c.self.inside.next c.args.entry.now
     c.self.invariant number named absent more said (c.in_default.ensures.ok (values_of table) c.self.invariant.indexed)
 
 pub returns-clause-ok : goal.returns-clause-ok

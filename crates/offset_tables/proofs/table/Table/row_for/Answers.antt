@@ -1,43 +1,38 @@
-use Rattle.std.proofs.Common.{◌≡◌, ℤ, ℕ, List, [], ◌∷◌, ◌++◌, length, None, Some, cond, ap, ◌∙◌, w32, arith, rules}
-use Rattle.std.specs.Prelude.{◌&&◌, FitsSigned}
-use Rattle.std.specs.Ordering.{int_eq}
-use Rattle.std.specs.Str.{bytes_eq}
-use Rattle.std.proofs.lemmas.Int.{to_z-of_z}
-use Rattle.offset_tables.specs.declared.row.Row.{Row}
+use Rattle.std.proofs.Common.{◌≡◌, None, Some, ap, sym, ◌∙◌, arith, rules}
+use Rattle.std.proofs.lemmas.Map.Entries.{length-values_of}
 use Rattle.offset_tables.specs.Kept.{place_in}
-use Rattle.offset_tables.proofs.Describing.{StandsAt, push_table, push_described}
+use Rattle.offset_tables.proofs.Partitions.{table_moved, described_moved, entered_table, entered_described, entered_place}
 use Rattle.offset_tables.proofs.table.Table.row_for.Goals as goal
 
 pub returns-in-Some-clause-within : goal.returns-in-Some-clause-within
 returns-in-Some-clause-within c =
-    let t = c.args.self.now in
-    let found : place_in t.places c.args.offset.now.topic c.args.offset.now.index ≡ Some c.in-Some.at = search rules in
-    let within = c.requires.within c.args.offset.now.topic c.args.offset.now.index c.in-Some.at found in
-    omega arith
+    let es = c.args.self.now.rows.entries in
+    let found : place_in es c.args.offset.now.topic c.args.offset.now.index ≡ Some c.in-Some.at = search rules in
+    omega (arith, c.requires.within c.args.offset.now.topic c.args.offset.now.index c.in-Some.at found, length-values_of es)
+
+pub returns-in_err-at-clause-table : goal.returns-in_err-at-clause-table
+returns-in_err-at-clause-table c = table_moved c.args.self.now.rows.entries c.insert_full.new.self.entries c.args.self.now.staged.entries c.in_err-at.ensures.err c.requires
+
+pub returns-in_err-at-clause-same : goal.returns-in_err-at-clause-same
+returns-in_err-at-clause-same c = λ events d. described_moved c.args.self.now.rows.entries c.insert_full.new.self.entries events c.in_err-at.ensures.err d
 
 pub returns-clause-table : goal.returns-clause-table
 returns-clause-table c =
     let t = c.args.self.now in
     let o = c.args.offset.now in
-    let fits : FitsSigned w32 o.index = search rules in
-    let count : c.len-at.result ≡ length t.rows.items = search rules in
-    let grown : c.push_reserved.new.self.items ≡ t.rows.items ++ c.new.result ∷ [] = c.push_reserved.ensures.items ∙ ap (λ (l : List Row). l ++ c.new.result ∷ []) c.reserve.ensures.items in
-    let stands : StandsAt o.topic o.index (length t.rows.items) (place_in t.places) (place_in c.enter_place.new.places) = λ other number.
-    c.in_ok-enter_place.ensures.ok other number
-    ∙ ap (λ (i : ℤ). cond (bytes_eq o.topic other && int_eq i number) (Some c.len-at.result) (place_in t.places other number)) (to_z-of_z w32 o.index fits)
-    ∙ ap (λ (n : ℕ). cond (bytes_eq o.topic other && int_eq o.index number) (Some n) (place_in t.places other number)) count in
-    rw grown (push_table (place_in t.places) (place_in c.enter_place.new.places) t.rows.items t.staged.entries c.new.result o.topic o.index stands c.new.ensures.waiting c.requires)
+    let absent : place_in t.rows.entries o.topic o.index ≡ None = search rules in
+    entered_table t.rows c.insert_full.new.self c.in_ok-partition.partition c.new.result o.topic o.index c.in_ok-partition.ensures.topic c.in_ok-partition.ensures.index absent c.in_ok-at.ensures.entries t.staged.entries c.new.ensures.waiting c.requires
 
 pub returns-clause-same : goal.returns-clause-same
-returns-clause-same c = λ es d.
+returns-clause-same c = λ events d.
     let t = c.args.self.now in
     let o = c.args.offset.now in
-    let fits : FitsSigned w32 o.index = search rules in
-    let count : c.len-at.result ≡ length t.rows.items = search rules in
-    let absent : place_in t.places o.topic o.index ≡ None = search rules in
-    let grown : c.push_reserved.new.self.items ≡ t.rows.items ++ c.new.result ∷ [] = c.push_reserved.ensures.items ∙ ap (λ (l : List Row). l ++ c.new.result ∷ []) c.reserve.ensures.items in
-    let stands : StandsAt o.topic o.index (length t.rows.items) (place_in t.places) (place_in c.enter_place.new.places) = λ other number.
-    c.in_ok-enter_place.ensures.ok other number
-    ∙ ap (λ (i : ℤ). cond (bytes_eq o.topic other && int_eq i number) (Some c.len-at.result) (place_in t.places other number)) (to_z-of_z w32 o.index fits)
-    ∙ ap (λ (n : ℕ). cond (bytes_eq o.topic other && int_eq o.index number) (Some n) (place_in t.places other number)) count in
-    rw grown (push_described (place_in t.places) (place_in c.enter_place.new.places) t.rows.items c.new.result o.topic o.index es absent stands c.new.ensures.committed c.new.ensures.waiting d)
+    let absent : place_in t.rows.entries o.topic o.index ≡ None = search rules in
+    entered_described t.rows c.insert_full.new.self c.in_ok-partition.partition c.new.result o.topic o.index c.in_ok-partition.ensures.topic c.in_ok-partition.ensures.index absent c.in_ok-at.ensures.entries events c.new.ensures.committed c.new.ensures.waiting d
+
+pub returns-clause-place : goal.returns-clause-place
+returns-clause-place c =
+    let t = c.args.self.now in
+    let o = c.args.offset.now in
+    let absent : place_in t.rows.entries o.topic o.index ≡ None = search rules in
+    entered_place t.rows c.insert_full.new.self c.in_ok-partition.partition c.new.result o.topic o.index c.in_ok-partition.ensures.topic c.in_ok-partition.ensures.index absent c.in_ok-at.ensures.entries ∙ ap Some (sym c.in_ok-at.ensures.index)

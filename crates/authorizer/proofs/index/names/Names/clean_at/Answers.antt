@@ -10,9 +10,9 @@ pub returns-then-not-leave : goal.returns-then-not-leave
 returns-then-not-leave c =
     let lent = c.get_mut.follows.lender c.leave.new.self in
     let writes = (c.get_mut.follows.holds c.leave.new.self).3 (search rules) in
-    let gone = less_gone c.self.inside.buckets.entries lent.entries c.remove.new.self.entries c.args.name.now c.args.filter.now c.in-Some.bucket.now c.leave.new.self
+    let gone = less_gone c.self.inside.buckets.entries lent.entries c.swap_remove.new.self.entries c.args.name.now c.args.filter.now c.in-Some.bucket.now c.leave.new.self
     (hash_map_updates_text c.args.name.now c.self.inside.buckets lent _ writes)
-    (hash_map_updates_text c.args.name.now lent c.remove.new.self None c.remove.ensures.updates)
+    (hash_map_updates_text c.args.name.now lent c.swap_remove.new.self None c.swap_remove.ensures.updates)
     c.in-Some.ensures.value c.leave.ensures.left (sym c.if-not-leave.true ∙ c.leave.ensures.any) in
     rw (← c.self.view_is) (search (rules, gone))
 
