@@ -1,15 +1,21 @@
--- What is kept beside the groups: the places of their names, by which a group is looked up.
-use Rattle.std.specs.Prelude.{◌≡◌, ℕ, List, [], map}
-use Rattle.name_places.specs.declared.places.Places.{Places}
-use Rattle.name_places.specs.Places.{ArePlaces}
+-- What is kept of the groups: each stands under its name.
+use Rattle.std.specs.Prelude.{◌≡◌, ℕ, List, [], ◌∷◌, map, string_bytes}
+use Rattle.std.specs.declared.string.String.{String}
+use Rattle.std.specs.declared.alloc.Global.{Global}
 use Rattle.offset_tables.specs.declared.event.OffsetEvent.{OffsetEvent}
 use Rattle.offset_tables.specs.declared.group.Group.{Group}
+use Rattle.offset_tables.specs.Group.{expired}
 
--- the names of the groups, in their order
-abbrev pub names_of : List Group → List (List ℕ)
-names_of groups = map (λ (g : Group). g.name) groups
+-- each group stands under its name
+abbrev pub AreNamed : List (String Global × Group) → Type 0
+AreNamed [] = Unit {0}
+AreNamed (e ∷ es) = (string_bytes e.0 ≡ e.1.name) × AreNamed es
 
--- the places are those of the groups' names, and what a group holds that didn't begin is nothing
-pub record AreNamed (places : Places) (nothing : List OffsetEvent) (groups : List Group) : Type 0 where
-  pub named : ArePlaces places (names_of groups)
+-- and what a group holds that didn't begin is nothing
+pub record IsKept (table : List (String Global × Group)) (nothing : List OffsetEvent) : Type 0 where
+  pub named : AreNamed table
   pub empty : nothing ≡ []
+
+-- the groups, each under its name, once the members are let go that were not heard of in time
+abbrev pub all_expired : ℕ → List (String Global × Group) → List (String Global × Group)
+all_expired moment es = map (λ e. (e.0, expired moment e.1)) es

@@ -1,27 +1,25 @@
 //! The groups, by their names.
 
-ghost use Rattle.std.specs.Prelude.{◌≡◌, ◌↔◌, IsTrue, ◌<◌, ◌<ℤ◌, pos, [], ◌∷◌, ◌++◌, if◌then◌else◌, is_ok, map, length, IfOk, IfSome, OnOk, OnErr, None};
+ghost use Rattle.std.specs.Prelude.{◌≡◌, ◌↔◌, IsTrue, ◌<ℤ◌, pos, [], ◌∷◌, ◌++◌, if◌then◌else◌, is_ok, map, IfOk, OnOk, OnErr, None};
 ghost use Rattle.acl_binding.specs.declared.words.Operation.TheVariants as operations;
 ghost use Rattle.offset_tables.specs.Turn.{answered};
 ghost use Rattle.offset_tables.specs.Group.{expired};
-ghost use Rattle.offset_tables.specs.Groups.{group_of, turned, join, sync, beat, leave, commit, stage, decide, nobody, place_of};
+ghost use Rattle.offset_tables.specs.Groups.{group_of, find_group, turned, join, sync, beat, leave, commit, stage, decide, nobody};
+ghost use Rattle.group_offsets.specs.Named.{all_expired};
 ghost use Rattle.group_offsets.specs.Permission.{MayUse};
 
 use authorizer::{Permit, Policy, Spent};
+use indexmap::IndexMap;
 use msg_group::{HeartbeatRequest, JoinGroupRequest, LeaveGroupRequest, SyncGroupRequest};
-use name_places::Places;
 use offset_tables::{Group, Joined, Offsets, PartitionOffset};
 use record_batch::Outcome;
 use std::alloc::{AllocError, Global};
 use std::marker::Model;
 use wire_types::{Bytes, ErrorCode, Text};
 
-/// The groups in the order of their beginning.
-#[derive(Drop)]
+/// The groups in the order of their beginning, each under its name; seen as the list of groups.
 pub struct Groups {
-    groups: Vec<Group>,
-    /// Where each group's name stands among theirs.
-    names: Places,
+    table: IndexMap<String, Group>,
     nothing: Offsets,
 }
 
@@ -31,11 +29,22 @@ impl Model for Groups {
 
     ghost Value = { List Group };
 
-    ghost use Rattle.group_offsets.specs.Named.{AreNamed};
+    ghost use Rattle.indexmap.specs.IndexMap.{values};
+    ghost use Rattle.group_offsets.specs.Named.{IsKept};
 
-    ghost view = { λ g. g.groups.items };
+    ghost view = { λ g. values g.table };
 
-    ghost invariant = { λ g. AreNamed g.names g.nothing g.groups.items };
+    ghost invariant = { λ g. IsKept g.table.entries g.nothing };
+}
+
+/// Written out, so that a proof has one call where groups are let go, and not the drops of a table.
+impl Drop for Groups {
+    fn drop(self) {
+        let Groups {
+            table: _table,
+            nothing: _nothing,
+        } = self;
+    }
 }
 
 impl Groups {
@@ -44,8 +53,7 @@ impl Groups {
         ensures { result ≡ [] }
     {
         Groups {
-            groups: Vec::new(alloc),
-            names: Places::new(alloc),
+            table: IndexMap::new(alloc),
             nothing: Offsets::new(alloc),
         }
     }
@@ -54,15 +62,15 @@ impl Groups {
     pub fn as_slice(&self) -> &[Group]
         ensures { result.now ≡ self.now }
     {
-        self.groups.as_slice()
+        self.table.values().as_slice()
     }
 
     /// Whether a new generation may begin in the group of this name.
     pub fn may_begin(&self, name: &Text) -> bool
         ensures { IsTrue result ↔ ((group_of self.now name.now).generation <ℤ pos 2147483647) }
     {
-        match self.place_of(name) {
-            Some(at) => self.groups[at].may_begin(),
+        match self.table.get(name.as_str()) {
+            Some(group) => group.may_begin(),
             None => true,
         }
     }
@@ -102,8 +110,8 @@ impl Groups {
         ensures answer { IfOk result (λ answer. answer ≡ answered (join self.old request.now place moment)) }
         ensures err { OnErr result (self.new ≡ self.old) }
     {
-        if let Some(at) = self.place_of(&request.group) {
-            return self.groups[at].join(alloc, request, place, moment);
+        if let Some(group) = self.table.get_mut(request.group.as_str()) {
+            return group.join(alloc, request, place, moment);
         }
         let mut group = Group::fresh(alloc, &request.group)?;
         let answer = group.join(alloc, request, place, moment)?;
@@ -137,10 +145,10 @@ impl Groups {
         ensures answer { IfOk result (λ answer. answer ≡ answered (sync self.old request.now moment)) }
         ensures err { OnErr result (self.new ≡ self.old) }
     {
-        match self.place_of(&request.group) {
-            Some(at) => self.groups[at].sync(request, moment),
-            None => Ok(Err(nobody(&request.group))),
-        }
+        let Some(group) = self.table.get_mut(request.group.as_str()) else {
+            return Ok(Err(nobody(&request.group)));
+        };
+        group.sync(request, moment)
     }
 
     /// The member tells that it is there. It needs a permit of READ.
@@ -163,10 +171,10 @@ impl Groups {
         ensures groups { self.new ≡ turned self.old (beat self.old request.now moment) }
         ensures answer { result ≡ answered (beat self.old request.now moment) }
     {
-        match self.place_of(&request.group) {
-            Some(at) => self.groups[at].beat(request, moment),
-            None => Err(nobody(&request.group)),
-        }
+        let Some(group) = self.table.get_mut(request.group.as_str()) else {
+            return Err(nobody(&request.group));
+        };
+        group.beat(request, moment)
     }
 
     /// The member leaves. It needs a permit of READ.
@@ -188,10 +196,10 @@ impl Groups {
         ensures groups { self.new ≡ turned self.old (leave self.old request.now) }
         ensures answer { result ≡ answered (leave self.old request.now) }
     {
-        match self.place_of(&request.group) {
-            Some(at) => self.groups[at].leave(request),
-            None => Err(nobody(&request.group)),
-        }
+        let Some(group) = self.table.get_mut(request.group.as_str()) else {
+            return Err(nobody(&request.group));
+        };
+        group.leave(request)
     }
 
     /// An offset is committed for a group. It needs a permit of READ.
@@ -230,8 +238,8 @@ impl Groups {
         ensures answer { IfOk result (λ answer. answer ≡ answered (commit self.old name.now generation member.now offset)) }
         ensures err { OnErr result (self.new ≡ self.old) }
     {
-        if let Some(at) = self.place_of(name) {
-            return self.groups[at].commit(generation, member, offset);
+        if let Some(group) = self.table.get_mut(name.as_str()) {
+            return group.commit(generation, member, offset);
         }
         let mut group = Group::fresh(alloc, name)?;
         let answer = group.commit(generation, member, offset)?;
@@ -276,8 +284,8 @@ impl Groups {
         ensures answer { IfOk result (λ answer. answer ≡ answered (stage self.old name.now producer generation member.now offset)) }
         ensures err { OnErr result (self.new ≡ self.old) }
     {
-        if let Some(at) = self.place_of(name) {
-            return self.groups[at].stage(producer, generation, member, offset);
+        if let Some(group) = self.table.get_mut(name.as_str()) {
+            return group.stage(producer, generation, member, offset);
         }
         let mut group = Group::fresh(alloc, name)?;
         let answer = group.stage(producer, generation, member, offset)?;
@@ -296,8 +304,8 @@ impl Groups {
         ensures ok { OnOk result (self.new ≡ turned self.old (decide self.old name.now producer outcome)) }
         ensures err { OnErr result (self.new ≡ self.old) }
     {
-        if let Some(at) = self.place_of(name) {
-            return self.groups[at].decide(producer, outcome);
+        if let Some(group) = self.table.get_mut(name.as_str()) {
+            return group.decide(producer, outcome);
         }
         let mut group = Group::fresh(alloc, name)?;
         group.decide(producer, outcome)?;
@@ -316,15 +324,15 @@ impl Groups {
     fn offsets_of(&self, name: &Text) -> &Offsets
         ensures { result.now ≡ (group_of self.now name.now).offsets }
     {
-        match self.place_of(name) {
-            Some(at) => &self.groups[at].offsets,
+        match self.table.get(name.as_str()) {
+            Some(group) => &group.offsets,
             None => &self.nothing,
         }
     }
 
     /// Keeps a group that begins, where its first call wasn't refused.
     fn keep<A>(&mut self, group: Group, answer: &Result<A, ErrorCode>) -> Result<(), AllocError>
-        requires { place_of self.old group.name ≡ None }
+        requires { find_group self.old group.name ≡ None }
         ensures ok { OnOk result (self.new ≡ (if is_ok answer.now then self.old ++ group ∷ [] else self.old)) }
         ensures err { OnErr result (self.new ≡ self.old) }
     {
@@ -336,39 +344,29 @@ impl Groups {
 
     /// A group begins. All that may fail comes before the first change.
     fn begin(&mut self, group: Group) -> Result<(), AllocError>
-        requires { place_of self.old group.name ≡ None }
+        requires { find_group self.old group.name ≡ None }
         ensures ok { OnOk result (self.new ≡ self.old ++ group ∷ []) }
         ensures err { OnErr result (self.new ≡ self.old) }
     {
-        let name = group.name.to_owned(*self.groups.allocator())?;
-        self.groups.reserve(1)?;
-        self.names.reserve()?;
-        self.names.push(name, self.groups.len());
-        self.groups.push_reserved(group);
+        let name = group.name.to_owned(*self.table.allocator())?;
+        self.table.insert(name, group)?;
         Ok(())
-    }
-
-    /// The place of the group of this name.
-    fn place_of(&self, name: &Text) -> Option<usize>
-        ensures place { result ≡ place_of self.now name.now }
-        ensures within { IfSome result (λ place. place < length self.now) }
-    {
-        self.names.look_up(name)
     }
 
     /// Lets each member go that was not heard of for longer than its session timeout.
     pub fn expire(&mut self, moment: u64)
         ensures { self.new ≡ map (expired moment) self.old }
     {
-        expire_all(&mut self.groups, moment);
+        expire_all(&mut self.table, moment);
     }
 }
 
-fn expire_all(groups: &mut [Group], moment: u64)
-    ensures { groups.new ≡ map (expired moment) groups.old }
+/// Lets the members of all groups go that were not heard of in time. Each group stays under its name.
+fn expire_all(groups: &mut IndexMap<String, Group>, moment: u64)
+    ensures { groups.new.entries ≡ all_expired moment groups.old.entries }
 {
-    for group in groups.iter_mut() {
-        group.expire(moment);
+    for place in 0..groups.len() {
+        groups[place].expire(moment);
     }
 }
 

@@ -10,6 +10,7 @@ pub mod Longest
 pub mod Fetched
 pub mod Rows
 pub mod Openings
+pub mod OpenTable
 pub mod Stable
 pub mod Index
 pub mod Halving

@@ -1,7 +1,6 @@
 -- All that the transaction coordinator keeps, and what a call comes to (KIP-98, 'Transaction Coordinator').
-use Rattle.std.specs.Prelude.{ℕ, ◌+◌, ℤ, pos, negsuc, Bool, List, [], ◌∷◌, ◌++◌, length, slice_get, Option, Some, None, if◌then◌else◌}
+use Rattle.std.specs.Prelude.{ℕ, ℤ, pos, negsuc, Bool, List, [], ◌∷◌, ◌++◌, length, slice_get, Option, Some, None, if◌then◌else◌}
 use Rattle.std.specs.List.{find}
-use Rattle.std.specs.Option.{option_map}
 use Rattle.std.specs.Str.{bytes_eq}
 use Rattle.wire_types.specs.declared.error_code.ErrorCode.{ErrorCode}
 use Rattle.wire_types.specs.declared.error_code.ErrorCode.TheVariants as codes
@@ -34,11 +33,6 @@ has_id id t = bytes_eq t.id id
 -- the record of a transactional id, if it has one
 abbrev pub recorded : List Transaction → List ℕ → Option Transaction
 recorded ts id = find (has_id id) ts
-
--- its place
-abbrev pub place_of : List Transaction → List ℕ → Option ℕ
-place_of [] id = None
-place_of (t ∷ ts) id = if has_id id t then Some 0 else option_map (λ place. place + 1) (place_of ts id)
 
 -- in place of the record of the same id, else at the end
 abbrev pub put : List Transaction → Transaction → List Transaction

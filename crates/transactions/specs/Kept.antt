@@ -1,5 +1,5 @@
 -- What the coordinator keeps beside its plain lists.
-use Rattle.std.specs.Prelude.{◌≡◌, ℕ, Bool, List, map, is_some, unwrap_or}
+use Rattle.std.specs.Prelude.{◌≡◌, ℕ, Bool, List, [], ◌∷◌, map, is_some, unwrap_or, string_bytes}
 use Rattle.std.specs.List.{count_by}
 use Rattle.std.specs.HashMap.{HashMap, get_by_text}
 use Rattle.std.specs.Str.{bytes_eq}
@@ -7,17 +7,23 @@ use Rattle.std.specs.declared.string.String.{String}
 use Rattle.std.specs.declared.alloc.Global.{Global}
 use Rattle.transactions.specs.declared.transaction.Transaction.{Transaction}
 use Rattle.transactions.specs.declared.marker.OwedMarker.{OwedMarker}
+use Rattle.transactions.specs.Expiry.{expired}
 
--- ---- the place of each transactional id
-
--- the ids, in the order of their records
-abbrev pub ids : List Transaction → List (List ℕ)
-ids ts = map (λ (t : Transaction). t.id) ts
+-- ---- the records
 
 -- the records, and how many more there is room for
 pub record RecordsValue : Type 0 where
   pub list : List Transaction
   pub room : ℕ
+
+-- each record stands under its id
+abbrev pub AreIds : List (String Global × Transaction) → Type 0
+AreIds [] = Unit {0}
+AreIds (e ∷ es) = (string_bytes e.0 ≡ e.1.id) × AreIds es
+
+-- the records, each under its id, once those that are due at this moment are fenced
+abbrev pub all_expired : ℕ → List (String Global × Transaction) → List (String Global × Transaction)
+all_expired moment es = map (λ e. (e.0, expired moment e.1)) es
 
 -- ---- how many markers each id owes
 

@@ -1,12 +1,15 @@
 //! Transactions whose time is over.
 
-ghost use Rattle.std.specs.Prelude.{◌≡◌, IfOk, map};
+ghost use Rattle.std.specs.Prelude.{◌≡◌, IfOk};
 ghost use Rattle.std.specs.List.{flat_map};
 ghost use Rattle.transactions.specs.Expiry.{is_due, expired, expiry_markers};
-ghost use Rattle.transactions.specs.Bounds.{AllCanRaise};
+ghost use Rattle.transactions.specs.Bounds.{CanRaise, AllCanRaise};
+ghost use Rattle.transactions.specs.Kept.{all_expired};
+ghost use Rattle.indexmap.specs.IndexMap.{values};
 
 use crate::marker::OwedMarker;
 use crate::transaction::{Phase, Transaction};
+use indexmap::IndexMap;
 use record_batch::Outcome;
 use std::alloc::{AllocError, Global};
 use wire_types::{Items, Shared};
@@ -19,6 +22,17 @@ impl Transaction {
         self.phase.is_ongoing()
             && self.start < moment
             && u64::from(self.timeout) < moment - self.start
+    }
+
+    /// Fences the transaction if it is due.
+    fn expire(&mut self, moment: u64)
+        requires { CanRaise self.old }
+        ensures { self.new ≡ expired moment self.old }
+    {
+        if self.is_due(moment) {
+            self.pair = self.pair.raised();
+            self.phase = Phase::PrepareAbort;
+        }
     }
 }
 
@@ -42,15 +56,12 @@ pub fn expiry_markers(
     Ok(Items::from(owed))
 }
 
-/// Fences all that are due.
-pub(crate) fn expire_all(transactions: &mut [Transaction], moment: u64)
-    requires { AllCanRaise transactions.old }
-    ensures { transactions.new ≡ map (expired moment) transactions.old }
+/// Fences all that are due. Each stays under its id.
+pub(crate) fn expire_all(records: &mut IndexMap<String, Transaction>, moment: u64)
+    requires { AllCanRaise (values records.old) }
+    ensures { records.new.entries ≡ all_expired moment records.old.entries }
 {
-    for transaction in transactions.iter_mut() {
-        if transaction.is_due(moment) {
-            transaction.pair = transaction.pair.raised();
-            transaction.phase = Phase::PrepareAbort;
-        }
+    for place in 0..records.len() {
+        records[place].expire(moment);
     }
 }

@@ -1,6 +1,10 @@
-use Rattle.std.proofs.Common.{◌≡◌, ◌++◌, map, take, drop}
-use Rattle.offset_tables.specs.Group.{expired}
+use Rattle.std.proofs.Common.{◌≡◌, ◌++◌, drop, length, take}
+use Rattle.group_offsets.specs.Named.{all_expired}
 use Rattle.group_offsets.proofs.groups.expire_all.Given as goal
 
-abbrev pub invariant-loop-group : goal.invariant-loop-group
-invariant-loop-group l = take l.group-index l.groups ++ map (expired l.moment) (drop l.group-index l.groups) ≡ map (expired l.moment) l.fn.groups
+-- what is done so far, and then what is left
+abbrev pub invariant-loop-place : goal.invariant-loop-place
+invariant-loop-place l = record {
+  done : take l.place l.groups.entries ++ all_expired l.moment (drop l.place l.groups.entries) ≡ all_expired l.moment l.fn.groups.entries;
+  count : length l.groups.entries ≡ l.place-end;
+}

@@ -1,10 +1,13 @@
-use Rattle.std.proofs.Common.{◌≡◌, ◌++◌, drop, take, map}
-use Rattle.transactions.specs.Expiry.{expired}
+use Rattle.std.proofs.Common.{◌≡◌, ◌++◌, drop, length, take}
+use Rattle.std.specs.Map.{values_of}
 use Rattle.transactions.specs.Bounds.{AllCanRaise}
+use Rattle.transactions.specs.Kept.{all_expired}
 use Rattle.transactions.proofs.expiry.expire_all.Given as goal
 
-abbrev pub invariant-loop-transaction : goal.invariant-loop-transaction
-invariant-loop-transaction l = record {
-  can_raise : AllCanRaise (drop l.transaction-index l.transactions);
-  done : take l.transaction-index l.transactions ++ map (expired l.moment) (drop l.transaction-index l.transactions) ≡ map (expired l.moment) l.fn.transactions;
+-- what is done so far, and then what is left, in which each epoch can be raised
+abbrev pub invariant-loop-place : goal.invariant-loop-place
+invariant-loop-place l = record {
+  done : take l.place l.records.entries ++ all_expired l.moment (drop l.place l.records.entries) ≡ all_expired l.moment l.fn.records.entries;
+  count : length l.records.entries ≡ l.place-end;
+  can_raise : AllCanRaise (values_of (drop l.place l.records.entries));
 }

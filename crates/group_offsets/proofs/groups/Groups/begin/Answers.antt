@@ -1,14 +1,29 @@
-use Rattle.std.proofs.Common.{◌≡◌, ◌++◌, ◌∷◌, [], List, ℕ, length, subst, arith, rules, string_bytes}
-use Rattle.name_places.specs.Places.{ArePlaces}
-use Rattle.group_offsets.specs.Named.{names_of}
-use Rattle.group_offsets.proofs.Named.{named_length, are_named_push}
+use Rattle.std.proofs.Common.{◌≡◌, ◌++◌, ◌∷◌, [], List, None, sym, subst, ap, ◌∙◌}
+use Rattle.std.specs.Map.{values_of}
+use Rattle.std.proofs.lemmas.List.{map-append}
+use Rattle.std.specs.declared.string.String.{String}
+use Rattle.std.specs.declared.alloc.Global.{Global}
+use Rattle.offset_tables.specs.declared.group.Group.{Group}
+use Rattle.offset_tables.specs.Groups.{find_group}
+use Rattle.group_offsets.specs.Named.{AreNamed}
+use Rattle.group_offsets.proofs.Named.{begun_in, named_push}
 use Rattle.group_offsets.proofs.groups.Groups.begin.Goals as goal
 
 pub invariant_of-self-2 : goal.invariant_of-self-2
 invariant_of-self-2 c =
-    let gs = c.self.inside.groups.items in
-    let last : c.len.result ≡ length (names_of gs) = omega (arith, named_length gs) in
-    let placed = c.push.ensures (names_of gs) (c.in_ok-reserve-2.ensures.same (names_of gs) c.self.invariant.named) last in
-    let same : string_bytes c.in_ok-name.name ≡ c.args.group.name = search rules in
-    let named : ArePlaces c.push.new.self (names_of gs ++ c.args.group.name ∷ []) = subst (λ (n : List ℕ). ArePlaces c.push.new.self (names_of gs ++ n ∷ [])) same placed in
-    rw (c.push_reserved.ensures.items, c.reserve.ensures.items) (are_named_push c.push.new.self c.self.inside.nothing gs c.args.group c.self.invariant.empty named)
+    let es = c.self.inside.table.entries in
+    let none : find_group (values_of es) c.args.group.name ≡ None = ap (λ (gs : List Group). find_group gs c.args.group.name) c.self.view_is ∙ c.requires in
+    let begun : c.insert.new.self.entries ≡ es ++ (c.in_ok-name.name, c.args.group) ∷ [] = c.in_ok-insert.ensures.entries ∙ begun_in es c.in_ok-name.name c.args.group c.in_ok-name.ensures c.self.invariant.named none in
+    record {
+      named = subst AreNamed (sym begun) (named_push es c.in_ok-name.name c.args.group c.in_ok-name.ensures c.self.invariant.named);
+      empty = c.self.invariant.empty;
+    }
+
+pub returns-clause-ok : goal.returns-clause-ok
+returns-clause-ok c =
+    let es = c.self.inside.table.entries in
+    let none : find_group (values_of es) c.args.group.name ≡ None = ap (λ (gs : List Group). find_group gs c.args.group.name) c.self.view_is ∙ c.requires in
+    let begun : c.insert.new.self.entries ≡ es ++ (c.in_ok-name.name, c.args.group) ∷ [] = c.in_ok-insert.ensures.entries ∙ begun_in es c.in_ok-name.name c.args.group c.in_ok-name.ensures c.self.invariant.named none in
+    ap values_of begun
+    ∙ map-append (λ (e : String Global × Group). e.1) es ((c.in_ok-name.name, c.args.group) ∷ [])
+    ∙ ap (λ (gs : List Group). gs ++ c.args.group ∷ []) c.self.view_is

@@ -1,41 +1,61 @@
-use Rattle.std.proofs.Common.{◌≡◌, ◌++◌, [], ◌∷◌, Some, None, cond, ap, ◌∙◌, w32, w64, rules}
+use Rattle.std.proofs.Common.{◌≡◌, ◌++◌, [], ◌∷◌, List, None, cond, sym, ap, ◌∙◌, w32, w64}
 use Rattle.std.specs.Prelude.{Result, is_ok}
+use Rattle.std.specs.Map.{values_of}
+use Rattle.std.specs.Option.{option_copied_mut}
 use Rattle.std.proofs.lemmas.Int.{to_z-of_z}
 use Rattle.std.proofs.lemmas.Result.{on_ok_weaker, on_err_weaker, IfOk-weaker}
 use Rattle.wire_types.specs.declared.error_code.ErrorCode.{ErrorCode}
 use Rattle.offset_tables.specs.declared.group.Group.{Group}
 use Rattle.offset_tables.specs.Group.{stage_group}
-use Rattle.offset_tables.specs.Groups.{place_of}
-use Rattle.offset_tables.proofs.Places.{turned_at, answered_at, kept_fresh, answered_fresh, unchanged_at}
-use Rattle.group_offsets.proofs.Named.{are_named_set}
+use Rattle.offset_tables.specs.Groups.{place_of, find_group}
+use Rattle.offset_tables.proofs.Places.{none_at, kept_fresh, answered_fresh}
+use Rattle.group_offsets.proofs.Named.{none_in, turned_in, answered_in, unchanged_in, named_in}
 use Rattle.group_offsets.proofs.groups.Groups.stage_offset.Goals as goal
+
+pub invariant_of-self : goal.invariant_of-self
+invariant_of-self c =
+    let es = c.self.inside.table.entries in
+    record {
+      named = named_in es (c.get_mut.follows.lender c.stage.new.self).entries c.as_str.result.now c.in-Some.group.now c.stage.new.self c.in-Some.ensures.value (c.get_mut.follows.holds c.stage.new.self).0 c.stage.ensures.name c.self.invariant.named;
+      empty = c.self.invariant.empty;
+    }
 
 pub returns-in-Some-clause-groups : goal.returns-in-Some-clause-groups
 returns-in-Some-clause-groups c =
     let own = to_z-of_z w64 c.args.producer c.ranges.producer in
     let back = to_z-of_z w32 c.args.generation c.ranges.generation in
-    let at : place_of c.self.inside.groups.items c.args.name.now ≡ Some c.in-Some.at = cc in
-    rw (← c.self.view_is) (on_ok_weaker c.stage.result (λ made. turned_at c.self.inside.groups.items c.in-Some.at c.index_mut.result.now c.stage.new.self c.args.name.now (λ (g : Group). stage_group g c.args.producer c.args.generation c.args.member.now c.args.offset) at c.index_mut.ensures.value made c.stage.ensures.name) (rw (own, back) at c.stage.ensures.group))
+    let es = c.self.inside.table.entries in
+    rw (← c.self.view_is) (on_ok_weaker c.stage.result (λ made. turned_in es (c.get_mut.follows.lender c.stage.new.self).entries c.as_str.result.now c.args.name.now c.in-Some.group.now c.stage.new.self (λ (g : Group). stage_group g c.args.producer c.args.generation c.args.member.now c.args.offset) c.as_str.ensures c.self.invariant.named c.in-Some.ensures.value (c.get_mut.follows.holds c.stage.new.self).0 made c.stage.ensures.name) (rw (own, back) at c.stage.ensures.group))
 
 pub returns-in-Some-clause-answer : goal.returns-in-Some-clause-answer
 returns-in-Some-clause-answer c =
     let own = to_z-of_z w64 c.args.producer c.ranges.producer in
     let back = to_z-of_z w32 c.args.generation c.ranges.generation in
-    let at : place_of c.self.inside.groups.items c.args.name.now ≡ Some c.in-Some.at = cc in
-    rw (← c.self.view_is) (IfOk-weaker c.stage.result _ _ (λ answer e. e ∙ answered_at c.self.inside.groups.items c.in-Some.at c.index_mut.result.now c.args.name.now (λ (g : Group). stage_group g c.args.producer c.args.generation c.args.member.now c.args.offset) at c.index_mut.ensures.value) (rw (own, back) at c.stage.ensures.answer))
+    let es = c.self.inside.table.entries in
+    rw (← c.self.view_is) (IfOk-weaker c.stage.result _ _ (λ answer e. e ∙ answered_in es c.as_str.result.now c.args.name.now c.in-Some.group.now (λ (g : Group). stage_group g c.args.producer c.args.generation c.args.member.now c.args.offset) c.as_str.ensures c.self.invariant.named c.in-Some.ensures.value) (rw (own, back) at c.stage.ensures.answer))
 
 pub returns-in-Some-clause-err : goal.returns-in-Some-clause-err
 returns-in-Some-clause-err c =
-    rw (← c.self.view_is) (on_err_weaker c.stage.result (λ same. unchanged_at c.self.inside.groups.items c.in-Some.at c.index_mut.result.now c.stage.new.self c.index_mut.ensures.value same) c.stage.ensures.err)
+    let es = c.self.inside.table.entries in
+    rw (← c.self.view_is) (on_err_weaker c.stage.result (λ same. unchanged_in es (c.get_mut.follows.lender c.stage.new.self).entries c.as_str.result.now c.in-Some.group.now c.stage.new.self c.in-Some.ensures.value (c.get_mut.follows.holds c.stage.new.self).0 same) c.stage.ensures.err)
+
+pub keep-requires : goal.keep-requires
+keep-requires c =
+    let es = c.self.inside.table.entries in
+    let none : place_of c.args.self.now c.args.name.now ≡ None = ap (λ (gs : List Group). place_of gs c.args.name.now) (sym c.self.view_is) ∙ none_in es c.as_str.result.now c.args.name.now c.as_str.ensures c.self.invariant.named (sym (ap option_copied_mut c.in_default.is) ∙ c.get_mut.ensures.value) in
+    let same : values_of c.get_mut.follows.lender-at-none.entries ≡ c.args.self.now = ap (λ m. values_of m.entries) c.get_mut.follows.holds-at-none ∙ c.self.view_is in
+    ap (λ (gs : List Group). find_group gs c.stage-2.new.self.name) same ∙ ap (find_group c.args.self.now) (c.in_ok-answer.ensures.name ∙ ap (λ (g : Group). g.name) c.in_ok-group.ensures) ∙ none_at c.args.self.now c.args.name.now none
 
 pub returns-clause-groups : goal.returns-clause-groups
 returns-clause-groups c =
     let own = to_z-of_z w64 c.args.producer c.ranges.producer in
     let back = to_z-of_z w32 c.args.generation c.ranges.generation in
-    let none : place_of c.args.self.now c.args.name.now ≡ None = search rules in
+    let es = c.self.inside.table.entries in
+    let none : place_of c.args.self.now c.args.name.now ≡ None = ap (λ (gs : List Group). place_of gs c.args.name.now) (sym c.self.view_is) ∙ none_in es c.as_str.result.now c.args.name.now c.as_str.ensures c.self.invariant.named (sym (ap option_copied_mut c.in_default.is) ∙ c.get_mut.ensures.value) in
+    let same : values_of c.get_mut.follows.lender-at-none.entries ≡ c.args.self.now = ap (λ m. values_of m.entries) c.get_mut.follows.holds-at-none ∙ c.self.view_is in
     let made = rw (c.in_ok-group.ensures, own, back) at c.in_ok-answer.ensures.group in
     let answer = rw (c.in_ok-group.ensures, own, back) at c.in_ok-answer.ensures.answer in
-    c.in_ok-keep.ensures.ok
+    (rw same at c.in_ok-keep.ensures.ok)
     ∙ ap (λ (a : Result (Unit {0}) ErrorCode). cond (is_ok a) (c.args.self.now ++ c.stage-2.new.self ∷ []) c.args.self.now) answer
     ∙ kept_fresh c.args.self.now c.stage-2.new.self c.args.name.now (λ (g : Group). stage_group g c.args.producer c.args.generation c.args.member.now c.args.offset) none made (c.in_ok-answer.ensures.name ∙ ap (λ (g : Group). g.name) c.in_ok-group.ensures)
 
@@ -43,14 +63,7 @@ pub returns-clause-answer : goal.returns-clause-answer
 returns-clause-answer c =
     let own = to_z-of_z w64 c.args.producer c.ranges.producer in
     let back = to_z-of_z w32 c.args.generation c.ranges.generation in
-    let none : place_of c.args.self.now c.args.name.now ≡ None = search rules in
+    let es = c.self.inside.table.entries in
+    let none : place_of c.args.self.now c.args.name.now ≡ None = ap (λ (gs : List Group). place_of gs c.args.name.now) (sym c.self.view_is) ∙ none_in es c.as_str.result.now c.args.name.now c.as_str.ensures c.self.invariant.named (sym (ap option_copied_mut c.in_default.is) ∙ c.get_mut.ensures.value) in
     let answer = rw (c.in_ok-group.ensures, own, back) at c.in_ok-answer.ensures.answer in
     answer ∙ answered_fresh c.args.self.now c.args.name.now (λ (g : Group). stage_group g c.args.producer c.args.generation c.args.member.now c.args.offset) none
-
-pub keep-requires : goal.keep-requires
-keep-requires c =
-    let none : place_of c.args.self.now c.args.name.now ≡ None = search rules in
-    ap (place_of c.args.self.now) (c.in_ok-answer.ensures.name ∙ ap (λ (g : Group). g.name) c.in_ok-group.ensures) ∙ none
-
-pub invariant_of-self : goal.invariant_of-self
-invariant_of-self c = are_named_set c.self.inside.names c.self.inside.nothing c.self.inside.groups.items c.in-Some.at c.index_mut.result.now c.stage.new.self c.index_mut.ensures.value c.stage.ensures.name c.self.invariant

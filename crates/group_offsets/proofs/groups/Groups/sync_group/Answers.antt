@@ -1,31 +1,49 @@
-use Rattle.std.proofs.Common.{◌≡◌, Some, None, ◌∙◌, rules}
-use Rattle.std.proofs.lemmas.Result.{on_ok_weaker, IfOk-weaker}
+use Rattle.std.proofs.Common.{◌≡◌, None, sym, subst, ap, ◌∙◌}
+use Rattle.std.specs.Map.{values_of}
+use Rattle.std.specs.Option.{option_copied_mut}
+use Rattle.std.proofs.lemmas.Result.{on_ok_weaker, on_err_weaker, IfOk-weaker}
 use Rattle.offset_tables.specs.declared.group.Group.{Group}
 use Rattle.offset_tables.specs.Group.{sync_group}
 use Rattle.offset_tables.specs.Groups.{place_of}
-use Rattle.offset_tables.proofs.Places.{turned_at, answered_at, refused_fresh, refusal_fresh, sync_fresh}
-use Rattle.group_offsets.proofs.Named.{are_named_set}
+use Rattle.offset_tables.proofs.Places.{refused_fresh, refusal_fresh, sync_fresh}
+use Rattle.group_offsets.specs.Named.{IsKept}
+use Rattle.group_offsets.proofs.Named.{none_in, turned_in, answered_in, unchanged_in, named_in}
 use Rattle.group_offsets.proofs.groups.Groups.sync_group.Goals as goal
 
-pub returns-in-Some-clause-groups : goal.returns-in-Some-clause-groups
-returns-in-Some-clause-groups c =
-    let at : place_of c.self.inside.groups.items c.args.request.now.group ≡ Some c.in-Some.at = cc in
-    rw (← c.self.view_is) (on_ok_weaker c.sync.result (λ made. turned_at c.self.inside.groups.items c.in-Some.at c.index_mut.result.now c.sync.new.self c.args.request.now.group (λ (g : Group). sync_group g c.args.request.now c.args.moment) at c.index_mut.ensures.value made c.sync.ensures.name) c.sync.ensures.group)
-
-pub returns-in-Some-clause-answer : goal.returns-in-Some-clause-answer
-returns-in-Some-clause-answer c =
-    let at : place_of c.self.inside.groups.items c.args.request.now.group ≡ Some c.in-Some.at = cc in
-    rw (← c.self.view_is) (IfOk-weaker c.sync.result _ _ (λ answer e. e ∙ answered_at c.self.inside.groups.items c.in-Some.at c.index_mut.result.now c.args.request.now.group (λ (g : Group). sync_group g c.args.request.now c.args.moment) at c.index_mut.ensures.value) c.sync.ensures.answer)
-
-pub returns-in-None-clause-groups : goal.returns-in-None-clause-groups
-returns-in-None-clause-groups c =
-    let none : place_of c.args.self.now c.args.request.now.group ≡ None = search rules in
-    (refused_fresh c.args.self.now c.args.request.now.group (λ (g : Group). sync_group g c.args.request.now c.args.moment) none (sync_fresh c.args.request.now c.args.moment))
-
-pub returns-in-None-clause-answer : goal.returns-in-None-clause-answer
-returns-in-None-clause-answer c =
-    let none : place_of c.args.self.now c.args.request.now.group ≡ None = search rules in
-    rw (c.nobody.ensures) (refusal_fresh c.args.self.now c.args.request.now.group (λ (g : Group). sync_group g c.args.request.now c.args.moment) none (sync_fresh c.args.request.now c.args.moment))
-
 pub invariant_of-self : goal.invariant_of-self
-invariant_of-self c = are_named_set c.self.inside.names c.self.inside.nothing c.self.inside.groups.items c.in-Some.at c.index_mut.result.now c.sync.new.self c.index_mut.ensures.value c.sync.ensures.name c.self.invariant
+invariant_of-self c = subst (λ m. IsKept m.entries c.self.inside.nothing) (sym c.get_mut.follows.holds-at-none) c.self.invariant
+
+pub returns-in_default-clause-groups : goal.returns-in_default-clause-groups
+returns-in_default-clause-groups c =
+    let es = c.self.inside.table.entries in
+    let none : place_of (values_of es) c.args.request.now.group ≡ None = none_in es c.as_str.result.now c.args.request.now.group c.as_str.ensures c.self.invariant.named (sym (ap option_copied_mut c.in_default.is) ∙ c.get_mut.ensures.value) in
+    rw (← c.self.view_is) (ap (λ m. values_of m.entries) c.get_mut.follows.holds-at-none ∙ refused_fresh (values_of es) c.args.request.now.group (λ (g : Group). sync_group g c.args.request.now c.args.moment) none (sync_fresh c.args.request.now c.args.moment))
+
+pub returns-in_default-clause-answer : goal.returns-in_default-clause-answer
+returns-in_default-clause-answer c =
+    let es = c.self.inside.table.entries in
+    let none : place_of (values_of es) c.args.request.now.group ≡ None = none_in es c.as_str.result.now c.args.request.now.group c.as_str.ensures c.self.invariant.named (sym (ap option_copied_mut c.in_default.is) ∙ c.get_mut.ensures.value) in
+    rw (← c.self.view_is, c.nobody.ensures) (refusal_fresh (values_of es) c.args.request.now.group (λ (g : Group). sync_group g c.args.request.now c.args.moment) none (sync_fresh c.args.request.now c.args.moment))
+
+pub invariant_of-self-2 : goal.invariant_of-self-2
+invariant_of-self-2 c =
+    let es = c.self.inside.table.entries in
+    record {
+      named = named_in es (c.get_mut.follows.lender c.sync.new.self).entries c.as_str.result.now c.in-Some.group.now c.sync.new.self c.in-Some.ensures.value (c.get_mut.follows.holds c.sync.new.self).0 c.sync.ensures.name c.self.invariant.named;
+      empty = c.self.invariant.empty;
+    }
+
+pub returns-clause-groups : goal.returns-clause-groups
+returns-clause-groups c =
+    let es = c.self.inside.table.entries in
+    rw (← c.self.view_is) (on_ok_weaker c.sync.result (λ made. turned_in es (c.get_mut.follows.lender c.sync.new.self).entries c.as_str.result.now c.args.request.now.group c.in-Some.group.now c.sync.new.self (λ (g : Group). sync_group g c.args.request.now c.args.moment) c.as_str.ensures c.self.invariant.named c.in-Some.ensures.value (c.get_mut.follows.holds c.sync.new.self).0 made c.sync.ensures.name) c.sync.ensures.group)
+
+pub returns-clause-answer : goal.returns-clause-answer
+returns-clause-answer c =
+    let es = c.self.inside.table.entries in
+    rw (← c.self.view_is) (IfOk-weaker c.sync.result _ _ (λ answer e. e ∙ answered_in es c.as_str.result.now c.args.request.now.group c.in-Some.group.now (λ (g : Group). sync_group g c.args.request.now c.args.moment) c.as_str.ensures c.self.invariant.named c.in-Some.ensures.value) c.sync.ensures.answer)
+
+pub returns-clause-err : goal.returns-clause-err
+returns-clause-err c =
+    let es = c.self.inside.table.entries in
+    rw (← c.self.view_is) (on_err_weaker c.sync.result (λ same. unchanged_in es (c.get_mut.follows.lender c.sync.new.self).entries c.as_str.result.now c.in-Some.group.now c.sync.new.self c.in-Some.ensures.value (c.get_mut.follows.holds c.sync.new.self).0 same) c.sync.ensures.err)
