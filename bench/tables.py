@@ -6,7 +6,6 @@ taken off, so that a row tells the work itself; the best of three runs counts.
 
 import os
 import signal
-import struct
 import subprocess
 import sys
 import tempfile
@@ -15,7 +14,8 @@ from pathlib import Path
 
 sys.path.append(str(Path(__file__).resolve().parent.parent / "scripts"))
 
-from histories import TRANSACTIONAL, array, batch, fetch, frame, only, string  # noqa: E402
+import wire  # noqa: E402
+from replaying import only, request  # noqa: E402
 
 RUNS = 3
 WORK = 20_000
@@ -40,86 +40,71 @@ def acl(name, principal):
     return f'[[acl]]\n{words}host = "*"\noperation = "READ"\npermission = "ALLOW"\n'
 
 
-def ask(text):
-    return f"req root h {text}\n"
+def ask(api, **fields):
+    return f"req root h {request(api, **fields)}\n"
 
 
-def pair(name, producer=0, epoch=0):
-    return string(name) + struct.pack(">qh", producer, epoch)
+def of_producer(name, producer):
+    return {"transactional_id": name, "producer": producer, "epoch": 0}
 
 
 def init(name):
-    return ask(frame(22, 0, string(name) + struct.pack(">i", 900_000)))
+    return ask("InitProducerId", transactional_id=name, timeout=900_000)
 
 
 def add(name, producer, indices, topic="t"):
-    listed = array([struct.pack(">i", it) for it in indices])
-    return ask(frame(24, 0, pair(name, producer) + array([string(topic) + listed])))
+    topics = [{"topic": topic, "partitions": [*indices]}]
+    return ask("AddPartitionsToTxn", **of_producer(name, producer), topics=topics)
 
 
 def end(name, producer, is_commit):
-    return ask(frame(26, 0, pair(name, producer) + bytes([is_commit])))
+    return ask("EndTxn", **of_producer(name, producer), committed=bool(is_commit))
 
 
 def produce(place=PLACE, name=None, producer=-1, sequence=-1):
     """A Produce of one record."""
-    sent = batch(1, producer, 0 if producer >= 0 else -1, sequence, TRANSACTIONAL if name else 0)
-    body = string(name) + struct.pack(">hi", 1, 0) + only(place, struct.pack(">i", len(sent)) + sent)
-    return ask(frame(0, 3, body))
+    epoch = 0 if producer >= 0 else -1
+    sent = wire.batch([b"a"], producer, epoch, sequence, transactional=name is not None)
+    return ask("Produce", transactional_id=name, acks=1, topics=only(place, records=sent))
 
 
-def flexible(key, version, body):
-    text = struct.pack(">hhih", key, version, 7, -1) + b"\0" + body
-    return ask((struct.pack(">i", len(text)) + text).hex())
-
-
-def count(number):
-    """A number in groups of seven bits, as lengths and counts of flexible messages are."""
-    out = b""
-    while number >= 128:
-        out, number = out + bytes([number & 127 | 128]), number >> 7
-    return out + bytes([number])
-
-
-def short(text):
-    return count(len(text) + 1) + text.encode()
+def fetch(place, offset, isolation=0, max_bytes=1 << 20):
+    topics = only(place, offset=offset, max_bytes=max_bytes)
+    return ask("Fetch", isolation=isolation, max_bytes=max_bytes, topics=topics)
 
 
 def commits(offsets):
     """An OffsetCommit of the group `g`, of partition 0 of `t` again and again."""
-    listed = array([struct.pack(">iq", 0, it) + string("") for it in offsets])
-    body = string("g") + struct.pack(">i", -1) + string("") + struct.pack(">q", -1)
-    return ask(frame(8, 2, body + array([string("t") + listed])))
+    listed = [{"index": 0, "offset": it, "metadata": ""} for it in offsets]
+    return ask("OffsetCommit", group="g", topics=[{"topic": "t", "partitions": listed}])
 
 
 def fetch_offsets(index=0):
-    topic = short("t") + count(2) + struct.pack(">i", index) + b"\0"
-    return flexible(9, 7, short("g") + count(2) + topic + b"\0" + b"\0")
+    return ask("OffsetFetch", group="g", topics=[{"topic": "t", "partitions": [index]}])
 
 
 def stage(name, producer, entries):
     """A TxnOffsetCommit of so many offsets of the group `g`, over the thousand partitions of `t`."""
-    listed = b"".join(struct.pack(">iqi", it % 1000, it, -1) + short("") + b"\0" for it in range(entries))
-    topic = short("t") + count(entries + 1) + listed + b"\0"
-    head = short(name) + short("g") + struct.pack(">qhi", producer, 0, -1) + short("") + b"\0"
-    return flexible(28, 3, head + count(2) + topic + b"\0")
+    listed = [{"index": it % 1000, "offset": it, "metadata": ""} for it in range(entries)]
+    topics = [{"topic": "t", "partitions": listed}]
+    return ask("TxnOffsetCommit", **of_producer(name, producer), group="g", topics=topics)
 
 
 def add_group(name, producer):
-    return ask(frame(25, 0, pair(name, producer) + string("g")))
+    return ask("AddOffsetsToTxn", **of_producer(name, producer), group="g")
 
 
 def acl_filter(name=None, principal=None):
     """A filter over topics, of this literal name and principal, or of any."""
-    return bytes([2]) + string(name) + bytes([3]) + string(principal) + string(None) + bytes([1, 1])
+    return {"kind": 2, "name": name, "pattern": 3, "principal": principal, "host": None, "operation": 1, "permission": 1}
 
 
 def describe_acls(name=None, principal=None):
-    return ask(frame(29, 1, acl_filter(name, principal)))
+    return ask("DescribeAcls", **acl_filter(name, principal))
 
 
 def delete_acls(name):
-    return ask(frame(31, 1, array([acl_filter(name)])))
+    return ask("DeleteAcls", filters=[acl_filter(name)])
 
 
 # ---- rows: what stands before the work, the work, and how many look-ups it is
@@ -139,14 +124,14 @@ def produce_among_ids(n):
 def fetch_behind_open(n):
     head = settings() + "---\n" + init("id") + add("id", 0, [0]) + produce(PLACE, "id", 0, 0)
     head += produce() * (n - 1)
-    return head, [ask(fetch(PLACE, n - 1, 1, 1000))] * WORK, WORK
+    return head, [fetch(PLACE, n - 1, 1, 1000)] * WORK, WORK
 
 
 def fetch_behind_aborted(n):
     head = settings() + "---\n" + init("id")
     for it in range(n):
         head += add("id", 0, [0]) + produce(PLACE, "id", 0, it) + end("id", 0, 0) + "mark\n"
-    return head, [ask(fetch(PLACE, 2 * n - 2, 1, 1000))] * WORK, WORK
+    return head, [fetch(PLACE, 2 * n - 2, 1, 1000)] * WORK, WORK
 
 
 def fetch_offsets_behind_commits(n):
@@ -209,9 +194,9 @@ def describe_one_name(n):
 ROWS = [
     ("a Produce among n topics of 100 partitions", produce_among_topics, [10, 100, 250]),
     ("a transactional Produce among n ids", produce_among_ids, [10, 1_000, 25_000]),
-    ("a read_committed Fetch at the end of n batches, behind an open transaction", fetch_behind_open, [1_000, 10_000, 25_000]),
-    ("a read_committed Fetch at the end, behind n aborted transactions", fetch_behind_aborted, [2_500]),
-    ("an OffsetFetch behind n commits", fetch_offsets_behind_commits, [1_000, 10_000, 100_000]),
+    ("a read_committed Fetch at the end of n batches, after an open transaction", fetch_behind_open, [1_000, 10_000, 25_000]),
+    ("a read_committed Fetch at the end, after n aborted transactions", fetch_behind_aborted, [2_500]),
+    ("an OffsetFetch after n commits", fetch_offsets_behind_commits, [1_000, 10_000, 100_000]),
     ("one of n entries of a TxnOffsetCommit", stage_at_once, [1_000, 25_000]),
     ("one of n staged offsets, decided", decide_staged, [1_000, 25_000]),
     ("a marker step with n owed", markers_owed, [250, 1_000, 25_000]),
