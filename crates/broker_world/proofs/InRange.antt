@@ -6,15 +6,29 @@ use Rattle.wire_types.specs.ListLaws.{and_parts}
 use Rattle.settings.specs.declared.settings.Settings.{Settings}
 use Rattle.settings.specs.declared.fault.OpenFault.{OpenFault}
 use Rattle.settings.specs.declared.fault.OpenFault.TheVariants as faults
-use Rattle.settings.specs.Fault.{is_within, are_numbers_within, is_host_within, is_topic_within, are_topics_within, are_bindings_within, is_binding_within, is_in_range, first_fault}
+use Rattle.acl_binding.specs.Creatable.{is_creatable}
+use Rattle.settings.specs.Fault.{is_within, are_numbers_within, is_host_within, is_topic_within, are_topics_within, are_topic_names, are_distinct, are_bindings_within, is_binding_within, is_in_range, first_fault}
 use Rattle.broker_world.specs.First.{magnitude}
 
-first_passes : (b : Bool) (rest : Option OpenFault) → cond (not b) (Some faults.Range) rest ≡ None → b ≡ true
-first_passes true rest h = refl
-first_passes false rest h = absurd (let clash : Some faults.Range ≡ None = h in cc)
+passes : (b : Bool) (fault : OpenFault) (rest : Option OpenFault) → cond (not b) (Some fault) rest ≡ None → (b ≡ true) × (rest ≡ None)
+passes true fault rest h = (refl, h)
+passes false fault rest h = absurd (let clash : Some fault ≡ None = h in cc)
+
+-- what settings without a fault are
+pub record IsFaultless (s : Settings) : Type 0 where
+  pub in_range : is_in_range s ≡ true
+  pub distinct : are_distinct s.topics ≡ true
+  pub creatable : list_all is_creatable s.acls ≡ true
+
+pub faultless : (s : Settings) → first_fault s ≡ None → IsFaultless s
+faultless s none =
+    let range = passes (is_in_range s) faults.Range _ none in
+    let names = passes (are_topic_names s.topics) faults.TopicName _ range.1 in
+    let distinct = passes (are_distinct s.topics) faults.Twice _ names.1 in
+    record { in_range = range.0; distinct = distinct.0; creatable = (passes (list_all is_creatable s.acls) faults.Acl _ distinct.1).0 }
 
 pub faultless_in_range : (s : Settings) → first_fault s ≡ None → is_in_range s ≡ true
-faultless_in_range s none = first_passes (is_in_range s) _ none
+faultless_in_range s none = (faultless s none).in_range
 
 pub within_most : (low high : ℕ) (z : ℤ) → is_within low high z ≡ true → magnitude z ≤ high
 within_most low high (pos n) h = leb-true n high (and_parts (nat_le low n) (nat_le n high) h).1

@@ -1,6 +1,7 @@
 pub mod InRange
 pub mod Parts
 pub mod Places
+pub mod Table
 pub mod Held
 pub mod LogRoom
 pub mod Offsets

@@ -2,8 +2,7 @@
 use Rattle.std.proofs.Common.{◌≡◌, ℕ, suc, ◌+◌, ◌<◌, List, [], ◌∷◌, ◌++◌, length, get_or, drop, drop-cons, add-one, Bool, true, false, ◌&&◌, Some, refl, sym, ap, ◌∙◌, append_assoc, arith}
 use Rattle.std.specs.Prelude.{slice_get}
 use Rattle.std.specs.List.{list_all}
-use Rattle.std.specs.Option.{option_map}
-use Rattle.std.proofs.lemmas.Option.{slice_get_within, get_or_from_slice_get, slice_get-map, slice_get-get_or}
+use Rattle.std.proofs.lemmas.Option.{slice_get_within, get_or_from_slice_get}
 use Rattle.acl_binding.specs.declared.binding.Binding.{Binding}
 use Rattle.acl_binding.specs.declared.words.Kind.{Kind}
 use Rattle.acl_binding.specs.declared.words.Kind.TheVariants.{Topic, Group, Cluster, TransactionalId}
@@ -11,7 +10,6 @@ use Rattle.acl_binding.specs.Book.{BookValue, added}
 use Rattle.acl_binding.specs.Creatable.{is_creatable, is_resource_name}
 use Rattle.authorizer.specs.Policy.{PolicyValue, policy_added}
 use Rattle.broker_world.specs.First.{with_bindings}
-use Rattle.broker_world.specs.World.{TopicValue, topic_names}
 
 -- one more at the end of what is done, one less at the front of what is left
 pub one_more : {A : Type 0} (done : List A) (a : A) (left rest whole : List A) → left ≡ a ∷ rest → done ++ left ≡ whole → (done ++ a ∷ []) ++ rest ≡ whole
@@ -61,9 +59,3 @@ pub book_goes_on : (acls : List Binding) (i : ℕ) (b copy : Binding) (policy ne
 book_goes_on acls i b copy policy new whole lt is same after so_far =
     ap (λ p. with_bindings p.book (drop (i + 1) acls)) after ∙ ap (λ x. with_bindings (added policy.book x) (drop (i + 1) acls)) same
     ∙ sym (ap (with_bindings policy.book) (drop_at acls i b lt is)) ∙ so_far
-
--- the name at a place of the table
-pub names_at : (topics : List TopicValue) (i : ℕ) (t : TopicValue) → i < length topics → t ≡ get_or topics i t → slice_get (topic_names topics) i ≡ Some t.name
-names_at topics i t lt is =
-    slice_get-map (λ (t : TopicValue). t.name) topics i
-    ∙ ap (option_map (λ (t : TopicValue). t.name)) (slice_get-get_or topics i t lt ∙ ap Some (sym is))

@@ -1,11 +1,11 @@
 //! What the broker keeps between two events.
 
-ghost use Rattle.std.specs.Prelude.{◌≡◌, ◌≤◌, length, true, IfOk};
+ghost use Rattle.std.specs.Prelude.{◌≡◌, ◌≤◌, length, true, IfOk, None};
 ghost use Rattle.std.specs.List.{list_all};
 ghost use Rattle.authorizer.specs.Asking.{policy_rules};
 ghost use Rattle.acl_binding.specs.Book.{empty_book};
 ghost use Rattle.acl_binding.specs.Creatable.{is_creatable};
-ghost use Rattle.settings.specs.Fault.{is_in_range};
+ghost use Rattle.settings.specs.Fault.{first_fault};
 ghost use Rattle.broker_world.specs.World.{rules_of};
 ghost use Rattle.broker_world.specs.First.{first_world, with_bindings};
 
@@ -59,8 +59,7 @@ impl Model for State {
 impl State {
     /// The world that settings without a fault begin with.
     pub fn first(alloc: Global, settings: &Settings) -> Result<State, AllocError>
-        requires in_range { is_in_range settings.now ≡ true }
-        requires creatable { list_all is_creatable settings.now.acls ≡ true }
+        requires { first_fault settings.now ≡ None }
         ensures { IfOk result (λ s. s ≡ first_world settings.now) }
     {
         Ok(State {

@@ -1,15 +1,18 @@
 -- What is kept of the groups: each stands under its name.
-use Rattle.std.specs.Prelude.{◌≡◌, ℕ, List, [], ◌∷◌, map, string_bytes}
+use Rattle.std.specs.Prelude.{◌≡◌, ℕ, List, []}
 use Rattle.std.specs.declared.string.String.{String}
 use Rattle.std.specs.declared.alloc.Global.{Global}
+use Rattle.keyed_tables.specs.Keyed.{AreKeyed, each_changed}
 use Rattle.offset_tables.specs.declared.event.OffsetEvent.{OffsetEvent}
 use Rattle.offset_tables.specs.declared.group.Group.{Group}
 use Rattle.offset_tables.specs.Group.{expired}
 
+abbrev pub name_of : Group → List ℕ
+name_of g = g.name
+
 -- each group stands under its name
 abbrev pub AreNamed : List (String Global × Group) → Type 0
-AreNamed [] = Unit {0}
-AreNamed (e ∷ es) = (string_bytes e.0 ≡ e.1.name) × AreNamed es
+AreNamed es = AreKeyed name_of es
 
 -- and what a group holds that didn't begin is nothing
 pub record IsKept (table : List (String Global × Group)) (nothing : List OffsetEvent) : Type 0 where
@@ -18,4 +21,4 @@ pub record IsKept (table : List (String Global × Group)) (nothing : List Offset
 
 -- the groups, each under its name, once the members are let go that were not heard of in time
 abbrev pub all_expired : ℕ → List (String Global × Group) → List (String Global × Group)
-all_expired moment es = map (λ e. (e.0, expired moment e.1)) es
+all_expired moment es = each_changed (expired moment) es

@@ -1,16 +1,16 @@
 -- The records as a table keeps them: what is looked up, put and changed there.
-use Rattle.std.proofs.Common.{◌≡◌, ℕ, zero, suc, ◌+◌, ◌<◌, List, [], ◌∷◌, ◌++◌, map, take, drop, slice_get, get_or, length, add-one, Option, Some, None, Bool, true, false, cond, refl, sym, subst, ap, ◌∙◌, arith}
+use Rattle.std.proofs.Common.{◌≡◌, ℕ, zero, suc, ◌+◌, ◌<◌, List, [], ◌∷◌, drop, slice_get, get_or, length, add-one, Option, Some, None, Bool, true, false, cond, refl, sym, subst, ap, ◌∙◌, arith}
 use Rattle.std.specs.Prelude.{Result, Ok, Err, IsOk, OnOk}
 use Rattle.std.proofs.lemmas.List.{length-map}
 use Rattle.std.proofs.lemmas.Option.{slice_get_within, get_or_from_slice_get}
 use Rattle.std.proofs.lemmas.Slice.Eq.{bytes_eq-Decides}
-use Rattle.std.specs.Cmp.Lexicographic.{nat_list_eq_equiv}
 use Rattle.std.specs.Map.{lookup, set_value, values_of}
 use Rattle.std.specs.Str.{bytes_eq}
 use Rattle.std.specs.String.{string_bytes, string_eq}
 use Rattle.std.specs.declared.string.String.{String}
 use Rattle.std.specs.declared.alloc.Global.{Global}
 use Rattle.indexmap.specs.IndexMap.{insert_entry, set_value_at}
+use Rattle.keyed_tables.proofs.Tables.{is_under, same_test, looked_up as looked_up_by, found_key, keyed_set, keyed_changed}
 use Rattle.transactions.specs.declared.transaction.Transaction.{Transaction}
 use Rattle.record_batch.specs.declared.outcome.Outcome.{Outcome}
 use Rattle.transactions.specs.Coordinator.{has_id, recorded, put}
@@ -18,7 +18,7 @@ use Rattle.transactions.specs.Preparing.{fenced}
 use Rattle.transactions.specs.Bounds.{CanRaise, AllCanRaise}
 use Rattle.transactions.specs.Expiry.{is_due, expired}
 use Rattle.transactions.specs.Warrants.{completed, with_completed}
-use Rattle.transactions.specs.Kept.{AreIds, all_expired}
+use Rattle.transactions.specs.Kept.{id_of, AreIds, all_expired}
 
 pub same_is : (a b : List ℕ) → bytes_eq a b ≡ true → a ≡ b
 same_is a b h = (bytes_eq-Decides a b).0 h
@@ -36,33 +36,18 @@ recorded_id (x ∷ xs) id t h = by_same (recorded_id xs id t) (has_id id x) refl
 abbrev Entry : Type 0
 Entry = String Global × Transaction
 
--- the test of a look-up by this id
-abbrev pub is_under : List ℕ → String Global → Bool
-is_under id key = bytes_eq id (string_bytes key)
-
-same_test : (id : List ℕ) (e : Entry) → string_bytes e.0 ≡ e.1.id → is_under id e.0 ≡ has_id id e.1
-same_test id e named = nat_list_eq_equiv.symm id (string_bytes e.0) ∙ ap (λ (n : List ℕ). bytes_eq n id) named
-
 pub looked_up : (es : List Entry) (id : List ℕ) → AreIds es → lookup (is_under id) es ≡ recorded (values_of es) id
-looked_up [] id h = refl
-looked_up (e ∷ es) id h = λ i. cond (same_test id e h.0 i) (Some e.1) (looked_up es id h.1 i)
+looked_up es id h = looked_up_by id_of es id h
 
 -- ---- one more record, or one in its place
 
 pub put_in : (es : List Entry) (id : String Global) (t : Transaction) → string_bytes id ≡ t.id → AreIds es → values_of (insert_entry string_eq es id t) ≡ put (values_of es) t
 put_in [] id t named h = refl
-put_in (e ∷ es) id t named h = by_test (string_eq id e.0) (put_in es id t named h.1) ∙ ap (λ (b : Bool). cond b (t ∷ values_of es) (e.1 ∷ put (values_of es) t)) (same_test (string_bytes id) e h.0 ∙ ap (λ (n : List ℕ). has_id n e.1) named) where
+put_in (e ∷ es) id t named h = by_test (string_eq id e.0) (put_in es id t named h.1) ∙ ap (λ (b : Bool). cond b (t ∷ values_of es) (e.1 ∷ put (values_of es) t)) (same_test id_of (string_bytes id) e h.0 ∙ ap (λ (n : List ℕ). has_id n e.1) named) where
   by_test : (b : Bool) → values_of (insert_entry string_eq es id t) ≡ put (values_of es) t
       → values_of (cond b ((e.0, t) ∷ es) (e ∷ insert_entry string_eq es id t)) ≡ cond b (t ∷ values_of es) (e.1 ∷ put (values_of es) t)
   by_test true more = refl
   by_test false more = ap (λ (l : List Transaction). e.1 ∷ l) more
-
-pub ids_put : (es : List Entry) (id : String Global) (t : Transaction) → string_bytes id ≡ t.id → AreIds es → AreIds (insert_entry string_eq es id t)
-ids_put [] id t named h = (named, tt)
-ids_put (e ∷ es) id t named h = by_test (string_eq id e.0) refl (ids_put es id t named h.1) where
-  by_test : (b : Bool) → string_eq id e.0 ≡ b → AreIds (insert_entry string_eq es id t) → AreIds (cond b ((e.0, t) ∷ es) (e ∷ insert_entry string_eq es id t))
-  by_test true same more = (sym (same_is (string_bytes id) (string_bytes e.0) same) ∙ named, h.1)
-  by_test false same more = (h.0, more)
 
 -- ---- a record that is changed
 
@@ -70,7 +55,7 @@ set_in : (es : List Entry) (id : List ℕ) (t new : Transaction) → new.id ≡ 
 set_in [] id t new named h found = absurd (let clash : None ≡ Some t = found in cc)
 set_in (e ∷ es) id t new named h found =
     by_test (is_under id e.0) found (set_in es id t new named h.1)
-    ∙ ap (λ (b : Bool). cond b (new ∷ values_of es) (e.1 ∷ put (values_of es) new)) (same_test id e h.0 ∙ ap (λ (n : List ℕ). has_id n e.1) (sym named)) where
+    ∙ ap (λ (b : Bool). cond b (new ∷ values_of es) (e.1 ∷ put (values_of es) new)) (same_test id_of id e h.0 ∙ ap (λ (n : List ℕ). has_id n e.1) (sym named)) where
       by_test : (b : Bool) → cond b (Some e.1) (lookup (is_under id) es) ≡ Some t → (lookup (is_under id) es ≡ Some t → values_of (set_value (is_under id) es new) ≡ put (values_of es) new)
           → values_of (cond b ((e.0, new) ∷ es) (e ∷ set_value (is_under id) es new)) ≡ cond b (new ∷ values_of es) (e.1 ∷ put (values_of es) new)
       by_test true found more = refl
@@ -80,45 +65,19 @@ pub completed_in : (es : List Entry) (id : List ℕ) (t : Transaction) (o : Outc
     → values_of (set_value (is_under id) es (completed o t)) ≡ with_completed o (recorded (values_of es) id) (values_of es)
 completed_in es id t o h found =
     let recorded_is : recorded (values_of es) id ≡ Some t = sym (looked_up es id h) ∙ found in
-    set_in es id t (completed o t) (recorded_id (values_of es) id t recorded_is) h found
+    set_in es id t (completed o t) (found_key id_of es id t h found) h found
     ∙ ap (λ (r : Option Transaction). with_completed o r (values_of es)) (sym recorded_is)
 
-ids_set : (es : List Entry) (id : List ℕ) (new : Transaction) → new.id ≡ id → AreIds es → AreIds (set_value (is_under id) es new)
-ids_set [] id new named h = tt
-ids_set (e ∷ es) id new named h = by_test (is_under id e.0) refl (ids_set es id new named h.1) where
-  by_test : (b : Bool) → is_under id e.0 ≡ b → AreIds (set_value (is_under id) es new) → AreIds (cond b ((e.0, new) ∷ es) (e ∷ set_value (is_under id) es new))
-  by_test true same more = (sym (same_is id (string_bytes e.0) same) ∙ sym named, h.1)
-  by_test false same more = (h.0, more)
-
 pub ids_completed : (es : List Entry) (id : List ℕ) (t : Transaction) (o : Outcome) → AreIds es → lookup (is_under id) es ≡ Some t → AreIds (set_value (is_under id) es (completed o t))
-ids_completed es id t o h found = ids_set es id (completed o t) (recorded_id (values_of es) id t (sym (looked_up es id h) ∙ found)) h
+ids_completed es id t o h found = keyed_set id_of es (is_under id) t (completed o t) (sym found) refl h
 
 -- ---- the records that expire
 
-pub expired_in : (moment : ℕ) (es : List Entry) → values_of (all_expired moment es) ≡ map (expired moment) (values_of es)
-expired_in moment [] = refl
-expired_in moment (e ∷ es) = ap (λ (l : List Transaction). expired moment e.1 ∷ l) (expired_in moment es)
-
 pub ids_expired : (moment : ℕ) (es : List Entry) → AreIds es → AreIds (all_expired moment es)
-ids_expired moment [] h = tt
-ids_expired moment (e ∷ es) h = (h.0 ∙ by_due (is_due moment e.1), ids_expired moment es h.1) where
-  by_due : (b : Bool) → e.1.id ≡ (cond b (fenced e.1) e.1).id
-  by_due true = refl
-  by_due false = refl
-
--- one of them after the other: the record at a place, and then those after it
-next_after : (moment : ℕ) (es : List Entry) (place : ℕ) (t : Transaction) → place < length es → get_or (values_of es) place t ≡ t
-    → take (suc place) (set_value_at es place (expired moment t)) ++ all_expired moment (drop (suc place) (set_value_at es place (expired moment t))) ≡ take place es ++ all_expired moment (drop place es)
-next_after moment [] place t lt at = absurd (omega arith)
-next_after moment (e ∷ es) zero t lt at = ap (λ (x : Transaction). (e.0, expired moment x) ∷ all_expired moment es) (sym at)
-next_after moment (e ∷ es) (suc place) t lt at = ap (λ (l : List Entry). e ∷ l) (next_after moment es place t (omega arith) at)
-
-pub expired_next : (moment : ℕ) (es : List Entry) (place : ℕ) (t : Transaction) → slice_get (values_of es) place ≡ Some t
-    → take (place + 1) (set_value_at es place (expired moment t)) ++ all_expired moment (drop (place + 1) (set_value_at es place (expired moment t))) ≡ take place es ++ all_expired moment (drop place es)
-expired_next moment es place t at =
-    let lt : place < length es = subst (λ (n : ℕ). place < n) (length-map es (λ (e : Entry). e.1)) (slice_get_within (values_of es) place t at) in
-    ap (λ (n : ℕ). take n (set_value_at es place (expired moment t)) ++ all_expired moment (drop n (set_value_at es place (expired moment t)))) (add-one place)
-    ∙ next_after moment es place t lt (get_or_from_slice_get (values_of es) place t t at)
+ids_expired moment es h = keyed_changed id_of (expired moment) es (λ t. by_due t (is_due moment t)) h where
+  by_due : (t : Transaction) (b : Bool) → (cond b (fenced t) t).id ≡ t.id
+  by_due t true = refl
+  by_due t false = refl
 
 -- the epochs of those that are left can be raised
 raise_after : (es : List Entry) (place : ℕ) (t new : Transaction) → place < length es → get_or (values_of es) place t ≡ t → AllCanRaise (values_of (drop place es))

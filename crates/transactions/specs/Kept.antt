@@ -1,10 +1,11 @@
 -- What the coordinator keeps beside its plain lists.
-use Rattle.std.specs.Prelude.{◌≡◌, ℕ, Bool, List, [], ◌∷◌, map, is_some, unwrap_or, string_bytes}
+use Rattle.std.specs.Prelude.{◌≡◌, ℕ, Bool, List, is_some, unwrap_or}
 use Rattle.std.specs.List.{count_by}
 use Rattle.std.specs.HashMap.{HashMap, get_by_text}
 use Rattle.std.specs.Str.{bytes_eq}
 use Rattle.std.specs.declared.string.String.{String}
 use Rattle.std.specs.declared.alloc.Global.{Global}
+use Rattle.keyed_tables.specs.Keyed.{AreKeyed, each_changed}
 use Rattle.transactions.specs.declared.transaction.Transaction.{Transaction}
 use Rattle.transactions.specs.declared.marker.OwedMarker.{OwedMarker}
 use Rattle.transactions.specs.Expiry.{expired}
@@ -16,14 +17,16 @@ pub record RecordsValue : Type 0 where
   pub list : List Transaction
   pub room : ℕ
 
+abbrev pub id_of : Transaction → List ℕ
+id_of t = t.id
+
 -- each record stands under its id
 abbrev pub AreIds : List (String Global × Transaction) → Type 0
-AreIds [] = Unit {0}
-AreIds (e ∷ es) = (string_bytes e.0 ≡ e.1.id) × AreIds es
+AreIds es = AreKeyed id_of es
 
 -- the records, each under its id, once those that are due at this moment are fenced
 abbrev pub all_expired : ℕ → List (String Global × Transaction) → List (String Global × Transaction)
-all_expired moment es = map (λ e. (e.0, expired moment e.1)) es
+all_expired moment es = each_changed (expired moment) es
 
 -- ---- how many markers each id owes
 

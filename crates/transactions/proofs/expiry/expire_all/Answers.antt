@@ -3,7 +3,9 @@ use Rattle.indexmap.specs.IndexMap.{set_value_at}
 use Rattle.indexmap.proofs.CallerLemmas.{index_map_len-with_value_at}
 use Rattle.transactions.specs.declared.transaction.Transaction.{Transaction}
 use Rattle.transactions.specs.Kept.{all_expired}
-use Rattle.transactions.proofs.Table.{expired_next, raise_next}
+use Rattle.keyed_tables.proofs.Tables.{changed_next}
+use Rattle.transactions.specs.Expiry.{expired}
+use Rattle.transactions.proofs.Table.{raise_next}
 use Rattle.transactions.proofs.expiry.expire_all.Goals as goal
 
 pub expire-requires : goal.expire-requires
@@ -16,7 +18,7 @@ loop-place-preserved c =
     record {
       done = subst (λ (t : Transaction). take (place + 1) (set_value_at es place t) ++ all_expired c.args.moment (drop (place + 1) (set_value_at es place t)) ≡ all_expired c.args.moment c.args.records.now.entries)
           (sym c.expire.ensures)
-          (expired_next c.args.moment es place c.index_mut.result.now c.index_mut.ensures.value ∙ c.loop-place.invariant.done);
+          (changed_next (expired c.args.moment) es place c.index_mut.result.now c.index_mut.ensures.value ∙ c.loop-place.invariant.done);
       count = index_map_len-with_value_at c.loop-place.records place c.expire.new.self ∙ c.loop-place.invariant.count;
       can_raise = (raise_next es place c.index_mut.result.now c.expire.new.self c.index_mut.ensures.value c.loop-place.invariant.can_raise).1;
     }

@@ -3,7 +3,8 @@ use Rattle.std.specs.Map.{values_of}
 use Rattle.offset_tables.specs.declared.group.Group.{Group}
 use Rattle.offset_tables.specs.Group.{expired}
 use Rattle.group_offsets.specs.Named.{AreNamed}
-use Rattle.group_offsets.proofs.Named.{expired_in, named_expired}
+use Rattle.keyed_tables.proofs.Tables.{changed_in}
+use Rattle.group_offsets.proofs.Named.{named_expired}
 use Rattle.group_offsets.proofs.groups.Groups.expire.Goals as goal
 
 pub invariant_of-self : goal.invariant_of-self
@@ -15,5 +16,5 @@ invariant_of-self c = record {
 pub returns : goal.returns
 returns c =
     ap values_of c.expire_all.ensures
-    ∙ expired_in c.args.moment c.self.inside.table.entries
+    ∙ changed_in (expired c.args.moment) c.self.inside.table.entries
     ∙ ap (λ (gs : List Group). map (expired c.args.moment) gs) c.self.view_is

@@ -5,7 +5,8 @@ use Rattle.transactions.specs.declared.transaction.Transaction.{Transaction}
 use Rattle.transactions.specs.Coordinator.{recorded}
 use Rattle.transactions.specs.Warrants.{completed, with_completed}
 use Rattle.transactions.specs.Kept.{RecordsValue, AreIds}
-use Rattle.transactions.proofs.Table.{is_under, looked_up, completed_in, ids_completed}
+use Rattle.keyed_tables.proofs.Tables.{is_under}
+use Rattle.transactions.proofs.Table.{looked_up, completed_in, ids_completed}
 use Rattle.transactions.proofs.records.Records.complete.Goals as goal
 
 pub invariant_of-self : goal.invariant_of-self

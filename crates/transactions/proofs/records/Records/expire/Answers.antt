@@ -3,7 +3,8 @@ use Rattle.std.specs.Map.{values_of}
 use Rattle.transactions.specs.Bounds.{AllCanRaise}
 use Rattle.transactions.specs.Expiry.{expired}
 use Rattle.transactions.specs.Kept.{RecordsValue, AreIds}
-use Rattle.transactions.proofs.Table.{expired_in, ids_expired}
+use Rattle.keyed_tables.proofs.Tables.{changed_in}
+use Rattle.transactions.proofs.Table.{ids_expired}
 use Rattle.transactions.proofs.records.Records.expire.Goals as goal
 
 pub expire_all-requires : goal.expire_all-requires
@@ -15,5 +16,5 @@ invariant_of-self c = subst AreIds (sym c.expire_all.ensures) (ids_expired c.arg
 pub returns : goal.returns
 returns c =
     ap values_of c.expire_all.ensures
-    ∙ expired_in c.args.moment c.self.inside.table.entries
+    ∙ changed_in (expired c.args.moment) c.self.inside.table.entries
     ∙ ap (λ (v : RecordsValue). map (expired c.args.moment) v.list) c.self.view_is

@@ -2,7 +2,8 @@ use Rattle.std.proofs.Common.{ℕ, List, ap, ◌∙◌}
 use Rattle.std.specs.Map.{lookup}
 use Rattle.transactions.specs.Coordinator.{recorded}
 use Rattle.transactions.specs.Kept.{RecordsValue}
-use Rattle.transactions.proofs.Table.{is_under, looked_up}
+use Rattle.keyed_tables.proofs.Tables.{is_under}
+use Rattle.transactions.proofs.Table.{looked_up}
 use Rattle.transactions.proofs.records.Records.get.Goals as goal
 
 pub returns : goal.returns
