@@ -16,6 +16,7 @@ sys.path.append(str(Path(__file__).resolve().parent.parent / "scripts"))
 
 import wire  # noqa: E402
 from replaying import only, request  # noqa: E402
+from serving import COLLIDING  # noqa: E402
 
 RUNS = 3
 WORK = 20_000
@@ -73,10 +74,10 @@ def fetch(place, offset, isolation=0, max_bytes=1 << 20):
     return ask("Fetch", isolation=isolation, max_bytes=max_bytes, topics=topics)
 
 
-def commits(offsets):
-    """An OffsetCommit of the group `g`, of partition 0 of `t` again and again."""
+def commits(offsets, group="g"):
+    """An OffsetCommit of a group, of partition 0 of `t` again and again."""
     listed = [{"index": 0, "offset": it, "metadata": ""} for it in offsets]
-    return ask("OffsetCommit", group="g", topics=[{"topic": "t", "partitions": listed}])
+    return ask("OffsetCommit", group=group, topics=[{"topic": "t", "partitions": listed}])
 
 
 def fetch_offsets(index=0):
@@ -139,6 +140,14 @@ def fetch_offsets_behind_commits(n):
     return head, [fetch_offsets()] * WORK, WORK
 
 
+def begin_groups(n, front="an ordinary name: groups"):
+    return settings() + "---\n", [commits([it], f"{front}{it:08}") for it in range(n)], n
+
+
+def begin_colliding_groups(n):
+    return begin_groups(n, COLLIDING)
+
+
 def stage_at_once(n):
     head = settings(1, 1000) + "---\n" + init("id") + add_group("id", 0)
     return head, [stage("id", 0, n)], n
@@ -197,6 +206,8 @@ ROWS = [
     ("a read_committed Fetch at the end of n batches, after an open transaction", fetch_behind_open, [1_000, 10_000, 25_000]),
     ("a read_committed Fetch at the end, after n aborted transactions", fetch_behind_aborted, [2_500]),
     ("an OffsetFetch after n commits", fetch_offsets_behind_commits, [1_000, 10_000, 100_000]),
+    ("an OffsetCommit that begins one of n groups", begin_groups, [5_000]),
+    ("the same, with names that collide by the default hasher", begin_colliding_groups, [5_000]),
     ("one of n entries of a TxnOffsetCommit", stage_at_once, [1_000, 25_000]),
     ("one of n staged offsets, decided", decide_staged, [1_000, 25_000]),
     ("a marker step with n owed", markers_owed, [250, 1_000, 25_000]),

@@ -10,7 +10,7 @@ import time
 
 import wire
 from program import PROGRAM
-from serving import Broker
+from serving import COLLIDING, Broker
 
 TOP = 'node_id = 1\nhost = "h"\nport = 9092\nsupers = ["User:root"]\n'
 USERS = '[[user]]\nname = "root"\npassword = "toor"\n[[user]]\nname = "ann"\npassword = "pw"\n'
@@ -260,6 +260,28 @@ def announced_frames_take_little():
     assert sessions == clients + 1, sessions
 
 
+def begin_groups(server, broker, front, count):
+    """The processor seconds that the broker takes to begin so many groups, whose names have this front."""
+    before = server.processor_seconds()
+    for number in range(count):
+        partition = {"index": 0, "offset": number, "metadata": ""}
+        sent = {"group": f"{front}{number:08}", "topics": [{"topic": "b", "partitions": [partition]}]}
+        told = broker.ask("OffsetCommit", **sent)["topics"][0]["partitions"][0]
+        assert told["error"] == 0, told
+    return server.processor_seconds() - before
+
+
+def chosen_names_do_not_collide():
+    """Groups whose names all hash alike by keys that everybody knows are begun as fast as others."""
+    with Broker(SETTINGS) as server:
+        with wire.Connection(server.address) as broker:
+            assert broker.login("root", "toor") == 0
+            ordinary = begin_groups(server, broker, "an ordinary name: groups", 8_000)
+            chosen = begin_groups(server, broker, COLLIDING, 8_000)
+        server.settled()
+    assert chosen < 3 * ordinary, (chosen, ordinary)
+
+
 def time_is_over():
     """After its time no connection is taken any more, and the one that is open is served to its end."""
     with Broker(SETTINGS, connections=1000, more=("--for", "1")) as server:
@@ -304,6 +326,7 @@ def main():
         peers_that_vanish,
         refusals_are_told,
         announced_frames_take_little,
+        chosen_names_do_not_collide,
         time_is_over,
         idle_peers_are_closed,
     )

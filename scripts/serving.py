@@ -11,6 +11,11 @@ from program import PROGRAM
 LISTENING = re.compile(rb"listening on (\S+)\n")
 LAST = re.compile(r"sessions (\d+) events (\d+) refusals (\d+)\n")
 
+# With any eight characters after it a name has one and the same hash by the default hasher of the toolchain's tables, whose
+# keys everybody knows.
+COLLIDING = "2iebam06274dwt247n1-OgrT"
+TICKS = os.sysconf("SC_CLK_TCK")
+
 # The settings of a broker whose one user may do everything.
 OF_ROOT = 'node_id = 1\nhost = "h"\nport = 9092\nsupers = ["User:root"]\n[[user]]\nname = "root"\npassword = "toor"\n'
 
@@ -60,6 +65,12 @@ class Broker:
         """How many bytes of its memory were resident at once, at most, since it began."""
         with open(f"/proc/{self.process.pid}/status", encoding="ascii") as status:
             return next(int(line.split()[1]) << 10 for line in status if line.startswith("VmHWM:"))
+
+    def processor_seconds(self):
+        """The processor time that it has taken since it began."""
+        with open(f"/proc/{self.process.pid}/stat", encoding="utf-8") as stat:
+            fields = stat.read().rpartition(")")[2].split()
+        return (int(fields[11]) + int(fields[12])) / TICKS
 
     def end(self, timeout=30):
         """Waits for its end, and gives its status, what it said last, and what it said on standard error."""

@@ -19,6 +19,7 @@ use msg_acl::{
 };
 use msg_admin::Reply;
 use std::alloc::{AllocError, Global};
+use std::hash::RandomState;
 use walk::refusal_code;
 use wire_types::{ErrorCode, Items};
 
@@ -50,7 +51,7 @@ fn begun(alloc: Global, binding: &Binding) -> Result<DescribedResource, AllocErr
 /// One more binding: it is the last one of its resource, or begins it.
 fn enter(
     alloc: Global,
-    groups: &mut IndexMap<Resource, DescribedResource>,
+    groups: &mut IndexMap<Resource, DescribedResource, RandomState>,
     binding: &Binding,
 ) -> Result<(), AllocError>
     ensures { OnOk result ((seen : List AnyBinding) → groups.old.entries ≡ groups_of seen → groups.new.entries ≡ groups_of (seen ++ binding.now ∷ [])) }
@@ -66,10 +67,14 @@ fn enter(
 }
 
 /// The resources in the order of the first binding of each.
-fn described(alloc: Global, bindings: &[Binding]) -> Result<Items<DescribedResource>, AllocError>
+fn described(
+    alloc: Global,
+    bindings: &[Binding],
+    hasher: RandomState,
+) -> Result<Items<DescribedResource>, AllocError>
     ensures { IfOk result (λ resources. resources ≡ described bindings.now) }
 {
-    let mut groups = IndexMap::new(alloc);
+    let mut groups = IndexMap::with_hasher(alloc, hasher);
     for binding in bindings {
         enter(alloc, &mut groups, binding)?;
     }
@@ -131,6 +136,6 @@ fn described_by(
         throttle: 0,
         error: ErrorCode::None,
         message: None,
-        resources: described(alloc, picked.as_slice())?,
+        resources: described(alloc, picked.as_slice(), state.policy.hasher())?,
     })
 }

@@ -18,6 +18,7 @@ use crate::place::Place;
 use acl_binding::{Filter, Kind, Numbered, Pattern};
 pub(crate) use names::{ANY_NAME, Names};
 use std::alloc::{AllocError, Global};
+use std::hash::RandomState;
 use wire_types::Shared;
 
 /// The bindings of one kind.
@@ -37,12 +38,12 @@ pub struct Index {
 }
 
 impl KindIndex {
-    fn new(alloc: Global) -> KindIndex
+    fn new(alloc: Global, hasher: RandomState) -> KindIndex
         ensures { (kind : AnyKind) → IsKindIndexed result kind [] }
     {
         KindIndex {
-            literal: Names::new(alloc),
-            prefixed: Names::new(alloc),
+            literal: Names::new(alloc, hasher),
+            prefixed: Names::new(alloc, hasher),
         }
     }
 
@@ -88,14 +89,14 @@ impl KindIndex {
 }
 
 impl Index {
-    pub(crate) fn new(alloc: Global) -> Index
+    pub(crate) fn new(alloc: Global, hasher: RandomState) -> Index
         ensures { IsIndexed result [] }
     {
         Index {
-            topics: KindIndex::new(alloc),
-            groups: KindIndex::new(alloc),
-            cluster: KindIndex::new(alloc),
-            ids: KindIndex::new(alloc),
+            topics: KindIndex::new(alloc, hasher),
+            groups: KindIndex::new(alloc, hasher),
+            cluster: KindIndex::new(alloc, hasher),
+            ids: KindIndex::new(alloc, hasher),
         }
     }
 

@@ -19,6 +19,7 @@ use crate::place::{Place, places};
 use acl_binding::{Added, Binding, Filter, Numbered, Question, Verdict};
 use indexmap::IndexMap;
 use std::alloc::{AllocError, Global};
+use std::hash::RandomState;
 use std::marker::Model;
 use wire_types::{Items, Shared};
 
@@ -27,7 +28,7 @@ use wire_types::{Items, Shared};
 pub struct IndexedBook {
     entries: ByNumber,
     next: u64,
-    contents: IndexMap<Content, u64>,
+    contents: IndexMap<Content, u64, RandomState>,
     index: Index,
 }
 
@@ -55,15 +56,20 @@ impl Model for IndexedBook {
 }
 
 impl IndexedBook {
-    pub(crate) fn new(alloc: Global) -> IndexedBook
+    pub(crate) fn new(alloc: Global, hasher: RandomState) -> IndexedBook
         ensures { result ≡ empty_book }
     {
         IndexedBook {
             entries: ByNumber::new(alloc),
             next: 1,
-            contents: IndexMap::new(alloc),
-            index: Index::new(alloc),
+            contents: IndexMap::with_hasher(alloc, hasher),
+            index: Index::new(alloc, hasher),
         }
+    }
+
+    /// What names are hashed by.
+    pub(crate) fn hasher(&self) -> RandomState {
+        *self.contents.hasher()
     }
 
     /// The bindings by kind, pattern and name.

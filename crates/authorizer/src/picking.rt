@@ -13,6 +13,7 @@ use acl_binding::{Binding, Filter, Numbered};
 use indexmap::IndexMap;
 use std::alloc::{AllocError, Global};
 use std::collections::BTreeMap;
+use std::hash::RandomState;
 use wire_types::{Items, Shared};
 
 /// Bindings by their creation numbers: one that is entered twice stands once.
@@ -72,7 +73,7 @@ pub(crate) fn take_out(entries: &mut ByNumber, picked: &ByNumber)
 }
 
 /// Takes what they say out of what the bindings say.
-pub(crate) fn forget(contents: &mut IndexMap<Content, u64>, picked: &ByNumber)
+pub(crate) fn forget(contents: &mut IndexMap<Content, u64, RandomState>, picked: &ByNumber)
     ensures { HasForgotten contents.old.entries contents.new.entries (values picked.now) }
 {
     for entry in picked.values() {

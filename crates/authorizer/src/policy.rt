@@ -13,6 +13,7 @@ use crate::indexed::IndexedBook;
 use crate::permit::Permit;
 use acl_binding::{Added, Binding, Filter, Question, Verdict};
 use std::alloc::{AllocError, Global};
+use std::hash::RandomState;
 use std::marker::Model;
 use wire_types::{Items, Text};
 
@@ -37,15 +38,20 @@ impl Model for Policy {
 }
 
 impl Policy {
-    /// No binding yet, and these super users.
-    pub fn new(alloc: Global, supers: Items<Text>) -> Policy
+    /// No binding yet, and these super users. Names are hashed by `hasher`; no answer depends on it.
+    pub fn new(alloc: Global, supers: Items<Text>, hasher: RandomState) -> Policy
         ensures { result ≡ first_policy supers }
     {
         Policy {
-            book: IndexedBook::new(alloc),
+            book: IndexedBook::new(alloc, hasher),
             supers,
             edit: 0,
         }
+    }
+
+    /// What the names of bindings are hashed by, for other tables of them.
+    pub fn hasher(&self) -> RandomState {
+        self.book.hasher()
     }
 
     /// The number of changes that the book has seen.

@@ -17,6 +17,7 @@ use authorizer::Policy;
 use group_offsets::Groups;
 use settings::Settings;
 use std::alloc::{AllocError, Global};
+use std::hash::RandomState;
 use std::marker::Model;
 use txn_coordinator::Coordinator;
 use wire_types::{Items, Text};
@@ -57,17 +58,22 @@ impl Model for State {
 }
 
 impl State {
-    /// The world that settings without a fault begin with.
-    pub fn first(alloc: Global, settings: &Settings) -> Result<State, AllocError>
+    /// The world that settings without a fault begin with. What clients name is hashed by `hasher`; no answer depends
+    /// on it.
+    pub fn first(
+        alloc: Global,
+        settings: &Settings,
+        hasher: RandomState,
+    ) -> Result<State, AllocError>
         requires { first_fault settings.now ≡ None }
         ensures { IfOk result (λ s. s ≡ first_world settings.now) }
     {
         Ok(State {
             node: Node::first(settings)?,
-            policy: first_policy(alloc, &settings.supers, settings.acls.as_slice())?,
+            policy: first_policy(alloc, &settings.supers, settings.acls.as_slice(), hasher)?,
             topics: Topics::first(alloc, settings.topics.as_slice())?,
-            coordinator: Coordinator::new(alloc),
-            groups: Groups::new(alloc),
+            coordinator: Coordinator::new(alloc, hasher),
+            groups: Groups::new(alloc, hasher),
             moment: Moment::first(),
             events: 0,
         })
@@ -96,13 +102,18 @@ impl State {
 }
 
 /// The policy that bindings make in their order.
-fn first_policy(alloc: Global, supers: &Items<Text>, acls: &[Binding]) -> Result<Policy, AllocError>
+fn first_policy(
+    alloc: Global,
+    supers: &Items<Text>,
+    acls: &[Binding],
+    hasher: RandomState,
+) -> Result<Policy, AllocError>
     requires few { length acls.now ≤ 100000 }
     requires creatable { list_all is_creatable acls.now ≡ true }
     ensures book { IfOk result (λ policy. policy.book ≡ with_bindings empty_book acls.now) }
     ensures supers { IfOk result (λ policy. policy.supers ≡ supers.now) }
 {
-    let mut policy = Policy::new(alloc, supers.clone()?);
+    let mut policy = Policy::new(alloc, supers.clone()?, hasher);
     for binding in acls {
         policy.add(alloc, binding.clone()?)?;
     }

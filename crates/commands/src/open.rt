@@ -12,6 +12,7 @@ use request_handlers::Core;
 use session_logins::Users;
 use settings_text::{Document, SettingsFault, User, document_of_text};
 use std::alloc::Global;
+use std::hash::RandomState;
 use std::io::{Read, Write};
 use wire_types::{InputFault, Items, Shared, read_input};
 
@@ -55,6 +56,7 @@ fn share_users(alloc: Global, users: Items<User>) -> Option<Shared<Users>>
 #[tactic(auto, using(crate::proofs::OpenLemmas::is_of))]
 fn open_settings<W: Write, E: Write>(
     alloc: Global,
+    hasher: RandomState,
     input: &[u8],
     writer: &mut W,
     errors: &mut E,
@@ -74,7 +76,7 @@ fn open_settings<W: Write, E: Write>(
     let Some(users) = share_users(alloc, users) else {
         return Err(Unopened::Early(Early::Settings));
     };
-    match Core::open(alloc, settings) {
+    match Core::with_hasher(alloc, settings, hasher) {
         Ok(core) => Ok(Opened { core, users }),
         Err(_) => Err(Unopened::Early(Early::Settings)),
     }
@@ -83,6 +85,7 @@ fn open_settings<W: Write, E: Write>(
 /// Reads settings and opens a core with them.
 fn open_whole<R: Read, W: Write, E: Write>(
     alloc: Global,
+    hasher: RandomState,
     reader: &mut R,
     writer: &mut W,
     errors: &mut E,
@@ -92,17 +95,18 @@ fn open_whole<R: Read, W: Write, E: Write>(
     ensures bounded { TakesWithin (R.remaining reader.old) (R.remaining reader.new) }
 {
     match read_input(alloc, reader) {
-        Ok(input) => open_settings(alloc, input.as_slice(), writer, errors),
+        Ok(input) => open_settings(alloc, hasher, input.as_slice(), writer, errors),
         Err(InputFault::NoMemory) => Err(Unopened::Early(Early::Settings)),
         Err(InputFault::Read) => Err(Unopened::Early(Early::Read)),
         Err(InputFault::TooLong) => Err(Unopened::Early(Early::TooLong)),
     }
 }
 
-/// Reads settings up to the end of the input and opens a core with them. Where there is none, it prints what `check` prints of
-/// the settings, says in sentences to `errors` what went wrong, and gives the exit status.
+/// Reads settings up to the end of the input and opens a core with them, whose tables hash by `hasher`. Where there is none, it
+/// prints what `check` prints of the settings, says in sentences to `errors` what went wrong, and gives the exit status.
 pub fn open_and_explain<R: Read, W: Write, E: Write>(
     alloc: Global,
+    hasher: RandomState,
     reader: &mut R,
     writer: &mut W,
     errors: &mut E,
@@ -111,7 +115,7 @@ pub fn open_and_explain<R: Read, W: Write, E: Write>(
     ensures opens { IfSome (R.remaining reader.old) (λ input. OpensOr (W.contents writer.old) (W.contents writer.new) input (check_answer input) result) }
     ensures bounded { TakesWithin (R.remaining reader.old) (R.remaining reader.new) }
 {
-    match open_whole(alloc, reader, writer, errors) {
+    match open_whole(alloc, hasher, reader, writer, errors) {
         Ok(opened) => Ok(opened),
         Err(Unopened::Refused(status)) => Err(status),
         Err(Unopened::Early(early)) => {

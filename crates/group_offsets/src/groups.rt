@@ -14,12 +14,13 @@ use msg_group::{HeartbeatRequest, JoinGroupRequest, LeaveGroupRequest, SyncGroup
 use offset_tables::{Group, Joined, Offsets, PartitionOffset};
 use record_batch::Outcome;
 use std::alloc::{AllocError, Global};
+use std::hash::RandomState;
 use std::marker::Model;
 use wire_types::{Bytes, ErrorCode, Text};
 
 /// The groups in the order of their beginning, each under its name; seen as the list of groups.
 pub struct Groups {
-    table: IndexMap<String, Group>,
+    table: IndexMap<String, Group, RandomState>,
     nothing: Offsets,
 }
 
@@ -48,12 +49,12 @@ impl Drop for Groups {
 }
 
 impl Groups {
-    /// No group. It takes no memory.
-    pub fn new(alloc: Global) -> Groups
+    /// No group. Names are hashed by `hasher`; no answer depends on it. It takes no memory.
+    pub fn new(alloc: Global, hasher: RandomState) -> Groups
         ensures { result ≡ [] }
     {
         Groups {
-            table: IndexMap::new(alloc),
+            table: IndexMap::with_hasher(alloc, hasher),
             nothing: Offsets::new(alloc),
         }
     }
@@ -362,7 +363,7 @@ impl Groups {
 }
 
 /// Lets the members of all groups go that were not heard of in time. Each group stays under its name.
-fn expire_all(groups: &mut IndexMap<String, Group>, moment: u64)
+fn expire_all(groups: &mut IndexMap<String, Group, RandomState>, moment: u64)
     ensures { groups.new.entries ≡ all_expired moment groups.old.entries }
 {
     for place in 0..groups.len() {

@@ -8,9 +8,11 @@ use commands::{Opened, check_and_explain, open_and_explain, replay_and_explain};
 use session_workers::ConnectionOptions;
 use show::{explain, show_and_explain};
 use std::alloc::{AllocError, Global};
+use std::hash::RandomState;
 use std::io::{BufRead, Input, Print, Read, Write};
 use std::net::{Net, TcpListener, TcpStream};
 use std::process::ExitCode;
+use std::random::RandomSource;
 use std::rt::Files;
 use std::sync::Wait;
 use std::thread::Threads;
@@ -57,7 +59,12 @@ fn fail<W: Write, E: Write>(
 
 /// Serves the connections of a listener by the settings that are read, by the clock or as lines steer it.
 fn serve_connections<
-    T: Net<Listener = TcpListener, Stream = TcpStream> + Threads + Wait + time::Clock + Sync,
+    T: Net<Listener = TcpListener, Stream = TcpStream>
+        + Threads
+        + Wait
+        + time::Clock
+        + RandomSource
+        + Sync,
     R: Read,
     I: BufRead + Drop,
     O: Write + Drop,
@@ -72,7 +79,23 @@ fn serve_connections<
     writer: &mut W,
     mut errors: E,
 ) -> u8 {
-    let Opened { core, users } = match open_and_explain(alloc, reader, writer, &mut errors) {
+    let Ok(hasher) = RandomState::new(rt) else {
+        return fail(
+            alloc,
+            writer,
+            &mut errors,
+            "",
+            "random bytes",
+            "the system gives none, by which names are hashed",
+        );
+    };
+    let Opened { core, users } = match open_and_explain(
+        alloc,
+        hasher,
+        reader,
+        writer,
+        &mut errors,
+    ) {
         Ok(opened) => opened,
         Err(status) => return status,
     };
@@ -98,6 +121,7 @@ fn serve_by<
         + Threads
         + Wait
         + time::Clock
+        + RandomSource
         + Sync
         + Input
         + Print

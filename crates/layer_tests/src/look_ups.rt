@@ -5,6 +5,7 @@ ghost use Rattle.std.specs.Prelude.{◌+◌, ◌<◌, ◌≤◌};
 use acl_binding::{Binding, Caller, Kind, Operation, Pattern, Permission, Question, Verdict};
 use authorizer::Policy;
 use std::alloc::{AllocError, Global};
+use std::hash::RandomState;
 use std::test::Fail;
 use wire_types::{Items, Text};
 
@@ -36,9 +37,9 @@ fn bind(
 }
 
 /// Root may do everything; Ann may write to what begins with `pay.`, but not to `pay.x`, and to `zoë`.
-fn policy_of(alloc: Global) -> Result<Policy, Fail> {
+fn policy_of(alloc: Global, hasher: RandomState) -> Result<Policy, Fail> {
     let supers = vec![in alloc; Text::of(alloc, "User:root")?]?;
-    let mut policy = Policy::new(alloc, Items::from(supers));
+    let mut policy = Policy::new(alloc, Items::from(supers), hasher);
     bind(
         alloc,
         &mut policy,
@@ -75,7 +76,7 @@ fn asked(alloc: Global, who: &str, topic: &str) -> Result<Question, AllocError> 
 /// At most two look-ups and one for each character of the name, of which `zoë` has three in four bytes; none for a super user.
 #[test]
 fn few_look_ups(rt: HostRuntime) -> Result<(), Fail> {
-    let policy = policy_of(rt.alloc())?;
+    let policy = policy_of(rt.alloc(), RandomState::new(&rt)?)?;
     for (who, topic, verdict, most) in [
         ("User:ann", "pay.x", Verdict::Denied(2), 7),
         ("User:ann", "pay.y", Verdict::Yes, 7),

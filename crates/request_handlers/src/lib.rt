@@ -5,9 +5,11 @@
 mod booked;
 mod machine;
 mod receipt;
+mod seed;
 mod stop;
 
 pub use booked::{Booked, MOST_SEATS, Seat};
 pub use machine::Core;
 pub use receipt::Receipt;
+pub use seed::FixedSeed;
 pub use stop::Stop;

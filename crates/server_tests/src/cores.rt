@@ -5,8 +5,10 @@ ghost use Rattle.api_dispatch.specs.Bounds.{EventFits};
 use crate::talk::{core_of, event_by};
 use audit_trail::{Event, Trail, is_same_event, is_same_reply, push_audit_lines};
 use msg_admin::{Reply, write_reply};
-use request_handlers::{Core, Receipt, Stop};
+use request_handlers::{Core, FixedSeed, Receipt, Stop};
+use settings_text::document_of_text;
 use std::alloc::Global;
+use std::hash::RandomState;
 use std::test::Fail;
 
 /// Ann may do all with the id `t`, the topic `b` and the group `g`.
@@ -71,6 +73,14 @@ const DENY: &str = "00000022001e000100000007ffff0000000105000174030008557365723a
 
 const DENY_TOLD: &str = "000000100000000700000000000000010000ffff";
 
+/// All bindings are described then, resource by resource in the order of the first binding of each.
+const DESCRIBE: &str = "00000014001d000100000007ffff01ffff01ffffffff0101";
+
+const DESCRIBED: &str =
+    "0000006700000007000000000000ffff000000030500017403000000020008557365723a616e6e00012a020300085573\
+    65723a616e6e00012a02020200016203000000010008557365723a616e6e00012a020303000167030000000100085573\
+    65723a616e6e00012a0203";
+
 /// Where `b` ends for whoever reads committed records, and which offset the group has there.
 const END: &str =
     "000000260002000200000007ffffffffffff01000000010001620000000100000000ffffffffffffffff";
@@ -118,8 +128,7 @@ fn replies(core: &mut Core, event: Event, reply: Reply) -> bool
 }
 
 /// A transaction of one partition and one group is committed; then its owner is denied the id.
-fn denied_owner(alloc: Global) -> Result<Core, Fail> {
-    let mut core = core_of(alloc, SETTINGS).ok_or("core")?;
+fn deny_owner(alloc: Global, core: &mut Core) -> Result<(), Fail> {
     for (who, frame, answer) in [
         (ANN, INIT, INIT_TOLD),
         (ANN, ADD_PARTITION, ADD_PARTITION_TOLD),
@@ -128,11 +137,11 @@ fn denied_owner(alloc: Global) -> Result<Core, Fail> {
         (ANN, COMMIT, COMMIT_TOLD),
         (ROOT, DENY, DENY_TOLD),
     ] {
-        if told(alloc, &mut core, who, frame)?.as_str() != answer {
+        if told(alloc, core, who, frame)?.as_str() != answer {
             return Err(Fail::from(frame));
         }
     }
-    Ok(core)
+    Ok(())
 }
 
 /// The marker and then the decision of the transaction leave 1 and 0 owed and show what was committed, though its owner is
@@ -140,7 +149,8 @@ fn denied_owner(alloc: Global) -> Result<Core, Fail> {
 #[test]
 fn markers_owed_by_a_denied_owner(rt: HostRuntime) -> Result<(), Fail> {
     let alloc = rt.alloc();
-    let mut core = denied_owner(alloc)?;
+    let mut core = core_of(alloc, SETTINGS).ok_or("core")?;
+    deny_owner(alloc, &mut core)?;
     assert!(rt; told(alloc, &mut core, ROOT, END)?.as_str() == END_AT_0);
     assert!(rt; replies(&mut core, Event::Mark, Reply::Marked { left: 1 }));
     assert!(rt; told(alloc, &mut core, ROOT, END)?.as_str() == END_AT_1);
@@ -151,6 +161,48 @@ fn markers_owed_by_a_denied_owner(rt: HostRuntime) -> Result<(), Fail> {
     assert!(rt; added.as_str() == ADD_PARTITION_REFUSED);
     assert!(rt; replies(&mut core, Event::Mark, Reply::Idle));
     assert!(rt; told(alloc, &mut core, ROOT, END)?.as_str() == END_AT_1);
+    Ok(())
+}
+
+/// A core whose tables hash by the keys of this seed.
+fn core_by(alloc: Global, seed: u8) -> Option<Core> {
+    let document = document_of_text(alloc, SETTINGS.as_bytes()).ok()?;
+    let hasher = RandomState::new(&FixedSeed(seed)).ok()?;
+    Core::with_hasher(alloc, document.settings, hasher).ok()
+}
+
+/// By whatever keys names are hashed, the answers are the same, and what is listed stands in the same order.
+#[test]
+fn no_answer_depends_on_the_seed(rt: HostRuntime) -> Result<(), Fail> {
+    let alloc = rt.alloc();
+    for seed in [0, 7, 255] {
+        let mut core = core_by(alloc, seed).ok_or("core")?;
+        deny_owner(alloc, &mut core)?;
+        assert!(rt;
+            told(alloc, &mut core, ROOT, DESCRIBE)?.as_str() == DESCRIBED,
+            "{seed}"
+        );
+        assert!(rt;
+            told(alloc, &mut core, ROOT, OFFSET)?.as_str() == OFFSET_UNSTABLE,
+            "{seed}"
+        );
+        assert!(rt;
+            replies(&mut core, Event::Mark, Reply::Marked { left: 1 }),
+            "{seed}"
+        );
+        assert!(rt;
+            replies(&mut core, Event::Mark, Reply::Marked { left: 0 }),
+            "{seed}"
+        );
+        assert!(rt;
+            told(alloc, &mut core, ROOT, OFFSET)?.as_str() == OFFSET_5,
+            "{seed}"
+        );
+        assert!(rt;
+            told(alloc, &mut core, ROOT, END)?.as_str() == END_AT_1,
+            "{seed}"
+        );
+    }
     Ok(())
 }
 

@@ -8,10 +8,14 @@ ghost use Rattle.transactions.specs.Kept.{count_of, has_count, owed_of};
 use crate::marker::OwedMarker;
 use std::alloc::{AllocError, Global};
 use std::collections::HashMap;
+use std::hash::RandomState;
 use wire_types::{Shared, Text};
 
+/// A number for each transactional id.
+pub(crate) type Counts = HashMap<String, usize, RandomState>;
+
 /// Whether the id owes any.
-pub(crate) fn owes_any(counts: &HashMap<String, usize>, id: &Text) -> bool
+pub(crate) fn owes_any(counts: &Counts, id: &Text) -> bool
     ensures { result ≡ nat_lt 0 (count_of counts.now id.now) }
 {
     match counts.get(id.as_str()) {
@@ -22,7 +26,7 @@ pub(crate) fn owes_any(counts: &HashMap<String, usize>, id: &Text) -> bool
 
 /// Enters the ids of these markers that aren't there yet, none of which owes any. Raising them takes no memory then.
 pub(crate) fn enter_all(
-    counts: &mut HashMap<String, usize>,
+    counts: &mut Counts,
     alloc: Global,
     owed: &[Shared<OwedMarker>],
 ) -> Result<(), AllocError>
@@ -35,7 +39,7 @@ pub(crate) fn enter_all(
     Ok(())
 }
 
-fn enter(counts: &mut HashMap<String, usize>, alloc: Global, id: &Text) -> Result<(), AllocError>
+fn enter(counts: &mut Counts, alloc: Global, id: &Text) -> Result<(), AllocError>
     ensures same { (other : List ℕ) → count_of counts.new other ≡ count_of counts.old other }
     ensures kept { (other : List ℕ) → has_count counts.old other ≡ true → has_count counts.new other ≡ true }
     ensures entered { OnOk result (has_count counts.new id.now ≡ true) }
@@ -47,7 +51,7 @@ fn enter(counts: &mut HashMap<String, usize>, alloc: Global, id: &Text) -> Resul
 }
 
 /// One more for each of these markers, whose ids were entered. It takes no memory.
-pub(crate) fn raise_all(counts: &mut HashMap<String, usize>, owed: &[Shared<OwedMarker>])
+pub(crate) fn raise_all(counts: &mut Counts, owed: &[Shared<OwedMarker>])
     requires entered { (id : List ℕ) → owes owed.now id ≡ true → has_count counts.old id ≡ true }
     requires fits { (id : List ℕ) → count_of counts.old id + owed_of owed.now id < 2 ^ 64 }
     ensures { (id : List ℕ) → count_of counts.new id ≡ count_of counts.old id + owed_of owed.now id }
@@ -57,7 +61,7 @@ pub(crate) fn raise_all(counts: &mut HashMap<String, usize>, owed: &[Shared<Owed
     }
 }
 
-fn raise(counts: &mut HashMap<String, usize>, id: &Text)
+fn raise(counts: &mut Counts, id: &Text)
     requires entered { has_count counts.old id.now ≡ true }
     requires fits { count_of counts.old id.now + 1 < 2 ^ 64 }
     ensures raised { (other : List ℕ) → count_of counts.new other ≡ count_of counts.old other + (if bytes_eq id.now other then 1 else 0) }
@@ -69,7 +73,7 @@ fn raise(counts: &mut HashMap<String, usize>, id: &Text)
 }
 
 /// One less for the id, which owes one. It takes no memory.
-pub(crate) fn lower(counts: &mut HashMap<String, usize>, id: &Text)
+pub(crate) fn lower(counts: &mut Counts, id: &Text)
     requires { 0 < count_of counts.old id.now }
     ensures { (other : List ℕ) → count_of counts.old other ≡ count_of counts.new other + (if bytes_eq id.now other then 1 else 0) }
 {

@@ -12,6 +12,7 @@ use crate::transaction::{Phase, Transaction};
 use indexmap::IndexMap;
 use record_batch::Outcome;
 use std::alloc::{AllocError, Global};
+use std::hash::RandomState;
 use wire_types::{Items, Shared};
 
 impl Transaction {
@@ -57,7 +58,7 @@ pub fn expiry_markers(
 }
 
 /// Fences all that are due. Each stays under its id.
-pub(crate) fn expire_all(records: &mut IndexMap<String, Transaction>, moment: u64)
+pub(crate) fn expire_all(records: &mut IndexMap<String, Transaction, RandomState>, moment: u64)
     requires { AllCanRaise (values records.old) }
     ensures { records.new.entries ≡ all_expired moment records.old.entries }
 {

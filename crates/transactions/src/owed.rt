@@ -4,10 +4,11 @@ ghost use Rattle.std.specs.Prelude.{◌≡◌, ◌<◌, [], ◌∷◌, ◌++◌,
 ghost use Rattle.std.specs.Option.{option_copied};
 ghost use Rattle.transactions.specs.Warrants.{owes};
 
-use crate::counts::{enter_all, lower, owes_any, raise_all};
+use crate::counts::{Counts, enter_all, lower, owes_any, raise_all};
 use crate::marker::OwedMarker;
 use std::alloc::{AllocError, Global};
 use std::collections::{HashMap, VecDeque};
+use std::hash::RandomState;
 use std::marker::Model;
 use wire_types::{Items, Shared, Text};
 
@@ -15,7 +16,7 @@ use wire_types::{Items, Shared, Text};
 #[derive(Drop)]
 pub struct Owed {
     queue: VecDeque<Shared<OwedMarker>>,
-    counts: HashMap<String, usize>,
+    counts: Counts,
 }
 
 impl Model for Owed {
@@ -31,13 +32,13 @@ impl Model for Owed {
 }
 
 impl Owed {
-    /// Nothing is owed. It takes no memory.
-    pub fn new(alloc: Global) -> Owed
+    /// Nothing is owed. Ids are hashed by `hasher`; no answer depends on it. It takes no memory.
+    pub fn new(alloc: Global, hasher: RandomState) -> Owed
         ensures { result ≡ [] }
     {
         Owed {
             queue: VecDeque::new(alloc),
-            counts: HashMap::new(alloc),
+            counts: HashMap::with_hasher(alloc, hasher),
         }
     }
 

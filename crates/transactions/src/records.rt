@@ -12,12 +12,13 @@ use crate::transaction::Transaction;
 use indexmap::IndexMap;
 use record_batch::Outcome;
 use std::alloc::{AllocError, Global};
+use std::hash::RandomState;
 use std::marker::Model;
 use wire_types::Text;
 
 /// The record of each transactional id, under it; seen as the list of records.
 pub struct Records {
-    table: IndexMap<String, Transaction>,
+    table: IndexMap<String, Transaction, RandomState>,
 }
 
 impl Model for Records {
@@ -39,12 +40,12 @@ impl Drop for Records {
 }
 
 impl Records {
-    /// No record. It takes no memory.
-    pub fn new(alloc: Global) -> Records
+    /// No record. Ids are hashed by `hasher`; no answer depends on it. It takes no memory.
+    pub fn new(alloc: Global, hasher: RandomState) -> Records
         ensures { result.list ≡ [] }
     {
         Records {
-            table: IndexMap::new(alloc),
+            table: IndexMap::with_hasher(alloc, hasher),
         }
     }
 

@@ -16,6 +16,7 @@ use crate::warrant::Warrant;
 use authorizer::{Permit, Policy, Spent};
 use record_batch::Outcome;
 use std::alloc::{AllocError, Global};
+use std::hash::RandomState;
 use std::marker::Model;
 use transactions::{
     EndForm, Given, LAST_EPOCH, Owed, OwedMarker, Pair, PairAnswer, Records, Target,
@@ -45,14 +46,15 @@ impl Model for Coordinator {
 }
 
 impl Coordinator {
-    /// No transactional id, no producer id given out, nothing owed. It takes no memory.
-    pub fn new(alloc: Global) -> Coordinator
+    /// No transactional id, no producer id given out, nothing owed. Ids are hashed by `hasher`; no answer depends on it.
+    /// It takes no memory.
+    pub fn new(alloc: Global, hasher: RandomState) -> Coordinator
         ensures { result ≡ no_transactions }
     {
         Coordinator {
-            records: Records::new(alloc),
+            records: Records::new(alloc, hasher),
             given: Vec::new(alloc),
-            owed: Owed::new(alloc),
+            owed: Owed::new(alloc, hasher),
         }
     }
 

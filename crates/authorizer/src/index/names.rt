@@ -16,6 +16,7 @@ use crate::indexed::IndexedBook;
 use acl_binding::{Filter, Numbered};
 use indexmap::IndexMap;
 use std::alloc::{AllocError, Global};
+use std::hash::RandomState;
 use std::marker::Model;
 use wire_types::{Shared, Text};
 
@@ -25,7 +26,7 @@ pub(crate) const ANY_NAME: &str = "*";
 /// Each name with its bindings in creation order, seen as a list of both. A name without bindings isn't in the table.
 #[derive(Drop)]
 pub struct Names {
-    buckets: IndexMap<String, Bucket>,
+    buckets: IndexMap<String, Bucket, RandomState>,
 }
 
 impl Model for Names {
@@ -39,11 +40,11 @@ impl Model for Names {
 }
 
 impl Names {
-    pub(crate) fn new(alloc: Global) -> Names
+    pub(crate) fn new(alloc: Global, hasher: RandomState) -> Names
         ensures { result ≡ [] }
     {
         Names {
-            buckets: IndexMap::new(alloc),
+            buckets: IndexMap::with_hasher(alloc, hasher),
         }
     }
 
@@ -121,7 +122,7 @@ impl Names {
 
 /// A name that isn't in the table yet, with its first binding.
 fn add_name(
-    buckets: &mut IndexMap<String, Bucket>,
+    buckets: &mut IndexMap<String, Bucket, RandomState>,
     alloc: Global,
     name: &str,
     entry: Shared<Numbered>,

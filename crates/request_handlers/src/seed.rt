@@ -1,0 +1,14 @@
+//! Where a core without chance has its keys from.
+
+use std::io;
+use std::random::RandomSource;
+
+/// A source that gives this byte over and over: for scripts, which have to run the same each time, and for tests.
+pub struct FixedSeed(pub u8);
+
+impl RandomSource for FixedSeed {
+    fn fill_bytes(&self, buf: &mut [u8]) -> io::Result<()> {
+        buf.fill(self.0);
+        Ok(())
+    }
+}
