@@ -2,4 +2,5 @@ pub mod Rising
 pub mod Same
 pub mod Numbers
 pub mod Decided
+pub mod Relations
 pub mod Kept

@@ -37,7 +37,7 @@ kind_back Group = refl
 kind_back Cluster = refl
 kind_back TransactionalId = refl
 
-kind_one : (a b : Kind) → kind_number a ≡ kind_number b → a ≡ b
+pub kind_one : (a b : Kind) → kind_number a ≡ kind_number b → a ≡ b
 kind_one a b e = inside a b (sym (kind_back a) ∙ ap kind_at e ∙ kind_back b)
 
 pattern_at : ℕ → Option Pattern
@@ -48,7 +48,7 @@ unfolding pattern_at
 pattern_back Literal = refl
 pattern_back Prefixed = refl
 
-pattern_one : (a b : Pattern) → pattern_number a ≡ pattern_number b → a ≡ b
+pub pattern_one : (a b : Pattern) → pattern_number a ≡ pattern_number b → a ≡ b
 pattern_one a b e = inside a b (sym (pattern_back a) ∙ ap pattern_at e ∙ pattern_back b)
 
 permission_at : ℕ → Option Permission
@@ -59,7 +59,7 @@ unfolding permission_at
 permission_back Deny = refl
 permission_back Allow = refl
 
-permission_one : (a b : Permission) → permission_number a ≡ permission_number b → a ≡ b
+pub permission_one : (a b : Permission) → permission_number a ≡ permission_number b → a ≡ b
 permission_one a b e = inside a b (sym (permission_back a) ∙ ap permission_at e ∙ permission_back b)
 
 late_operation_at : ℕ → Option Operation
@@ -82,20 +82,20 @@ operation_back DescribeConfigs = refl
 operation_back AlterConfigs = refl
 operation_back IdempotentWrite = refl
 
-operation_one : (a b : Operation) → operation_number a ≡ operation_number b → a ≡ b
+pub operation_one : (a b : Operation) → operation_number a ≡ operation_number b → a ≡ b
 operation_one a b e = inside a b (sym (operation_back a) ∙ ap operation_at e ∙ operation_back b)
 
 -- ---- the test
 
-both : (a b : Bool) → (a && b) ≡ true → (a ≡ true) × (b ≡ true)
+pub both : (a b : Bool) → (a && b) ≡ true → (a ≡ true) × (b ≡ true)
 both true true h = (refl, refl)
 both true false h = absurd (let clash : false ≡ true = h in cc)
 both false b h = absurd (let clash : false ≡ true = h in cc)
 
-same_number : (m n : ℕ) → (m == n) ≡ true → m ≡ n
+pub same_number : (m n : ℕ) → (m == n) ≡ true → m ≡ n
 same_number m n h = (Decides-eqb m n).0 h
 
-same_bytes : (a b : List ℕ) → bytes_eq a b ≡ true → a ≡ b
+pub same_bytes : (a b : List ℕ) → bytes_eq a b ≡ true → a ≡ b
 same_bytes a b h = (bytes_eq-Decides a b).0 h
 
 same_fields : (k n p w h o g : Bool) → (k && (n && (p && (w && (h && (o && g)))))) ≡ true → (k ≡ true) × (n ≡ true) × (p ≡ true) × (w ≡ true) × (h ≡ true) × (o ≡ true) × (g ≡ true)
@@ -120,10 +120,10 @@ same_is_equal a b same =
     let permission = permission_one a.permission b.permission (same_number _ _ fields.6) in
     λ i. record { kind = kind i; name = name i; pattern = pattern i; principal = principal i; host = host i; operation = operation i; permission = permission i }
 
-itself_number : (n : ℕ) → (n == n) ≡ true
+pub itself_number : (n : ℕ) → (n == n) ≡ true
 itself_number n = (Decides-eqb n n).1 refl
 
-itself_bytes : (a : List ℕ) → bytes_eq a a ≡ true
+pub itself_bytes : (a : List ℕ) → bytes_eq a a ≡ true
 itself_bytes a = (bytes_eq-Decides a a).1 refl
 
 pub same_itself : (a : Binding) → same_binding a a ≡ true

@@ -1,5 +1,6 @@
 pub mod Words
 pub mod Binding
+pub mod Relations
 pub mod Verdict
 pub mod Book
 pub mod Adding

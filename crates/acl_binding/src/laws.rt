@@ -1,6 +1,7 @@
 //! The laws of the definitions, each the contract of a function with nothing to do.
 
 ghost use Rattle.acl_binding.specs.Laws.{SameIsEqual};
+ghost use Rattle.acl_binding.specs.Relations.{TestsAreRelations};
 ghost use Rattle.acl_binding.specs.Verdict.{VerdictIsDecided};
 
 /// Bindings are equal exactly where all seven fields are.
@@ -11,4 +12,10 @@ pub fn equal_bindings()
 /// Deny before allow: the first binding that denies is named; else one must allow.
 pub fn verdict_is_decided()
     ensures { VerdictIsDecided }
+{}
+
+/// What a binding covers, applies to, denies and allows is what the documentation of Kafka's authorization says, as
+/// relations: a prefix is what a name goes on from, and a denial denies nothing that its operation implies.
+pub fn tests_are_relations()
+    ensures { TestsAreRelations }
 {}

@@ -20,7 +20,7 @@ pub use book::{Added, Book};
 pub use creatable::{CLUSTER_NAME, is_principal};
 pub use entries::BadEntry;
 pub use filter::{Filter, FilterPattern};
-pub use laws::{equal_bindings, verdict_is_decided};
+pub use laws::{equal_bindings, tests_are_relations, verdict_is_decided};
 pub use question::{Caller, Question, Verdict};
 pub use scan::{any_grant, first_denial, number_of};
 pub use words::{Kind, Operation, Pattern, Permission};

@@ -8,3 +8,4 @@ pub mod Kept
 pub mod Contents
 pub mod Picking
 pub mod AnyTopic
+pub mod SomeTopic

@@ -20,3 +20,5 @@ pub mod Preparing
 pub mod LogsGrow
 pub mod LogEnds
 pub mod Trailing
+pub mod FirstWorld
+pub mod Time

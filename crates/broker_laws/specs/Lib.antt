@@ -4,3 +4,5 @@ pub mod Targets
 pub mod Laws
 pub mod LogEnds
 pub mod Trails
+pub mod FirstWorld
+pub mod Time

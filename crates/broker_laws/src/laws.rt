@@ -9,7 +9,21 @@ ghost use Rattle.broker_laws.specs.Laws.{Prepares, OwesPrepared, CompletesPrepar
 ghost use Rattle.broker_laws.specs.Laws.{DecidesPrepared, DecidesWaiting, GroupsGoOn};
 ghost use Rattle.broker_laws.specs.Laws.{Fences, FencedWriteNothing, NoDataBehindAGreaterMarker};
 ghost use Rattle.broker_laws.specs.LogEnds.{LogsGoOn, EndsPrepared, EndsWaiting};
+ghost use Rattle.broker_laws.specs.FirstWorld.{FirstWorldIsTheSettings};
+ghost use Rattle.broker_laws.specs.Time.{TicksEndWhatIsOver};
 ghost use Rattle.broker_laws.specs.Trails.{TrailTells, CompletesOverATrail, CompletesBeforeIdle, CompletesOverARun};
+
+/// The world that settings begin with has their bindings, each once, numbered from 1, and in their order where all are
+/// different; and their topics, each in its place with so many partitions, of which each is empty.
+pub fn first_world_is_the_settings()
+    ensures { FirstWorldIsTheSettings }
+{}
+
+/// The moment never falls. A tick ends each open transaction whose start and timeout lie before it, lets each member go of
+/// whom nothing was heard for longer than its session timeout, and leaves all other transactions and groups as they were.
+pub fn ticks_end_what_is_over()
+    ensures { (w : World) → TicksEndWhatIsOver w }
+{}
 
 /// What the laws see of a partition is its log, batch by batch, and of a group its offset events.
 pub fn entries_are_the_log()

@@ -7,6 +7,7 @@ mod laws;
 pub use laws::{
     completes_over_a_run, completes_over_a_trail, completes_prepared, completes_waiting,
     decides_groups, ends_batches, ends_complete, entries_are_the_log, events_are_moves,
-    fenced_write_nothing, fences, groups_go_on, logs_go_on, marks_are_not_refused,
-    no_data_behind_a_greater_marker, owes_each, prepares, targets_exist, trail_tells,
+    fenced_write_nothing, fences, first_world_is_the_settings, groups_go_on, logs_go_on,
+    marks_are_not_refused, no_data_behind_a_greater_marker, owes_each, prepares, targets_exist,
+    ticks_end_what_is_over, trail_tells,
 };

@@ -1,3 +1,4 @@
 pub mod Compared
 pub mod Found
+pub mod Plain
 pub mod Short

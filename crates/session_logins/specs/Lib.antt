@@ -1,3 +1,4 @@
 pub mod Compared
 pub mod Login
+pub mod Plain
 pub mod Users

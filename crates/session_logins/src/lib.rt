@@ -3,9 +3,11 @@
 
 mod answer;
 mod compare;
+mod laws;
 mod message;
 mod users;
 
 pub use answer::{write_handshake, write_login, write_versions};
+pub use laws::login_is_exact;
 pub use message::{principal_of, user_of};
 pub use users::Users;

@@ -1,5 +1,6 @@
 pub mod Base
 pub mod Turns
+pub mod Tables
 pub mod Targets
 pub mod Calls
 pub mod Moves

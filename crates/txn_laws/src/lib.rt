@@ -4,4 +4,4 @@
 
 mod laws;
 
-pub use laws::{completion, expiry, fencing, keeping, soundness};
+pub use laws::{calls_by_table, completion, expiry, fencing, keeping, soundness};

@@ -1,0 +1,11 @@
+//! Who is logged in by which message.
+
+ghost use Rattle.std.specs.Prelude.{ℕ, List};
+ghost use Rattle.settings_text.specs.declared.document.User.{User};
+ghost use Rattle.session_logins.specs.Plain.{LoginIsExact};
+
+/// A message logs a user in exactly where it is `authzid NUL name NUL password` of that user's name and password, with an
+/// authorization identity that is empty or the name, and no other NUL (RFC 4616, section 2).
+pub fn login_is_exact()
+    ensures { (users : List User) (message : List ℕ) → LoginIsExact users message }
+{}

@@ -1,0 +1,474 @@
+-- The calls come to what the tables say.
+use Rattle.std.proofs.Common.{◌≡◌, ◌≢◌, ◌⊎◌, inl, inr, Err, ℕ, ◌+◌, ◌≤◌, ℤ, pos, negsuc, List, [], ◌∷◌, ◌++◌, length, map, Option, Some, None, Bool, true, false, ◌&&◌, cond, refl, sym, subst, ap, ◌∙◌, arith}
+use Rattle.std.specs.Prelude.{◌<ℤ◌, ◌≤ℤ◌, int_le, int_lt, nat_le}
+use Rattle.std.specs.Ordering.{int_eq}
+use Rattle.std.specs.Str.{bytes_eq}
+use Rattle.std.proofs.lemmas.Bool.{true≢false, le-leb, or_cases}
+use Rattle.std.proofs.lemmas.Bool.Decides.{Decides-int_eq}
+use Rattle.std.proofs.lemmas.Int.{ints}
+use Rattle.std.proofs.lemmas.List.{length-append, length-map}
+use Rattle.wire_types.specs.declared.error_code.ErrorCode.{ErrorCode}
+use Rattle.wire_types.specs.declared.error_code.ErrorCode.TheVariants as errors
+use Rattle.wire_types.specs.ErrorCode.{number_of}
+use Rattle.record_batch.specs.declared.outcome.Outcome.{Outcome}
+use Rattle.record_batch.specs.declared.outcome.Outcome.TheVariants.{Commit, Abort}
+use Rattle.transactions.specs.declared.pair.Pair.{Pair}
+use Rattle.transactions.specs.declared.marker.OwedMarker.{OwedMarker}
+use Rattle.transactions.specs.declared.target.Target.{Target}
+use Rattle.transactions.specs.declared.target.TopicPartition.{TopicPartition}
+use Rattle.transactions.specs.declared.target.Target.TheVariants.{Partition, Group}
+use Rattle.transactions.specs.declared.turn.Turn.{Turn}
+use Rattle.transactions.specs.declared.turn.Turn.TheVariants.{Stays, Puts}
+use Rattle.transactions.specs.declared.transaction.Transaction.{Transaction}
+use Rattle.transactions.specs.declared.transaction.Phase.{Phase}
+use Rattle.transactions.specs.declared.transaction.Phase.TheVariants.{Empty, Ongoing, PrepareCommit, PrepareAbort, CompleteCommit, CompleteAbort}
+use Rattle.transactions.specs.declared.ending.EndForm.{EndForm}
+use Rattle.transactions.specs.declared.ending.EndForm.TheVariants.{Plain, Fencing, Raising}
+use Rattle.transactions.specs.Words.{is_empty, is_same_pair, raised, is_exhausted, pair_after, given_after, last_epoch, targets, is_same_partition, has_partition}
+use Rattle.transactions.specs.Coordinator.{CoordinatorValue, has_id, recorded, put, fresh, turn_code, turned, pair_answer, turn_answer}
+use Rattle.transactions.specs.Preparing.{markers, marker_for, pair_refusal, fencing}
+use Rattle.transactions.specs.EndTxn.{other_epoch, renewed, end_in, is_kept, is_again, end_again, end_by, end_found, end}
+use Rattle.transactions.specs.Adding.{partition_added, partitions_added, with_partitions, beginning, open_in, open_by, open_found, open_transaction, grown, add_partitions}
+use Rattle.transactions.specs.InitProducerId.{timeout_within, created, begun, init_in, init_for, init}
+use Rattle.txn_laws.specs.Tables.{end_code, end_markers, IsRenewing, IsNext, ComesWithOwn, EndsByTable, EndTable, init_code, IsClosed, InitsByTable, InitsNew, InitTable, add_code, IsIn, AddsEach, TakesIn, AddTable}
+use Rattle.txn_laws.proofs.Base.{same_is, is_same, recorded_put}
+
+-- ---- what the premises say
+
+not_empty : (id : List ℕ) → id ≢ [] → is_empty id ≡ false
+not_empty [] h = absurd (h refl)
+not_empty (b ∷ bs) h = refl
+
+same_int : (z : ℤ) → int_eq z z ≡ true
+same_int z = (Decides-int_eq z z).1 refl
+
+is_low : (e : ℤ) → e <ℤ pos 32767 → int_lt e last_epoch ≡ true
+is_low e h = grind (arith, ints)
+
+-- nothing refuses the own pair
+unrefused : (code : ErrorCode) (t : Transaction) → t.pair.epoch <ℤ pos 32767 → pair_refusal code t t.pair ≡ None
+unrefused code t low =
+    ap (λ (b : Bool). cond b (cond (int_eq t.pair.epoch t.pair.epoch && int_lt t.pair.epoch last_epoch) None (Some code)) (Some errors.InvalidProducerIdMapping)) (same_int t.pair.producer)
+    ∙ ap (λ (b : Bool). cond (b && int_lt t.pair.epoch last_epoch) None (Some code)) (same_int t.pair.epoch)
+    ∙ ap (λ (b : Bool). cond b None (Some code)) (is_low t.pair.epoch low)
+
+both : (a b : Bool) → (a && b) ≡ true → (a ≡ true) × (b ≡ true)
+both true b h = (refl, h)
+both false b h = absurd (true≢false (sym h))
+
+same_pair : (a b : Pair) → is_same_pair a b ≡ true → a ≡ b
+same_pair a b h =
+    let parts = both (int_eq a.producer b.producer) (int_eq a.epoch b.epoch) h in
+    let producer = (Decides-int_eq a.producer b.producer).0 parts.0 in
+    let epoch = (Decides-int_eq a.epoch b.epoch).0 parts.1 in
+    (λ i. record { producer = producer i; epoch = epoch i })
+
+not_kept : (kept : Option Pair) (pair : Pair) → kept ≢ Some pair → is_kept kept pair ≡ false
+not_kept None pair new = refl
+not_kept (Some k) pair new = by_same (is_same_pair k pair) refl where
+  by_same : (b : Bool) → is_same_pair k pair ≡ b → b ≡ false
+  by_same true h = absurd (new (ap (λ (p : Pair). Some p) (same_pair k pair h)))
+  by_same false h = refl
+
+not_again : (form : EndForm) (t : Transaction) (pair : Pair) → t.kept ≢ Some pair → is_again form t pair ≡ false
+not_again Plain t pair new = refl
+not_again Fencing t pair new = refl
+not_again Raising t pair new = not_kept t.kept pair new
+
+-- a call with the own pair goes by the phase
+goes_by_phase : (c : CoordinatorValue) (form : EndForm) (id : List ℕ) (pair : Pair) (outcome : Outcome) (t : Transaction) → ComesWithOwn c id pair t → end c form id pair outcome ≡ end_in t.phase form t (fresh c) outcome
+goes_by_phase c form id pair outcome t h =
+    ap (λ (b : Bool). cond b (Stays errors.InvalidRequest) (end_found (recorded c.transactions id) form (fresh c) pair outcome)) (not_empty id h.named)
+    ∙ ap (λ (o : Option Transaction). end_found o form (fresh c) pair outcome) h.found
+    ∙ ap (λ (b : Bool). cond b (Stays (end_again t.phase outcome)) (end_by (pair_refusal (other_epoch form) t pair) form t (fresh c) outcome)) (not_again form t pair h.new)
+    ∙ ap (λ (p : Pair). end_by (pair_refusal (other_epoch form) t p) form t (fresh c) outcome) h.own
+    ∙ ap (λ (o : Option ErrorCode). end_by o form t (fresh c) outcome) (unrefused (other_epoch form) t h.low)
+
+-- ---- the rows
+
+codes_are : (phase : Phase) (form : EndForm) (t : Transaction) (next : ℤ) (outcome : Outcome) → number_of (turn_code (end_in phase form t next outcome)) ≡ end_code form phase outcome
+unfolding number_of
+codes_are Empty Plain t next Commit = refl
+codes_are Empty Plain t next Abort = refl
+codes_are Empty Fencing t next Commit = refl
+codes_are Empty Fencing t next Abort = refl
+codes_are Empty Raising t next Commit = refl
+codes_are Empty Raising t next Abort = refl
+codes_are Ongoing Plain t next Commit = refl
+codes_are Ongoing Plain t next Abort = refl
+codes_are Ongoing Fencing t next Commit = refl
+codes_are Ongoing Fencing t next Abort = refl
+codes_are Ongoing Raising t next Commit = refl
+codes_are Ongoing Raising t next Abort = refl
+codes_are PrepareCommit Plain t next Commit = refl
+codes_are PrepareCommit Plain t next Abort = refl
+codes_are PrepareCommit Fencing t next Commit = refl
+codes_are PrepareCommit Fencing t next Abort = refl
+codes_are PrepareCommit Raising t next Commit = refl
+codes_are PrepareCommit Raising t next Abort = refl
+codes_are PrepareAbort Plain t next Commit = refl
+codes_are PrepareAbort Plain t next Abort = refl
+codes_are PrepareAbort Fencing t next Commit = refl
+codes_are PrepareAbort Fencing t next Abort = refl
+codes_are PrepareAbort Raising t next Commit = refl
+codes_are PrepareAbort Raising t next Abort = refl
+codes_are CompleteCommit Plain t next Commit = refl
+codes_are CompleteCommit Plain t next Abort = refl
+codes_are CompleteCommit Fencing t next Commit = refl
+codes_are CompleteCommit Fencing t next Abort = refl
+codes_are CompleteCommit Raising t next Commit = refl
+codes_are CompleteCommit Raising t next Abort = refl
+codes_are CompleteAbort Plain t next Commit = refl
+codes_are CompleteAbort Plain t next Abort = refl
+codes_are CompleteAbort Fencing t next Commit = refl
+codes_are CompleteAbort Fencing t next Abort = refl
+codes_are CompleteAbort Raising t next Commit = refl
+codes_are CompleteAbort Raising t next Abort = refl
+
+abbrev owed_in : Turn → List OwedMarker
+owed_in (Stays code) = []
+owed_in (Puts code t given owed) = owed
+
+markers_are : (t : Transaction) (pair : Pair) (outcome : Outcome) → length (markers t pair outcome) ≡ length t.partitions + length t.groups
+markers_are t pair outcome =
+    length-map (targets t) (marker_for t.id pair outcome)
+    ∙ length-append (map (λ p. Partition p) t.partitions) (map (λ g. Group g) t.groups)
+    ∙ (λ i. length-map t.partitions (λ p. Partition p) i + length-map t.groups (λ g. Group g) i)
+
+owed_is : (phase : Phase) (form : EndForm) (t : Transaction) (next : ℤ) (outcome : Outcome) → length (owed_in (end_in phase form t next outcome)) ≡ end_markers phase t
+owed_is Empty Plain t next Commit = refl
+owed_is Empty Plain t next Abort = refl
+owed_is Empty Fencing t next Commit = refl
+owed_is Empty Fencing t next Abort = refl
+owed_is Empty Raising t next Commit = refl
+owed_is Empty Raising t next Abort = refl
+owed_is Ongoing Plain t next Commit = markers_are t _ Commit
+owed_is Ongoing Plain t next Abort = markers_are t _ Abort
+owed_is Ongoing Fencing t next Commit = markers_are t _ Commit
+owed_is Ongoing Fencing t next Abort = markers_are t _ Abort
+owed_is Ongoing Raising t next Commit = markers_are t _ Commit
+owed_is Ongoing Raising t next Abort = markers_are t _ Abort
+owed_is PrepareCommit Plain t next Commit = refl
+owed_is PrepareCommit Plain t next Abort = refl
+owed_is PrepareCommit Fencing t next Commit = refl
+owed_is PrepareCommit Fencing t next Abort = refl
+owed_is PrepareCommit Raising t next Commit = refl
+owed_is PrepareCommit Raising t next Abort = refl
+owed_is PrepareAbort Plain t next Commit = refl
+owed_is PrepareAbort Plain t next Abort = refl
+owed_is PrepareAbort Fencing t next Commit = refl
+owed_is PrepareAbort Fencing t next Abort = refl
+owed_is PrepareAbort Raising t next Commit = refl
+owed_is PrepareAbort Raising t next Abort = refl
+owed_is CompleteCommit Plain t next Commit = refl
+owed_is CompleteCommit Plain t next Abort = refl
+owed_is CompleteCommit Fencing t next Commit = refl
+owed_is CompleteCommit Fencing t next Abort = refl
+owed_is CompleteCommit Raising t next Commit = refl
+owed_is CompleteCommit Raising t next Abort = refl
+owed_is CompleteAbort Plain t next Commit = refl
+owed_is CompleteAbort Plain t next Abort = refl
+owed_is CompleteAbort Fencing t next Commit = refl
+owed_is CompleteAbort Fencing t next Abort = refl
+owed_is CompleteAbort Raising t next Commit = refl
+owed_is CompleteAbort Raising t next Abort = refl
+
+owed_then : (c : CoordinatorValue) (turn : Turn) → length (turned c turn).warrants ≡ length c.warrants + length (owed_in turn)
+owed_then c (Stays code) = omega arith
+owed_then c (Puts code t given owed) = length-append c.warrants owed
+
+-- the record that a renewing call puts
+abbrev IsRenewed : Transaction → ℤ → Turn → Type 0
+IsRenewed t next turn = (phase : Phase) × (owed : List OwedMarker) × (turn ≡ renewed t next phase owed)
+
+renewing : (phase : Phase) (form : EndForm) (t : Transaction) (next : ℤ) (outcome : Outcome) → IsRenewing form phase outcome → IsRenewed t next (end_in phase form t next outcome)
+renewing Empty Plain t next Commit h = absurd h
+renewing Empty Plain t next Abort h = absurd h
+renewing Empty Fencing t next Commit h = absurd h
+renewing Empty Fencing t next Abort h = absurd h
+renewing Empty Raising t next Commit h = absurd h
+renewing Empty Raising t next Abort h = (_, _, refl)
+renewing Ongoing Plain t next Commit h = absurd h
+renewing Ongoing Plain t next Abort h = absurd h
+renewing Ongoing Fencing t next Commit h = absurd h
+renewing Ongoing Fencing t next Abort h = absurd h
+renewing Ongoing Raising t next Commit h = (_, _, refl)
+renewing Ongoing Raising t next Abort h = (_, _, refl)
+renewing PrepareCommit Plain t next Commit h = absurd h
+renewing PrepareCommit Plain t next Abort h = absurd h
+renewing PrepareCommit Fencing t next Commit h = absurd h
+renewing PrepareCommit Fencing t next Abort h = absurd h
+renewing PrepareCommit Raising t next Commit h = absurd h
+renewing PrepareCommit Raising t next Abort h = absurd h
+renewing PrepareAbort Plain t next Commit h = absurd h
+renewing PrepareAbort Plain t next Abort h = absurd h
+renewing PrepareAbort Fencing t next Commit h = absurd h
+renewing PrepareAbort Fencing t next Abort h = absurd h
+renewing PrepareAbort Raising t next Commit h = absurd h
+renewing PrepareAbort Raising t next Abort h = absurd h
+renewing CompleteCommit Plain t next Commit h = absurd h
+renewing CompleteCommit Plain t next Abort h = absurd h
+renewing CompleteCommit Fencing t next Commit h = absurd h
+renewing CompleteCommit Fencing t next Abort h = absurd h
+renewing CompleteCommit Raising t next Commit h = absurd h
+renewing CompleteCommit Raising t next Abort h = (_, _, refl)
+renewing CompleteAbort Plain t next Commit h = absurd h
+renewing CompleteAbort Plain t next Abort h = absurd h
+renewing CompleteAbort Fencing t next Commit h = absurd h
+renewing CompleteAbort Fencing t next Abort h = absurd h
+renewing CompleteAbort Raising t next Commit h = absurd h
+renewing CompleteAbort Raising t next Abort h = (_, _, refl)
+
+-- ---- the next pair
+
+exhausted_not : (e : ℤ) → e <ℤ pos 32766 → int_le (pos 32766) e ≡ false
+exhausted_not e low = by_test (int_le (pos 32766) e) refl where
+  by_test : (b : Bool) → int_le (pos 32766) e ≡ b → b ≡ false
+  by_test false h = refl
+  by_test true h = absurd (grind (arith, ints))
+
+exhausted : (e : ℤ) → pos 32766 ≤ℤ e → int_le (pos 32766) e ≡ true
+exhausted e high = by_test (int_le (pos 32766) e) refl where
+  by_test : (b : Bool) → int_le (pos 32766) e ≡ b → b ≡ true
+  by_test true h = refl
+  by_test false h = absurd (grind (arith, ints))
+
+next_is : (c : CoordinatorValue) (old new : Pair) → new ≡ pair_after old (fresh c) → IsNext c old new
+next_is c old new is = record {
+  raised = λ low. let same : new ≡ raised old = is ∙ ap (λ (b : Bool). cond b (record { producer = fresh c; epoch = pos 0 }) (raised old)) (exhausted_not old.epoch low) in (ap (λ (p : Pair). p.producer) same, ap (λ (p : Pair). p.epoch) same);
+  fresh = λ high. let same : new ≡ record { producer = fresh c; epoch = pos 0 } = is ∙ ap (λ (b : Bool). cond b (record { producer = fresh c; epoch = pos 0 }) (raised old)) (exhausted old.epoch high) in (ap (λ (p : Pair). p.producer) same, ap (λ (p : Pair). p.epoch) same);
+}
+
+-- what is recorded under an id has it
+has_own : (ts : List Transaction) (id : List ℕ) (t : Transaction) → recorded ts id ≡ Some t → has_id id t ≡ true
+has_own [] id t h = absurd (let clash : None ≡ Some t = h in cc)
+has_own (x ∷ xs) id t h = by_test (has_id id x) refl h (has_own xs id t) where
+  by_test : (b : Bool) → has_id id x ≡ b → cond b (Some x) (recorded xs id) ≡ Some t → (recorded xs id ≡ Some t → has_id id t ≡ true) → has_id id t ≡ true
+  by_test true same h more = let is : x ≡ t = cc in ap (has_id id) (sym is) ∙ same
+  by_test false other h more = more h
+
+-- an id whose record is put without an error is answered its pair
+answered_own : (c : CoordinatorValue) (id : List ℕ) (r : Transaction) (given : List (Option (List ℕ))) (owed : List OwedMarker) → has_id id r ≡ true → (turn_answer c id (Puts errors.None r given owed)).pair ≡ r.pair
+answered_own c id r given owed own = ap (λ (o : Option Transaction). (pair_answer errors.None o).pair) (recorded_put c.transactions r id ∙ ap (λ (b : Bool). cond b (Some r) (recorded c.transactions id)) own)
+
+renewed_pair : (c : CoordinatorValue) (id : List ℕ) (t : Transaction) (turn : Turn) → has_id id t ≡ true → IsRenewed t (fresh c) turn → IsNext c t.pair (turn_answer c id turn).pair
+renewed_pair c id t turn own (phase, owed, is) =
+    next_is c t.pair _ (ap (λ (u : Turn). (turn_answer c id u).pair) is ∙ answered_own c id (record t { pair = pair_after t.pair (fresh c); phase = phase; kept = Some t.pair }) (given_after t.pair t.id) owed own)
+
+pub ends : EndTable
+ends c form id pair outcome t h =
+    let same = goes_by_phase c form id pair outcome t h in
+    record {
+      code = ap (λ (u : Turn). number_of (turn_code u)) same ∙ codes_are t.phase form t (fresh c) outcome;
+      markers = ap (λ (u : Turn). length (turned c u).warrants) same ∙ owed_then c (end_in t.phase form t (fresh c) outcome) ∙ ap (λ (n : ℕ). length c.warrants + n) (owed_is t.phase form t (fresh c) outcome);
+      renewed = λ renews. subst (λ (u : Turn). IsNext c t.pair (turn_answer c id u).pair) (sym same) (renewed_pair c id t (end_in t.phase form t (fresh c) outcome) (has_own c.transactions id t h.found) (renewing t.phase form t (fresh c) outcome renews));
+    }
+
+-- ---- InitProducerId
+
+within : (n : ℕ) (greatest : ℤ) → 1 ≤ n → pos n ≤ℤ greatest → timeout_within (pos n) greatest ≡ Some n
+within n greatest low high =
+    ap (λ (b : Bool). cond (b && int_le (pos n) greatest) (Some n) None) (le-leb 1 n low)
+    ∙ ap (λ (b : Bool). cond b (Some n) None) (by_test (int_le (pos n) greatest) refl) where
+      by_test : (b : Bool) → int_le (pos n) greatest ≡ b → b ≡ true
+      by_test true h = refl
+      by_test false h = absurd (grind (arith, ints))
+
+inits_for : (c : CoordinatorValue) (id : List ℕ) (n : ℕ) (greatest : ℤ) (o : Option Transaction) → id ≢ [] → 1 ≤ n → pos n ≤ℤ greatest → recorded c.transactions id ≡ o → init c id (pos n) greatest ≡ init_for (Some n) o id (fresh c)
+inits_for c id n greatest o named low high found =
+    ap (λ (b : Bool). cond b (Stays errors.InvalidRequest) (init_for (timeout_within (pos n) greatest) (recorded c.transactions id) id (fresh c))) (not_empty id named)
+    ∙ (λ i. init_for (within n greatest low high i) (found i) id (fresh c))
+
+init_codes : (phase : Phase) (t : Transaction) (next : ℤ) (n : ℕ) → number_of (turn_code (init_in phase t next n)) ≡ init_code phase
+unfolding number_of
+init_codes Empty t next n = refl
+init_codes CompleteCommit t next n = refl
+init_codes CompleteAbort t next n = refl
+init_codes Ongoing t next n = refl
+init_codes PrepareCommit t next n = refl
+init_codes PrepareAbort t next n = refl
+
+closed_begins : (phase : Phase) (t : Transaction) (next : ℤ) (n : ℕ) → IsClosed phase → init_in phase t next n ≡ begun t next n
+closed_begins Empty t next n h = refl
+closed_begins CompleteCommit t next n h = refl
+closed_begins CompleteAbort t next n h = refl
+closed_begins Ongoing t next n h = absurd h
+closed_begins PrepareCommit t next n h = absurd h
+closed_begins PrepareAbort t next n h = absurd h
+
+begun_pair : (c : CoordinatorValue) (id : List ℕ) (t : Transaction) (n : ℕ) → has_id id t ≡ true → (turn_answer c id (begun t (fresh c) n)).pair ≡ pair_after t.pair (fresh c)
+begun_pair c id t n own = answered_own c id (record t { pair = pair_after t.pair (fresh c); timeout = n; phase = Empty; kept = None }) (given_after t.pair t.id) [] own
+
+known : (c : CoordinatorValue) (id : List ℕ) (n : ℕ) (greatest : ℤ) (t : Transaction) → id ≢ [] → 1 ≤ n → pos n ≤ℤ greatest → recorded c.transactions id ≡ Some t → InitsByTable c id (pos n) greatest t
+known c id n greatest t named low high found =
+    let same = inits_for c id n greatest (Some t) named low high found in
+    record {
+      code = ap (λ (u : Turn). number_of (turn_code u)) same ∙ init_codes t.phase t (fresh c) n;
+      next = λ closed. next_is c t.pair _ (ap (λ (u : Turn). (turn_answer c id u).pair) (same ∙ closed_begins t.phase t (fresh c) n closed) ∙ begun_pair c id t n (has_own c.transactions id t found));
+    }
+
+zero_is : number_of errors.None ≡ pos 0
+unfolding number_of
+zero_is = refl
+
+new : (c : CoordinatorValue) (id : List ℕ) (n : ℕ) (greatest : ℤ) → id ≢ [] → 1 ≤ n → pos n ≤ℤ greatest → recorded c.transactions id ≡ None → InitsNew c id (pos n) greatest
+new c id n greatest named low high found =
+    let same = inits_for c id n greatest None named low high found in
+    let pair : (turn_answer c id (init c id (pos n) greatest)).pair ≡ record { producer = fresh c; epoch = pos 0 } =
+    ap (λ (u : Turn). (turn_answer c id u).pair) same ∙ answered_own c id (created id (fresh c) n) (Some id ∷ []) [] (is_same id id refl) in
+    record {
+      code = ap (λ (u : Turn). number_of (turn_code u)) same ∙ zero_is;
+      producer = ap (λ (p : Pair). p.producer) pair;
+      epoch = ap (λ (p : Pair). p.epoch) pair;
+    }
+
+pub inits : InitTable
+inits = record { known = known; new = new }
+
+-- ---- AddPartitionsToTxn
+
+same_partition : (p q : TopicPartition) → is_same_partition p q ≡ true → p ≡ q
+same_partition p q h =
+    let parts = both (bytes_eq p.topic q.topic) (int_eq p.index q.index) h in
+    let topic = same_is p.topic q.topic parts.0 in
+    let index = (Decides-int_eq p.index q.index).0 parts.1 in
+    (λ i. record { topic = topic i; index = index i })
+
+is_in : (added : List TopicPartition) (p : TopicPartition) → has_partition added p ≡ true → IsIn added p
+is_in [] p h = absurd (true≢false (sym h))
+is_in (q ∷ qs) p h = by_case (or_cases (is_same_partition q p) (has_partition qs p) h) (is_in qs p) where
+  by_case : (is_same_partition q p ≡ true) ⊎ (has_partition qs p ≡ true) → (has_partition qs p ≡ true → IsIn qs p) → IsIn (q ∷ qs) p
+  by_case (inl here) more = inl (same_partition q p here)
+  by_case (inr later) more = inr (more later)
+
+in_front : (qs rs : List TopicPartition) (p : TopicPartition) → IsIn qs p → IsIn (qs ++ rs) p
+in_front [] rs p h = absurd h
+in_front (q ∷ qs) rs p (inl here) = inl here
+in_front (q ∷ qs) rs p (inr later) = inr (in_front qs rs p later)
+
+in_last : (qs : List TopicPartition) (p : TopicPartition) → IsIn (qs ++ p ∷ []) p
+in_last [] p = inl refl
+in_last (q ∷ qs) p = inr (in_last qs p)
+
+in_push : (qs : List TopicPartition) (r p : TopicPartition) → IsIn (qs ++ r ∷ []) p → IsIn qs p ⊎ (r ≡ p)
+in_push [] r p (inl last) = inr last
+in_push [] r p (inr h) = absurd h
+in_push (q ∷ qs) r p (inl here) = inl (inl here)
+in_push (q ∷ qs) r p (inr later) = by_case (in_push qs r p later) where
+  by_case : IsIn qs p ⊎ (r ≡ p) → IsIn (q ∷ qs) p ⊎ (r ≡ p)
+  by_case (inl there) = inl (inr there)
+  by_case (inr last) = inr last
+
+one_added : (added : List TopicPartition) (r : TopicPartition) → AddsEach added (r ∷ []) (partition_added added r)
+one_added added r = by_test (has_partition added r) refl where
+  by_test : (b : Bool) → has_partition added r ≡ b → AddsEach added (r ∷ []) (cond b added (added ++ r ∷ []))
+  by_test true there = record {
+    kept = λ p h. h;
+    all = λ p h. by_named p h;
+    alone = λ p h. inl h;
+  } where
+    by_named : (p : TopicPartition) → IsIn (r ∷ []) p → IsIn added p
+    by_named p (inl same) = subst (IsIn added) same (is_in added r there)
+    by_named p (inr h) = absurd h
+  by_test false new = record {
+    kept = λ p h. in_front added (r ∷ []) p h;
+    all = λ p h. by_named p h;
+    alone = λ p h. by_place p (in_push added r p h);
+  } where
+    by_named : (p : TopicPartition) → IsIn (r ∷ []) p → IsIn (added ++ r ∷ []) p
+    by_named p (inl same) = subst (IsIn (added ++ r ∷ [])) same (in_last added r)
+    by_named p (inr h) = absurd h
+
+    by_place : (p : TopicPartition) → IsIn added p ⊎ (r ≡ p) → IsIn added p ⊎ IsIn (r ∷ []) p
+    by_place p (inl there) = inl there
+    by_place p (inr last) = inr (inl last)
+
+then_more : (old more new : List TopicPartition) (r : TopicPartition) (rs : List TopicPartition) → AddsEach old (r ∷ []) more → AddsEach more rs new → AddsEach old (r ∷ rs) new
+then_more old more new r rs first rest = record {
+  kept = λ p h. rest.kept p (first.kept p h);
+  all = λ p h. by_named p h;
+  alone = λ p h. by_place p (rest.alone p h);
+} where
+  by_named : (p : TopicPartition) → IsIn (r ∷ rs) p → IsIn new p
+  by_named p (inl same) = rest.kept p (first.all p (inl same))
+  by_named p (inr later) = rest.all p later
+
+  by_first : (p : TopicPartition) → IsIn old p ⊎ IsIn (r ∷ []) p → IsIn old p ⊎ IsIn (r ∷ rs) p
+  by_first p (inl there) = inl there
+  by_first p (inr (inl same)) = inr (inl same)
+  by_first p (inr (inr h)) = absurd h
+
+  by_place : (p : TopicPartition) → IsIn more p ⊎ IsIn rs p → IsIn old p ⊎ IsIn (r ∷ rs) p
+  by_place p (inl there) = by_first p (first.alone p there)
+  by_place p (inr later) = inr (inr later)
+
+each_added : (added ps : List TopicPartition) → AddsEach added ps (partitions_added added ps)
+each_added added [] = record { kept = λ p h. h; all = λ p h. absurd h; alone = λ p h. inl h }
+each_added added (r ∷ rs) = then_more added (partition_added added r) (partitions_added (partition_added added r) rs) r rs (one_added added r) (each_added (partition_added added r) rs)
+
+adds_for : (c : CoordinatorValue) (id : List ℕ) (pair : Pair) (moment : ℕ) (p : TopicPartition) (ps : List TopicPartition) (t : Transaction) → id ≢ [] → recorded c.transactions id ≡ Some t → pair ≡ t.pair → t.pair.epoch <ℤ pos 32767
+    → add_partitions c id pair moment (p ∷ ps) ≡ grown (with_partitions (p ∷ ps)) (open_in t.phase t moment)
+adds_for c id pair moment p ps t named found own low =
+    ap (grown (with_partitions (p ∷ ps)))
+    (ap (λ (b : Bool). cond b (Err errors.InvalidRequest) (open_found (recorded c.transactions id) pair moment)) (not_empty id named)
+    ∙ (λ i. open_found (found i) (own i) moment)
+    ∙ ap (λ (o : Option ErrorCode). open_by o t moment) (unrefused errors.InvalidProducerEpoch t low))
+
+add_codes : (phase : Phase) (t : Transaction) (moment : ℕ) (ps : List TopicPartition) → number_of (turn_code (grown (with_partitions ps) (open_in phase t moment))) ≡ add_code phase
+unfolding number_of
+add_codes Empty t moment ps = refl
+add_codes CompleteCommit t moment ps = refl
+add_codes CompleteAbort t moment ps = refl
+add_codes Ongoing t moment ps = refl
+add_codes PrepareCommit t moment ps = refl
+add_codes PrepareAbort t moment ps = refl
+
+put_found : (c : CoordinatorValue) (id : List ℕ) (r : Transaction) → has_id id r ≡ true → recorded (turned c (Puts errors.None r [] [])).transactions id ≡ Some r
+put_found c id r own = recorded_put c.transactions r id ∙ ap (λ (b : Bool). cond b (Some r) (recorded c.transactions id)) own
+
+no_code : pos 51 ≡ pos 0 → ⊥
+no_code h = omega (arith, ints, h)
+
+-- a closed one begins now
+begins_now : (c : CoordinatorValue) (id : List ℕ) (moment : ℕ) (ps : List TopicPartition) (t : Transaction) → has_id id t ≡ true → (t.phase ≡ Ongoing → ⊥) → TakesIn c id moment ps t (Puts errors.None (with_partitions ps (beginning t moment)) [] [])
+begins_now c id moment ps t own closed = record {
+  transaction = with_partitions ps (beginning t moment);
+  found = put_found c id (with_partitions ps (beginning t moment)) own;
+  ongoing = refl;
+  pair = refl;
+  begins = λ h. refl;
+  goes_on = λ h. absurd (closed h);
+  partitions = each_added t.partitions ps;
+  groups = refl;
+}
+
+takes : (phase : Phase) (c : CoordinatorValue) (id : List ℕ) (moment : ℕ) (ps : List TopicPartition) (t : Transaction) → t.phase ≡ phase → has_id id t ≡ true → add_code phase ≡ pos 0 → TakesIn c id moment ps t (grown (with_partitions ps) (open_in phase t moment))
+takes Empty c id moment ps t is own h = begins_now c id moment ps t own (λ ongoing. other (sym is ∙ ongoing)) where
+  other : Empty ≡ Ongoing → ⊥
+  other e = cc
+takes CompleteCommit c id moment ps t is own h = begins_now c id moment ps t own (λ ongoing. other (sym is ∙ ongoing)) where
+  other : CompleteCommit ≡ Ongoing → ⊥
+  other e = cc
+takes CompleteAbort c id moment ps t is own h = begins_now c id moment ps t own (λ ongoing. other (sym is ∙ ongoing)) where
+  other : CompleteAbort ≡ Ongoing → ⊥
+  other e = cc
+takes Ongoing c id moment ps t is own h = record {
+  transaction = with_partitions ps (record t { kept = None });
+  found = put_found c id (with_partitions ps (record t { kept = None })) own;
+  ongoing = is;
+  pair = refl;
+  begins = λ closed. absurd (subst IsClosed is closed);
+  goes_on = λ still. refl;
+  partitions = each_added t.partitions ps;
+  groups = refl;
+}
+takes PrepareCommit c id moment ps t is own h = absurd (no_code h)
+takes PrepareAbort c id moment ps t is own h = absurd (no_code h)
+
+pub adds : AddTable
+adds c id pair moment p ps t named found own low =
+    let same = adds_for c id pair moment p ps t named found own low in
+    record {
+      code = ap (λ (u : Turn). number_of (turn_code u)) same ∙ add_codes t.phase t moment (p ∷ ps);
+      taken = λ h. subst (TakesIn c id moment (p ∷ ps) t) (sym same) (takes t.phase c id moment (p ∷ ps) t refl (has_own c.transactions id t found) h);
+    }

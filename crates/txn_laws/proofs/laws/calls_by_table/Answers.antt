@@ -1,0 +1,11 @@
+use Rattle.txn_laws.proofs.Tables.{ends, inits, adds}
+use Rattle.txn_laws.proofs.laws.calls_by_table.Goals as goal
+
+pub returns-clause-ends : goal.returns-clause-ends
+returns-clause-ends c = ends
+
+pub returns-clause-inits : goal.returns-clause-inits
+returns-clause-inits c = inits
+
+pub returns-clause-adds : goal.returns-clause-adds
+returns-clause-adds c = adds
