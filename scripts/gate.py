@@ -12,6 +12,7 @@ import re
 import resource
 import subprocess
 import sys
+import tempfile
 import threading
 import time
 
@@ -20,34 +21,42 @@ from program import PROGRAM, ROOT, crates_of
 
 LOG = ROOT / "out/gate.log"
 TIMES = ROOT / "out/gate.json"
-SCRIPTS = (
+# What runs the program alone: as many side by side as there are processors, the longest first.
+SIDE_BY_SIDE = (
+    "refused_memory.py",
+    "refused_runs.py",
+    "spoilt.py",
+    "worn_epochs.py",
+    "histories.py",
+    "group_histories.py",
+    "drawn_bindings.py",
     "answers.py",
     "plain_answers.py",
     "shown.py",
     "lines.py",
     "settings.py",
-    "histories.py",
-    "group_histories.py",
-    "drawn_bindings.py",
-    "refused_memory.py",
-    "refused_runs.py",
+)
+# What waits for a time, or keeps all processors busy itself.
+IN_TURN = (
     "refused_sessions.py",
     "refused_lines.py",
-    "spoilt.py",
-    "worn_epochs.py",
     "sessions.py",
     "served.py",
     "soak.py",
     "steered.py",
     "lesson.py",
     "must_not_compile.py",
-    "failing_tests.py",
 )
+# What needs nothing that `rt ci` leaves: it runs beside its last call, on what that leaves idle.
+ON_SOURCES = "failing_tests.py"
+SCRIPTS = (*SIDE_BY_SIDE, *IN_TURN, ON_SOURCES)
 # rt gives a proof only the processors that no other one waits for, also where all the others could wait. So what all the
-# rest waits for comes by itself, and has two: the crate below all others. Behind it comes the core with what that stands on,
-# and what fills a gap before the core though that doesn't stand on it. All else is left for the end.
+# rest waits for comes by itself, and has two: the crate below all others. After it comes the core with what that stands on,
+# and what fills a gap before the core though that doesn't stand on it; then the server, on which the longest tests stand. All
+# else is left for the end.
 # An rt that takes no names (rattle-kit-13b) prints its help for them and proves nothing: there all is left for the last call.
 CORE = "request_handlers"
+SERVER = "broker_server"
 BESIDE = "script_lines", "session_logins"
 SEEN_EVERY = 2  # seconds
 TICKS = os.sysconf("SC_CLK_TCK")
@@ -135,7 +144,7 @@ def copy_lines(source, shown, kept):
 def stages():
     """The crates over which `rt ci` is called, in turn; at last over all."""
     lowest, *_ = crates_of([CORE])
-    return [[lowest], [CORE, *BESIDE], []]
+    return [[lowest], [CORE, *BESIDE], [SERVER], []]
 
 
 def run_rt(words, log, sampler):
@@ -156,14 +165,35 @@ def run_rt(words, log, sampler):
     return status
 
 
+class Script:
+    """A script that runs. What it says is shown once it has ended."""
+
+    def __init__(self, name, nice=0):
+        self.name, self.said = name, tempfile.TemporaryFile()
+        told = {"stdout": self.said, "stderr": subprocess.STDOUT, "stdin": subprocess.DEVNULL}
+        self.process = subprocess.Popen([ROOT / "scripts" / name], preexec_fn=lambda: os.nice(nice), **told)
+
+    def passes(self):
+        """Waits for its end, shows what it said, and tells whether it passed."""
+        failed = self.process.wait()
+        self.said.seek(0)
+        print(self.said.read().decode(errors="replace"), end="")
+        if failed:
+            print(f"gate: {self.name} FAILED")
+        sys.stdout.flush()
+        return not failed
+
+
 def run_checks():
     """Checks all that `rt ci` checks, and writes what it took. Returns what was said, what of it by the last call, which is
-    over all crates, and the status of that."""
+    over all crates, the status of that, and the script that was started beside it."""
     LOG.parent.mkdir(exist_ok=True)
     started = time.monotonic()
     sampler = Sampler()
     with LOG.open("wb") as log:
         for names in stages():
+            if not names:
+                beside = Script(ON_SOURCES, prove.MOST_NICE)
             last = log.tell()
             status = run_rt(names, log, sampler)
     used = resource.getrusage(resource.RUSAGE_CHILDREN)
@@ -176,29 +206,29 @@ def run_checks():
     }
     TIMES.write_text(json.dumps(taken, indent=1) + "\n")
     said = LOG.read_bytes()
-    return said.decode(errors="replace"), said[last:].decode(errors="replace"), status
+    return said.decode(errors="replace"), said[last:].decode(errors="replace"), status, beside
 
 
 def run_scripts():
     """Runs each script over the program, and returns how many passed."""
-    passed = 0
-    for name in SCRIPTS:
-        sys.stdout.flush()
-        if not PROGRAM.exists():
-            print(f"gate: {name} FAILED: there is no program")
-        elif subprocess.run([ROOT / "scripts" / name]).returncode:
-            print(f"gate: {name} FAILED")
-        else:
-            passed += 1
-    return passed
+    if not PROGRAM.exists():
+        print("gate: the scripts FAILED: there is no program")
+        return 0
+    passed, running = 0, []
+    for name in SIDE_BY_SIDE:
+        if len(running) == len(os.sched_getaffinity(0)):
+            passed += running.pop(0).passes()
+        running.append(Script(name))
+    passed += sum([it.passes() for it in running])
+    return passed + sum([Script(it).passes() for it in IN_TURN])
 
 
 def main():
     prove.end_on_signals()
     prove.hold_alone()
     started = time.monotonic()
-    text, last, status = run_checks()
-    of_scripts = run_scripts()
+    text, last, status, beside = run_checks()
+    of_scripts = beside.passes() + run_scripts()
     passed, failed = map(int, (TOTALS.findall(last) or [(0, 1)])[-1])
     if status and not failed:
         failed = 1
