@@ -4,6 +4,7 @@ use std::io;
 use std::random::RandomSource;
 
 /// A source that gives this byte over and over: for scripts, which have to run the same each time, and for tests.
+#[derive(Clone, Copy, Debug)]
 pub struct FixedSeed(pub u8);
 
 impl RandomSource for FixedSeed {
