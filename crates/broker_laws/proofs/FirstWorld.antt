@@ -1,5 +1,5 @@
 -- The first world holds what the settings say.
-use Rattle.std.proofs.Common.{◌≡◌, ◌⊎◌, inl, inr, ℕ, zero, suc, ◌+◌, ℤ, pos, negsuc, List, [], ◌∷◌, ◌++◌, length, map, Bool, true, false, ◌&&◌, cond, Option, Some, None, refl, sym, subst, ap, ◌∙◌, append_assoc, arith}
+use Rattle.std.proofs.Common.{◌≡◌, ◌⊎◌, inl, inr, ℕ, zero, suc, ◌+◌, ℤ, pos, negsuc, List, [], ◌∷◌, ◌++◌, length, Bool, true, false, cond, Some, refl, sym, subst, ap, ◌∙◌, append_assoc, arith}
 use Rattle.std.specs.Prelude.{is_some}
 use Rattle.std.specs.List.{AllByRecursion, list_all}
 use Rattle.std.proofs.lemmas.Bool.{true≢false}
@@ -10,13 +10,12 @@ use Rattle.acl_binding.specs.declared.binding.Numbered.{Numbered}
 use Rattle.acl_binding.specs.Binding.{same_binding}
 use Rattle.acl_binding.specs.Book.{BookValue, empty_book, number_of, appended, added}
 use Rattle.acl_binding.proofs.Same.{same_is_equal, equal_is_same}
-use Rattle.settings.specs.declared.settings.Settings.{Settings}
 use Rattle.settings.specs.declared.settings.TopicSetting.{TopicSetting}
-use Rattle.settings.specs.Fault.{first_fault, is_within, is_topic_within}
-use Rattle.broker_world.specs.World.{TopicValue, LogValue}
-use Rattle.broker_world.specs.First.{magnitude, with_bindings, empty_logs, first_topics, first_world}
+use Rattle.settings.specs.Fault.{is_within, is_topic_within}
+use Rattle.broker_world.specs.World.{LogValue}
+use Rattle.broker_world.specs.First.{magnitude, with_bindings, empty_logs, first_topics}
 use Rattle.broker_world.proofs.InRange.{faultless_in_range, topics_in_range}
-use Rattle.broker_laws.specs.FirstWorld.{bindings_of, IsListed, AreAllDifferent, AreNumberedFrom, AreFirstBindings, IsFirstTopic, AreFirstTopics, IsFirstWorld, FirstWorldIsTheSettings}
+use Rattle.broker_laws.specs.FirstWorld.{bindings_of, IsListed, AreAllDifferent, AreNumberedFrom, AreFirstBindings, AreFirstTopics, FirstWorldIsTheSettings}
 
 -- ---- what a list holds
 

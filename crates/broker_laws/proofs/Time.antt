@@ -1,5 +1,5 @@
 -- A tick ends what is over, and nothing else.
-use Rattle.std.proofs.Common.{◌≡◌, ◌⊎◌, inl, inr, ℕ, ◌+◌, ◌<◌, ◌≤◌, ◌&&◌, Bool, true, false, cond, List, length, map, max, min, Option, Some, None, refl, sym, subst, ap, ◌∙◌, arith}
+use Rattle.std.proofs.Common.{◌≡◌, ◌⊎◌, inl, inr, ℕ, ◌+◌, ◌<◌, ◌≤◌, ◌&&◌, Bool, true, false, cond, List, length, map, max, min, Option, Some, None, refl, sym, ap, ◌∙◌, arith}
 use Rattle.std.specs.Prelude.{slice_get, nat_lt}
 use Rattle.std.specs.Option.{option_map}
 use Rattle.std.proofs.lemmas.Bool.{true≢false, ltb-true, ltb-false, lt-ltb}
@@ -16,9 +16,9 @@ use Rattle.offset_tables.specs.declared.member.Member.{Member}
 use Rattle.offset_tables.specs.Group.{is_lapsed, left, expired as group_expired}
 use Rattle.audit_trail.specs.declared.event.Event.TheVariants.{Tick}
 use Rattle.broker_world.specs.World.{World}
-use Rattle.broker_world.specs.Clock.{last_moment, moment_after}
+use Rattle.broker_world.specs.Clock.{last_moment}
 use Rattle.api_dispatch.specs.Step.{step}
-use Rattle.broker_laws.specs.Time.{ShowsMoment, IsOver, EndsTransactions, IsLapsed, EndsMembers, TickEnds, TicksEndWhatIsOver}
+use Rattle.broker_laws.specs.Time.{ShowsMoment, IsOver, EndsTransactions, IsLapsed, EndsMembers, TicksEndWhatIsOver}
 
 -- ---- one of a list that is changed in turn
 

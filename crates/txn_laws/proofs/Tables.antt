@@ -1,6 +1,6 @@
 -- The calls come to what the tables say.
-use Rattle.std.proofs.Common.{◌≡◌, ◌≢◌, ◌⊎◌, inl, inr, Err, ℕ, ◌+◌, ◌≤◌, ℤ, pos, negsuc, List, [], ◌∷◌, ◌++◌, length, map, Option, Some, None, Bool, true, false, ◌&&◌, cond, refl, sym, subst, ap, ◌∙◌, arith}
-use Rattle.std.specs.Prelude.{◌<ℤ◌, ◌≤ℤ◌, int_le, int_lt, nat_le}
+use Rattle.std.proofs.Common.{◌≡◌, ◌≢◌, ◌⊎◌, inl, inr, Err, ℕ, ◌+◌, ◌≤◌, ℤ, pos, List, [], ◌∷◌, ◌++◌, length, map, Option, Some, None, Bool, true, false, ◌&&◌, cond, refl, sym, subst, ap, ◌∙◌, arith}
+use Rattle.std.specs.Prelude.{◌<ℤ◌, ◌≤ℤ◌, int_le, int_lt}
 use Rattle.std.specs.Ordering.{int_eq}
 use Rattle.std.specs.Str.{bytes_eq}
 use Rattle.std.proofs.lemmas.Bool.{true≢false, le-leb, or_cases}
@@ -14,7 +14,6 @@ use Rattle.record_batch.specs.declared.outcome.Outcome.{Outcome}
 use Rattle.record_batch.specs.declared.outcome.Outcome.TheVariants.{Commit, Abort}
 use Rattle.transactions.specs.declared.pair.Pair.{Pair}
 use Rattle.transactions.specs.declared.marker.OwedMarker.{OwedMarker}
-use Rattle.transactions.specs.declared.target.Target.{Target}
 use Rattle.transactions.specs.declared.target.TopicPartition.{TopicPartition}
 use Rattle.transactions.specs.declared.target.Target.TheVariants.{Partition, Group}
 use Rattle.transactions.specs.declared.turn.Turn.{Turn}
@@ -24,13 +23,13 @@ use Rattle.transactions.specs.declared.transaction.Phase.{Phase}
 use Rattle.transactions.specs.declared.transaction.Phase.TheVariants.{Empty, Ongoing, PrepareCommit, PrepareAbort, CompleteCommit, CompleteAbort}
 use Rattle.transactions.specs.declared.ending.EndForm.{EndForm}
 use Rattle.transactions.specs.declared.ending.EndForm.TheVariants.{Plain, Fencing, Raising}
-use Rattle.transactions.specs.Words.{is_empty, is_same_pair, raised, is_exhausted, pair_after, given_after, last_epoch, targets, is_same_partition, has_partition}
+use Rattle.transactions.specs.Words.{is_empty, is_same_pair, raised, pair_after, given_after, last_epoch, targets, is_same_partition, has_partition}
 use Rattle.transactions.specs.Coordinator.{CoordinatorValue, has_id, recorded, put, fresh, turn_code, turned, pair_answer, turn_answer}
-use Rattle.transactions.specs.Preparing.{markers, marker_for, pair_refusal, fencing}
+use Rattle.transactions.specs.Preparing.{markers, marker_for, pair_refusal}
 use Rattle.transactions.specs.EndTxn.{other_epoch, renewed, end_in, is_kept, is_again, end_again, end_by, end_found, end}
-use Rattle.transactions.specs.Adding.{partition_added, partitions_added, with_partitions, beginning, open_in, open_by, open_found, open_transaction, grown, add_partitions}
+use Rattle.transactions.specs.Adding.{partition_added, partitions_added, with_partitions, beginning, open_in, open_by, open_found, grown, add_partitions}
 use Rattle.transactions.specs.InitProducerId.{timeout_within, created, begun, init_in, init_for, init}
-use Rattle.txn_laws.specs.Tables.{end_code, end_markers, IsRenewing, IsNext, ComesWithOwn, EndsByTable, EndTable, init_code, IsClosed, InitsByTable, InitsNew, InitTable, add_code, IsIn, AddsEach, TakesIn, AddTable}
+use Rattle.txn_laws.specs.Tables.{end_code, end_markers, IsRenewing, IsNext, ComesWithOwn, EndTable, init_code, IsClosed, InitsByTable, InitsNew, InitTable, add_code, IsIn, AddsEach, TakesIn, AddTable}
 use Rattle.txn_laws.proofs.Base.{same_is, is_same, recorded_put}
 
 -- ---- what the premises say

@@ -1,6 +1,6 @@
 -- What an EndTxn, an InitProducerId and an AddPartitionsToTxn come to, as tables: by the phase of the id's transaction, in the numbers of the protocol's
 -- guide (KIP-98, 'Transaction Coordinator'; KIP-890 for version 5). 48 is INVALID_TXN_STATE, 51 CONCURRENT_TRANSACTIONS.
-use Rattle.std.specs.Prelude.{◌≡◌, ◌≢◌, ◌⊎◌, ◌<ℤ◌, ◌≤ℤ◌, ◌+ℤ◌, ℕ, ◌+◌, ◌≤◌, ℤ, pos, List, [], ◌∷◌, length, Option, Some, None}
+use Rattle.std.specs.Prelude.{◌≡◌, ◌≢◌, ◌⊎◌, ◌<ℤ◌, ◌≤ℤ◌, ◌+ℤ◌, ℕ, ◌+◌, ◌≤◌, ℤ, pos, List, [], ◌∷◌, length, Some, None}
 use Rattle.wire_types.specs.ErrorCode.{number_of}
 use Rattle.record_batch.specs.declared.outcome.Outcome.{Outcome}
 use Rattle.record_batch.specs.declared.outcome.Outcome.TheVariants.{Commit, Abort}
