@@ -7,6 +7,7 @@ pub mod DataAnswers
 pub mod DataFetches
 pub mod FetchSizes
 pub mod Numbers
+pub mod Framing
 pub mod AclEdits
 pub mod Groups
 pub mod Recorded

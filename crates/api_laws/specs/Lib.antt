@@ -4,6 +4,7 @@ pub mod Tenants
 pub mod DataLaws
 pub mod FetchSizes
 pub mod Numbers
+pub mod Framing
 pub mod DataTenants
 pub mod AclLaws
 pub mod ProducerLaws

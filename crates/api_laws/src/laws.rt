@@ -2,6 +2,7 @@
 
 ghost use Rattle.api_laws.specs.Runs.{WholeRuns};
 ghost use Rattle.api_laws.specs.Headline.{AnswersEachTopic, RefusesEachTopic, NullTellsDescribable};
+ghost use Rattle.api_laws.specs.Framing.{ResponsesAreFramed};
 ghost use Rattle.api_laws.specs.Numbers.{RefusalsByNumber};
 ghost use Rattle.api_laws.specs.Tenants.{DependsOnGrants};
 ghost use Rattle.api_laws.specs.DataLaws.{ProducesAsAnswered, FetchesRuns, ListsEnds};
@@ -33,6 +34,12 @@ pub fn metadata_refuses_each_topic()
 /// A Metadata request with a null list is told exactly the topics that may be described, each as where it is asked for alone.
 pub fn null_metadata_tells_describable()
     ensures { NullTellsDescribable }
+{}
+
+/// A response begins with the size of what comes and with the correlation id that was asked under; between that and the body
+/// stands nothing but the empty tagged section of a flexible version.
+pub fn responses_are_framed()
+    ensures { ResponsesAreFramed }
 {}
 
 /// A refused part is told 29, 30, 31 or 53, by what its question is about.

@@ -11,7 +11,7 @@ pub use laws::{
     list_offsets_depends_on_grants, lists_ends, metadata_answers_each_topic,
     metadata_depends_on_grants, metadata_refuses_each_topic, null_metadata_tells_describable,
     produce_depends_on_grants, produce_keeps_other_partitions, produce_keeps_the_rest,
-    produces_as_answered, refusals_by_number, refused_edit_nothing,
+    produces_as_answered, refusals_by_number, refused_edit_nothing, responses_are_framed,
     staged_offsets_depend_on_grants, staged_offsets_keep_the_rest, transactions_depend_on_grants,
     transactions_keep_the_rest, whole_runs,
 };
