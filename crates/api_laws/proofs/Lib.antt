@@ -8,6 +8,7 @@ pub mod DataFetches
 pub mod FetchSizes
 pub mod Numbers
 pub mod Framing
+pub mod Longest
 pub mod AclEdits
 pub mod Groups
 pub mod Recorded

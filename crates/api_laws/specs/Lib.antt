@@ -5,6 +5,7 @@ pub mod DataLaws
 pub mod FetchSizes
 pub mod Numbers
 pub mod Framing
+pub mod Longest
 pub mod DataTenants
 pub mod AclLaws
 pub mod ProducerLaws

@@ -3,6 +3,7 @@
 ghost use Rattle.api_laws.specs.Runs.{WholeRuns};
 ghost use Rattle.api_laws.specs.Headline.{AnswersEachTopic, RefusesEachTopic, NullTellsDescribable};
 ghost use Rattle.api_laws.specs.Framing.{ResponsesAreFramed};
+ghost use Rattle.api_laws.specs.Longest.{ServesWhatFits};
 ghost use Rattle.api_laws.specs.Numbers.{RefusalsByNumber};
 ghost use Rattle.api_laws.specs.Tenants.{DependsOnGrants};
 ghost use Rattle.api_laws.specs.DataLaws.{ProducesAsAnswered, FetchesRuns, ListsEnds};
@@ -34,6 +35,12 @@ pub fn metadata_refuses_each_topic()
 /// A Metadata request with a null list is told exactly the topics that may be described, each as where it is asked for alone.
 pub fn null_metadata_tells_describable()
     ensures { NullTellsDescribable }
+{}
+
+/// At either level a fetch serves the longest run of whole batches that fits, up to the log's end or the last stable offset,
+/// or the first one alone.
+pub fn serves_what_fits()
+    ensures { ServesWhatFits }
 {}
 
 /// A response begins with the size of what comes and with the correlation id that was asked under; between that and the body

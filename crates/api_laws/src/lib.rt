@@ -12,6 +12,6 @@ pub use laws::{
     metadata_depends_on_grants, metadata_refuses_each_topic, null_metadata_tells_describable,
     produce_depends_on_grants, produce_keeps_other_partitions, produce_keeps_the_rest,
     produces_as_answered, refusals_by_number, refused_edit_nothing, responses_are_framed,
-    staged_offsets_depend_on_grants, staged_offsets_keep_the_rest, transactions_depend_on_grants,
-    transactions_keep_the_rest, whole_runs,
+    serves_what_fits, staged_offsets_depend_on_grants, staged_offsets_keep_the_rest,
+    transactions_depend_on_grants, transactions_keep_the_rest, whole_runs,
 };

@@ -1,0 +1,39 @@
+-- What is served is the longest beginning that fits, or the first batch alone.
+use Rattle.std.proofs.Common.{◌≡◌, ℕ, ◌<◌, ◌≤◌, ◌-◌, ℤ, Bool, true, false, cond, List, [], ◌∷◌, ◌++◌, length, refl, sym, ap, ◌∙◌, arith}
+use Rattle.std.specs.Prelude.{nat_le}
+use Rattle.std.proofs.lemmas.Bool.{leb-false}
+use Rattle.record_batch.specs.Batch.{BatchData}
+use Rattle.partition_log.specs.Log.{end_of, stable}
+use Rattle.partition_log.specs.Fetch.{below, reaching, fitting, at_least_one, served}
+use Rattle.partition_log.specs.Laws.{total_bytes}
+use Rattle.partition_log.proofs.Longest.{fitting_longest}
+use Rattle.api_laws.specs.Longest.{IsLongest, ServesWhatFits}
+
+-- one that is forced makes what fits no shorter
+as_long : (forced : Bool) (candidates run : List BatchData) → length run ≤ length (at_least_one forced candidates run)
+as_long forced candidates [] = omega arith
+as_long forced candidates (b ∷ run) = omega arith
+
+nothing : (forced : Bool) (room : ℕ) (b : BatchData) (rest : List BatchData) → at_least_one forced (b ∷ rest) (fitting room (b ∷ rest)) ≡ [] → (forced ≡ false) × (room < length b.bytes)
+nothing forced room b rest h = by_size (nat_le (length b.bytes) room) refl h where
+  unforced : (f : Bool) → cond f (b ∷ []) [] ≡ [] → f ≡ false
+  unforced false h = refl
+  unforced true h = absurd (let clash : b ∷ [] ≡ [] = h in cc)
+
+  by_size : (t : Bool) → nat_le (length b.bytes) room ≡ t → at_least_one forced (b ∷ rest) (cond t (b ∷ fitting (room - length b.bytes) rest) []) ≡ [] → (forced ≡ false) × (room < length b.bytes)
+  by_size true small h = absurd (let clash : b ∷ fitting (room - length b.bytes) rest ≡ [] = h in cc)
+  by_size false large h = (unforced forced h, leb-false (length b.bytes) room large)
+
+longest : (log : List BatchData) (offset limit : ℤ) (room : ℕ) (forced : Bool) → IsLongest log offset limit room forced (served log offset limit room forced)
+longest log offset limit room forced =
+    let candidates = below limit (reaching offset log) in
+    record {
+      most = λ longer rest parts fits. omega (arith, (fitting_longest room candidates).1 longer rest parts fits, as_long forced candidates (fitting room candidates));
+      none = λ empty b rest are. nothing forced room b rest (ap (λ (l : List BatchData). at_least_one forced l (fitting room l)) (sym are) ∙ empty);
+    }
+
+pub serves : ServesWhatFits
+serves log offset room forced = record {
+  uncommitted = longest log offset (end_of log) room forced;
+  committed = longest log offset (stable log) room forced;
+}
