@@ -1,11 +1,10 @@
 -- What is served is the longest beginning that fits, or the first batch alone.
-use Rattle.std.proofs.Common.{◌≡◌, ℕ, ◌<◌, ◌≤◌, ◌-◌, ℤ, Bool, true, false, cond, List, [], ◌∷◌, ◌++◌, length, refl, sym, ap, ◌∙◌, arith}
+use Rattle.std.proofs.Common.{◌≡◌, ℕ, ◌<◌, ◌≤◌, ◌-◌, ℤ, Bool, true, false, cond, List, [], ◌∷◌, length, refl, sym, ap, ◌∙◌, arith}
 use Rattle.std.specs.Prelude.{nat_le}
 use Rattle.std.proofs.lemmas.Bool.{leb-false}
 use Rattle.record_batch.specs.Batch.{BatchData}
 use Rattle.partition_log.specs.Log.{end_of, stable}
 use Rattle.partition_log.specs.Fetch.{below, reaching, fitting, at_least_one, served}
-use Rattle.partition_log.specs.Laws.{total_bytes}
 use Rattle.partition_log.proofs.Longest.{fitting_longest}
 use Rattle.api_laws.specs.Longest.{IsLongest, ServesWhatFits}
 
