@@ -2,7 +2,7 @@
 use Rattle.std.proofs.Common.{◌≡◌, ◌⊎◌, inl, inr, ℕ, ◌+◌, ◌<◌, ◌≤◌, ◌&&◌, Bool, true, false, cond, List, length, map, max, min, Option, Some, None, refl, sym, ap, ◌∙◌, arith}
 use Rattle.std.specs.Prelude.{slice_get, nat_lt}
 use Rattle.std.specs.Option.{option_map}
-use Rattle.std.proofs.lemmas.Bool.{true≢false, ltb-true, ltb-false, lt-ltb}
+use Rattle.std.proofs.lemmas.Bool.{true≢false, ltb-true, ltb-false, lt-ltb, and_parts}
 use Rattle.std.proofs.lemmas.List.{length-map}
 use Rattle.std.proofs.lemmas.Option.{slice_get-map}
 use Rattle.transactions.specs.declared.transaction.Transaction.{Transaction}
@@ -53,16 +53,12 @@ is_open PrepareAbort h = absurd (true≢false (sym h))
 is_open CompleteCommit h = absurd (true≢false (sym h))
 is_open CompleteAbort h = absurd (true≢false (sym h))
 
-both : (a b : Bool) → (a && b) ≡ true → (a ≡ true) × (b ≡ true)
-both true b h = (refl, h)
-both false b h = absurd (true≢false (sym h))
-
 due_is : (moment : ℕ) (t : Transaction) → IsOver moment t → is_due moment t ≡ true
 due_is moment t over = (λ i. is_ongoing (over.ongoing i) && lt-ltb (t.start + t.timeout) moment over.end i)
 
 over_is : (moment : ℕ) (t : Transaction) → is_due moment t ≡ true → IsOver moment t
 over_is moment t due =
-    let parts = both (is_ongoing t.phase) (nat_lt (t.start + t.timeout) moment) due in
+    let parts = and_parts (is_ongoing t.phase) (nat_lt (t.start + t.timeout) moment) due in
     record { ongoing = is_open t.phase parts.0; end = ltb-true (t.start + t.timeout) moment parts.1 }
 
 is_fenced : (moment : ℕ) (t : Transaction) → IsOver moment t → expired moment t ≡ fenced t

@@ -1,5 +1,6 @@
-//! The laws of transactions over the whole broker: whatever the events are, each transaction that is prepared is
-//! completed at each of its partitions and groups, and a producer that is fenced writes nothing more.
+//! The laws of the whole broker's world: what settings begin with, what a tick ends, and of transactions, whatever the
+//! events are: each that is prepared is completed at each of its partitions and groups, and a producer that is fenced
+//! writes nothing more.
 #![tactic(auto)]
 
 mod laws;

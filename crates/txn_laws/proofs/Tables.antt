@@ -3,7 +3,7 @@ use Rattle.std.proofs.Common.{◌≡◌, ◌≢◌, ◌⊎◌, inl, inr, Err, �
 use Rattle.std.specs.Prelude.{◌<ℤ◌, ◌≤ℤ◌, int_le, int_lt}
 use Rattle.std.specs.Ordering.{int_eq}
 use Rattle.std.specs.Str.{bytes_eq}
-use Rattle.std.proofs.lemmas.Bool.{true≢false, le-leb, or_cases}
+use Rattle.std.proofs.lemmas.Bool.{true≢false, le-leb, or_cases, and_parts}
 use Rattle.std.proofs.lemmas.Bool.Decides.{Decides-int_eq}
 use Rattle.std.proofs.lemmas.Int.{ints}
 use Rattle.std.proofs.lemmas.List.{length-append, length-map}
@@ -51,13 +51,9 @@ unrefused code t low =
     ∙ ap (λ (b : Bool). cond (b && int_lt t.pair.epoch last_epoch) None (Some code)) (same_int t.pair.epoch)
     ∙ ap (λ (b : Bool). cond b None (Some code)) (is_low t.pair.epoch low)
 
-both : (a b : Bool) → (a && b) ≡ true → (a ≡ true) × (b ≡ true)
-both true b h = (refl, h)
-both false b h = absurd (true≢false (sym h))
-
 same_pair : (a b : Pair) → is_same_pair a b ≡ true → a ≡ b
 same_pair a b h =
-    let parts = both (int_eq a.producer b.producer) (int_eq a.epoch b.epoch) h in
+    let parts = and_parts (int_eq a.producer b.producer) (int_eq a.epoch b.epoch) h in
     let producer = (Decides-int_eq a.producer b.producer).0 parts.0 in
     let epoch = (Decides-int_eq a.epoch b.epoch).0 parts.1 in
     (λ i. record { producer = producer i; epoch = epoch i })
@@ -328,7 +324,7 @@ inits = record { known = known; new = new }
 
 same_partition : (p q : TopicPartition) → is_same_partition p q ≡ true → p ≡ q
 same_partition p q h =
-    let parts = both (bytes_eq p.topic q.topic) (int_eq p.index q.index) h in
+    let parts = and_parts (bytes_eq p.topic q.topic) (int_eq p.index q.index) h in
     let topic = same_is p.topic q.topic parts.0 in
     let index = (Decides-int_eq p.index q.index).0 parts.1 in
     (λ i. record { topic = topic i; index = index i })
