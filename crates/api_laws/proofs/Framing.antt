@@ -50,3 +50,14 @@ framed_are z r api sent low high small =
     ap (λ (o : Option Api). response_as o z r) sent
     ∙ ap framed (text_is z api r low high)
     ∙ ap (λ (l : List ℕ). l ++ after_size z api r) (size_is (length (after_size z api r)) small)
+
+-- ---- worked cases
+
+seven : four_bytes (word_of (pos 7)) ≡ 0 ∷ 0 ∷ 0 ∷ 7 ∷ []
+seven = refl
+
+minus_one : four_bytes (word_of (negsuc 0)) ≡ 255 ∷ 255 ∷ 255 ∷ 255 ∷ []
+minus_one = refl
+
+thousand : four_bytes 1000 ≡ 0 ∷ 0 ∷ 3 ∷ 232 ∷ []
+thousand = refl
