@@ -1,6 +1,7 @@
 pub mod Base
 pub mod Turns
 pub mod Tables
+pub mod TurnedAway
 pub mod Targets
 pub mod Calls
 pub mod Moves

@@ -23,22 +23,23 @@ use Rattle.transactions.specs.declared.transaction.Phase.{Phase}
 use Rattle.transactions.specs.declared.transaction.Phase.TheVariants.{Empty, Ongoing, PrepareCommit, PrepareAbort, CompleteCommit, CompleteAbort}
 use Rattle.transactions.specs.declared.ending.EndForm.{EndForm}
 use Rattle.transactions.specs.declared.ending.EndForm.TheVariants.{Plain, Fencing, Raising}
-use Rattle.transactions.specs.Words.{is_empty, is_same_pair, raised, pair_after, given_after, last_epoch, targets, is_same_partition, has_partition}
+use Rattle.transactions.specs.Words.{is_empty, is_same_pair, raised, pair_after, given_after, last_epoch, targets, is_same_partition, has_partition, has_group}
 use Rattle.transactions.specs.Coordinator.{CoordinatorValue, has_id, recorded, put, fresh, turn_code, turned, pair_answer, turn_answer}
 use Rattle.transactions.specs.Preparing.{markers, marker_for, pair_refusal}
 use Rattle.transactions.specs.EndTxn.{other_epoch, renewed, end_in, is_kept, is_again, end_again, end_by, end_found, end}
-use Rattle.transactions.specs.Adding.{partition_added, partitions_added, with_partitions, beginning, open_in, open_by, open_found, grown, add_partitions}
+use Rattle.transactions.specs.Adding.{partition_added, partitions_added, with_partitions, group_added, with_group, beginning, open_in, open_by, open_found, open_transaction, grown, add_partitions, add_group}
 use Rattle.transactions.specs.InitProducerId.{timeout_within, created, begun, init_in, init_for, init}
-use Rattle.txn_laws.specs.Tables.{end_code, end_markers, IsRenewing, IsNext, ComesWithOwn, EndTable, init_code, IsClosed, InitsByTable, InitsNew, InitTable, add_code, IsIn, AddsEach, TakesIn, AddTable}
+use Rattle.txn_laws.specs.Tables.{end_code, end_markers, IsRenewing, IsNext, ComesWithOwn, EndTable, init_code, IsClosed, InitsByTable, InitsNew, InitTable, add_code, AddsEach, TakesIn, AddTable, TakesGroupIn, GroupTable}
+use Rattle.txn_laws.specs.Sound.{IsAmong}
 use Rattle.txn_laws.proofs.Base.{same_is, is_same, recorded_put}
 
 -- ---- what the premises say
 
-not_empty : (id : List ℕ) → id ≢ [] → is_empty id ≡ false
+pub not_empty : (id : List ℕ) → id ≢ [] → is_empty id ≡ false
 not_empty [] h = absurd (h refl)
 not_empty (b ∷ bs) h = refl
 
-same_int : (z : ℤ) → int_eq z z ≡ true
+pub same_int : (z : ℤ) → int_eq z z ≡ true
 same_int z = (Decides-int_eq z z).1 refl
 
 is_low : (e : ℤ) → e <ℤ pos 32767 → int_lt e last_epoch ≡ true
@@ -65,7 +66,7 @@ not_kept (Some k) pair new = by_same (is_same_pair k pair) refl where
   by_same true h = absurd (new (ap (λ (p : Pair). Some p) (same_pair k pair h)))
   by_same false h = refl
 
-not_again : (form : EndForm) (t : Transaction) (pair : Pair) → t.kept ≢ Some pair → is_again form t pair ≡ false
+pub not_again : (form : EndForm) (t : Transaction) (pair : Pair) → t.kept ≢ Some pair → is_again form t pair ≡ false
 not_again Plain t pair new = refl
 not_again Fencing t pair new = refl
 not_again Raising t pair new = not_kept t.kept pair new
@@ -329,54 +330,74 @@ same_partition p q h =
     let index = (Decides-int_eq p.index q.index).0 parts.1 in
     (λ i. record { topic = topic i; index = index i })
 
-is_in : (added : List TopicPartition) (p : TopicPartition) → has_partition added p ≡ true → IsIn added p
+is_in : (added : List TopicPartition) (p : TopicPartition) → has_partition added p ≡ true → IsAmong added p
 is_in [] p h = absurd (true≢false (sym h))
 is_in (q ∷ qs) p h = by_case (or_cases (is_same_partition q p) (has_partition qs p) h) (is_in qs p) where
-  by_case : (is_same_partition q p ≡ true) ⊎ (has_partition qs p ≡ true) → (has_partition qs p ≡ true → IsIn qs p) → IsIn (q ∷ qs) p
+  by_case : (is_same_partition q p ≡ true) ⊎ (has_partition qs p ≡ true) → (has_partition qs p ≡ true → IsAmong qs p) → IsAmong (q ∷ qs) p
   by_case (inl here) more = inl (same_partition q p here)
   by_case (inr later) more = inr (more later)
 
-in_front : (qs rs : List TopicPartition) (p : TopicPartition) → IsIn qs p → IsIn (qs ++ rs) p
+in_front : {X : Type 0} (qs rs : List X) (p : X) → IsAmong qs p → IsAmong (qs ++ rs) p
 in_front [] rs p h = absurd h
 in_front (q ∷ qs) rs p (inl here) = inl here
 in_front (q ∷ qs) rs p (inr later) = inr (in_front qs rs p later)
 
-in_last : (qs : List TopicPartition) (p : TopicPartition) → IsIn (qs ++ p ∷ []) p
+in_last : {X : Type 0} (qs : List X) (p : X) → IsAmong (qs ++ p ∷ []) p
 in_last [] p = inl refl
 in_last (q ∷ qs) p = inr (in_last qs p)
 
-in_push : (qs : List TopicPartition) (r p : TopicPartition) → IsIn (qs ++ r ∷ []) p → IsIn qs p ⊎ (r ≡ p)
+in_push : {X : Type 0} (qs : List X) (r p : X) → IsAmong (qs ++ r ∷ []) p → IsAmong qs p ⊎ (r ≡ p)
 in_push [] r p (inl last) = inr last
 in_push [] r p (inr h) = absurd h
 in_push (q ∷ qs) r p (inl here) = inl (inl here)
 in_push (q ∷ qs) r p (inr later) = by_case (in_push qs r p later) where
-  by_case : IsIn qs p ⊎ (r ≡ p) → IsIn (q ∷ qs) p ⊎ (r ≡ p)
+  by_case : IsAmong qs p ⊎ (r ≡ p) → IsAmong (q ∷ qs) p ⊎ (r ≡ p)
   by_case (inl there) = inl (inr there)
   by_case (inr last) = inr last
+
+-- one that is there already, or comes last
+one_there : {X : Type 0} (added : List X) (r : X) → IsAmong added r → AddsEach added (r ∷ []) added
+one_there {X} added r there = record {
+  kept = λ p h. h;
+  all = λ p h. by_named p h;
+  alone = λ p h. inl h;
+} where
+  by_named : (p : X) → IsAmong (r ∷ []) p → IsAmong added p
+  by_named p (inl same) = subst (IsAmong added) same there
+  by_named p (inr h) = absurd h
+
+one_last : {X : Type 0} (added : List X) (r : X) → AddsEach added (r ∷ []) (added ++ r ∷ [])
+one_last {X} added r = record {
+  kept = λ p h. in_front added (r ∷ []) p h;
+  all = λ p h. by_named p h;
+  alone = λ p h. by_place p (in_push added r p h);
+} where
+  by_named : (p : X) → IsAmong (r ∷ []) p → IsAmong (added ++ r ∷ []) p
+  by_named p (inl same) = subst (IsAmong (added ++ r ∷ [])) same (in_last added r)
+  by_named p (inr h) = absurd h
+
+  by_place : (p : X) → IsAmong added p ⊎ (r ≡ p) → IsAmong added p ⊎ IsAmong (r ∷ []) p
+  by_place p (inl there) = inl there
+  by_place p (inr last) = inr (inl last)
 
 one_added : (added : List TopicPartition) (r : TopicPartition) → AddsEach added (r ∷ []) (partition_added added r)
 one_added added r = by_test (has_partition added r) refl where
   by_test : (b : Bool) → has_partition added r ≡ b → AddsEach added (r ∷ []) (cond b added (added ++ r ∷ []))
-  by_test true there = record {
-    kept = λ p h. h;
-    all = λ p h. by_named p h;
-    alone = λ p h. inl h;
-  } where
-    by_named : (p : TopicPartition) → IsIn (r ∷ []) p → IsIn added p
-    by_named p (inl same) = subst (IsIn added) same (is_in added r there)
-    by_named p (inr h) = absurd h
-  by_test false new = record {
-    kept = λ p h. in_front added (r ∷ []) p h;
-    all = λ p h. by_named p h;
-    alone = λ p h. by_place p (in_push added r p h);
-  } where
-    by_named : (p : TopicPartition) → IsIn (r ∷ []) p → IsIn (added ++ r ∷ []) p
-    by_named p (inl same) = subst (IsIn (added ++ r ∷ [])) same (in_last added r)
-    by_named p (inr h) = absurd h
+  by_test true there = one_there added r (is_in added r there)
+  by_test false new = one_last added r
 
-    by_place : (p : TopicPartition) → IsIn added p ⊎ (r ≡ p) → IsIn added p ⊎ IsIn (r ∷ []) p
-    by_place p (inl there) = inl there
-    by_place p (inr last) = inr (inl last)
+is_named : (added : List (List ℕ)) (g : List ℕ) → has_group added g ≡ true → IsAmong added g
+is_named [] g h = absurd (true≢false (sym h))
+is_named (x ∷ xs) g h = by_case (or_cases (bytes_eq x g) (has_group xs g) h) (is_named xs g) where
+  by_case : (bytes_eq x g ≡ true) ⊎ (has_group xs g ≡ true) → (has_group xs g ≡ true → IsAmong xs g) → IsAmong (x ∷ xs) g
+  by_case (inl here) more = inl (same_is x g here)
+  by_case (inr later) more = inr (more later)
+
+group_is_added : (added : List (List ℕ)) (g : List ℕ) → AddsEach added (g ∷ []) (group_added added g)
+group_is_added added g = by_test (has_group added g) refl where
+  by_test : (b : Bool) → has_group added g ≡ b → AddsEach added (g ∷ []) (cond b added (added ++ g ∷ []))
+  by_test true there = one_there added g (is_named added g there)
+  by_test false new = one_last added g
 
 then_more : (old more new : List TopicPartition) (r : TopicPartition) (rs : List TopicPartition) → AddsEach old (r ∷ []) more → AddsEach more rs new → AddsEach old (r ∷ rs) new
 then_more old more new r rs first rest = record {
@@ -384,16 +405,16 @@ then_more old more new r rs first rest = record {
   all = λ p h. by_named p h;
   alone = λ p h. by_place p (rest.alone p h);
 } where
-  by_named : (p : TopicPartition) → IsIn (r ∷ rs) p → IsIn new p
+  by_named : (p : TopicPartition) → IsAmong (r ∷ rs) p → IsAmong new p
   by_named p (inl same) = rest.kept p (first.all p (inl same))
   by_named p (inr later) = rest.all p later
 
-  by_first : (p : TopicPartition) → IsIn old p ⊎ IsIn (r ∷ []) p → IsIn old p ⊎ IsIn (r ∷ rs) p
+  by_first : (p : TopicPartition) → IsAmong old p ⊎ IsAmong (r ∷ []) p → IsAmong old p ⊎ IsAmong (r ∷ rs) p
   by_first p (inl there) = inl there
   by_first p (inr (inl same)) = inr (inl same)
   by_first p (inr (inr h)) = absurd h
 
-  by_place : (p : TopicPartition) → IsIn more p ⊎ IsIn rs p → IsIn old p ⊎ IsIn (r ∷ rs) p
+  by_place : (p : TopicPartition) → IsAmong more p ⊎ IsAmong rs p → IsAmong old p ⊎ IsAmong (r ∷ rs) p
   by_place p (inl there) = by_first p (first.alone p there)
   by_place p (inr later) = inr (inr later)
 
@@ -401,22 +422,20 @@ each_added : (added ps : List TopicPartition) → AddsEach added ps (partitions_
 each_added added [] = record { kept = λ p h. h; all = λ p h. absurd h; alone = λ p h. inl h }
 each_added added (r ∷ rs) = then_more added (partition_added added r) (partitions_added (partition_added added r) rs) r rs (one_added added r) (each_added (partition_added added r) rs)
 
-adds_for : (c : CoordinatorValue) (id : List ℕ) (pair : Pair) (moment : ℕ) (p : TopicPartition) (ps : List TopicPartition) (t : Transaction) → id ≢ [] → recorded c.transactions id ≡ Some t → pair ≡ t.pair → t.pair.epoch <ℤ pos 32767
-    → add_partitions c id pair moment (p ∷ ps) ≡ grown (with_partitions (p ∷ ps)) (open_in t.phase t moment)
-adds_for c id pair moment p ps t named found own low =
-    ap (grown (with_partitions (p ∷ ps)))
-    (ap (λ (b : Bool). cond b (Err errors.InvalidRequest) (open_found (recorded c.transactions id) pair moment)) (not_empty id named)
+opens : (c : CoordinatorValue) (id : List ℕ) (pair : Pair) (moment : ℕ) (t : Transaction) → id ≢ [] → recorded c.transactions id ≡ Some t → pair ≡ t.pair → t.pair.epoch <ℤ pos 32767 → open_transaction c id pair moment ≡ open_in t.phase t moment
+opens c id pair moment t named found own low =
+    ap (λ (b : Bool). cond b (Err errors.InvalidRequest) (open_found (recorded c.transactions id) pair moment)) (not_empty id named)
     ∙ (λ i. open_found (found i) (own i) moment)
-    ∙ ap (λ (o : Option ErrorCode). open_by o t moment) (unrefused errors.InvalidProducerEpoch t low))
+    ∙ ap (λ (o : Option ErrorCode). open_by o t moment) (unrefused errors.InvalidProducerEpoch t low)
 
-add_codes : (phase : Phase) (t : Transaction) (moment : ℕ) (ps : List TopicPartition) → number_of (turn_code (grown (with_partitions ps) (open_in phase t moment))) ≡ add_code phase
+add_codes : (phase : Phase) (t : Transaction) (moment : ℕ) (grow : Transaction → Transaction) → number_of (turn_code (grown grow (open_in phase t moment))) ≡ add_code phase
 unfolding number_of
-add_codes Empty t moment ps = refl
-add_codes CompleteCommit t moment ps = refl
-add_codes CompleteAbort t moment ps = refl
-add_codes Ongoing t moment ps = refl
-add_codes PrepareCommit t moment ps = refl
-add_codes PrepareAbort t moment ps = refl
+add_codes Empty t moment grow = refl
+add_codes CompleteCommit t moment grow = refl
+add_codes CompleteAbort t moment grow = refl
+add_codes Ongoing t moment grow = refl
+add_codes PrepareCommit t moment grow = refl
+add_codes PrepareAbort t moment grow = refl
 
 put_found : (c : CoordinatorValue) (id : List ℕ) (r : Transaction) → has_id id r ≡ true → recorded (turned c (Puts errors.None r [] [])).transactions id ≡ Some r
 put_found c id r own = recorded_put c.transactions r id ∙ ap (λ (b : Bool). cond b (Some r) (recorded c.transactions id)) own
@@ -462,8 +481,53 @@ takes PrepareAbort c id moment ps t is own h = absurd (no_code h)
 
 pub adds : AddTable
 adds c id pair moment p ps t named found own low =
-    let same = adds_for c id pair moment p ps t named found own low in
+    let same = ap (grown (with_partitions (p ∷ ps))) (opens c id pair moment t named found own low) in
     record {
-      code = ap (λ (u : Turn). number_of (turn_code u)) same ∙ add_codes t.phase t moment (p ∷ ps);
+      code = ap (λ (u : Turn). number_of (turn_code u)) same ∙ add_codes t.phase t moment (with_partitions (p ∷ ps));
       taken = λ h. subst (TakesIn c id moment (p ∷ ps) t) (sym same) (takes t.phase c id moment (p ∷ ps) t refl (has_own c.transactions id t found) h);
+    }
+
+-- ---- AddOffsetsToTxn
+
+group_begins : (c : CoordinatorValue) (id : List ℕ) (moment : ℕ) (group : List ℕ) (t : Transaction) → has_id id t ≡ true → (t.phase ≡ Ongoing → ⊥) → TakesGroupIn c id moment group t (Puts errors.None (with_group group (beginning t moment)) [] [])
+group_begins c id moment group t own closed = record {
+  transaction = with_group group (beginning t moment);
+  found = put_found c id (with_group group (beginning t moment)) own;
+  ongoing = refl;
+  pair = refl;
+  begins = λ h. refl;
+  goes_on = λ h. absurd (closed h);
+  groups = group_is_added t.groups group;
+  partitions = refl;
+}
+
+takes_group : (phase : Phase) (c : CoordinatorValue) (id : List ℕ) (moment : ℕ) (group : List ℕ) (t : Transaction) → t.phase ≡ phase → has_id id t ≡ true → add_code phase ≡ pos 0 → TakesGroupIn c id moment group t (grown (with_group group) (open_in phase t moment))
+takes_group Empty c id moment group t is own h = group_begins c id moment group t own (λ ongoing. other (sym is ∙ ongoing)) where
+  other : Empty ≡ Ongoing → ⊥
+  other e = cc
+takes_group CompleteCommit c id moment group t is own h = group_begins c id moment group t own (λ ongoing. other (sym is ∙ ongoing)) where
+  other : CompleteCommit ≡ Ongoing → ⊥
+  other e = cc
+takes_group CompleteAbort c id moment group t is own h = group_begins c id moment group t own (λ ongoing. other (sym is ∙ ongoing)) where
+  other : CompleteAbort ≡ Ongoing → ⊥
+  other e = cc
+takes_group Ongoing c id moment group t is own h = record {
+  transaction = with_group group (record t { kept = None });
+  found = put_found c id (with_group group (record t { kept = None })) own;
+  ongoing = is;
+  pair = refl;
+  begins = λ closed. absurd (subst IsClosed is closed);
+  goes_on = λ still. refl;
+  groups = group_is_added t.groups group;
+  partitions = refl;
+}
+takes_group PrepareCommit c id moment group t is own h = absurd (no_code h)
+takes_group PrepareAbort c id moment group t is own h = absurd (no_code h)
+
+pub adds_group : GroupTable
+adds_group c id pair moment group t named found own low =
+    let same = ap (grown (with_group group)) (opens c id pair moment t named found own low) in
+    record {
+      code = ap (λ (u : Turn). number_of (turn_code u)) same ∙ add_codes t.phase t moment (with_group group);
+      taken = λ h. subst (TakesGroupIn c id moment group t) (sym same) (takes_group t.phase c id moment group t refl (has_own c.transactions id t found) h);
     }

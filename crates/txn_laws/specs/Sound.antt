@@ -1,5 +1,5 @@
 -- What holds in every world that moves reach.
-use Rattle.std.specs.Prelude.{◌≡◌, true, ℕ, ◌≤ℤ◌, List, [], ◌∷◌, Some}
+use Rattle.std.specs.Prelude.{◌≡◌, ◌⊎◌, true, ℕ, ◌≤ℤ◌, List, [], ◌∷◌, Some}
 use Rattle.transactions.specs.declared.pair.Pair.{Pair}
 use Rattle.transactions.specs.declared.target.Target.{Target}
 use Rattle.transactions.specs.declared.transaction.Transaction.{Transaction}
@@ -16,6 +16,11 @@ use Rattle.txn_laws.specs.Small.Entry.{Data, Marker, Other}
 abbrev pub Each : {X : Type 0} → (X → Type 0) → List X → Type 0
 Each P [] = Unit {0}
 Each P (x ∷ xs) = P x × Each P xs
+
+-- it is one of the elements
+abbrev pub IsAmong : {X : Type 0} → List X → X → Type 0
+IsAmong [] x = ⊥
+IsAmong (y ∷ ys) x = (y ≡ x) ⊎ IsAmong ys x
 
 -- the records have different ids
 abbrev pub HaveOwnIds : List Transaction → Type 0

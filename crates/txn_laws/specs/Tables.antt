@@ -1,4 +1,4 @@
--- What an EndTxn, an InitProducerId and an AddPartitionsToTxn come to, as tables: by the phase of the id's transaction, in the numbers of the protocol's
+-- What an EndTxn, an InitProducerId, an AddPartitionsToTxn and an AddOffsetsToTxn come to, as tables: by the phase of the id's transaction, in the numbers of the protocol's
 -- guide (KIP-98, 'Transaction Coordinator'; KIP-890 for version 5). 48 is INVALID_TXN_STATE, 51 CONCURRENT_TRANSACTIONS.
 use Rattle.std.specs.Prelude.{◌≡◌, ◌≢◌, ◌⊎◌, ◌<ℤ◌, ◌≤ℤ◌, ◌+ℤ◌, ℕ, ◌+◌, ◌≤◌, ℤ, pos, List, [], ◌∷◌, length, Some, None}
 use Rattle.wire_types.specs.ErrorCode.{number_of}
@@ -15,7 +15,8 @@ use Rattle.transactions.specs.EndTxn.{end}
 use Rattle.transactions.specs.InitProducerId.{init}
 use Rattle.transactions.specs.declared.target.TopicPartition.{TopicPartition}
 use Rattle.transactions.specs.declared.turn.Turn.{Turn}
-use Rattle.transactions.specs.Adding.{add_partitions}
+use Rattle.transactions.specs.Adding.{add_partitions, add_group}
+use Rattle.txn_laws.specs.Sound.{IsAmong}
 
 -- ---- EndTxn
 
@@ -137,15 +138,11 @@ add_code CompleteAbort = pos 0
 add_code PrepareCommit = pos 51
 add_code PrepareAbort = pos 51
 
-abbrev pub IsIn : List TopicPartition → TopicPartition → Type 0
-IsIn [] p = ⊥
-IsIn (q ∷ qs) p = (q ≡ p) ⊎ IsIn qs p
-
 -- those that were there and those that are named, and nothing else
-pub record AddsEach (old named new : List TopicPartition) : Type 0 where
-  pub kept : (p : TopicPartition) → IsIn old p → IsIn new p
-  pub all : (p : TopicPartition) → IsIn named p → IsIn new p
-  pub alone : (p : TopicPartition) → IsIn new p → IsIn old p ⊎ IsIn named p
+pub record AddsEach {X : Type 0} (old named new : List X) : Type 0 where
+  pub kept : (x : X) → IsAmong old x → IsAmong new x
+  pub all : (x : X) → IsAmong named x → IsAmong new x
+  pub alone : (x : X) → IsAmong new x → IsAmong old x ⊎ IsAmong named x
 
 -- the id's transaction t is open then, since this moment where it was closed, and has taken them in
 pub record TakesIn (c : CoordinatorValue) (id : List ℕ) (moment : ℕ) (ps : List TopicPartition) (t : Transaction) (turn : Turn) : Type 0 where
@@ -166,3 +163,24 @@ pub record AddsByTable (c : CoordinatorValue) (id : List ℕ) (pair : Pair) (mom
 abbrev pub AddTable : Type 0
 AddTable = (c : CoordinatorValue) (id : List ℕ) (pair : Pair) (moment : ℕ) (p : TopicPartition) (ps : List TopicPartition) (t : Transaction)
     → id ≢ [] → recorded c.transactions id ≡ Some t → pair ≡ t.pair → t.pair.epoch <ℤ pos 32767 → AddsByTable c id pair moment (p ∷ ps) t
+
+-- ---- AddOffsetsToTxn
+
+-- the same of a group
+pub record TakesGroupIn (c : CoordinatorValue) (id : List ℕ) (moment : ℕ) (group : List ℕ) (t : Transaction) (turn : Turn) : Type 0 where
+  pub transaction : Transaction
+  pub found : recorded (turned c turn).transactions id ≡ Some transaction
+  pub ongoing : transaction.phase ≡ Ongoing
+  pub pair : transaction.pair ≡ t.pair
+  pub begins : IsClosed t.phase → transaction.start ≡ moment
+  pub goes_on : t.phase ≡ Ongoing → transaction.start ≡ t.start
+  pub groups : AddsEach t.groups (group ∷ []) transaction.groups
+  pub partitions : transaction.partitions ≡ t.partitions
+
+pub record AddsGroupByTable (c : CoordinatorValue) (id : List ℕ) (pair : Pair) (moment : ℕ) (group : List ℕ) (t : Transaction) : Type 0 where
+  pub code : number_of (turn_code (add_group c id pair moment group)) ≡ add_code t.phase
+  pub taken : add_code t.phase ≡ pos 0 → TakesGroupIn c id moment group t (add_group c id pair moment group)
+
+abbrev pub GroupTable : Type 0
+GroupTable = (c : CoordinatorValue) (id : List ℕ) (pair : Pair) (moment : ℕ) (group : List ℕ) (t : Transaction)
+    → id ≢ [] → recorded c.transactions id ≡ Some t → pair ≡ t.pair → t.pair.epoch <ℤ pos 32767 → AddsGroupByTable c id pair moment group t

@@ -7,15 +7,23 @@ ghost use Rattle.txn_laws.specs.Laws.{CompletionLaw, WaitingLaw, PreparingLaw, P
 ghost use Rattle.txn_laws.specs.Laws.{FencingLaw, RefusalLaw, OrderLaw};
 ghost use Rattle.txn_laws.specs.Laws.{IdsLaw, ExpiryLaw, TickLaw};
 ghost use Rattle.txn_laws.specs.Kept.{KeptLaw, KeptEndLaw};
-ghost use Rattle.txn_laws.specs.Tables.{AddTable, EndTable, InitTable};
+ghost use Rattle.txn_laws.specs.Tables.{AddTable, EndTable, GroupTable, InitTable};
+ghost use Rattle.txn_laws.specs.TurnedAway.{TurnsAwayByTable};
 
 /// What an EndTxn with an id's own pair is answered, how many markers it owes and which pair it leaves, by the phase of the
-/// id's transaction, the version and what is asked for; and the same of an InitProducerId, and of an AddPartitionsToTxn,
-/// which takes in what it names and nothing else: as tables of the protocol's numbers.
+/// id's transaction, the version and what is asked for; and the same of an InitProducerId, and of an AddPartitionsToTxn
+/// and an AddOffsetsToTxn, which take in what they name and nothing else: as tables of the protocol's numbers.
 pub fn calls_by_table()
     ensures ends { EndTable }
     ensures inits { InitTable }
     ensures adds { AddTable }
+    ensures groups { GroupTable }
+{}
+
+/// What a call is told that comes with the empty id, an unknown one, another producer id or another epoch, with a timeout out of its
+/// range, or once more: the protocol's number, and nothing is changed.
+pub fn turns_away_by_table()
+    ensures { TurnsAwayByTable }
 {}
 
 /// What every move keeps holds from the beginning on.

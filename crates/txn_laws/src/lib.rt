@@ -4,4 +4,6 @@
 
 mod laws;
 
-pub use laws::{calls_by_table, completion, expiry, fencing, keeping, soundness};
+pub use laws::{
+    calls_by_table, completion, expiry, fencing, keeping, soundness, turns_away_by_table,
+};
