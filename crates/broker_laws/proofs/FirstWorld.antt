@@ -15,35 +15,36 @@ use Rattle.settings.specs.Fault.{is_within, is_topic_within}
 use Rattle.broker_world.specs.World.{LogValue}
 use Rattle.broker_world.specs.First.{magnitude, with_bindings, empty_logs, first_topics}
 use Rattle.broker_world.proofs.InRange.{faultless_in_range, topics_in_range}
-use Rattle.broker_laws.specs.FirstWorld.{bindings_of, IsListed, AreAllDifferent, AreNumberedFrom, AreFirstBindings, AreFirstTopics, FirstWorldIsTheSettings}
+use Rattle.txn_laws.specs.Sound.{IsAmong}
+use Rattle.broker_laws.specs.FirstWorld.{bindings_of, AreAllDifferent, AreNumberedFrom, AreFirstBindings, AreFirstTopics, FirstWorldIsTheSettings}
 
 -- ---- what a list holds
 
-listed_front : (xs ys : List Binding) (b : Binding) → IsListed xs b → IsListed (xs ++ ys) b
+listed_front : (xs ys : List Binding) (b : Binding) → IsAmong xs b → IsAmong (xs ++ ys) b
 listed_front [] ys b h = absurd h
 listed_front (x ∷ xs) ys b (inl same) = inl same
 listed_front (x ∷ xs) ys b (inr later) = inr (listed_front xs ys b later)
 
-listed_last : (xs : List Binding) (b : Binding) → IsListed (xs ++ b ∷ []) b
+listed_last : (xs : List Binding) (b : Binding) → IsAmong (xs ++ b ∷ []) b
 listed_last [] b = inl refl
 listed_last (x ∷ xs) b = inr (listed_last xs b)
 
-listed_push : (xs : List Binding) (y b : Binding) → IsListed (xs ++ y ∷ []) b → IsListed xs b ⊎ (y ≡ b)
+listed_push : (xs : List Binding) (y b : Binding) → IsAmong (xs ++ y ∷ []) b → IsAmong xs b ⊎ (y ≡ b)
 listed_push [] y b (inl same) = inr same
 listed_push [] y b (inr h) = absurd h
 listed_push (x ∷ xs) y b (inl same) = inl (inl same)
 listed_push (x ∷ xs) y b (inr later) = by_rest (listed_push xs y b later) where
-  by_rest : IsListed xs b ⊎ (y ≡ b) → IsListed (x ∷ xs) b ⊎ (y ≡ b)
+  by_rest : IsAmong xs b ⊎ (y ≡ b) → IsAmong (x ∷ xs) b ⊎ (y ≡ b)
   by_rest (inl there) = inl (inr there)
   by_rest (inr last) = inr last
 
 -- one more that isn't there
-different_push : (xs : List Binding) (y : Binding) → AreAllDifferent xs → (IsListed xs y → ⊥) → AreAllDifferent (xs ++ y ∷ [])
+different_push : (xs : List Binding) (y : Binding) → AreAllDifferent xs → (IsAmong xs y → ⊥) → AreAllDifferent (xs ++ y ∷ [])
 different_push [] y h new = ((λ there. there), tt)
 different_push (x ∷ xs) y h new = (apart, different_push xs y h.1 (λ there. new (inr there))) where
-  apart : IsListed (xs ++ y ∷ []) x → ⊥
+  apart : IsAmong (xs ++ y ∷ []) x → ⊥
   apart there = by_place (listed_push xs y x there) where
-    by_place : IsListed xs x ⊎ (y ≡ x) → ⊥
+    by_place : IsAmong xs x ⊎ (y ≡ x) → ⊥
     by_place (inl inside) = h.0 inside
     by_place (inr last) = new (inl (sym last))
 
@@ -51,28 +52,28 @@ different_front : (xs : List Binding) (y : Binding) → AreAllDifferent (xs ++ y
 different_front [] y h = tt
 different_front (x ∷ xs) y h = ((λ there. h.0 (listed_front xs (y ∷ []) x there)), different_front xs y h.1)
 
-different_last : (xs : List Binding) (y : Binding) → AreAllDifferent (xs ++ y ∷ []) → IsListed xs y → ⊥
+different_last : (xs : List Binding) (y : Binding) → AreAllDifferent (xs ++ y ∷ []) → IsAmong xs y → ⊥
 different_last [] y h there = there
-different_last (x ∷ xs) y h (inl same) = h.0 (subst (IsListed (xs ++ y ∷ [])) (sym same) (listed_last xs y))
+different_last (x ∷ xs) y h (inl same) = h.0 (subst (IsAmong (xs ++ y ∷ [])) (sym same) (listed_last xs y))
 different_last (x ∷ xs) y h (inr later) = different_last xs y h.1 later
 
 -- ---- a book
 
-there_is : (es : List Numbered) (b : Binding) → is_some (number_of es b) ≡ true → IsListed (bindings_of es) b
+there_is : (es : List Numbered) (b : Binding) → is_some (number_of es b) ≡ true → IsAmong (bindings_of es) b
 there_is [] b h = absurd (true≢false (sym h))
 there_is (e ∷ es) b h = by_same (same_binding e.binding b) refl h (there_is es b) where
-  by_same : (t : Bool) → same_binding e.binding b ≡ t → is_some (cond t (Some e.number) (number_of es b)) ≡ true → (is_some (number_of es b) ≡ true → IsListed (bindings_of es) b) → IsListed (bindings_of (e ∷ es)) b
+  by_same : (t : Bool) → same_binding e.binding b ≡ t → is_some (cond t (Some e.number) (number_of es b)) ≡ true → (is_some (number_of es b) ≡ true → IsAmong (bindings_of es) b) → IsAmong (bindings_of (e ∷ es)) b
   by_same true is h more = inl (same_is_equal e.binding b is)
   by_same false is h more = inr (more h)
 
-not_there : (es : List Numbered) (b : Binding) → is_some (number_of es b) ≡ false → IsListed (bindings_of es) b → ⊥
+not_there : (es : List Numbered) (b : Binding) → is_some (number_of es b) ≡ false → IsAmong (bindings_of es) b → ⊥
 not_there [] b h there = there
 not_there (e ∷ es) b h there = by_same (same_binding e.binding b) refl h there (not_there es b) where
-  by_place : same_binding e.binding b ≡ false → is_some (number_of es b) ≡ false → IsListed (bindings_of (e ∷ es)) b → (is_some (number_of es b) ≡ false → IsListed (bindings_of es) b → ⊥) → ⊥
+  by_place : same_binding e.binding b ≡ false → is_some (number_of es b) ≡ false → IsAmong (bindings_of (e ∷ es)) b → (is_some (number_of es b) ≡ false → IsAmong (bindings_of es) b → ⊥) → ⊥
   by_place other h (inl same) more = true≢false (sym (equal_is_same e.binding b same) ∙ other)
   by_place other h (inr later) more = more h later
 
-  by_same : (t : Bool) → same_binding e.binding b ≡ t → is_some (cond t (Some e.number) (number_of es b)) ≡ false → IsListed (bindings_of (e ∷ es)) b → (is_some (number_of es b) ≡ false → IsListed (bindings_of es) b → ⊥) → ⊥
+  by_same : (t : Bool) → same_binding e.binding b ≡ t → is_some (cond t (Some e.number) (number_of es b)) ≡ false → IsAmong (bindings_of (e ∷ es)) b → (is_some (number_of es b) ≡ false → IsAmong (bindings_of es) b → ⊥) → ⊥
   by_same true is h there more = true≢false h
   by_same false is h there more = by_place is h there more
 
@@ -88,12 +89,12 @@ length_push (x ∷ es) e = omega (arith, length_push es e)
 record Holds (done : List Binding) (book : BookValue) : Type 0 where
   numbered : AreNumberedFrom 1 book.entries
   next : book.next ≡ 1 + length book.entries
-  all : (b : Binding) → IsListed done b → IsListed (bindings_of book.entries) b
-  alone : (b : Binding) → IsListed (bindings_of book.entries) b → IsListed done b
+  all : (b : Binding) → IsAmong done b → IsAmong (bindings_of book.entries) b
+  alone : (b : Binding) → IsAmong (bindings_of book.entries) b → IsAmong done b
   once : AreAllDifferent (bindings_of book.entries)
   in_order : AreAllDifferent done → bindings_of book.entries ≡ done
 
-stays : (done : List Binding) (book : BookValue) (b : Binding) → Holds done book → IsListed (bindings_of book.entries) b → Holds (done ++ b ∷ []) book
+stays : (done : List Binding) (book : BookValue) (b : Binding) → Holds done book → IsAmong (bindings_of book.entries) b → Holds (done ++ b ∷ []) book
 stays done book b h there = record {
   numbered = h.numbered;
   next = h.next;
@@ -102,29 +103,29 @@ stays done book b h there = record {
   once = h.once;
   in_order = λ different. absurd (different_last done b different (h.alone b there));
 } where
-  by_place : (x : Binding) → IsListed done x ⊎ (b ≡ x) → IsListed (bindings_of book.entries) x
+  by_place : (x : Binding) → IsAmong done x ⊎ (b ≡ x) → IsAmong (bindings_of book.entries) x
   by_place x (inl listed) = h.all x listed
-  by_place x (inr same) = subst (IsListed (bindings_of book.entries)) same there
+  by_place x (inr same) = subst (IsAmong (bindings_of book.entries)) same there
 
-grows : (done : List Binding) (book : BookValue) (b : Binding) → Holds done book → (IsListed (bindings_of book.entries) b → ⊥) → Holds (done ++ b ∷ []) (appended book b)
+grows : (done : List Binding) (book : BookValue) (b : Binding) → Holds done book → (IsAmong (bindings_of book.entries) b → ⊥) → Holds (done ++ b ∷ []) (appended book b)
 grows done book b h new = record {
   numbered = numbered_push book.entries 1 book.next b h.numbered h.next;
   next = omega (arith, h.next, length_push book.entries (record { number = book.next; binding = b }));
-  all = λ x listed. subst (λ (l : List Binding). IsListed l x) (sym bindings) (by_place x (listed_push done b x listed));
-  alone = λ x listed. back x (listed_push (bindings_of book.entries) b x (subst (λ (l : List Binding). IsListed l x) bindings listed));
+  all = λ x listed. subst (λ (l : List Binding). IsAmong l x) (sym bindings) (by_place x (listed_push done b x listed));
+  alone = λ x listed. back x (listed_push (bindings_of book.entries) b x (subst (λ (l : List Binding). IsAmong l x) bindings listed));
   once = subst AreAllDifferent (sym bindings) (different_push (bindings_of book.entries) b h.once new);
   in_order = λ different. bindings ∙ ap (λ (l : List Binding). l ++ b ∷ []) (h.in_order (different_front done b different));
 } where
   bindings : bindings_of (book.entries ++ record { number = book.next; binding = b } ∷ []) ≡ bindings_of book.entries ++ b ∷ []
   bindings = map-append (λ (e : Numbered). e.binding) book.entries (record { number = book.next; binding = b } ∷ [])
 
-  by_place : (x : Binding) → IsListed done x ⊎ (b ≡ x) → IsListed (bindings_of book.entries ++ b ∷ []) x
+  by_place : (x : Binding) → IsAmong done x ⊎ (b ≡ x) → IsAmong (bindings_of book.entries ++ b ∷ []) x
   by_place x (inl listed) = listed_front (bindings_of book.entries) (b ∷ []) x (h.all x listed)
-  by_place x (inr same) = subst (IsListed (bindings_of book.entries ++ b ∷ [])) same (listed_last (bindings_of book.entries) b)
+  by_place x (inr same) = subst (IsAmong (bindings_of book.entries ++ b ∷ [])) same (listed_last (bindings_of book.entries) b)
 
-  back : (x : Binding) → IsListed (bindings_of book.entries) x ⊎ (b ≡ x) → IsListed (done ++ b ∷ []) x
+  back : (x : Binding) → IsAmong (bindings_of book.entries) x ⊎ (b ≡ x) → IsAmong (done ++ b ∷ []) x
   back x (inl there) = listed_front done (b ∷ []) x (h.alone x there)
-  back x (inr same) = subst (IsListed (done ++ b ∷ [])) same (listed_last done b)
+  back x (inr same) = subst (IsAmong (done ++ b ∷ [])) same (listed_last done b)
 
 one_added : (done : List Binding) (book : BookValue) (b : Binding) → Holds done book → Holds (done ++ b ∷ []) (added book b)
 one_added done book b h = by_test (is_some (number_of book.entries b)) refl where

@@ -22,3 +22,16 @@ pub mod LogEnds
 pub mod Trailing
 pub mod FirstWorld
 pub mod Time
+pub mod CommitAbort
+pub mod Turning
+pub mod Membership
+pub mod Staying
+pub mod Pairing
+pub mod Refusing
+pub mod Putting
+pub mod LastPut
+pub mod Fetched
+pub mod ToldTopics
+pub mod Transacted
+pub mod RoundTrips
+pub mod TurnCodes

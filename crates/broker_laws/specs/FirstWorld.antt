@@ -1,11 +1,12 @@
 -- The world that settings begin with, in words of its own.
-use Rattle.std.specs.Prelude.{◌≡◌, ◌⊎◌, ℕ, ◌+◌, pos, List, [], ◌∷◌, length, map, None}
+use Rattle.std.specs.Prelude.{◌≡◌, ℕ, ◌+◌, pos, List, [], ◌∷◌, length, map, None}
 use Rattle.std.specs.List.{AllByRecursion}
 use Rattle.acl_binding.specs.declared.binding.Binding.{Binding}
 use Rattle.acl_binding.specs.declared.binding.Numbered.{Numbered}
 use Rattle.settings.specs.declared.settings.Settings.{Settings}
 use Rattle.settings.specs.declared.settings.TopicSetting.{TopicSetting}
 use Rattle.settings.specs.Fault.{first_fault}
+use Rattle.txn_laws.specs.Sound.{IsAmong}
 use Rattle.broker_world.specs.World.{World, TopicValue, LogValue}
 use Rattle.broker_world.specs.First.{first_world}
 
@@ -14,13 +15,9 @@ use Rattle.broker_world.specs.First.{first_world}
 abbrev pub bindings_of : List Numbered → List Binding
 bindings_of es = map (λ (e : Numbered). e.binding) es
 
-abbrev pub IsListed : List Binding → Binding → Type 0
-IsListed [] b = ⊥
-IsListed (x ∷ xs) b = (x ≡ b) ⊎ IsListed xs b
-
 abbrev pub AreAllDifferent : List Binding → Type 0
 AreAllDifferent [] = Unit {0}
-AreAllDifferent (b ∷ bs) = (IsListed bs b → ⊥) × AreAllDifferent bs
+AreAllDifferent (b ∷ bs) = (IsAmong bs b → ⊥) × AreAllDifferent bs
 
 -- numbered one after the other, from this number on
 abbrev pub AreNumberedFrom : ℕ → List Numbered → Type 0
@@ -30,8 +27,8 @@ AreNumberedFrom n (e ∷ es) = (e.number ≡ n) × AreNumberedFrom (n + 1) es
 -- all bindings of the settings and no other, each once, numbered from 1; where they are all different, in their order
 pub record AreFirstBindings (acls : List Binding) (es : List Numbered) : Type 0 where
   pub numbered : AreNumberedFrom 1 es
-  pub all : (b : Binding) → IsListed acls b → IsListed (bindings_of es) b
-  pub alone : (b : Binding) → IsListed (bindings_of es) b → IsListed acls b
+  pub all : (b : Binding) → IsAmong acls b → IsAmong (bindings_of es) b
+  pub alone : (b : Binding) → IsAmong (bindings_of es) b → IsAmong acls b
   pub once : AreAllDifferent (bindings_of es)
   pub in_order : AreAllDifferent acls → bindings_of es ≡ acls
 

@@ -6,3 +6,8 @@ pub mod LogEnds
 pub mod Trails
 pub mod FirstWorld
 pub mod Time
+pub mod CommitAbort
+pub mod Members
+pub mod Commits
+pub mod Fetches
+pub mod MemberCodes

@@ -9,9 +9,14 @@ ghost use Rattle.broker_laws.specs.Laws.{Prepares, OwesPrepared, CompletesPrepar
 ghost use Rattle.broker_laws.specs.Laws.{DecidesPrepared, DecidesWaiting, GroupsGoOn};
 ghost use Rattle.broker_laws.specs.Laws.{Fences, FencedWriteNothing, NoDataBehindAGreaterMarker};
 ghost use Rattle.broker_laws.specs.LogEnds.{LogsGoOn, EndsPrepared, EndsWaiting};
+ghost use Rattle.broker_laws.specs.CommitAbort.{CommitsAreShown};
 ghost use Rattle.broker_laws.specs.FirstWorld.{FirstWorldIsTheSettings};
 ghost use Rattle.broker_laws.specs.Time.{TicksEndWhatIsOver};
 ghost use Rattle.broker_laws.specs.Trails.{TrailTells, CompletesOverATrail, CompletesBeforeIdle, CompletesOverARun};
+ghost use Rattle.broker_laws.specs.Members.{MembersComeAndGo};
+ghost use Rattle.broker_laws.specs.Commits.{CommitsAreOfMembers};
+ghost use Rattle.broker_laws.specs.MemberCodes.{CallsByNumber};
+ghost use Rattle.broker_laws.specs.Fetches.{FetchesByEvents, CommitsAreFetched};
 
 /// The world that settings begin with has their bindings, each once, numbered from 1, and in their order where all are
 /// different; and their topics, each in its place with so many partitions, of which each is empty.
@@ -43,7 +48,7 @@ pub fn targets_exist()
 {}
 
 /// An open transaction is prepared by an EndTxn that is answered no error, by an InitProducerId of a producer that takes
-/// its id over, and by a tick behind the end of its time.
+/// its id over, and by a tick after the end of its time.
 pub fn prepares()
     ensures { (w : World) → Prepares w }
 {}
@@ -78,6 +83,13 @@ pub fn ends_batches()
     ensures waiting_cores { InCores EndsWaiting }
 {}
 
+/// What a client's EndTxn commits is shown to each consumer with read_committed that is served it, and what it aborts to none,
+/// once so many marker steps came: the marker in each log has type 1 for a commit and 0 for an abort, and of a group's offsets
+/// a commit shows what was staged, and an abort doesn't.
+pub fn commits_are_shown()
+    ensures { CommitsAreShown }
+{}
+
 /// What a partition's log holds stays, whatever event comes.
 pub fn logs_go_on()
     ensures { (w : World) → LogsGoOn w }
@@ -92,7 +104,7 @@ pub fn decides_groups()
     ensures waiting_cores { InCores DecidesWaiting }
 {}
 
-/// A group's offset events stay, and what comes behind them comes by an OffsetCommit for the group, by a TxnOffsetCommit
+/// A group's offset events stay, and what comes after them comes by an OffsetCommit for the group, by a TxnOffsetCommit
 /// for it of a transaction that takes it in, or by a marker that is owed to it.
 pub fn groups_go_on()
     ensures { (w : World) → GroupsGoOn w }
@@ -114,14 +126,14 @@ pub fn trail_tells()
     ensures { TrailTells }
 {}
 
-/// Where the trail of a core holds an event that prepared a transaction, and behind it as many marker steps as markers
+/// Where the trail of a core holds an event that prepared a transaction, and after it as many marker steps as markers
 /// stood then up to and including its last one, or one that found nothing to write, the core's world has it completed.
 pub fn completes_over_a_trail()
     ensures counted { CompletesOverATrail }
     ensures before_idle { CompletesBeforeIdle }
 {}
 
-/// And so where a core ran a list of events with such an event and so many marker steps behind it.
+/// And so where a core ran a list of events with such an event and so many marker steps after it.
 pub fn completes_over_a_run()
     ensures { CompletesOverARun }
 {}
@@ -140,8 +152,35 @@ pub fn fenced_write_nothing()
     ensures cores { InCores FencedWriteNothing }
 {}
 
-/// No data stands in a log behind a marker of its producer id with a greater epoch.
+/// No data stands in a log after a marker of its producer id with a greater epoch.
 pub fn no_data_behind_a_greater_marker()
     ensures reached { InReached NoDataBehindAGreaterMarker }
     ensures cores { InCores NoDataBehindAGreaterMarker }
+{}
+
+/// A group has at most one member: it comes in by a JoinGroup that is told no error, which raises the generation by one as
+/// nothing else does, and goes by a LeaveGroup of its own or by a lapse; between two such joins that name different members
+/// there is one of these.
+pub fn members_come_and_go()
+    ensures { (w : World) → MembersComeAndGo w }
+{}
+
+/// An OffsetCommit of a group's member in its generation, or of nobody where the group has no member, commits each offset
+/// that it is told no error for; one of another member or generation commits nothing. So does a TxnOffsetCommit stage.
+pub fn commits_are_of_members()
+    ensures { (w : World) → CommitsAreOfMembers w }
+{}
+
+/// What a JoinGroup, a SyncGroup, a Heartbeat and a LeaveGroup are told, by number; and who is told an error is told
+/// nothing of the group.
+pub fn member_calls_by_number()
+    ensures { (w : World) → CallsByNumber w }
+{}
+
+/// What an OffsetCommit was told no error for is what an OffsetFetch tells, whatever comes between them, but for commits
+/// and decisions of that group and partition; what a TxnOffsetCommit was told no error for, once its transaction commits;
+/// and what each offset event makes of what is fetched.
+pub fn commits_are_fetched()
+    ensures by_events { FetchesByEvents }
+    ensures over_events { (w : World) → CommitsAreFetched w }
 {}
