@@ -24,7 +24,7 @@ use Rattle.broker_world.specs.Questions.{topic_refusal}
 use Rattle.api_laws.specs.Headline.{AnsweredBy, AnswersEachTopic, RefusesEachTopic, is_yes, may_describe, NullTellsDescribable}
 
 -- the woven answers are the answers one by one
-one_by_one : (w : World) (caller : Caller) (names : List (List ℕ)) → metadata_topics w caller (Some names) ≡ map (topic_answer w caller) names
+pub one_by_one : (w : World) (caller : Caller) (names : List (List ℕ)) → metadata_topics w caller (Some names) ≡ map (topic_answer w caller) names
 one_by_one w caller [] = refl
 one_by_one w caller (name ∷ names) = by_refusal (one_by_one w caller names) (topic_refusal (rules_of w) caller name) where
   by_refusal : metadata_topics w caller (Some names) ≡ map (topic_answer w caller) names → (r : Option Refusal)

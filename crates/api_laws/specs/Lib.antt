@@ -13,3 +13,16 @@ pub mod TxnLaws
 pub mod GroupLaws
 pub mod StagingLaws
 pub mod DescribeLaws
+pub mod OneNode
+pub mod LastStable
+pub mod CheckedLogs
+pub mod Acceptance
+pub mod Repeats
+pub mod ToldErrors
+pub mod AskedTable
+pub mod RefusedRows
+pub mod ErrorTable
+pub mod KeptOut
+pub mod Unchanged
+pub mod BareAnswers
+pub mod ErrorCases

@@ -3,8 +3,10 @@
 ghost use Rattle.api_laws.specs.Runs.{WholeRuns};
 ghost use Rattle.api_laws.specs.Headline.{AnswersEachTopic, RefusesEachTopic, NullTellsDescribable};
 ghost use Rattle.api_laws.specs.Framing.{ResponsesAreFramed};
+ghost use Rattle.api_laws.specs.LastStable.{LastStableIsExact};
 ghost use Rattle.api_laws.specs.Longest.{ServesWhatFits};
 ghost use Rattle.api_laws.specs.Numbers.{RefusalsByNumber};
+ghost use Rattle.api_laws.specs.OneNode.{OneNodeIsAll};
 ghost use Rattle.api_laws.specs.Tenants.{DependsOnGrants};
 ghost use Rattle.api_laws.specs.DataLaws.{ProducesAsAnswered, FetchesRuns, ListsEnds};
 ghost use Rattle.api_laws.specs.FetchSizes.{FetchIsWithin};
@@ -15,6 +17,16 @@ ghost use Rattle.api_laws.specs.StagingLaws.{StagingDependsOnGrants, StagingKeep
 ghost use Rattle.api_laws.specs.AclLaws.{CreatesEach, DeletesEach, RefusedEditNothing, AclsDependOnTheBook, AclsKeepTopics};
 ghost use Rattle.api_laws.specs.DescribeLaws.{DescribesEach};
 ghost use Rattle.api_laws.specs.DataTenants.{ProduceKeepsTheRest, ProduceKeepsOtherPartitions, ProduceDependsOnGrants, FetchDependsOnGrants, ListOffsetsDependsOnGrants};
+ghost use Rattle.api_laws.specs.CheckedLogs.{LogsHoldCheckedBatches, OffsetsCountRecords};
+ghost use Rattle.api_laws.specs.Acceptance.{AcceptsWhatItOught, AcceptsNothingElse};
+ghost use Rattle.api_laws.specs.Repeats.{LastFiveRepeat};
+ghost use Rattle.api_laws.specs.AskedTable.{AsksByTable};
+ghost use Rattle.api_laws.specs.RefusedRows.{RefusalsByTable};
+ghost use Rattle.api_laws.specs.ErrorTable.{ErrorsByTable};
+ghost use Rattle.api_laws.specs.KeptOut.{RefusedKeepsOut};
+ghost use Rattle.api_laws.specs.Unchanged.{ErrorsChangeNothing};
+ghost use Rattle.api_laws.specs.BareAnswers.{RefusalsTellNothing};
+ghost use Rattle.api_laws.specs.ErrorCases.{ErrorsAreAnswered};
 
 /// A run without a stop has a receipt for each event, and leaves the core where the events lead.
 pub fn whole_runs()
@@ -43,6 +55,11 @@ pub fn serves_what_fits()
     ensures { ServesWhatFits }
 {}
 
+/// A log's last stable offset is where the first batch stands whose transaction no control batch has ended, or the log's end.
+pub fn last_stable_is_exact()
+    ensures { LastStableIsExact }
+{}
+
 /// A response begins with the size of what comes and with the correlation id that was asked under; between that and the body
 /// stands nothing but the empty tagged section of a flexible version.
 pub fn responses_are_framed()
@@ -52,6 +69,12 @@ pub fn responses_are_framed()
 /// A refused part is told 29, 30, 31 or 53, by what its question is about.
 pub fn refusals_by_number()
     ensures { RefusalsByNumber }
+{}
+
+/// The node of the settings is the only broker, the controller, the leader and the one replica of each partition, and the coordinator
+/// of each group and each transactional id.
+pub fn one_node_is_all()
+    ensures { OneNodeIsAll }
 {}
 
 /// A Metadata request is answered by what its questions were granted alone.
@@ -189,4 +212,70 @@ pub fn staged_offsets_depend_on_grants()
 /// id may not be written or the group not be read, neither.
 pub fn staged_offsets_keep_the_rest()
     ensures { StagingKeepsTheRest }
+{}
+
+/// Each batch of data in a log is one that the check of what producers send passes, within the settings' greatest size,
+/// whatever the events were.
+pub fn logs_hold_checked_batches()
+    ensures { LogsHoldCheckedBatches }
+{}
+
+/// The offset of each batch and marker in a log is the number of records before it there, whatever the events were.
+pub fn offsets_count_records()
+    ensures { OffsetsCountRecords }
+{}
+
+/// A Produce that may be served appends a faultless batch of no producer, of an idempotent one, or of an open transaction
+/// that is next in sequence, at the log's end, as it was sent.
+pub fn accepts_what_it_ought()
+    ensures { AcceptsWhatItOught }
+{}
+
+/// A part of a Produce is answered no error only for a faultless batch within the greatest size, with acks -1, 0 or 1, that is
+/// of no producer, of an idempotent one, or of the open transaction of the request's id that took the partition in.
+pub fn accepts_nothing_else()
+    ensures { AcceptsNothingElse }
+{}
+
+/// Each of a producer's last five batches of its epoch, sent again, is answered its old offset and appended to nothing;
+/// each earlier one is answered 45, as what leaves a gap is, and nothing else repeats.
+pub fn last_five_repeat()
+    ensures { LastFiveRepeat }
+{}
+
+/// What each api asks stands in one table: a request, and each of its parts at its place, is told the code of the first of its
+/// rows that isn't granted, and nobody else is told such a code.
+pub fn asks_by_table()
+    ensures { AsksByTable }
+{}
+
+/// The refusals of a request are those of the same table: of each refused part the first row that isn't granted, in order, with its
+/// verdict.
+pub fn refusals_by_table()
+    ensures { RefusalsByTable }
+{}
+
+/// Each error in an answer is 0, or one of those that a table lists for its api.
+pub fn errors_by_table()
+    ensures { ErrorsByTable }
+{}
+
+/// A partition of an AddPartitionsToTxn that is refused keeps all others out: each is told 55, or 3 where it isn't there.
+pub fn refused_keeps_out()
+    ensures { RefusedKeepsOut }
+{}
+
+/// What is told an error changes nothing, but for an InitProducerId that is told 51: it may have aborted a transaction.
+pub fn errors_change_nothing()
+    ensures { ErrorsChangeNothing }
+{}
+
+/// A refused request, and a refused part at its place, is told its error alone: no offset, no records, no members and no bindings.
+pub fn refusals_tell_nothing()
+    ensures { RefusalsTellNothing }
+{}
+
+/// Each number of that table is answered for a request of its api in some world.
+pub fn errors_are_answered()
+    ensures { ErrorsAreAnswered }
 {}
