@@ -39,9 +39,13 @@ with_serve_switches a = with_rules a (option_rule (codes "for") false) (option_r
 abbrev pub with_serve_steering : App → App
 with_serve_steering a = with_two_rules a (option_rule (codes "settings") false) (flag_rule (codes "control"))
 
+-- those for clients that look for other versions
+abbrev pub with_serve_clients : App → App
+with_serve_clients a = with_rule a (flag_rule (codes "librdkafka"))
+
 -- the options of `serve`
 abbrev pub with_serve_options : App → App
-with_serve_options a = with_serve_steering (with_serve_switches (with_serve_numbers a))
+with_serve_options a = with_serve_clients (with_serve_steering (with_serve_switches (with_serve_numbers a)))
 
 abbrev pub serve_shape : Shape
 serve_shape = (with_serve_options (new_app (codes "serve"))).top

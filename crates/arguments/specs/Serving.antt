@@ -53,6 +53,7 @@ pub record IsServedBy (value_of : List ℕ → Option (List ℕ)) (s : Serving) 
   pub audit : TellsAudit (value_of (codes "audit")) s.audit
   pub settings : option_map (λ file. file.now) s.settings ≡ value_of (codes "settings")
   pub control : s.control ≡ is_given (value_of (codes "control"))
+  pub librdkafka : s.librdkafka ≡ is_given (value_of (codes "librdkafka"))
 
 -- these values say of no way within the limits how connections are served
 abbrev pub NoneServes : (List ℕ → Option (List ℕ)) → Type 0

@@ -97,6 +97,12 @@ standard output once it is done:
 Another line is answered `unreadable`, and a step that is not taken `stop N`. The end of standard
 input is `end`.
 
+With `--librdkafka` ApiVersions lists, before a login, SaslHandshake and FindCoordinator from version
+0 on: librdkafka, on which kcat and confluent-kafka stand, logs in only where it sees them so, and
+then asks them in version 1. Version 0 of the two is not served. And since such a client asks again
+at once, the answer to a Fetch that brings no record is held back for as long as the request's
+max_wait_ms says, at most for 100 milliseconds.
+
 Standard error gets a line that begins with `kbroker: ` for each connection that ended otherwise than
 between two requests, and with `--audit -` the line of each refusal, as `replay` prints it.
 
@@ -130,3 +136,6 @@ pub(crate) const SETTINGS: &str =
 
 pub(crate) const CONTROL: &str =
     "Lines of standard input steer the broker, in place of the clock; with --settings, and without --audit";
+
+pub(crate) const LIBRDKAFKA: &str =
+    "ApiVersions lists before a login what librdkafka looks for: SaslHandshake and FindCoordinator from version 0";

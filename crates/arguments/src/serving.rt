@@ -5,10 +5,10 @@ ghost use Rattle.clap.specs.Simple.{app_of};
 ghost use Rattle.clap.specs.Matches.{first_value, found_of};
 ghost use Rattle.clap.specs.Walk.{rule_of};
 ghost use Rattle.clap.specs.declared.builder.command.Command.TheViews.{out-Command as fields_of};
-ghost use Rattle.arguments.specs.CommandLine.{flag_rule, option_rule, with_rules, with_two_rules, with_serve_numbers, with_serve_options, with_serve_steering, with_serve_switches};
+ghost use Rattle.arguments.specs.CommandLine.{flag_rule, option_rule, with_rules, with_two_rules, with_serve_numbers, with_serve_clients, with_serve_options, with_serve_steering, with_serve_switches};
 ghost use Rattle.arguments.specs.Serving.{IsIn, IsServedBy, IsWithin, MaySteer, NoneServes, Tells, TellsAudit, TellsSeconds, Writes, is_given};
 
-use crate::help::{AUDIT, CONNECTIONS, CONTROL, FOR, IDLE, LISTEN, SETTINGS, WORKERS};
+use crate::help::{AUDIT, CONNECTIONS, CONTROL, FOR, IDLE, LIBRDKAFKA, LISTEN, SETTINGS, WORKERS};
 use clap::{Arg, ArgAction, ArgMatches, Command};
 use std::alloc::{AllocError, Global};
 
@@ -31,6 +31,8 @@ pub struct Serving<'a> {
     pub settings: Option<&'a str>,
     /// Whether lines of standard input steer the broker, in place of the clock.
     pub control: bool,
+    /// Whether ApiVersions lists before a login what librdkafka looks for.
+    pub librdkafka: bool,
 }
 
 const MOST_WORKERS: u64 = 64;
@@ -161,6 +163,14 @@ fn with_steering<'a>(alloc: Global, command: Command<'a>) -> Result<Command<'a>,
     with_two(command, settings, control)
 }
 
+/// The command with the options for clients that look for other versions.
+fn with_clients<'a>(alloc: Global, command: Command<'a>) -> Result<Command<'a>, AllocError>
+    ensures app { IfOk result (λ made. app_of made ≡ with_serve_clients (app_of command.entry)) }
+    ensures local { IfOk result (λ made. (fields_of made).has_globals ≡ (fields_of command.entry).has_globals) }
+{
+    command.arg(flag(alloc, "librdkafka", LIBRDKAFKA))
+}
+
 /// The command with the options of `serve`.
 pub(crate) fn with_options<'a>(
     alloc: Global,
@@ -171,7 +181,8 @@ pub(crate) fn with_options<'a>(
 {
     let command = with_numbers(alloc, command)?;
     let command = with_switches(alloc, command)?;
-    with_steering(alloc, command)
+    let command = with_steering(alloc, command)?;
+    with_clients(alloc, command)
 }
 
 /// The number that a text writes, if it lies from 1 to a most.
@@ -271,6 +282,7 @@ pub(crate) fn serving_by<'a>(options: &ArgMatches<'a>) -> Result<Serving<'a>, Mi
     let audit = audit_of(options.get_str("audit"))?;
     let settings = options.get_str("settings");
     let control = control_of(options.get_str("control"), settings, audit)?;
+    let librdkafka = is_given(options.get_str("librdkafka"));
     Ok(Serving {
         listen,
         workers,
@@ -280,5 +292,6 @@ pub(crate) fn serving_by<'a>(options: &ArgMatches<'a>) -> Result<Serving<'a>, Mi
         audit,
         settings,
         control,
+        librdkafka,
     })
 }

@@ -5,6 +5,7 @@ use arguments::{Job, Serving, arguments};
 use broker_keeping::Steering;
 use broker_server::{ServeOptions, serve};
 use commands::{Opened, check_and_explain, open_and_explain, replay_and_explain};
+use session_logins::ListedVersions;
 use session_workers::ConnectionOptions;
 use show::{explain, show_and_explain};
 use std::alloc::{AllocError, Global};
@@ -25,6 +26,9 @@ const MISUSED: u8 = 2;
 /// The exit status of a server that was never started.
 const FAILED: u8 = 1;
 
+/// For so many milliseconds at most the answer to a Fetch without a record is held back from clients that stand on librdkafka.
+const PATIENCE: u64 = 100;
+
 /// The words of the command line as texts.
 fn texts<'a>(alloc: Global, words: &'a [String]) -> Result<Vec<&'a str>, AllocError> {
     words.iter().map(|word| word.as_str()).collect(alloc)
@@ -32,12 +36,22 @@ fn texts<'a>(alloc: Global, words: &'a [String]) -> Result<Vec<&'a str>, AllocEr
 
 /// How connections are served, with times in place of numbers.
 fn options_of(serving: Serving<'_>) -> ServeOptions {
+    let (listed, patience) = if serving.librdkafka {
+        (
+            ListedVersions::ForLibrdkafka,
+            Some(Duration::from_millis(PATIENCE)),
+        )
+    } else {
+        (ListedVersions::AsServed, None)
+    };
     ServeOptions {
         connections: ConnectionOptions {
             workers: serving.workers as usize,
             connections: serving.connections,
             open: serving.open_seconds.map(Duration::from_secs),
             idle: serving.idle_seconds.map(Duration::from_secs),
+            listed,
+            patience,
         },
         audit: serving.audit,
     }
@@ -55,6 +69,23 @@ fn fail<W: Write, E: Write>(
     let _ = writer.write_all(line.as_bytes());
     explain(alloc, errors, what, why);
     FAILED
+}
+
+/// The same, with the system's reason.
+fn fail_by<W: Write, E: Write>(
+    alloc: Global,
+    writer: &mut W,
+    errors: &mut E,
+    line: &str,
+    what: &str,
+    why: &str,
+    error: &io::Error,
+) -> u8 {
+    let kind = error.kind();
+    match format!(in alloc; "{why}: {kind}") {
+        Ok(why) => fail(alloc, writer, errors, line, what, why.as_str()),
+        Err(_) => fail(alloc, writer, errors, line, what, why),
+    }
 }
 
 /// Serves the connections of a listener by the settings that are read, by the clock or as lines steer it.
@@ -99,15 +130,19 @@ fn serve_connections<
         Ok(opened) => opened,
         Err(status) => return status,
     };
-    let Ok(listener) = TcpListener::bind(rt, serving.listen) else {
-        return fail(
-            alloc,
-            writer,
-            &mut errors,
-            "listen failed\n",
-            serving.listen,
-            "the address can't be listened on",
-        );
+    let listener = match TcpListener::bind(rt, serving.listen) {
+        Ok(listener) => listener,
+        Err(error) => {
+            return fail_by(
+                alloc,
+                writer,
+                &mut errors,
+                "listen failed\n",
+                serving.listen,
+                "the address can't be listened on",
+                &error,
+            );
+        }
     };
     let options = options_of(serving);
     serve(
@@ -148,15 +183,19 @@ fn serve_by<
             errors,
         );
     };
-    let Ok(mut file) = fs::open(rt, path) else {
-        return fail(
-            alloc,
-            writer,
-            &mut errors,
-            "open failed\n",
-            path,
-            "the settings' file can't be opened",
-        );
+    let mut file = match fs::open(rt, path) {
+        Ok(file) => file,
+        Err(error) => {
+            return fail_by(
+                alloc,
+                writer,
+                &mut errors,
+                "open failed\n",
+                path,
+                "the settings' file can't be opened",
+                &error,
+            );
+        }
     };
     serve_connections(rt, alloc, serving, &mut file, steering, writer, errors)
 }

@@ -15,11 +15,25 @@ fn serve_with_an_address_alone(rt: HostRuntime) -> Result<(), Fail> {
         audit: false,
         settings: None,
         control: false,
+        librdkafka: false,
     };
     let words = ["kbroker", "serve", "--listen", "127.0.0.1:0"];
     let job = arguments(rt.alloc(), &words).ok().ok_or("refused")?;
     assert!(rt; job == Job::Serve(usual));
     Ok(())
+}
+
+/// `--librdkafka` is a flag: it is given, and takes no value.
+#[test]
+fn librdkafka_is_a_flag(rt: HostRuntime) {
+    for (option, is_served) in [("--librdkafka", true), ("--librdkafka=1", false)] {
+        let words = ["kbroker", "serve", "--listen", "127.0.0.1:0", option];
+        let is_taken = match arguments(rt.alloc(), &words) {
+            Ok(Job::Serve(serving)) => serving.librdkafka,
+            _ => false,
+        };
+        assert!(rt; is_taken == is_served, "{option}");
+    }
 }
 
 /// As many workers as there may be, and one too few and one too many, and the same of connections.

@@ -9,7 +9,7 @@ use crate::talk::{HANDSHAKE, LOGIN, METADATA, core, event_of, users};
 use broker_keeping::Steering;
 use broker_server::{ServeOptions, serve};
 use request_handlers::{Core, MOST_SEATS};
-use session_logins::Users;
+use session_logins::{ListedVersions, Users};
 use session_pool::{Desk, DeskLedger, LockedDesk};
 use session_workers::ConnectionOptions;
 use settings_text::{Document, document_of_text};
@@ -45,6 +45,8 @@ fn serve_two<
             connections: 2,
             open: patience,
             idle: patience,
+            listed: ListedVersions::AsServed,
+            patience: None,
         },
         audit: false,
     };

@@ -1,4 +1,5 @@
 pub mod Compared
 pub mod Found
+pub mod Versions
 pub mod Plain
 pub mod Short

@@ -11,11 +11,14 @@ use Rattle.msg_admin.specs.declared.reply.Reply.TheVariants as replies
 use Rattle.msg_admin.specs.Api.{all_apis, key_of, version_of, is_flexible}
 use Rattle.msg_admin.specs.Bodies.{reply_body}
 use Rattle.msg_admin.specs.Response.{is_sendable, GivesReply}
-use Rattle.msg_admin.specs.Versions.{versions_reply}
+use Rattle.session_logins.specs.declared.listed.ListedVersions.{ListedVersions}
+use Rattle.session_logins.specs.declared.listed.ListedVersions.TheVariants.{AsServed, ForLibrdkafka}
+use Rattle.session_logins.specs.Listed.{versions_listed}
 
-pub versions_short : (c : ℤ) → is_sendable c (replies.ApiVersions versions_reply) ≡ true
+pub versions_short : (listed : ListedVersions) (c : ℤ) → is_sendable c (replies.ApiVersions (versions_listed listed)) ≡ true
 unfolding is_sendable is_flexible reply_body int_written behind_written behind_fits many_written many_fit null_count_fits all_apis key_of version_of
-versions_short c = refl
+versions_short AsServed c = refl
+versions_short ForLibrdkafka c = refl
 
 pub handshake_short : (c : ℤ) (e : ErrorCode) → is_sendable c (replies.SaslHandshake (handshake_reply e)) ≡ true
 unfolding is_sendable is_flexible reply_body int_written behind_written behind_fits many_written many_fit null_count_fits

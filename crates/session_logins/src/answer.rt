@@ -3,11 +3,12 @@
 ghost use Rattle.std.specs.Prelude.{◌≡◌, true, IfOk};
 ghost use Rattle.msg_admin.specs.Response.{response, is_sendable};
 ghost use Rattle.msg_admin.specs.declared.reply.Reply.TheVariants as replies;
-ghost use Rattle.msg_admin.specs.Versions.{versions_reply};
 ghost use Rattle.msg_login.specs.SaslHandshake.{handshake_reply};
 ghost use Rattle.msg_login.specs.SaslAuthenticate.{authenticate_reply};
+ghost use Rattle.session_logins.specs.Listed.{versions_listed};
 
-use msg_admin::{Reply, versions_reply, write_reply};
+use crate::listed::{ListedVersions, versions_listed};
+use msg_admin::{Reply, write_reply};
 use msg_login::{SaslAuthenticateReply, SaslHandshakeReply};
 use std::alloc::{AllocError, Global};
 use wire_types::{Bytes, ErrorCode, WriteFault};
@@ -27,10 +28,14 @@ fn write_own(alloc: Global, correlation: i32, reply: &Reply) -> Result<Bytes, Al
 
 /// What an ApiVersions is answered.
 #[tactic(auto, using(crate::proofs::Short::versions_short))]
-pub fn write_versions(alloc: Global, correlation: i32) -> Result<Bytes, AllocError>
-    ensures { IfOk result (λ bytes. bytes ≡ response correlation (replies.ApiVersions versions_reply)) }
+pub fn write_versions(
+    alloc: Global,
+    correlation: i32,
+    listed: ListedVersions,
+) -> Result<Bytes, AllocError>
+    ensures { IfOk result (λ bytes. bytes ≡ response correlation (replies.ApiVersions (versions_listed listed))) }
 {
-    let reply = Reply::ApiVersions(versions_reply(alloc)?);
+    let reply = Reply::ApiVersions(versions_listed(alloc, listed)?);
     write_own(alloc, correlation, &reply)
 }
 

@@ -10,7 +10,7 @@ use Rattle.msg_admin.specs.declared.request.Request.TheVariants as requests
 use Rattle.msg_admin.specs.declared.reply.Reply.TheVariants as replies
 use Rattle.msg_admin.specs.Request.{request_at}
 use Rattle.msg_admin.specs.Response.{response}
-use Rattle.msg_admin.specs.Versions.{versions_reply, unsupported_at, unsupported_response}
+use Rattle.msg_admin.specs.Versions.{unsupported_at, unsupported_response}
 use Rattle.audit_trail.specs.declared.event.Event.{Event}
 use Rattle.audit_trail.specs.declared.event.Event.TheVariants.{Ask}
 use Rattle.request_handlers.specs.declared.stop.Stop.{Stop}
@@ -21,11 +21,15 @@ use Rattle.session_pool.specs.declared.login.State.TheVariants.{Fresh, Offered, 
 use Rattle.session_pool.specs.declared.why.Why.{Why}
 use Rattle.session_pool.specs.declared.why.Why.TheVariants.{Malformed as IsMalformed, Login}
 use Rattle.session_pool.specs.Frames.{cut}
+use Rattle.session_logins.specs.declared.listed.ListedVersions.{ListedVersions}
+use Rattle.session_logins.specs.Listed.{versions_listed}
 use Rattle.session_logins.specs.Login.{is_plain, login_of}
 
--- the users who may log in, the host that calls, and whether the desk may answer an event by a stop
+-- the users who may log in, how versions are listed before that, the host that calls, and whether the desk may answer an event
+-- by a stop
 pub record Setting : Type 0 where
   pub users : List User
+  pub listed : ListedVersions
   pub host : List ℕ
   pub may_stop : Event → Stop → Bool
 
@@ -51,8 +55,8 @@ offered = Offered (record { 0 = tt })
 abbrev pub known : List ℕ → State
 known who = Known (record { who = who })
 
-abbrev pub tells_versions : ℤ → State → Step
-tells_versions correlation s = Tells (response correlation (replies.ApiVersions versions_reply)) s
+abbrev pub tells_versions : ListedVersions → ℤ → State → Step
+tells_versions listed correlation s = Tells (response correlation (replies.ApiVersions (versions_listed listed))) s
 
 abbrev pub offers : ℤ → List ℕ → Step
 offers correlation mechanism =
@@ -64,16 +68,16 @@ logs_in correlation (Some who) = Tells (response correlation (replies.SaslAuthen
 logs_in correlation None = Refuses (response correlation (replies.SaslAuthenticate (authenticate_reply codes.SaslAuthenticationFailed)))
 
 -- before a mechanism was agreed on
-abbrev pub greets : ℤ → Request → Step
-greets correlation requests.ApiVersions = tells_versions correlation fresh
-greets correlation (requests.SaslHandshake m) = offers correlation m.mechanism
-greets correlation _ = Refuses []
+abbrev pub greets : ListedVersions → ℤ → Request → Step
+greets listed correlation requests.ApiVersions = tells_versions listed correlation fresh
+greets listed correlation (requests.SaslHandshake m) = offers correlation m.mechanism
+greets listed correlation _ = Refuses []
 
 -- before a password was told
-abbrev pub admits : List User → ℤ → Request → Step
-admits users correlation requests.ApiVersions = tells_versions correlation offered
-admits users correlation (requests.SaslAuthenticate m) = logs_in correlation (login_of users m.auth)
-admits users correlation _ = Refuses []
+abbrev pub admits : ListedVersions → List User → ℤ → Request → Step
+admits listed users correlation requests.ApiVersions = tells_versions listed correlation offered
+admits listed users correlation (requests.SaslAuthenticate m) = logs_in correlation (login_of users m.auth)
+admits listed users correlation _ = Refuses []
 
 -- only who is known asks, and as itself
 abbrev pub submits : List ℕ → List ℕ → Header → Request → Step
@@ -81,8 +85,8 @@ submits who host h r = Submits h.correlation (Ask (record { who = who; host = ho
 
 -- what a request leads to
 abbrev pub leads : Setting → State → Header → Request → Step
-leads g (Fresh f) h r = greets h.correlation r
-leads g (Offered o) h r = admits g.users h.correlation r
+leads g (Fresh f) h r = greets g.listed h.correlation r
+leads g (Offered o) h r = admits g.listed g.users h.correlation r
 leads g (Known k) h r = submits k.who g.host h r
 
 abbrev pub readable : Setting → State → Result (Header × Request) Malformed → Step

@@ -1,5 +1,5 @@
--- Whose asks a session's are.
-use Rattle.std.specs.Prelude.{◌≡◌, ℕ, List, [], ◌∷◌, Option, Some, Ok, ◌⊎◌}
+-- Whose asks a session's are (RFC 4616; Kafka protocol guide, "SASL Authentication Sequence").
+use Rattle.std.specs.Prelude.{◌≡◌, ℕ, List, [], ◌∷◌, ◌++◌, Some, Ok, ◌⊎◌}
 use Rattle.msg_login.specs.declared.sasl_authenticate.SaslAuthenticateRequest.{SaslAuthenticateRequest}
 use Rattle.msg_admin.specs.declared.header.Header.{Header}
 use Rattle.msg_admin.specs.declared.request.Request.{Request}
@@ -21,14 +21,21 @@ abbrev pub SomeTells : List User → List (List ℕ) → List ℕ → Type 0
 SomeTells users [] who = ⊥
 SomeTells users (frame ∷ frames) who = TellsPassword users frame who ⊎ SomeTells users frames who
 
--- it is asked from the host that calls, by whoever told the password in one of the frames
-abbrev pub IsOwn : Setting → List (List ℕ) → Event → Type 0
-IsOwn g frames e = (who : List ℕ) × (client : Option (List ℕ)) × (r : Request) × (e ≡ Ask (record { who = who; host = g.host }) client r) × SomeTells g.users frames who
+-- the event is the frame's own request, asked from the host that calls by whoever told the password in a frame before it
+pub record IsOwn (g : Setting) (before : List (List ℕ)) (frame : List ℕ) (e : Event) : Type 0 where
+  pub header : Header
+  pub request : Request
+  pub reads : request_at frame ≡ Ok (header, request)
+  pub who : List ℕ
+  pub told : SomeTells g.users before who
+  pub event : e ≡ Ask (record { who = who; host = g.host }) header.client request
 
-abbrev pub AreOwn : Setting → List (List ℕ) → List Event → Type 0
-AreOwn g frames [] = Unit {0}
-AreOwn g frames (e ∷ es) = IsOwn g frames e × AreOwn g frames es
+-- After the frames of before, the events come from these: from some of them one each, in their order.
+abbrev pub AreOwn : Setting → List (List ℕ) → List (List ℕ) → List Event → Type 0
+AreOwn g before frames [] = Unit {0}
+AreOwn g before [] (e ∷ es) = ⊥
+AreOwn g before (frame ∷ frames) (e ∷ es) = (IsOwn g before frame e × AreOwn g (before ++ frame ∷ []) frames es) ⊎ AreOwn g (before ++ frame ∷ []) frames (e ∷ es)
 
--- only a user who told the right password asks, and as itself
+-- only a user who told the right password asks, from then on and as itself
 abbrev pub AsksAreOwn : Setting → ℕ → ℕ → List ℕ → Type 0
-AsksAreOwn g n limit input = AreOwn g (cut n limit input).frames (asks g n limit fresh input)
+AsksAreOwn g n limit input = AreOwn g [] (cut n limit input).frames (asks g n limit fresh input)

@@ -1,12 +1,16 @@
-//! Who is called round each frame, and behind the last.
+//! Who is called round each frame, and after the last.
 
 use crate::why::Why;
+use request_handlers::Receipt;
 use wire_types::Text;
 
 /// Is called round the reading and answering of each frame, while no core is locked. Frames are counted from 0.
 pub trait Gate {
     /// Comes before a frame is read.
     fn before(&self, session: u64, frame: u64);
+
+    /// Comes once an event has its receipt, before its answer is written.
+    fn answered(&self, _receipt: &Receipt) {}
 
     /// Comes once it was answered or the session was ended on it.
     fn after(&self, session: u64, frame: u64);

@@ -25,6 +25,6 @@ pub use gate::Gate;
 pub use laws::asks_are_own;
 pub use locked::{LockedDesk, Quiet};
 pub use login::{Closed, Fresh, Known, LoginFault, Offered};
-pub use session::{Limits, SessionEnd, serve_session};
+pub use session::{Limits, SessionEnd, serve_session, serve_session_listing};
 pub use steps::{Clock, Clocked, Step, Steps};
 pub use why::Why;

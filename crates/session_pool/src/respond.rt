@@ -19,7 +19,7 @@ use msg_admin::{
     write_unsupported_versions,
 };
 use request_handlers::{Receipt, Stop};
-use session_logins::{Users, write_handshake, write_login, write_versions};
+use session_logins::{ListedVersions, Users, write_handshake, write_login, write_versions};
 use std::alloc::{AllocError, Global};
 use wire_types::{Bytes, ErrorCode, ReadFault, Text, WriteFault};
 
@@ -101,11 +101,20 @@ fn log_in(
 }
 
 /// Before a mechanism was agreed on.
-fn greet(alloc: Global, correlation: i32, fresh: Fresh, request: &Request) -> Outcome
-    ensures { Says (greets correlation request.now) result }
+fn greet(
+    alloc: Global,
+    listed: ListedVersions,
+    correlation: i32,
+    fresh: Fresh,
+    request: &Request,
+) -> Outcome
+    ensures { Says (greets listed correlation request.now) result }
 {
     match request {
-        Request::ApiVersions => tell(write_versions(alloc, correlation), State::Fresh(fresh)),
+        Request::ApiVersions => {
+            let answer = write_versions(alloc, correlation, listed);
+            tell(answer, State::Fresh(fresh))
+        }
         Request::SaslHandshake(message) => {
             offer(alloc, correlation, fresh, message.mechanism.as_bytes())
         }
@@ -116,15 +125,19 @@ fn greet(alloc: Global, correlation: i32, fresh: Fresh, request: &Request) -> Ou
 /// Before a password was told.
 fn admit(
     alloc: Global,
+    listed: ListedVersions,
     users: &Users,
     correlation: i32,
     offered: Offered,
     request: &Request,
 ) -> Outcome
-    ensures { Says (admits users.now correlation request.now) result }
+    ensures { Says (admits listed users.now correlation request.now) result }
 {
     match request {
-        Request::ApiVersions => tell(write_versions(alloc, correlation), State::Offered(offered)),
+        Request::ApiVersions => {
+            let answer = write_versions(alloc, correlation, listed);
+            tell(answer, State::Offered(offered))
+        }
         Request::SaslAuthenticate(message) => {
             log_in(alloc, users, correlation, offered, message.auth.as_slice())
         }
@@ -191,6 +204,7 @@ fn lead<S, D: Desk<S>>(
     alloc: Global,
     host: &Text,
     users: &Users,
+    listed: ListedVersions,
     desk: &D,
     state: State,
     header: Header,
@@ -200,15 +214,16 @@ fn lead<S, D: Desk<S>>(
 ) -> (S, Outcome)
     requires { Fits request }
     ensures risen { (D.view result.0).count + vec_len receipts.old ≡ (D.view seat).count + vec_len receipts.new }
-    ensures meant { Meant D.may_stop (leads (record { users = users.now; host = host.now; may_stop = D.may_stop }) state header request) receipts.old.items receipts.new.items result.1 }
+    ensures meant { Meant D.may_stop (leads (record { users = users.now; listed = listed; host = host.now; may_stop = D.may_stop }) state header request) receipts.old.items receipts.new.items result.1 }
 {
     match state {
-        State::Fresh(fresh) => (seat, greet(alloc, header.correlation, fresh, &request)),
+        State::Fresh(fresh) => {
+            let outcome = greet(alloc, listed, header.correlation, fresh, &request);
+            (seat, outcome)
+        }
         State::Offered(offered) => {
-            (
-                seat,
-                admit(alloc, users, header.correlation, offered, &request),
-            )
+            let outcome = admit(alloc, listed, users, header.correlation, offered, &request);
+            (seat, outcome)
         }
         State::Known(known) => ask(alloc, host, desk, known, header, request, seat, receipts),
     }
@@ -227,6 +242,7 @@ pub(crate) fn respond<S, D: Desk<S>>(
     alloc: Global,
     host: &Text,
     users: &Users,
+    listed: ListedVersions,
     desk: &D,
     state: State,
     frame: &Bytes,
@@ -235,7 +251,7 @@ pub(crate) fn respond<S, D: Desk<S>>(
 ) -> (S, Outcome)
     requires { length frame.now ≤ LIMIT }
     ensures risen { (D.view result.0).count + vec_len receipts.old ≡ (D.view seat).count + vec_len receipts.new }
-    ensures meant { Meant D.may_stop (step_of (record { users = users.now; host = host.now; may_stop = D.may_stop }) state frame.now) receipts.old.items receipts.new.items result.1 }
+    ensures meant { Meant D.may_stop (step_of (record { users = users.now; listed = listed; host = host.now; may_stop = D.may_stop }) state frame.now) receipts.old.items receipts.new.items result.1 }
 {
     if let Some(correlation) = unsupported_versions(frame) {
         return (seat, tell_served(alloc, correlation, state));
@@ -243,7 +259,7 @@ pub(crate) fn respond<S, D: Desk<S>>(
     match read_request(alloc, frame) {
         Ok((header, request)) => {
             lead(
-                alloc, host, users, desk, state, header, request, seat, receipts,
+                alloc, host, users, listed, desk, state, header, request, seat, receipts,
             )
         }
         Err(ReadFault::Malformed(_)) => (seat, Outcome::Garbled),

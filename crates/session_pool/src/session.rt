@@ -2,6 +2,7 @@
 
 ghost use Rattle.std.specs.Prelude.{◌≡◌, ◌+◌, ◌≤◌, vec_len};
 ghost use Rattle.msg_admin.specs.declared.request.TheConstants.{FRAME_LIMIT as LIMIT};
+ghost use Rattle.session_logins.specs.declared.listed.ListedVersions.TheVariants.{AsServed};
 ghost use Rattle.session_pool.specs.Reads.{Took, TookLast};
 ghost use Rattle.session_pool.specs.Sessions.{TurnsOn, SessionOf};
 ghost use Rattle.session_pool.specs.Turns.{Sends, Finishes, why_of};
@@ -14,7 +15,7 @@ use crate::respond::{Outcome, respond};
 use crate::why::Why;
 use msg_admin::FRAME_LIMIT;
 use request_handlers::Receipt;
-use session_logins::Users;
+use session_logins::{ListedVersions, Users};
 use std::alloc::Global;
 use std::io::{BufReader, Read, Write};
 use wire_types::{Bytes, Text, WriteFault, write_whole};
@@ -27,7 +28,7 @@ pub struct SessionEnd<S> {
     pub why: Why,
 }
 
-/// How many bytes a frame may have behind its size field, at most 104,857,600, and how many frames are served.
+/// How many bytes a frame may have after its size field, at most 104,857,600, and how many frames are served.
 #[derive(Clone, Copy, Debug, PartialEq, Eq)]
 pub struct Limits {
     pub frame: u32,
@@ -81,16 +82,18 @@ fn finish<W: Write>(writer: &mut W, outcome: Outcome) -> Result<State, Why>
     }
 }
 
-/// Reads and answers one frame.
+/// Reads and answers one frame. The gate is told of the event's receipt before its answer is written.
 #[tactic(auto, using(crate::proofs::Sessions::turned_on, crate::proofs::Sessions::turned_off))]
-fn turn<S, Rd: Read, Wr: Write, D: Desk<S>>(
+fn turn<S, Rd: Read, Wr: Write, D: Desk<S>, G: Gate>(
     alloc: Global,
     reader: &mut Rd,
     longest: &mut usize,
     writer: &mut Wr,
     host: &Text,
     users: &Users,
+    listed: ListedVersions,
     desk: &D,
+    gate: &G,
     limit: u32,
     state: State,
     seat: S,
@@ -98,13 +101,19 @@ fn turn<S, Rd: Read, Wr: Write, D: Desk<S>>(
 ) -> (S, Result<State, Why>)
     requires { limit ≤ LIMIT }
     ensures risen { (D.view result.0).count + vec_len receipts.old ≡ (D.view seat).count + vec_len receipts.new }
-    ensures turns { Took (Rd.remaining reader.old) (Rd.remaining reader.new) (TurnsOn (record { users = users.now; host = host.now; may_stop = D.may_stop }) limit state (Wr.contents writer.old) (Wr.contents writer.new) receipts.old.items receipts.new.items result.1) }
+    ensures turns { Took (Rd.remaining reader.old) (Rd.remaining reader.new) (TurnsOn (record { users = users.now; listed = listed; host = host.now; may_stop = D.may_stop }) limit state (Wr.contents writer.old) (Wr.contents writer.new) receipts.old.items receipts.new.items result.1) }
 {
     let frame = match read_frame(alloc, reader, longest, limit) {
         Ok(frame) => frame,
         Err(why) => return (seat, Err(why)),
     };
-    let (seat, outcome) = respond(alloc, host, users, desk, state, &frame, seat, receipts);
+    let place = receipts.len();
+    let (seat, outcome) = respond(
+        alloc, host, users, listed, desk, state, &frame, seat, receipts,
+    );
+    if let Some(receipt) = receipts.as_slice().get(place) {
+        gate.answered(receipt);
+    }
     let next = finish(writer, outcome);
     (seat, next)
 }
@@ -117,6 +126,7 @@ fn serve<S, Rd: Read, Wr: Write, D: Desk<S>, G: Gate>(
     writer: &mut Wr,
     host: &Text,
     users: &Users,
+    listed: ListedVersions,
     desk: &D,
     seat: S,
     limits: Limits,
@@ -124,7 +134,7 @@ fn serve<S, Rd: Read, Wr: Write, D: Desk<S>, G: Gate>(
 ) -> SessionEnd<S>
     requires { limits.frame ≤ LIMIT }
     ensures risen { (D.view result.seat).count ≡ (D.view seat).count + vec_len result.receipts }
-    ensures session { Took (Rd.remaining reader.old) (Rd.remaining reader.new) (SessionOf (record { users = users.now; host = host.now; may_stop = D.may_stop }) limits.frames limits.frame (Wr.contents writer.old) (Wr.contents writer.new) result.receipts.items result.why) }
+    ensures session { Took (Rd.remaining reader.old) (Rd.remaining reader.new) (SessionOf (record { users = users.now; listed = listed; host = host.now; may_stop = D.may_stop }) limits.frames limits.frame (Wr.contents writer.old) (Wr.contents writer.new) result.receipts.items result.why) }
 {
     let mut seat = seat;
     let mut longest = 0;
@@ -139,7 +149,9 @@ fn serve<S, Rd: Read, Wr: Write, D: Desk<S>, G: Gate>(
             writer,
             host,
             users,
+            listed,
             desk,
+            gate,
             limits.frame,
             state,
             seat,
@@ -167,7 +179,6 @@ fn serve<S, Rd: Read, Wr: Write, D: Desk<S>, G: Gate>(
 
 /// Serves a session until its input ends, it is closed, or so many frames were served. The reader is read through a buffer of
 /// 8,192 bytes and given up with it; each answer is one write, where the writer takes it. The session's number is the gate's.
-#[tactic(auto, using(crate::proofs::Sessions::nothing_done))]
 pub fn serve_session<S, Rd: Read + Drop, Wr: Write, D: Desk<S>, G: Gate>(
     alloc: Global,
     session: u64,
@@ -182,7 +193,32 @@ pub fn serve_session<S, Rd: Read + Drop, Wr: Write, D: Desk<S>, G: Gate>(
 ) -> SessionEnd<S>
     requires { limits.frame ≤ LIMIT }
     ensures risen { (D.view result.seat).count ≡ (D.view seat).count + vec_len result.receipts }
-    ensures session { TookLast (Rd.remaining reader) (SessionOf (record { users = users.now; host = host.now; may_stop = D.may_stop }) limits.frames limits.frame (Wr.contents writer.old) (Wr.contents writer.new) result.receipts.items result.why) }
+    ensures session { TookLast (Rd.remaining reader) (SessionOf (record { users = users.now; listed = AsServed; host = host.now; may_stop = D.may_stop }) limits.frames limits.frame (Wr.contents writer.old) (Wr.contents writer.new) result.receipts.items result.why) }
+{
+    let listed = ListedVersions::AsServed;
+    serve_session_listing(
+        alloc, session, reader, writer, host, users, listed, desk, seat, limits, gate,
+    )
+}
+
+/// Serves a session as `serve_session` does, and lists versions in this way before its login.
+#[tactic(auto, using(crate::proofs::Sessions::nothing_done))]
+pub fn serve_session_listing<S, Rd: Read + Drop, Wr: Write, D: Desk<S>, G: Gate>(
+    alloc: Global,
+    session: u64,
+    reader: Rd,
+    writer: &mut Wr,
+    host: &Text,
+    users: &Users,
+    listed: ListedVersions,
+    desk: &D,
+    seat: S,
+    limits: Limits,
+    gate: &G,
+) -> SessionEnd<S>
+    requires { limits.frame ≤ LIMIT }
+    ensures risen { (D.view result.seat).count ≡ (D.view seat).count + vec_len result.receipts }
+    ensures session { TookLast (Rd.remaining reader) (SessionOf (record { users = users.now; listed = listed; host = host.now; may_stop = D.may_stop }) limits.frames limits.frame (Wr.contents writer.old) (Wr.contents writer.new) result.receipts.items result.why) }
 {
     match BufReader::new(alloc, reader) {
         Ok(mut reader) => {
@@ -193,6 +229,7 @@ pub fn serve_session<S, Rd: Read + Drop, Wr: Write, D: Desk<S>, G: Gate>(
                 writer,
                 host,
                 users,
+                listed,
                 desk,
                 seat,
                 limits,

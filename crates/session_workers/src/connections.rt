@@ -4,9 +4,10 @@ ghost use Rattle.std.specs.Prelude.{IfOk};
 ghost use Rattle.session_workers.specs.Ends.{AreEnds};
 
 use crate::accept::accept_all;
+use crate::patience::Patient;
 use crate::workers::{PoolFault, serve_all_stepped};
 use request_handlers::Seat;
-use session_logins::Users;
+use session_logins::{ListedVersions, Users};
 use session_pool::{Closing, DeskLedger, Gate, LockedDesk, SessionEnd, Steps};
 use std::alloc::Global;
 use std::net::{Net, TcpListener, TcpStream};
@@ -27,6 +28,11 @@ pub struct ConnectionOptions {
     pub open: Option<Duration>,
     /// After so long a wait for its peer a session ends, if it ever does. It is above zero.
     pub idle: Option<Duration>,
+    /// How the versions that are served are listed before a login.
+    pub listed: ListedVersions,
+    /// For how long at most the answer to a Fetch is held back that brings no record, within what the request would wait; if it
+    /// ever is.
+    pub patience: Option<Duration>,
 }
 
 /// How many connections wait for a worker in the channel, where one more waits for its turn.
@@ -67,7 +73,17 @@ pub fn serve_connections<
             if accepting.is_err() {
                 return Err(PoolFault::NoThread);
             }
-            let ends = serve_all_stepped(rt, alloc, desk, from, options.workers, steps, gate);
+            let gate = Patient::new(rt, gate, options.patience);
+            let ends = serve_all_stepped(
+                rt,
+                alloc,
+                options.listed,
+                desk,
+                from,
+                options.workers,
+                steps,
+                &gate,
+            );
             // Without workers nobody reads the lines' end.
             if let Some(closing) = closing {
                 closing.close();

@@ -6,8 +6,8 @@ ghost use Rattle.session_workers.specs.Ends.{HasRisen};
 
 use audit_trail::Event;
 use request_handlers::{Receipt, Seat};
-use session_logins::Users;
-use session_pool::{DeskLedger, Gate, Limits, LockedDesk, SessionEnd, serve_session};
+use session_logins::{ListedVersions, Users};
+use session_pool::{DeskLedger, Gate, Limits, LockedDesk, SessionEnd, serve_session_listing};
 use std::alloc::Global;
 use std::io::{Read, Write};
 use std::sync::Wait;
@@ -44,6 +44,7 @@ fn who_asked(receipts: &[Receipt]) -> Option<&Text> {
 /// Serves a job. None where no seat is left: then the job is let go.
 pub(crate) fn serve_job<L: DeskLedger, R: Wait, Rd: Read + Drop, Wr: Write + Drop, G: Gate>(
     alloc: Global,
+    listed: ListedVersions,
     desk: &LockedDesk<L, R>,
     job: Job<Rd, Wr>,
     gate: &G,
@@ -57,13 +58,14 @@ pub(crate) fn serve_job<L: DeskLedger, R: Wait, Rd: Read + Drop, Wr: Write + Dro
         limits,
     } = job;
     let seat = desk.seat()?;
-    let end = serve_session(
+    let end = serve_session_listing(
         alloc,
         session,
         reader,
         &mut writer,
         &host,
         users.value(),
+        listed,
         desk,
         seat,
         limits,

@@ -10,6 +10,7 @@ mod accept;
 mod connections;
 mod job;
 mod keeper;
+mod patience;
 mod workers;
 
 pub use connections::{ConnectionOptions, serve_connections};

@@ -9,6 +9,7 @@ use crate::job::{Done, Job, serve_job};
 use crate::keeper::keep;
 use crossbeam_channel::Receiver;
 use request_handlers::Seat;
+use session_logins::ListedVersions;
 use session_pool::{Clock, Clocked, DeskLedger, Gate, LockedDesk, SessionEnd, Steps};
 use std::alloc::{AllocError, Global};
 use std::io::{Read, Write};
@@ -53,6 +54,7 @@ type Worker<L> = JoinHandle<Result<Vec<Done<L>>, AllocError>>;
 fn work<L: DeskLedger, R: Wait, Rd: Read + Drop, Wr: Write + Drop, G: Gate, T: Wait>(
     rt: &T,
     alloc: Global,
+    listed: ListedVersions,
     desk: &LockedDesk<L, R>,
     jobs: &Receiver<Job<Rd, Wr>>,
     gate: &G,
@@ -62,7 +64,7 @@ fn work<L: DeskLedger, R: Wait, Rd: Read + Drop, Wr: Write + Drop, G: Gate, T: W
         let Ok(job) = jobs.recv(rt) else {
             break;
         };
-        if let Some(done) = serve_job(alloc, desk, job, gate) {
+        if let Some(done) = serve_job(alloc, listed, desk, job, gate) {
             ends.push(done)?;
         }
     }
@@ -139,6 +141,7 @@ fn serve_lent<
 >(
     rt: &'x T,
     alloc: Global,
+    listed: ListedVersions,
     desk: &'x LockedDesk<L, R>,
     jobs: &'x Receiver<Job<Rd, Wr>>,
     running: &'x AtomicU64,
@@ -163,7 +166,7 @@ fn serve_lent<
             for _ in 0..workers {
                 running.fetch_add(1, Ordering::SeqCst);
                 let worker = scope.spawn(move || {
-                    let ends = work(rt, alloc, desk, jobs, gate);
+                    let ends = work(rt, alloc, listed, desk, jobs, gate);
                     running.fetch_sub(1, Ordering::SeqCst);
                     ends
                 });
@@ -197,6 +200,7 @@ pub fn serve_all_stepped<
 >(
     rt: &T,
     alloc: Global,
+    listed: ListedVersions,
     desk: &LockedDesk<L, R>,
     jobs: Receiver<Job<Rd, Wr>>,
     workers: usize,
@@ -206,7 +210,9 @@ pub fn serve_all_stepped<
     ensures { IfOk result (λ ends. AreEnds (K.owed steps) ends.items) }
 {
     let running = AtomicU64::new(0);
-    serve_lent(rt, alloc, desk, &jobs, &running, workers, steps, gate)
+    serve_lent(
+        rt, alloc, listed, desk, &jobs, &running, workers, steps, gate,
+    )
 }
 
 /// The same by a clock: the keeper tells the core each of its moments, and after each has markers written as long as some are
@@ -230,5 +236,7 @@ pub fn serve_all<
 ) -> Result<Vec<SessionEnd<Seat<L>>>, PoolFault>
     ensures { IfOk result (λ ends. AreEnds (Some 0) ends.items) }
 {
-    serve_all_stepped(rt, alloc, desk, jobs, workers, Clocked::new(clock), gate)
+    let listed = ListedVersions::AsServed;
+    let steps = Clocked::new(clock);
+    serve_all_stepped(rt, alloc, listed, desk, jobs, workers, steps, gate)
 }

@@ -8,6 +8,6 @@ invariant-loop-frame g l =
     record {
       risen : (g.D.Desk.view l.seat).count ≡ (g.D.Desk.view l.fn.seat).count + vec_len l.receipts;
       session : Took (g.Rd.Read.remaining l.initial.reader) (g.Rd.Read.remaining l.reader)
-          (SoFar (record { users = l.users; host = l.host; may_stop = g.D.Desk.may_stop }) l.limits.frames l.limits.frame (g.Wr.Write.contents l.initial.writer) (g.Wr.Write.contents l.writer)
+          (SoFar (record { users = l.users; listed = l.listed; host = l.host; may_stop = g.D.Desk.may_stop }) l.limits.frames l.limits.frame (g.Wr.Write.contents l.initial.writer) (g.Wr.Write.contents l.writer)
           (l.limits.frames - l.frame) l.state l.receipts.items);
     }

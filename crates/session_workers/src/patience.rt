@@ -1,0 +1,71 @@
+//! Answers that are held back.
+
+use audit_trail::Event;
+use msg_admin::{Reply, Request};
+use request_handlers::Receipt;
+use session_pool::{Gate, Why};
+use std::time;
+use std::time::Duration;
+use wire_types::{ErrorCode, Text};
+
+/// For how long the answer to a Fetch is held back that brings no record and no error: as long as its `max_wait_ms` says. None
+/// where no answer of that kind was given.
+fn wait_of(receipt: &Receipt) -> Option<Duration> {
+    let Event::Ask {
+        request: Request::Fetch(request),
+        ..
+    } = receipt.event()
+    else {
+        return None;
+    };
+    let Reply::Fetch(reply) = receipt.reply() else {
+        return None;
+    };
+    for topic in reply.topics.as_slice() {
+        for part in topic.partitions.as_slice() {
+            if part.records.len() > 0 || part.error != ErrorCode::None {
+                return None;
+            }
+        }
+    }
+    u64::try_from(request.max_wait)
+        .ok()
+        .map(Duration::from_millis)
+}
+
+/// A gate that holds back answers without records, for a most of time, and leaves all else to another gate. A client that is
+/// answered at once that there is nothing asks again at once (Kafka protocol guide, "Fetch API (Key: 1)": `max_wait_ms`).
+#[derive(Drop)]
+pub(crate) struct Patient<'x, R, G> {
+    rt: &'x R,
+    gate: &'x G,
+    most: Option<Duration>,
+}
+
+impl<'x, R, G> Patient<'x, R, G> {
+    /// Holds back for so long at most, or nothing.
+    pub(crate) fn new(rt: &'x R, gate: &'x G, most: Option<Duration>) -> Patient<'x, R, G> {
+        Patient { rt, gate, most }
+    }
+}
+
+impl<'x, R: time::Clock, G: Gate> Gate for Patient<'x, R, G> {
+    fn before(&self, session: u64, frame: u64) {
+        self.gate.before(session, frame);
+    }
+
+    fn answered(&self, receipt: &Receipt) {
+        self.gate.answered(receipt);
+        if let (Some(most), Some(wait)) = (self.most, wait_of(receipt)) {
+            self.rt.sleep(wait.min(most));
+        }
+    }
+
+    fn after(&self, session: u64, frame: u64) {
+        self.gate.after(session, frame);
+    }
+
+    fn ended(&self, session: u64, host: &Text, who: Option<&Text>, why: Why) {
+        self.gate.ended(session, host, who, why);
+    }
+}
