@@ -12,7 +12,7 @@ serve:
 	@scripts/serve_example.py
 
 steer:
-	@./kbroker serve --listen 127.0.0.1:9092 --workers 16 --settings examples/steered.toml --control
+	@./kbroker serve --listen 127.0.0.1:9092 --workers 16 --settings examples/steered.toml --control --librdkafka
 
 prove:
 	@scripts/prove.py

@@ -173,7 +173,8 @@ class Kbroker:
         path = os.path.join(self.folder.name, "settings.toml")
         with open(path, "w", encoding="utf-8") as it:
             it.write(f'node_id = 1\nhost = "{self.host}"\nport = {self.port}\n{self.settings}')
-        words = ["serve", "--listen", self.address, "--workers", str(self.workers), "--settings", path, "--control"]
+        words = ["serve", "--listen", self.address, "--workers", str(self.workers), "--settings", path]
+        words += ["--control", "--librdkafka"]
         pipes = {"stdin": subprocess.PIPE, "stdout": subprocess.PIPE, "encoding": "utf-8"}
         pipes["errors"] = "surrogateescape"
         self.process = subprocess.Popen([self.program, *words], **pipes)

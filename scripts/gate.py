@@ -42,6 +42,7 @@ IN_TURN = (
     "refused_lines.py",
     "sessions.py",
     "served.py",
+    "clients.py",
     "soak.py",
     "steered.py",
     "lesson.py",
@@ -49,7 +50,6 @@ IN_TURN = (
 )
 # What needs nothing that `rt ci` leaves: it runs beside its last call, on what that leaves idle.
 ON_SOURCES = "failing_tests.py"
-SCRIPTS = (*SIDE_BY_SIDE, *IN_TURN, ON_SOURCES)
 # rt gives a proof only the processors that no other one waits for, also where all the others could wait. So what all the
 # rest waits for comes by itself, and has two: the crate below all others. After it comes the core with what that stands on,
 # and what fills a gap before the core though that doesn't stand on it; then the server, on which the longest tests stand. All
@@ -59,6 +59,9 @@ CORE = "request_handlers"
 SERVER = "broker_server"
 BESIDE = "script_lines", "session_logins"
 SEEN_EVERY = 2  # seconds
+# How a script ends; with this status it is skipped, since what it needs isn't installed.
+PASSED, SKIPPED, FAILED = "passed", "SKIPPED", "FAILED"
+LACKS = 77
 TICKS = os.sysconf("SC_CLK_TCK")
 PAGE = os.sysconf("SC_PAGE_SIZE")
 TOTALS = re.compile(r"^(\d+) passed, (\d+) failed$", re.M)
@@ -173,15 +176,16 @@ class Script:
         told = {"stdout": self.said, "stderr": subprocess.STDOUT, "stdin": subprocess.DEVNULL}
         self.process = subprocess.Popen([ROOT / "scripts" / name], preexec_fn=lambda: os.nice(nice), **told)
 
-    def passes(self):
-        """Waits for its end, shows what it said, and tells whether it passed."""
-        failed = self.process.wait()
+    def outcome(self):
+        """Waits for its end, shows what it said, and gives how it ended: `PASSED`, `SKIPPED` or `FAILED`."""
+        status = self.process.wait()
         self.said.seek(0)
         print(self.said.read().decode(errors="replace"), end="")
-        if failed:
-            print(f"gate: {self.name} FAILED")
+        outcome = {0: PASSED, LACKS: SKIPPED}.get(status, FAILED)
+        if outcome != PASSED:
+            print(f"gate: {self.name} {outcome}")
         sys.stdout.flush()
-        return not failed
+        return outcome
 
 
 def run_checks():
@@ -210,17 +214,17 @@ def run_checks():
 
 
 def run_scripts():
-    """Runs each script over the program, and returns how many passed."""
+    """Runs each script over the program, and returns how each ended."""
     if not PROGRAM.exists():
         print("gate: the scripts FAILED: there is no program")
-        return 0
-    passed, running = 0, []
+        return [FAILED for _ in (*SIDE_BY_SIDE, *IN_TURN)]
+    outcomes, running = [], []
     for name in SIDE_BY_SIDE:
         if len(running) == len(os.sched_getaffinity(0)):
-            passed += running.pop(0).passes()
+            outcomes.append(running.pop(0).outcome())
         running.append(Script(name))
-    passed += sum([it.passes() for it in running])
-    return passed + sum([Script(it).passes() for it in IN_TURN])
+    outcomes += [it.outcome() for it in running]
+    return outcomes + [Script(it).outcome() for it in IN_TURN]
 
 
 def main():
@@ -228,7 +232,8 @@ def main():
     prove.hold_alone()
     started = time.monotonic()
     text, last, status, beside = run_checks()
-    of_scripts = beside.passes() + run_scripts()
+    outcomes = [beside.outcome(), *run_scripts()]
+    of_scripts, skipped = outcomes.count(PASSED), outcomes.count(SKIPPED)
     passed, failed = map(int, (TOTALS.findall(last) or [(0, 1)])[-1])
     if status and not failed:
         failed = 1
@@ -238,9 +243,9 @@ def main():
     minutes = (time.monotonic() - started) / 60
     print(
         f"gate: {crates} crates proved, {edits} edits refused, {tests} tests and {of_scripts} scripts"
-        f" passed in {minutes:.1f} minutes; see {LOG.relative_to(ROOT)}"
+        f" passed, {skipped} skipped, in {minutes:.1f} minutes; see {LOG.relative_to(ROOT)}"
     )
-    passed, failed = passed + of_scripts, failed + len(SCRIPTS) - of_scripts
+    passed, failed = passed + of_scripts, failed + outcomes.count(FAILED)
     print(f"{passed} passed, {failed} failed", flush=True)
     sys.exit(1 if failed else 0)
 

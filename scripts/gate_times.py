@@ -1,5 +1,5 @@
 #!/usr/bin/env python3
-"""Prints a table, in Markdown, of what the last `make test` took for each crate: the README's is made by it."""
+"""Prints a table, in Markdown, of what the last `make test` took for each crate: that of docs/BUILD.md is made by it."""
 
 import json
 import sys

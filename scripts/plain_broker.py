@@ -1,5 +1,5 @@
 """The broker as its rules are told: the protocol's guide, KIP-98, KIP-290, KIP-447, KIP-679 and KIP-890, and what this broker
-says of its own in the README and in docs/DECISIONS.md, over plain lists. For the script that works answers out on its own."""
+says of its own in docs/USING.md and docs/DECISIONS.md, over plain lists. For the script that works answers out on its own."""
 
 from typing import NamedTuple
 

@@ -10,6 +10,7 @@ What the most work waits for comes first, and work is measured: scripts/prove_se
 crate. What a run took is kept in crates/NAME/out/prove.seconds, and `scripts/prove_seconds.py` prints a new table of it.
 """
 
+import argparse
 import fcntl
 import os
 import re
@@ -347,7 +348,9 @@ def end_on_signals():
 
 
 def main():
-    names = sys.argv[1:] or [NAME]
+    parser = argparse.ArgumentParser(description="Proves and builds the program, or other crates, and what they stand on.")
+    parser.add_argument("crates", nargs="*", metavar="CRATE", help="in place of the program")
+    names = parser.parse_args().crates or [NAME]
     end_on_signals()
     hold_alone()
     progress = prove(toolchain.load(), names)

@@ -11,7 +11,7 @@ import sys
 from program import NAME, PROGRAM, PROVING_TIME, ROOT, what_lacks
 
 SETTINGS = ROOT / "examples/server.toml"
-WORDS = ("serve", "--listen", "127.0.0.1:9092", "--workers", "16")
+WORDS = ("serve", "--listen", "127.0.0.1:9092", "--workers", "16", "--audit", "-", "--librdkafka")
 
 
 def main():

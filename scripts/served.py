@@ -62,7 +62,8 @@ def no_broker():
     with socket.create_server(("127.0.0.1", 0)) as taken:
         address = f"127.0.0.1:{taken.getsockname()[1]}"
         status, said, why = run(("--listen", address))
-    assert (status, said) == (1, "listen failed\n") and address in why, (status, said, why)
+    assert (status, said) == (1, "listen failed\n"), (status, said, why)
+    assert address in why and why.endswith("address in use\n"), why
     status, said, why = run(LISTEN, "node_id = ")
     assert (status, said) == (1, "settings refused: Toml\n") and why, (status, said, why)
     status, said, why = run(LISTEN, TOP + USERS + USERS)
@@ -199,6 +200,48 @@ def each_api():
     assert told == [TOLD.format(2, "the login failed, or something was asked before it")], told
 
 
+def librdkafka_sees_versions_from_zero():
+    """With `--librdkafka` ApiVersions lists FindCoordinator and SaslHandshake from 0 before a login, and nothing else changes."""
+    served = {10: (1, 1), 17: (1, 1)}
+    for more, listed in (((), served), (("--librdkafka",), {10: (0, 1), 17: (0, 1)})):
+        with Broker(SETTINGS, more=more) as server:
+            with wire.Connection(server.address) as broker:
+                tables = [broker.ask("ApiVersions")["apis"]]
+                assert broker.ask("SaslHandshake", mechanism="PLAIN")["error"] == 0
+                tables.append(broker.ask("ApiVersions")["apis"])
+                assert broker.ask("SaslAuthenticate", auth=b"\0root\0toor")["error"] == 0
+                tables.append(broker.ask("ApiVersions")["apis"])
+            server.settled()
+        versions = [{it["key"]: (it["min"], it["max"]) for it in table} for table in tables]
+        assert versions[0] == versions[1] == {**versions[2], **listed}, (more, versions)
+        assert {key: versions[2][key] for key in served} == served, versions[2]
+
+
+def an_empty_fetch_is_held_back():
+    """With `--librdkafka` an answer without a record or an error waits as the request says, at most a tenth of a second."""
+    times = 20
+
+    def seconds_of(broker, offset, max_wait, answer):
+        """What so many Fetches take, each of which is answered this code, and whether there are records."""
+        begun = time.monotonic()
+        for _ in range(times):
+            part = records_of(broker.ask("Fetch", max_wait=max_wait, topics=of_b(offset=offset, max_bytes=1000)))
+            assert (part["error"], bool(part["records"])) == answer, (offset, part)
+        return time.monotonic() - begun
+
+    for more in ((), ("--librdkafka",)):
+        with Broker(SETTINGS, more=more) as server:
+            with wire.Connection(server.address) as broker:
+                assert broker.login("root", "toor") == 0
+                assert records_of(broker.ask("Produce", topics=of_b(records=wire.batch([b"x"]))))["error"] == 0
+                for offset, max_wait, answer in ((1, 0, (0, False)), (0, 60_000, (0, True)), (9, 60_000, (1, False))):
+                    took = seconds_of(broker, offset, max_wait, answer)
+                    assert took < times * 0.1, (more, offset, max_wait, took)
+                took = seconds_of(broker, 1, 60_000, (0, False))
+                assert (took >= times * 0.1) == bool(more) and took < 60, (more, took)
+            server.settled()
+
+
 def peers_that_vanish():
     """A peer that says nothing, one that ends inside a frame, and one that resets the connection cost nobody else anything."""
     with Broker(SETTINGS, workers=4, connections=4) as server:
@@ -323,6 +366,8 @@ def main():
         no_broker,
         two_connections,
         each_api,
+        librdkafka_sees_versions_from_zero,
+        an_empty_fetch_is_held_back,
         peers_that_vanish,
         refusals_are_told,
         announced_frames_take_little,

@@ -28,8 +28,8 @@ def topic(name, partitions=1):
 class Broker:
     """`kbroker serve` on a port of its own, until it has served so many connections or more words end it."""
 
-    def __init__(self, settings, workers=4, connections=1, more=()):
-        words = ["serve", "--listen", "127.0.0.1:0", "--workers", str(workers), "--connections", str(connections), *more]
+    def __init__(self, settings, workers=4, connections=1, more=(), listen="127.0.0.1:0"):
+        words = ["serve", "--listen", listen, "--workers", str(workers), "--connections", str(connections), *more]
         self.errors = tempfile.TemporaryFile()
         with tempfile.TemporaryFile() as given:
             given.write(settings.encode())

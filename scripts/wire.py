@@ -125,6 +125,20 @@ DEFAULTS = {
     "max_bytes": 1 << 20, "protocol_type": "consumer", "member": "", "require_stable": False,
 }
 
+# The errors that a broker answers, by their names in the protocol's guide.
+ERRORS = {
+    1: "OFFSET_OUT_OF_RANGE", 2: "CORRUPT_MESSAGE", 3: "UNKNOWN_TOPIC_OR_PARTITION", 10: "MESSAGE_TOO_LARGE",
+    21: "INVALID_REQUIRED_ACKS", 22: "ILLEGAL_GENERATION", 23: "INCONSISTENT_GROUP_PROTOCOL", 24: "INVALID_GROUP_ID",
+    25: "UNKNOWN_MEMBER_ID", 26: "INVALID_SESSION_TIMEOUT", 27: "REBALANCE_IN_PROGRESS",
+    29: "TOPIC_AUTHORIZATION_FAILED", 30: "GROUP_AUTHORIZATION_FAILED", 31: "CLUSTER_AUTHORIZATION_FAILED",
+    32: "INVALID_TIMESTAMP", 33: "UNSUPPORTED_SASL_MECHANISM", 34: "ILLEGAL_SASL_STATE", 35: "UNSUPPORTED_VERSION",
+    42: "INVALID_REQUEST", 45: "OUT_OF_ORDER_SEQUENCE_NUMBER", 47: "INVALID_PRODUCER_EPOCH", 48: "INVALID_TXN_STATE",
+    49: "INVALID_PRODUCER_ID_MAPPING", 50: "INVALID_TRANSACTION_TIMEOUT", 51: "CONCURRENT_TRANSACTIONS",
+    53: "TRANSACTIONAL_ID_AUTHORIZATION_FAILED", 55: "OPERATION_NOT_ATTEMPTED", 58: "SASL_AUTHENTICATION_FAILED",
+    76: "UNSUPPORTED_COMPRESSION_TYPE", 81: "GROUP_MAX_SIZE_REACHED", 87: "INVALID_RECORD",
+    88: "UNSTABLE_OFFSET_COMMIT", 90: "PRODUCER_FENCED",
+}
+
 # An answer that is no longer than this is printed in one line.
 LINE = 240
 
@@ -484,20 +498,84 @@ def show_records(fields, answer):
             partition["records"] = [[offset, value and value.decode(errors="replace")] for offset, value in records]
 
 
-def main():
-    if len(sys.argv) not in (5, 6) or sys.argv[4] not in APIS:
-        sys.exit(f"usage: wire.py HOST:PORT USER PASSWORD API ['JSON']\nThe apis are {', '.join(APIS)}.")
-    address, user, password, api = sys.argv[1:5]
-    fields = json.loads(sys.argv[5]) if len(sys.argv) == 6 else {}
-    with Connection(address) as broker:
+def errors_in(answer):
+    """The numbers of the errors in an answer."""
+    if isinstance(answer, dict):
+        found = {it for name, value in answer.items() if name != "error" for it in errors_in(value)}
+        return found | ({answer["error"]} if answer.get("error") else set())
+    return {it for value in answer for it in errors_in(value)} if isinstance(answer, list) else set()
+
+
+def named(number):
+    """An error's number and its name."""
+    return f"{number} {ERRORS.get(number, 'of no name here')}"
+
+
+def usage():
+    """How the program is called, and what each api is asked."""
+    rows = [f"    {name:<20}{' '.join(api[3].split()) or 'nothing'}" for name, api in APIS.items()]
+    return (
+        "usage: wire.py HOST:PORT USER PASSWORD API ['JSON']\n\n"
+        "Logs in, asks one thing and prints the answer as JSON. What an error is called is said on standard error.\n"
+        'JSON is an object of fields, as in \'{"topics": ["orders"]}\'; those that it leaves out are the usual ones.\n\n'
+        "The apis and their fields: s is a text, b bytes, i8 to i64 numbers, bool true or false, [..] a list; with ? it\n"
+        "may be null. In place of a Produce's records stands what `batch` takes, as in {\"values\": [\"a cup\"]}.\n\n"
+        + "\n".join(rows)
+    )
+
+
+def fields_of(api, text):
+    """The fields that a text names."""
+    try:
+        fields = json.loads(text)
+    except ValueError as fault:
+        sys.exit(f"wire.py: the fields are no JSON: {fault}")
+    if not isinstance(fields, dict):
+        sys.exit('wire.py: the fields stand in an object, as in {"topics": ["orders"]}')
+    known = [name for name, *_ in SCHEMAS[api][0]]
+    for name in fields:
+        if name not in known:
+            sys.exit(f"wire.py: {api} has no field {name}; it has {', '.join(known) or 'none'}")
+    return fields
+
+
+def answer_to(address, user, password, api, fields):
+    """What the broker answers."""
+    try:
+        connection = Connection(address)
+    except ValueError:
+        sys.exit(f"wire.py: {address} is no HOST:PORT")
+    except OSError as fault:
+        sys.exit(f"wire.py: nobody answers at {address}: {fault.strerror or fault}")
+    with connection as broker:
         code = broker.login(user, password)
         if code:
-            sys.exit(f"the login is answered {code}")
+            sys.exit(f"wire.py: the login of {user} is answered {named(code)}")
+        return broker.ask(api, **fields)
+
+
+def main():
+    if sys.argv[1:] in (["--help"], ["-h"]):
+        print(usage())
+        return
+    if len(sys.argv) not in (5, 6):
+        sys.exit("usage: wire.py HOST:PORT USER PASSWORD API ['JSON']\nwire.py --help has each api with its fields.")
+    address, user, password, api = sys.argv[1:5]
+    if api not in APIS:
+        sys.exit(f"wire.py: no api {api} is served; those that are: {', '.join(APIS)}")
+    fields = fields_of(api, sys.argv[5]) if len(sys.argv) == 6 else {}
+    try:
         make_batches(fields)
-        answer = broker.ask(api, **fields)
+        answer = answer_to(address, user, password, api, fields)
+    except (struct.error, KeyError, TypeError, AttributeError) as fault:
+        sys.exit(f"wire.py: a field of {api} is not of its kind ({fault}); wire.py --help has each field")
+    except (EOFError, ConnectionError):
+        sys.exit("wire.py: the broker has closed the connection; its standard error says why")
     show_records(fields, answer)
     line = json.dumps(answer, default=lambda data: data.hex())
     print(line if len(line) <= LINE else json.dumps(answer, indent=1, default=lambda data: data.hex()))
+    for number in sorted(errors_in(answer)):
+        print(f"wire.py: error {named(number)}", file=sys.stderr)
 
 
 if __name__ == "__main__":

@@ -9,6 +9,7 @@ with `--alone` each in a check of its own. What is printed is each edit that the
 more than a name in a proof file.
 """
 
+import argparse
 import json
 import os
 import shutil
@@ -138,11 +139,21 @@ def try_side_by_side(rt, crates, edits, room, options):
     return failed
 
 
+def words_given():
+    """The crates that are named, all of them if none is, their shelves, and the options for each copy."""
+    parser = argparse.ArgumentParser(description="Tries wrong bodies, each of which the prover has to refuse.")
+    parser.add_argument("crates", nargs="*", metavar="CRATE", help="whose wrong bodies are tried; all, if none is named")
+    parser.add_argument("--both", action="store_true", help="those of must-fail/ too, which the gate tries")
+    parser.add_argument("--alone", action="store_true", help="each in a check of its own")
+    given = parser.parse_args()
+    unknown = {*given.crates} - {*crates_list()}
+    if unknown:
+        parser.error(f"no such crates: {', '.join(sorted(unknown))}")
+    return given.crates or [*crates_list()], SHELVES if given.both else SHELVES[:1], ["--alone"] if given.alone else []
+
+
 def main():
-    words = sys.argv[1:]
-    shelves = SHELVES if "--both" in words else SHELVES[:1]
-    options = [it for it in words if it == "--alone"]
-    names = [it for it in words if not it.startswith("--")] or [*crates_list()]
+    names, shelves, options = words_given()
     edits = {it: shelved(it, shelves) for it in crates_of(names) if it in names}
     edits = {name: found for name, found in edits.items() if found}
     if not edits:
