@@ -4,6 +4,8 @@ pub mod Tally
 pub mod Permits
 pub mod Index
 pub mod Looking
+pub mod Longest
+pub mod LookUps
 pub mod Kept
 pub mod Contents
 pub mod Picking

@@ -2,7 +2,7 @@
 -- granted, with the number of changes at that moment. (Kafka documentation, 'Authorization and ACLs': super.users.)
 use Rattle.std.specs.Prelude.{◌≡◌, ℕ, ◌+◌, ◌*◌, ◌<◌, ◌≤◌, Bool, List, length, nat_eq, is_some, None, if◌then◌else◌}
 use Rattle.std.specs.List.{list_any}
-use Rattle.std.specs.Str.{bytes_eq, chars}
+use Rattle.std.specs.Str.{bytes_eq}
 use Rattle.acl_binding.specs.declared.binding.Binding.{Binding}
 use Rattle.acl_binding.specs.declared.question.Question.{Question}
 use Rattle.acl_binding.specs.declared.question.Verdict.{Verdict}
@@ -33,11 +33,6 @@ is_super supers who = list_any (λ name. bytes_eq name who) supers
 -- a super user may do everything; for all others the bindings answer, deny before allow
 abbrev pub verdict : BookValue → List (List ℕ) → Question → Verdict
 verdict book supers q = if is_super supers q.who then Yes else verdict_of book.entries q
-
--- how often names are looked up for a verdict: never for a super user, and for all others once for each character of the
--- question's name, once for the whole name and once for `*`
-abbrev pub look_ups : PolicyValue → Question → ℕ
-look_ups policy q = if is_super policy.supers q.who then 0 else length (chars q.name) + 2
 
 -- what the policy answers to the question
 abbrev pub policy_verdict : PolicyValue → Question → Verdict

@@ -11,6 +11,7 @@ ghost use Rattle.authorizer.specs.Looking.{about, is_at, IsKindIndexed, IsIndexe
 ghost use Rattle.authorizer.specs.Picking.{left_of, stands_at, stands_in, HasPicked};
 
 mod any_topic;
+mod longest;
 mod names;
 
 use crate::picking::{ByNumber, pick_from};

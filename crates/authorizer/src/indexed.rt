@@ -8,6 +8,7 @@ ghost use Rattle.acl_binding.specs.Book.{empty_book, number_of, added, appended}
 ghost use Rattle.acl_binding.specs.Filter.{matching, removed};
 ghost use Rattle.acl_binding.specs.Verdict.{verdict_of};
 ghost use Rattle.authorizer.specs.Looking.{finding, IsIndexed, IsNamed};
+ghost use Rattle.authorizer.specs.LookUps.{beginnings_within, longest_prefix};
 ghost use Rattle.authorizer.specs.Picking.{numbered, picks, AreAllAt};
 ghost use Rattle.acl_binding.specs.declared.words.Pattern.TheVariants.{Prefixed};
 
@@ -199,7 +200,7 @@ impl IndexedBook {
     /// What the bindings answer to the question, deny before allow, and how often a name was looked up for it.
     pub(crate) fn verdict_counted(&self, question: &Question) -> (Verdict, u64)
         ensures verdict { result.0 ≡ verdict_of self.now.entries question.now }
-        ensures looked { result.1 ≡ length (chars question.now.name) + 2 }
+        ensures looked { result.1 ≡ beginnings_within (longest_prefix question.now.kind self.now.entries) (chars question.now.name) + 2 }
     {
         let (finding, looked) = self.found(question);
         (finding.verdict(), looked)
@@ -208,7 +209,7 @@ impl IndexedBook {
     /// What the bindings that may cover the question's name say: those of the name, of `*` and of its beginnings.
     fn found(&self, question: &Question) -> (Finding, u64)
         ensures finding { result.0 ≡ finding self.now.entries question.now }
-        ensures looked { result.1 ≡ length (chars question.now.name) + 2 }
+        ensures looked { result.1 ≡ beginnings_within (longest_prefix question.now.kind self.now.entries) (chars question.now.name) + 2 }
     {
         let names = self.index.of(question.kind);
         let mut looked = 0;

@@ -21,7 +21,7 @@ mod tally;
 
 pub use answer::{Answer, Refusal, Why};
 pub use asking::{GivenPermits, ThreePermits, TwoPermits, ask_given, ask_one, ask_three, ask_two};
-pub use laws::{permit_ends_with_edit, some_topic_is_exact};
+pub use laws::{look_ups_are_few, permit_ends_with_edit, some_topic_is_exact};
 pub use paid::Paid;
 pub use permit::{Permit, Spent};
 pub use policy::Policy;

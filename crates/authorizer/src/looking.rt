@@ -8,6 +8,8 @@ ghost use Rattle.acl_binding.specs.declared.words.Pattern.TheVariants.{Prefixed}
 ghost use Rattle.acl_binding.specs.Book.{IsRising};
 ghost use Rattle.acl_binding.specs.Verdict.{decided};
 ghost use Rattle.authorizer.specs.Index.{held_by};
+ghost use Rattle.authorizer.specs.Longest.{longest_name};
+ghost use Rattle.authorizer.specs.LookUps.{beginnings_within};
 ghost use Rattle.authorizer.specs.Looking.{finding, joined, sooner, is_longer, IsNamed, IsTableOf};
 
 use crate::index::Names;
@@ -82,18 +84,23 @@ pub(crate) fn look(names: &Names, name: &str, question: &Question, looked: &mut 
     Finding::of(names.look_up(name, looked), question)
 }
 
-/// What the prefixed bindings whose names begin the question's say: a look-up for each of its characters.
+/// What the prefixed bindings whose names begin the question's say: a look-up for each beginning that is no longer than
+/// the longest of those names.
 pub(crate) fn look_prefixes(names: &Names, question: &Question, looked: &mut u64) -> Finding
     requires rising { (name : List ℕ) → IsRising 1 (held_by names.now name) }
     requires count { looked.old + length question.now.name + 1 < 2 ^ 64 }
     ensures finding { (es : List Entry) → AllByRecursion IsNamed es → IsTableOf names.now question.now.kind Prefixed es → result ≡ finding (kept (is_longer question.now.kind question.now.name 0) es) question.now }
-    ensures looked { looked.new ≡ looked.old + length (chars question.now.name) }
+    ensures looked { looked.new ≡ looked.old + beginnings_within (longest_name names.now) (chars question.now.name) }
 {
     let name = question.name.as_str();
+    let longest = names.longest();
     let mut finding = Finding::none();
     let mut end = 0;
     for c in name.chars() {
         end += c.len_utf8();
+        if end > longest {
+            break;
+        }
         finding = finding.joined(look(names, &name[..end], question, looked));
     }
     finding

@@ -3,7 +3,8 @@
 ghost use Rattle.std.specs.Prelude.{◌≡◌, ◌+◌, ◌^◌, ◌<◌, ◌≤◌, length, IfOk, OnOk, OnErr};
 ghost use Rattle.acl_binding.specs.Adding.{adding_answer};
 ghost use Rattle.acl_binding.specs.Filter.{matching};
-ghost use Rattle.authorizer.specs.Policy.{first_policy, policy_verdict, look_ups, policy_added, policy_removed, is_super};
+ghost use Rattle.authorizer.specs.LookUps.{look_ups};
+ghost use Rattle.authorizer.specs.Policy.{first_policy, policy_verdict, policy_added, policy_removed, is_super};
 ghost use Rattle.authorizer.specs.AnyTopic.{any_topic};
 ghost use Rattle.authorizer.specs.Asking.{asking_answer};
 ghost use Rattle.acl_binding.specs.declared.words.Pattern.TheVariants.{Prefixed};
@@ -108,7 +109,8 @@ impl Policy {
         self.verdict_counted(question).0
     }
 
-    /// The verdict, and how often a name was looked up for it among the bindings.
+    /// The verdict, and how often a name was looked up for it among the bindings: once for the name, once for `*`, and
+    /// once for each of its beginnings that is no longer than the longest prefixed name bound for the kind.
     pub fn verdict_counted(&self, question: &Question) -> (Verdict, u64)
         ensures verdict { result.0 ≡ policy_verdict self.now question.now }
         ensures looked { result.1 ≡ look_ups self.now question.now }

@@ -73,21 +73,41 @@ fn asked(alloc: Global, who: &str, topic: &str) -> Result<Question, AllocError> 
     caller.asks(Operation::Write, Kind::Topic, &Text::of(alloc, topic)?)
 }
 
-/// At most two look-ups and one for each character of the name, of which `zoë` has three in four bytes; none for a super user.
+/// How often names are looked up where Ann asks for this topic.
+fn looked(alloc: Global, policy: &Policy, topic: &str) -> Result<u64, AllocError> {
+    Ok(policy.verdict_counted(&asked(alloc, "User:ann", topic)?).1)
+}
+
+/// Two look-ups and one for each beginning of the name that is no longer than `pay.`, the longest prefix: `zoë` has three in four
+/// bytes. None for a super user.
 #[test]
 fn few_look_ups(rt: HostRuntime) -> Result<(), Fail> {
     let policy = policy_of(rt.alloc(), RandomState::new(&rt)?)?;
-    for (who, topic, verdict, most) in [
-        ("User:ann", "pay.x", Verdict::Denied(2), 7),
-        ("User:ann", "pay.y", Verdict::Yes, 7),
+    for (who, topic, verdict, times) in [
+        ("User:ann", "pay.x", Verdict::Denied(2), 6),
+        ("User:ann", "pay.y", Verdict::Yes, 6),
+        ("User:ann", "pay.roll.of.2026", Verdict::Yes, 6),
         ("User:ann", "zoë", Verdict::Yes, 5),
+        ("User:ann", "zoës", Verdict::Nothing, 5),
         ("User:ann", "zoe", Verdict::Nothing, 5),
+        ("User:ann", "ëëë", Verdict::Nothing, 4),
+        ("User:ann", "zooë", Verdict::Nothing, 5),
         ("User:ann", "", Verdict::Nothing, 2),
         ("User:root", "pay.x", Verdict::Yes, 0),
     ] {
         let (found, looked) = policy.verdict_counted(&asked(rt.alloc(), who, topic)?);
         assert_eq!(rt; found, verdict, "{who} {topic}");
-        assert!(rt; looked <= most, "{who} {topic}");
+        assert_eq!(rt; looked, times, "{who} {topic}");
     }
+    Ok(())
+}
+
+/// A name as long as a frame bears costs no look-up more than a short one.
+#[test]
+fn long_name_is_looked_up_as_a_short_one(rt: HostRuntime) -> Result<(), Fail> {
+    let alloc = rt.alloc();
+    let policy = policy_of(alloc, RandomState::new(&rt)?)?;
+    let long = "pay.".repeat(alloc, 8191)?;
+    assert_eq!(rt; looked(alloc, &policy, &long)?, 6);
     Ok(())
 }

@@ -1,7 +1,7 @@
 //! The bindings of one kind and one pattern, by their names.
 
-ghost use Rattle.std.specs.Prelude.{◌≡◌, ◌+◌, ◌^◌, ◌<◌, [], ◌∷◌, ◌&&◌, List, ℕ, Some, if◌then◌else◌, OnOk, OnErr};
-ghost use Rattle.std.specs.HashMap.{get_by_text};
+ghost use Rattle.std.specs.Prelude.{◌≡◌, ◌+◌, ◌^◌, ◌<◌, [], ◌∷◌, ◌++◌, ◌&&◌, List, ℕ, length, Some, None, if◌then◌else◌, OnOk, OnErr};
+ghost use Rattle.std.specs.HashMap.{get_by_text, keys};
 ghost use Rattle.std.specs.Str.{bytes_eq};
 ghost use Rattle.std.specs.List.{list_any};
 ghost use Rattle.acl_binding.specs.declared.binding.Numbered.{Numbered as Entry};
@@ -9,9 +9,11 @@ ghost use Rattle.acl_binding.specs.declared.words.Kind.{Kind};
 ghost use Rattle.acl_binding.specs.declared.words.Pattern.{Pattern};
 ghost use Rattle.authorizer.specs.AnyTopic.{is_of, is_unbarred};
 ghost use Rattle.authorizer.specs.Index.{held_by, HasMore, HasSame, HasLess, HasLessAt};
+ghost use Rattle.authorizer.specs.Longest.{lengths, longest_name};
 ghost use Rattle.authorizer.specs.Looking.{IsTableOf};
 
 use crate::bucket::Bucket;
+use crate::index::longest::Longest;
 use crate::indexed::IndexedBook;
 use acl_binding::{Filter, Numbered};
 use indexmap::IndexMap;
@@ -24,19 +26,25 @@ use wire_types::{Shared, Text};
 pub(crate) const ANY_NAME: &str = "*";
 
 /// Each name with its bindings in creation order, seen as a list of both. A name without bindings isn't in the table.
+/// It knows how long the longest name is: a longer one isn't even hashed when it is looked up.
 #[derive(Drop)]
 pub struct Names {
     buckets: IndexMap<String, Bucket, RandomState>,
+    longest: Longest,
 }
 
 impl Model for Names {
     ghost use Rattle.std.specs.Prelude.{List, ℕ};
     ghost use Rattle.acl_binding.specs.declared.binding.Numbered.{Numbered};
+    ghost use Rattle.std.specs.HashMap.{keys};
     ghost use Rattle.authorizer.specs.Index.{rows};
+    ghost use Rattle.authorizer.specs.Longest.{lengths, IsLongest};
 
     ghost Value = { List (List ℕ × List Numbered) };
 
     ghost view = { λ n. rows n.buckets.entries };
+
+    ghost invariant = { λ n. IsLongest n.longest (lengths (keys n.buckets)) };
 }
 
 impl Names {
@@ -45,13 +53,24 @@ impl Names {
     {
         Names {
             buckets: IndexMap::with_hasher(alloc, hasher),
+            longest: Longest::none(),
         }
+    }
+
+    /// The bytes of the longest name, or 0 where there is none.
+    pub(crate) fn longest(&self) -> usize
+        ensures { result ≡ longest_name self.now }
+    {
+        self.longest.bytes
     }
 
     /// The bindings of this name, by a look-up that isn't counted. Verdicts can't make one: they stand outside this module.
     pub(super) fn held(&self, name: &str) -> &[Shared<Numbered>]
         ensures { result.now ≡ held_by self.now name.now }
     {
+        if name.len() > self.longest.bytes {
+            return &[];
+        }
         match self.buckets.get(name) {
             Some(bucket) => bucket.as_slice(),
             None => &[],
@@ -92,7 +111,12 @@ impl Names {
     {
         match self.buckets.get_mut(name) {
             Some(bucket) => bucket.push(entry)?,
-            None => add_name(&mut self.buckets, alloc, name, entry)?,
+            None => {
+                add_name(&mut self.buckets, alloc, name, entry)?;
+                // (no more names are as long as the longest than there are)
+                prove!(self.longest.names < self.buckets.len());
+                self.longest.add(name.len());
+            }
         }
         Ok(())
     }
@@ -105,6 +129,7 @@ impl Names {
             return;
         }
         self.buckets.retain(|_, bucket| bucket.leave(filter));
+        self.longest = Longest::of(&self.buckets);
     }
 
     /// Takes out those of this name that the filter picks, and the name where nothing is left of it.
@@ -116,6 +141,9 @@ impl Names {
         };
         if !bucket.leave(filter) {
             self.buckets.swap_remove(name);
+            if !self.longest.lose(name.len()) {
+                self.longest = Longest::of(&self.buckets);
+            }
         }
     }
 }
@@ -128,6 +156,7 @@ fn add_name(
     entry: Shared<Numbered>,
 ) -> Result<(), AllocError>
     ensures ok { OnOk result ((other : List ℕ) → get_by_text buckets.new other ≡ (if bytes_eq name.now other then Some (entry ∷ []) else get_by_text buckets.old other)) }
+    ensures last { OnOk result (get_by_text buckets.old name.now ≡ None → lengths (keys buckets.new) ≡ lengths (keys buckets.old) ++ length name.now ∷ []) }
     ensures err { OnErr result (buckets.new.entries ≡ buckets.old.entries) }
 {
     let bucket = Bucket::of(alloc, entry)?;

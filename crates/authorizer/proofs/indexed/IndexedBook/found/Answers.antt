@@ -1,10 +1,14 @@
 use Rattle.authorizer.specs.declared.index.KindIndex.{KindIndex}
-use Rattle.std.proofs.Common.{◌≡◌, ℕ, List, ap, ◌∙◌}
+use Rattle.std.proofs.Common.{◌≡◌, ℕ, ◌+◌, List, ap, ◌∙◌, arith}
+use Rattle.std.specs.Str.{chars}
 use Rattle.std.specs.Map.{values_of}
 use Rattle.acl_binding.specs.declared.words.Pattern.TheVariants.{Literal, Prefixed}
 use Rattle.acl_binding.specs.Binding.{star}
 use Rattle.authorizer.specs.Index.{held_by}
+use Rattle.authorizer.specs.Longest.{longest_name}
+use Rattle.authorizer.specs.LookUps.{beginnings_within, longest_prefix}
 use Rattle.authorizer.specs.Looking.{finding, joined, kind_index}
+use Rattle.authorizer.proofs.LongestNames.{same_longest}
 use Rattle.authorizer.proofs.Covering.{kind_indexed, held_rising, found_all}
 use Rattle.authorizer.proofs.indexed.IndexedBook.found.Goals as goal
 
@@ -36,3 +40,15 @@ returns-clause-finding c =
     c.joined-2.ensures ∙ ap (joined c.look-own.result) c.joined.ensures
     ∙ (λ i. joined (own i) (joined (every i) (longer i)))
     ∙ found_all index (values_of c.self.inside.entries.entries) c.args.question.now k c.self.invariant.named)
+
+pub returns-clause-looked : goal.returns-clause-looked
+returns-clause-looked c =
+    let kind = c.args.question.now.kind in
+    let text = chars c.args.question.now.name in
+    let es = values_of c.self.inside.entries.entries in
+    let k = kind_indexed c.self.inside.index _ c.self.invariant.indexed kind in
+    let names : c.of-names.result.now ≡ kind_index c.self.inside.index kind = c.of-names.ensures in
+    let same : longest_name c.of-names.result.now.prefixed ≡ longest_prefix kind es =
+    ap (λ (x : KindIndex). longest_name x.prefixed) names ∙ same_longest (kind_index c.self.inside.index kind).prefixed kind es k.prefixed in
+    let within : beginnings_within (longest_name c.of-names.result.now.prefixed) text ≡ beginnings_within (longest_prefix kind es) text = ap (λ (n : ℕ). beginnings_within n text) same in
+    rw (← c.self.view_is) (omega arith)

@@ -1,7 +1,8 @@
-use Rattle.std.proofs.Common.{List, [], ◌∷◌, ◌++◌, Option, Some, ap, ◌∙◌, rules}
+use Rattle.std.proofs.Common.{ℕ, List, [], ◌∷◌, ◌++◌, Option, Some, ap, subst, sym, ◌∙◌, rules}
 use Rattle.std.specs.Option.{unwrap_or}
 use Rattle.std.proofs.lemmas.Map.Text.{hash_map_updates_text}
 use Rattle.acl_binding.specs.declared.binding.Numbered.{Numbered}
+use Rattle.authorizer.specs.Longest.{IsLongest}
 use Rattle.authorizer.proofs.Tables.{has_more, has_same, on_err}
 use Rattle.authorizer.proofs.index.names.Names.add.Goals as goal
 
@@ -25,3 +26,8 @@ returns-in_ok-add_name-in-None-clause-ok c =
     let changed = rw c.get_mut.follows.holds-at-none at c.in_ok-add_name-in-None.ensures.ok in
     rw (← c.self.view_is) (has_more c.self.inside.buckets.entries c.add_name.new.buckets.entries c.args.name.now (c.args.entry ∷ []) c.args.entry changed
     (ap (λ (o : Option (List Numbered)). unwrap_or o [] ++ c.args.entry ∷ []) c.in-None.ensures.value))
+
+pub invariant_of-self-in-None : goal.invariant_of-self-in-None
+invariant_of-self-in-None c =
+    let last = rw c.get_mut.follows.holds-at-none at c.in_ok-add_name-in-None.ensures.last in
+    subst (λ (ns : List ℕ). IsLongest c.add.new.self ns) (sym (last (sym c.in-None.ensures.value))) (c.add.ensures _ c.self.invariant)

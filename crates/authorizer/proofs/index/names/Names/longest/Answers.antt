@@ -1,0 +1,7 @@
+use Rattle.std.proofs.Common.{List, ℕ, sym, ap, ◌∙◌, rules}
+use Rattle.authorizer.specs.Longest.{greatest, longest_name}
+use Rattle.authorizer.proofs.LongestNames.{key_lengths}
+use Rattle.authorizer.proofs.index.names.Names.longest.Goals as goal
+
+pub returns : goal.returns
+returns c = rw (← c.self.view_is) (c.self.invariant.bytes ∙ ap greatest (sym (key_lengths c.self.inside.buckets.entries)))

@@ -1,0 +1,63 @@
+//! How long a table's longest name is.
+
+ghost use Rattle.std.specs.Prelude.{◌≡◌, ◌+◌, ◌^◌, ◌<◌, ◌≤◌, ◌++◌, [], ◌∷◌, List, ℕ, Bool, cond, true, count_by};
+ghost use Rattle.std.specs.HashMap.{keys};
+ghost use Rattle.authorizer.specs.Longest.{lengths, IsLongest};
+
+use crate::bucket::Bucket;
+use indexmap::IndexMap;
+use std::hash::RandomState;
+
+/// The bytes of the longest name, and how many names are as long: after one of several was taken out it is known without
+/// another look at the table. Both are 0 where there is no name.
+#[derive(Clone, Copy)]
+pub struct Longest {
+    pub(crate) bytes: usize,
+    pub(crate) names: usize,
+}
+
+impl Longest {
+    /// That of no names.
+    pub(crate) fn none() -> Longest
+        ensures { IsLongest result [] }
+    {
+        Longest { bytes: 0, names: 0 }
+    }
+
+    /// That of a table's names.
+    pub(crate) fn of(buckets: &IndexMap<String, Bucket, RandomState>) -> Longest
+        ensures { IsLongest result (lengths (keys buckets.now)) }
+    {
+        let mut longest = Longest::none();
+        for (name, _bucket) in buckets.iter() {
+            longest.add(name.as_str().len());
+        }
+        longest
+    }
+
+    /// One name more.
+    pub(crate) fn add(&mut self, bytes: usize)
+        requires { self.old.names + 1 < 2 ^ 64 }
+        ensures { (ns : List ℕ) → IsLongest self.old ns → IsLongest self.new (ns ++ bytes ∷ []) }
+    {
+        if bytes > self.bytes {
+            *self = Longest { bytes, names: 1 };
+        } else if bytes == self.bytes {
+            self.names += 1;
+        }
+    }
+
+    /// One name less. Answers whether the longest is still known: it isn't where that was the only one as long.
+    pub(crate) fn lose(&mut self, bytes: usize) -> bool
+        ensures { (ns left : List ℕ) → ((p : ℕ → Bool) → count_by p left + cond (p bytes) 1 0 ≡ count_by p ns) → IsLongest self.old ns → result ≡ true → IsLongest self.new left }
+    {
+        if bytes < self.bytes {
+            return true;
+        }
+        if self.names < 2 {
+            return false;
+        }
+        self.names -= 1;
+        true
+    }
+}
