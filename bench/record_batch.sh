@@ -1,34 +1,54 @@
 #!/usr/bin/env bash
-# Times `crc32c` and `Batch::check` beside plain Rust: `bench/record_batch.sh`.
+# Times `crc32c` and `Batch::check` beside plain Rust: `bench/record_batch.sh`, or `bench/record_batch.sh DIR` beside those
+# of another checkout as well.
 set -euo pipefail
 top="$(cd "$(dirname "$0")/.." && pwd)"
 work="$(mktemp -d)"
 trap 'rm -rf "$work"' EXIT
 
 # the program stands in a repository of its own, so that the gate has nothing to prove for it
-mkdir -p "$work"/crates/batch_speed/{src,specs,proofs}
-cp -r "$top"/crates/{wire_types,record_batch} "$work/crates/"
-cp "$top/bench/record_batch/rattle.rt.txt" "$work/crates/batch_speed/src/main.rt"
-touch "$work"/crates/batch_speed/{specs,proofs}/Lib.antt
-grep -E '^(wire_types|record_batch):' "$top/crates.txt" > "$work/crates.txt"
-echo 'batch_speed: record_batch wire_types' >> "$work/crates.txt"
-git -C "$work" init -q
-(cd "$work/crates/batch_speed" && rt run > "$work/build.log" 2>&1) || { cat "$work/build.log"; exit 1; }
-rustc -O --edition 2024 -o "$work/plain" "$top/bench/record_batch/plain.rs"
+build() {
+    local from="$1" own="$work/$2"
+    mkdir -p "$own"/crates/batch_speed/{src,specs,proofs}
+    cp -r "$from"/crates/{wire_types,record_batch} "$own/crates/"
+    cp "$top/bench/record_batch/rattle.rt.txt" "$own/crates/batch_speed/src/main.rt"
+    touch "$own"/crates/batch_speed/{specs,proofs}/Lib.antt
+    grep -E '^(wire_types|record_batch):' "$from/crates.txt" > "$own/crates.txt"
+    echo 'batch_speed: record_batch wire_types' >> "$own/crates.txt"
+    git -C "$own" init -q
+    (cd "$own/crates/batch_speed" && rt run > "$own/build.log" 2>&1) || { cat "$own/build.log"; exit 1; }
+    mv "$own/crates/batch_speed/out/batch_speed" "$work/$2.program"
+}
+programs=(rattle plain)
+build "$top" rattle
+rustc -O --edition 2024 -o "$work/plain.program" "$top/bench/record_batch/plain.rs"
+if [ $# -gt 0 ]; then
+    build "$1" other
+    programs=(other "${programs[@]}")
+fi
 
-# in turn, so that what else the machine does slows both
+# in turn, so that what else the machine does slows all
 for _ in 1 2 3; do
-    "$work/crates/batch_speed/out/batch_speed" >> "$work/rattle.txt"
-    "$work/plain" >> "$work/plain.txt"
+    for program in "${programs[@]}"; do
+        "$work/$program.program" >> "$work/$program.txt"
+    done
 done
 
-# the best round of each, over 6,400 batches of 16,381 bytes
-for what in crc32c check; do
-    awk -v what="$what" '
-        $1 == what { sums[FILENAME] = $3; if (!best[FILENAME] || $2 < best[FILENAME]) best[FILENAME] = $2 }
-        END {
-            ours = 6400 * 16381 / best[ARGV[1]]; plain = 6400 * 16381 / best[ARGV[2]]
-            if (sums[ARGV[1]] != sums[ARGV[2]]) { print what ": the sums differ"; exit 1 }
-            printf "%-7s Rattle %5.0f MB/s, plain Rust %5.0f MB/s, ratio %.2f\n", what, ours, plain, ours / plain
-        }' "$work/rattle.txt" "$work/plain.txt"
-done
+# the best round of each: over 6,400 batches of 16,381 bytes, and over a buffer in pieces
+cd "$work"
+awk '
+    { unit = $1 == "piece" ? $1 " " $2 : $1; time = $(NF - 1); program = substr(FILENAME, 1, length(FILENAME) - 4) }
+    !(unit in bytes) { units[++count] = unit; bytes[unit] = $1 == "piece" ? $3 * 1000 : 6400 * 16381; sum[unit] = $NF }
+    $NF != sum[unit] { print unit ": the sums differ"; failed = 1; exit 1 }
+    !((unit, program) in best) || time < best[unit, program] { best[unit, program] = time }
+    END {
+        if (failed) exit 1
+        for (at = 1; at <= count; at++) {
+            line = sprintf("%-13s", units[at])
+            for (place = 1; place < ARGC; place++) {
+                program = substr(ARGV[place], 1, length(ARGV[place]) - 4)
+                line = line sprintf("  %s %5.0f MB/s", program, bytes[units[at]] / best[units[at], program])
+            }
+            print line sprintf("  ratio to plain %.2f", best[units[at], "plain"] / best[units[at], "rattle"])
+        }
+    }' "${programs[@]/%/.txt}"

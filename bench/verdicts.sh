@@ -24,6 +24,7 @@ git -C "$work" init -q
 "$own/out/verdict_speed" > "$work/figures.txt"
 awk '
     $2 == "added" { printf "%6d bindings: %s filled in %.3f s\n", $3, $1, $5 / 1e6 }
+    $2 == "named" { printf "%6d bytes: a verdict takes %.0f ns\n", $3, $5 / $4 * 1000 }
     $2 == "answered" {
         printf "%6d bindings: %s answers %d verdicts a second\n", $3, $1, $4 / $5 * 1e6
         if ($1 == "policy") sum = $6

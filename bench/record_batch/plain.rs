@@ -5,16 +5,18 @@ use std::time::Instant;
 
 const BATCHES: u32 = 6_400;
 const ROUNDS: u32 = 7;
+const PASSES: u32 = 2_001;
 
-static BYTE_REMAINDERS: [[u32; 256]; 8] = byte_remainders();
+/// The remainders of single bytes, each with up to 23 zero bytes after it.
+static BYTE_REMAINDERS: [[u32; 256]; 24] = byte_remainders();
 
-const fn byte_remainders() -> [[u32; 256]; 8] {
-    let mut tables = [[0; 256]; 8];
+const fn byte_remainders() -> [[u32; 256]; 24] {
+    let mut tables = [[0; 256]; 24];
     let mut byte = 0;
     while byte < 256 {
         let mut remainder = byte as u32;
         let mut zeros = 0;
-        while zeros < 8 {
+        while zeros < 24 {
             let mut bit = 0;
             while bit < 8 {
                 remainder = (remainder >> 1) ^ (0x82f6_3b78 * (remainder & 1));
@@ -28,27 +30,66 @@ const fn byte_remainders() -> [[u32; 256]; 8] {
     tables
 }
 
-#[inline(never)]
-fn crc32c(bytes: &[u8]) -> u32 {
-    let mut remainder = 0xffff_ffff;
-    let chunks = bytes.chunks_exact(8);
-    let rest = chunks.remainder();
-    for chunk in chunks {
-        let word = u64::from(remainder) ^ u64::from_le_bytes(chunk.try_into().unwrap());
-        remainder = BYTE_REMAINDERS[7][(word & 0xff) as usize]
-            ^ BYTE_REMAINDERS[6][(word >> 8 & 0xff) as usize]
-            ^ BYTE_REMAINDERS[5][(word >> 16 & 0xff) as usize]
-            ^ BYTE_REMAINDERS[4][(word >> 24 & 0xff) as usize]
-            ^ BYTE_REMAINDERS[3][(word >> 32 & 0xff) as usize]
-            ^ BYTE_REMAINDERS[2][(word >> 40 & 0xff) as usize]
-            ^ BYTE_REMAINDERS[1][(word >> 48 & 0xff) as usize]
-            ^ BYTE_REMAINDERS[0][(word >> 56) as usize];
+/// The remainder of eight bytes with so many zero bytes after them.
+#[inline(always)]
+fn word_remainder(word: u64, zeros: usize) -> u32 {
+    BYTE_REMAINDERS[zeros + 7][(word & 0xff) as usize]
+        ^ BYTE_REMAINDERS[zeros + 6][(word >> 8 & 0xff) as usize]
+        ^ BYTE_REMAINDERS[zeros + 5][(word >> 16 & 0xff) as usize]
+        ^ BYTE_REMAINDERS[zeros + 4][(word >> 24 & 0xff) as usize]
+        ^ BYTE_REMAINDERS[zeros + 3][(word >> 32 & 0xff) as usize]
+        ^ BYTE_REMAINDERS[zeros + 2][(word >> 40 & 0xff) as usize]
+        ^ BYTE_REMAINDERS[zeros + 1][(word >> 48 & 0xff) as usize]
+        ^ BYTE_REMAINDERS[zeros][(word >> 56) as usize]
+}
+
+fn after_triples(remainder: u32, triples: &[[[u8; 8]; 3]]) -> u32 {
+    let Some(([one, two, three], triples)) = triples.split_first() else {
+        return remainder;
+    };
+    let mut first = u64::from(remainder) ^ u64::from_le_bytes(*one);
+    let mut second = u64::from_le_bytes(*two);
+    let mut third = u64::from_le_bytes(*three);
+    for [one, two, three] in triples {
+        first = u64::from(word_remainder(first, 16)) ^ u64::from_le_bytes(*one);
+        second = u64::from(word_remainder(second, 16)) ^ u64::from_le_bytes(*two);
+        third = u64::from(word_remainder(third, 16)) ^ u64::from_le_bytes(*three);
     }
-    for byte in rest {
+    let remainder = word_remainder(first, 0);
+    let remainder = word_remainder(u64::from(remainder) ^ second, 0);
+    word_remainder(u64::from(remainder) ^ third, 0)
+}
+
+fn after_words(mut remainder: u32, words: &[[u8; 8]]) -> u32 {
+    for word in words {
+        remainder = word_remainder(u64::from(remainder) ^ u64::from_le_bytes(*word), 0);
+    }
+    remainder
+}
+
+fn after_bytes(mut remainder: u32, bytes: &[u8]) -> u32 {
+    for byte in bytes {
         let place = (remainder ^ u32::from(*byte)) & 0xff;
         remainder = BYTE_REMAINDERS[0][place as usize] ^ (remainder >> 8);
     }
-    remainder ^ 0xffff_ffff
+    remainder
+}
+
+#[inline(never)]
+fn crc32c_by_triples(bytes: &[u8]) -> u32 {
+    let (words, rest) = bytes.as_chunks();
+    let (triples, words) = words.as_chunks();
+    let remainder = after_triples(0xffff_ffff, triples);
+    after_bytes(after_words(remainder, words), rest) ^ 0xffff_ffff
+}
+
+#[inline(never)]
+fn crc32c(bytes: &[u8]) -> u32 {
+    if bytes.len() >= 48 {
+        return crc32c_by_triples(bytes);
+    }
+    let (words, rest) = bytes.as_chunks();
+    after_bytes(after_words(0xffff_ffff, words), rest) ^ 0xffff_ffff
 }
 
 /// The four bytes at a place.
@@ -145,6 +186,25 @@ fn batch(base_offset: u32) -> Arc<[u8]> {
     out.into()
 }
 
+/// The checksums of the pieces of some bytes, as one number.
+fn sum_of(bytes: &[u8], piece: usize) -> u32 {
+    bytes
+        .chunks_exact(piece)
+        .fold(0, |sum: u32, part| sum.rotate_left(1) ^ crc32c(part))
+}
+
+/// Prints how many nanoseconds the best pass takes over so many bytes in pieces of this size.
+fn measure(piece: usize, len: usize) {
+    let bytes: Vec<u8> = (0..len).map(|at| (at % 251) as u8).collect();
+    let passes = (0..PASSES).map(|_| {
+        let start = Instant::now();
+        let sum = sum_of(&bytes, piece);
+        (start.elapsed().as_nanos(), sum)
+    });
+    let (best, sum) = passes.min().unwrap();
+    println!("piece {piece} {len} {best} {sum}");
+}
+
 fn main() {
     let batches: Vec<Arc<[u8]>> = (0..BATCHES).map(batch).collect();
     for _ in 0..ROUNDS {
@@ -163,5 +223,17 @@ fn main() {
             }
         }
         println!("check {} {sum}", start.elapsed().as_micros());
+    }
+    for (piece, len) in [
+        (8, 80_000),
+        (16, 80_000),
+        (40, 80_000),
+        (100, 80_000),
+        (200, 80_000),
+        (1_024, 81_920),
+        (16_384, 81_920),
+        (1_000_000, 1_000_000),
+    ] {
+        measure(piece, len);
     }
 }

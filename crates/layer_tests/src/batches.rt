@@ -1,6 +1,6 @@
-//! Vectors from outside: checksums of RFC 3720, and batches that another encoder made, in hexadecimal digits.
+//! Vectors from outside: batches that another encoder made, in hexadecimal digits.
 
-use record_batch::{Batch, BatchFault, BatchHeader, Outcome, RecordAt, crc32c};
+use record_batch::{Batch, BatchFault, BatchHeader, Outcome, RecordAt};
 use std::alloc::{AllocError, Global};
 use std::test::Fail;
 use wire_types::{Bytes, Items, write_varint};
@@ -29,31 +29,6 @@ const ABORT: &str =
 const THOUSAND: &str =
     "0000000000000000000023190000000002a71c3b260000000003e700000000000000000000000000000000ffffffffff\
     ffffffffffffffffff000003e8";
-
-/// 32 bytes of each kind.
-const ZEROS: &str = "0000000000000000000000000000000000000000000000000000000000000000";
-
-const ONES: &str = "ffffffffffffffffffffffffffffffffffffffffffffffffffffffffffffffff";
-
-const ASCENDING: &str = "000102030405060708090a0b0c0d0e0f101112131415161718191a1b1c1d1e1f";
-
-const DESCENDING: &str = "1f1e1d1c1b1a191817161514131211100f0e0d0c0b0a09080706050403020100";
-
-#[test]
-fn known_checksums(rt: HostRuntime) -> Result<(), Fail> {
-    for (digits, checksum) in [
-        ("313233343536373839", 0xe306_9283),
-        ("", 0),
-        (ZEROS, 0x8a91_36aa),
-        (ONES, 0x62a8_ab43),
-        (ASCENDING, 0x46dd_794e),
-        (DESCENDING, 0x113f_db5c),
-    ] {
-        let bytes = hex::decode(rt.alloc(), digits)?;
-        assert_eq!(rt; crc32c(bytes.as_slice()), checksum, "{digits}");
-    }
-    Ok(())
-}
 
 /// The batch that the digits are.
 fn batch_of(alloc: Global, digits: &str) -> Result<Batch, Fail> {

@@ -7,6 +7,8 @@
 #[cfg(test)]
 mod batches;
 #[cfg(test)]
+mod checksums;
+#[cfg(test)]
 mod codes;
 #[cfg(test)]
 mod frames;

@@ -1,4 +1,4 @@
--- Eight bytes at once: each is shifted out by itself, with the bytes behind it zero.
+-- Eight bytes at once: each is shifted out by itself, with zeros for the bytes after it.
 use Rattle.std.proofs.Common.{◌≡◌, ℕ, zero, suc, ◌+◌, ◌*◌, ◌/◌, ◌%◌, ◌^◌, ◌<◌, ◌≤◌, List, [], ◌∷◌, ◌++◌, length, get_or, drop, take, refl, sym, ap, ◌∙◌, arith, drop-cons, add-one}
 use Rattle.std.specs.Prelude.{bit_xor, bit_and}
 use Rattle.std.specs.List.{concat}
@@ -34,6 +34,16 @@ word_by_bytes n =
     ∙ next_byte 24 (n / 2 ^ 32) (n / 2 ^ 40) _ (omega arith)
     ∙ next_byte 16 (n / 2 ^ 40) (n / 2 ^ 48) _ (omega arith)
     ∙ next_byte 8 (n / 2 ^ 48) (n / 2 ^ 56) _ (omega arith)
+
+pub far_word_by_bytes : (n : ℕ) → shifted_by 192 n ≡ bit_xor (bit_xor (bit_xor (bit_xor (bit_xor (bit_xor (bit_xor (shifted_by 192 (bit_and n 255)) (shifted_by 184 (bit_and (n / 2 ^ 8) 255))) (shifted_by 176 (bit_and (n / 2 ^ 16) 255))) (shifted_by 168 (bit_and (n / 2 ^ 24) 255))) (shifted_by 160 (bit_and (n / 2 ^ 32) 255))) (shifted_by 152 (bit_and (n / 2 ^ 40) 255))) (shifted_by 144 (bit_and (n / 2 ^ 48) 255))) (shifted_by 136 (n / 2 ^ 56))
+far_word_by_bytes n =
+    low_byte 184 n
+    ∙ next_byte 176 (n / 2 ^ 8) (n / 2 ^ 16) _ (omega arith)
+    ∙ next_byte 168 (n / 2 ^ 16) (n / 2 ^ 24) _ (omega arith)
+    ∙ next_byte 160 (n / 2 ^ 24) (n / 2 ^ 32) _ (omega arith)
+    ∙ next_byte 152 (n / 2 ^ 32) (n / 2 ^ 40) _ (omega arith)
+    ∙ next_byte 144 (n / 2 ^ 40) (n / 2 ^ 48) _ (omega arith)
+    ∙ next_byte 136 (n / 2 ^ 48) (n / 2 ^ 56) _ (omega arith)
 
 -- the lowest byte of a word comes in first
 byte_in : (k crc byte rest word : ℕ) → byte < 2 ^ 8 → word ≡ rest * 2 ^ 8 + byte → shifted_by (8 + k) (bit_xor crc word) ≡ shifted_by k (bit_xor (crc_step crc byte) rest)
@@ -89,7 +99,7 @@ is_done chunks i crc total le so_far =
     let none : drop i chunks ≡ [] = drop_all i chunks le in
     sym (ap (λ (rest : List (List ℕ)). crc_after crc (concat rest)) none) ∙ so_far
 
--- the chunks and what is left behind them are the bytes
+-- the chunks and what is left after them are the bytes
 pub chunks_and_rest : (n k : ℕ) (bytes : List ℕ) → concat (first_chunks n k bytes) ++ drop (k * n) bytes ≡ bytes
 chunks_and_rest n zero bytes = let none : 0 * n ≡ 0 = omega arith in rw none refl
 chunks_and_rest n (suc k) bytes =

@@ -1,6 +1,7 @@
 pub mod Bits
 pub mod Remainders
 pub mod Chunks
+pub mod Triples
 pub mod RecordLoop
 pub mod RecordLaws
 pub mod HeaderLaws

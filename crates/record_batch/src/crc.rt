@@ -1,10 +1,10 @@
-//! CRC-32C (RFC 3720), eight bytes at a time by a table.
+//! CRC-32C (RFC 3720), by tables: three words of eight bytes side by side where there are enough, else word by word.
 
-ghost use Rattle.std.specs.Prelude.{◌≡◌, ◌<◌, ◌^◌, ◌/◌, ◌%◌, bit_xor};
-ghost use Rattle.std.specs.List.{concat};
+ghost use Rattle.std.specs.Prelude.{◌≡◌, ℕ, ◌<◌, ◌^◌, ◌/◌, ◌%◌, bit_xor};
+ghost use Rattle.std.specs.List.{concat, flat_map};
 ghost use Rattle.record_batch.specs.Crc.{crc_step, crc_after, crc32c, shifted_by};
 
-use crate::table::byte_remainder;
+use crate::table::{byte_remainder, far_byte_remainder};
 
 /// The remainder of eight bytes, the first one lowest.
 #[inline(always)]
@@ -22,12 +22,36 @@ fn word_remainder(word: u64) -> u32
         ^ byte_remainder((word >> 56) as u8, 0)
 }
 
+/// The remainder of eight bytes with 16 zero bytes after them, the first one lowest.
+#[inline(always)]
+#[tactic(auto, using(crate::proofs::Chunks::far_word_by_bytes))]
+fn far_word_remainder(word: u64) -> u32
+    ensures { result ≡ shifted_by 192 word }
+{
+    far_byte_remainder((word & 0xff) as u8, 7)
+        ^ far_byte_remainder((word >> 8 & 0xff) as u8, 6)
+        ^ far_byte_remainder((word >> 16 & 0xff) as u8, 5)
+        ^ far_byte_remainder((word >> 24 & 0xff) as u8, 4)
+        ^ far_byte_remainder((word >> 32 & 0xff) as u8, 3)
+        ^ far_byte_remainder((word >> 40 & 0xff) as u8, 2)
+        ^ far_byte_remainder((word >> 48 & 0xff) as u8, 1)
+        ^ far_byte_remainder((word >> 56) as u8, 0)
+}
+
+/// Eight bytes as one word, the first one lowest. Added to a remainder, it brings them all in at once.
+#[inline(always)]
+fn word_of(bytes: &[u8; 8]) -> u64
+    ensures { (crc : ℕ) → shifted_by 64 (bit_xor crc result) ≡ crc_after crc bytes.now }
+{
+    u64::from_le_bytes(*bytes)
+}
+
 /// The remainder after eight more bytes.
 #[inline(always)]
 fn after_chunk(crc: u32, chunk: &[u8; 8]) -> u32
     ensures { result ≡ crc_after crc chunk.now }
 {
-    word_remainder(crc as u64 ^ u64::from_le_bytes(*chunk))
+    word_remainder(crc as u64 ^ word_of(chunk))
 }
 
 fn after_chunks(crc: u32, chunks: &[[u8; 8]]) -> u32
@@ -59,10 +83,56 @@ fn after_bytes(crc: u32, bytes: &[u8]) -> u32
     remainder
 }
 
-/// The CRC-32C of some bytes.
-pub fn crc32c(bytes: &[u8]) -> u32
+/// The remainder after triples of words. It keeps a sum of the first words of all triples, one of the second and one of
+/// the third, so that no look-up waits for those of another sum. In the end the three are joined word by word.
+fn after_triples(crc: u32, triples: &[[[u8; 8]; 3]]) -> u32
+    ensures { result ≡ crc_after crc (flat_map concat triples.now) }
+{
+    let Some(([one, two, three], triples)) = triples.split_first() else {
+        return crc;
+    };
+    let mut first = crc as u64 ^ word_of(one);
+    let mut second = word_of(two);
+    let mut third = word_of(three);
+    for [one, two, three] in triples {
+        first = far_word_remainder(first) as u64 ^ word_of(one);
+        second = far_word_remainder(second) as u64 ^ word_of(two);
+        third = far_word_remainder(third) as u64 ^ word_of(three);
+    }
+    let remainder = word_remainder(first);
+    let remainder = word_remainder(remainder as u64 ^ second);
+    word_remainder(remainder as u64 ^ third)
+}
+
+/// The CRC-32C of some bytes, word by word.
+#[inline(always)]
+fn crc32c_by_words(bytes: &[u8]) -> u32
     ensures { result ≡ crc32c bytes.now }
 {
     let (chunks, rest) = bytes.as_chunks::<8>();
     after_bytes(after_chunks(0xffff_ffff, chunks), rest) ^ 0xffff_ffff
+}
+
+/// The CRC-32C of some bytes, by triples of words as far as they go.
+#[inline(never)]
+fn crc32c_by_triples(bytes: &[u8]) -> u32
+    ensures { result ≡ crc32c bytes.now }
+{
+    let (chunks, rest) = bytes.as_chunks::<8>();
+    let (triples, chunks) = chunks.as_chunks::<3>();
+    let remainder = after_triples(0xffff_ffff, triples);
+    after_bytes(after_chunks(remainder, chunks), rest) ^ 0xffff_ffff
+}
+
+/// The CRC-32C of some bytes.
+#[inline]
+pub fn crc32c(bytes: &[u8]) -> u32
+    ensures { result ≡ crc32c bytes.now }
+{
+    // fewer than two triples have nothing to do side by side
+    if bytes.len() < 48 {
+        crc32c_by_words(bytes)
+    } else {
+        crc32c_by_triples(bytes)
+    }
 }

@@ -1,7 +1,7 @@
 use Rattle.std.proofs.Common.{ap, length, ◌/◌}
 use Rattle.std.specs.Prelude.{bit_xor}
 use Rattle.record_batch.proofs.Chunks.{by_chunks}
-use Rattle.record_batch.proofs.crc.crc32c.Goals as goal
+use Rattle.record_batch.proofs.crc.crc32c_by_words.Goals as goal
 
 pub returns : goal.returns
 returns c =

@@ -1,0 +1,107 @@
+"""How long another user waits beside one large request: each step is answered while all others wait.
+
+Each row is asked three times in a broker of its own, by `root`, who may do everything, or by `nobody`, who may do nothing,
+while `shop` asks for the Metadata of one topic as fast as it can. What is told is the longest wait of `shop`.
+"""
+
+import sys
+from pathlib import Path
+
+sys.path.append(str(Path(__file__).resolve().parent.parent / "scripts"))
+
+import wire  # noqa: E402
+from abuse import BOUND, LONGEST, beside_another  # noqa: E402
+from serving import Broker, topic  # noqa: E402
+
+MANY = 100_000
+ROUNDS = 3
+USERS = "".join(f'[[user]]\nname = "{it}"\npassword = "{it}"\n' for it in ("root", "nobody", "shop"))
+SETTINGS = (
+    'node_id = 1\nhost = "h"\nport = 9092\nsupers = ["User:root"]\ntrail_limit = 10000000\n'
+    + USERS
+    + topic("shop-orders")
+    + topic("t", 1_000)
+    + topic("u", 20_000)
+    + BOUND.format("Topic", "shop-")
+)
+
+
+def creation(number):
+    """A binding that nobody asks for."""
+    words = {"kind": 2, "name": f"topic-{number}", "pattern": 3, "principal": "User:ann", "host": "*"}
+    return {**words, "operation": 3, "permission": 3}
+
+
+def picking(name):
+    """A filter for the topics' bindings of this name, or of any."""
+    words = {"kind": 2, "name": name, "pattern": 1, "principal": None, "host": None}
+    return {**words, "operation": 1, "permission": 1}
+
+
+def partitions(name, indices, **more):
+    return [{"topic": name, "partitions": [{"index": it, **more} for it in indices]}]
+
+
+def commits(name, indices, **more):
+    return partitions(name, indices, offset=0, metadata=None, **more)
+
+
+def begins(broker):
+    """A producer id for `x`."""
+    return {"transactional_id": "x", **{it: broker.ask("InitProducerId", transactional_id="x", timeout=900_000)[it] for it in ("producer", "epoch")}}
+
+
+def adds(broker):
+    """A producer id for `x`, and the 20,000 partitions of its transaction."""
+    pair = begins(broker)
+    broker.ask("AddPartitionsToTxn", **pair, topics=[{"topic": "u", "partitions": [*range(20_000)]}])
+    return pair
+
+
+def binds(broker):
+    """So many bindings."""
+    broker.ask("CreateAcls", creations=[creation(it) for it in range(MANY)])
+
+
+def nothing(_):
+    return {}
+
+
+# What is asked by whom, after what, and how many things each request names.
+ROWS = {
+    "OffsetCommit of 1,000, group of 32,767 bytes, refused": ("nobody", nothing, 1_000, "OffsetCommit", {"group": LONGEST, "topics": commits("t", range(1_000))}),
+    "Metadata of 20 names of 32,767 bytes, refused": ("nobody", nothing, 20, "Metadata", {"topics": [LONGEST[2:] + f"{it:02}" for it in range(20)]}),
+    "Metadata of 100,000 names, refused": ("nobody", nothing, MANY, "Metadata", {"topics": [f"n{it}" for it in range(MANY)]}),
+    "Metadata of 100,000 names": ("root", nothing, MANY, "Metadata", {"topics": [f"n{it}" for it in range(MANY)]}),
+    "Metadata of 1,000 partitions, 500 times": ("root", nothing, 500, "Metadata", {"topics": ["t"] * 500}),
+    "OffsetCommit of 100,000": ("root", nothing, MANY, "OffsetCommit", {"group": "g", "topics": commits("t", range(1_000)) * 100}),
+    "TxnOffsetCommit of 100,000": ("root", begins, MANY, "TxnOffsetCommit", {"group": "g", "instance": None, "topics": commits("t", range(1_000), leader_epoch=-1) * 100}),
+    "AddPartitionsToTxn of 20,000": ("root", begins, 20_000, "AddPartitionsToTxn", {"topics": [{"topic": "u", "partitions": [*range(20_000)]}]}),
+    "EndTxn of 20,000 partitions": ("root", adds, 20_000, "EndTxn", {"committed": True}),
+    "Produce of 100,000 batches": ("root", nothing, MANY, "Produce", {"transactional_id": None, "topics": partitions("t", range(1_000), records=wire.batch([b"v"])) * 100}),
+    "CreateAcls of 100,000": ("root", nothing, MANY, "CreateAcls", {"creations": [creation(it) for it in range(MANY)]}),
+    "DescribeAcls of 100,000": ("root", binds, MANY, "DescribeAcls", picking(None)),
+    "DeleteAcls, 200 filters with a name": ("root", binds, 200, "DeleteAcls", {"filters": [picking(f"other-{it}") for it in range(200)]}),
+    "DeleteAcls, 20 filters without a name, of 100,000": ("root", binds, 20, "DeleteAcls", {"filters": [{**picking(None), "principal": "User:bob"}] * 20}),
+}
+
+
+def measure(user, before, api, fields):
+    """The bytes of the frame, how long it takes at most, and how long another user waits at most, in seconds."""
+    with Broker(SETTINGS, connections=2) as running, wire.Connection(running.address, timeout=600) as broker:
+        if broker.login(user, user):
+            raise ValueError("the login is refused")
+        frame = wire.request_frame(api, 1, {**before(broker), **fields})
+        _, took, waited = beside_another(running.address, broker, [frame] * ROUNDS)
+    return len(frame), took, waited
+
+
+def main():
+    print("| request | frame | it takes | another user waits | for each thousand |\n|---|--:|--:|--:|--:|")
+    for name, (user, before, count, api, fields) in ROWS.items():
+        size, took, waited = measure(user, before, api, fields)
+        print(f"| {name} | {size / 1000:,.0f} kB | {took * 1000:.0f} ms | {waited * 1000:.0f} ms | {waited / count * 1e6:.1f} ms |", flush=True)
+
+
+if __name__ == "__main__":
+    main()
