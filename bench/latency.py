@@ -15,13 +15,14 @@ from serving import Broker, topic  # noqa: E402
 
 MANY = 100_000
 ROUNDS = 3
-USERS = "".join(f'[[user]]\nname = "{it}"\npassword = "{it}"\n' for it in ("root", "nobody", "shop"))
+TWENTY = [f"u{it}" for it in range(20)]
+USERS = "".join(f'[[user]]\nname = "{it}"\npassword = "{it[0]}"\n' for it in ("root", "nobody", "shop"))
 SETTINGS = (
     'node_id = 1\nhost = "h"\nport = 9092\nsupers = ["User:root"]\ntrail_limit = 10000000\n'
     + USERS
     + topic("shop-orders")
     + topic("t", 1_000)
-    + topic("u", 20_000)
+    + "".join(topic(it, 1_000) for it in TWENTY)
     + BOUND.format("Topic", "shop-")
 )
 
@@ -51,16 +52,22 @@ def begins(broker):
     return {"transactional_id": "x", **{it: broker.ask("InitProducerId", transactional_id="x", timeout=900_000)[it] for it in ("producer", "epoch")}}
 
 
+def all_of_twenty():
+    """The 20,000 partitions of twenty topics."""
+    return [{"topic": it, "partitions": [*range(1_000)]} for it in TWENTY]
+
+
 def adds(broker):
-    """A producer id for `x`, and the 20,000 partitions of its transaction."""
+    """A producer id for `x`, with 20,000 partitions in its transaction."""
     pair = begins(broker)
-    broker.ask("AddPartitionsToTxn", **pair, topics=[{"topic": "u", "partitions": [*range(20_000)]}])
+    broker.ask("AddPartitionsToTxn", **pair, topics=all_of_twenty())
     return pair
 
 
 def binds(broker):
     """So many bindings."""
     broker.ask("CreateAcls", creations=[creation(it) for it in range(MANY)])
+    return {}
 
 
 def nothing(_):
@@ -76,7 +83,7 @@ ROWS = {
     "Metadata of 1,000 partitions, 500 times": ("root", nothing, 500, "Metadata", {"topics": ["t"] * 500}),
     "OffsetCommit of 100,000": ("root", nothing, MANY, "OffsetCommit", {"group": "g", "topics": commits("t", range(1_000)) * 100}),
     "TxnOffsetCommit of 100,000": ("root", begins, MANY, "TxnOffsetCommit", {"group": "g", "instance": None, "topics": commits("t", range(1_000), leader_epoch=-1) * 100}),
-    "AddPartitionsToTxn of 20,000": ("root", begins, 20_000, "AddPartitionsToTxn", {"topics": [{"topic": "u", "partitions": [*range(20_000)]}]}),
+    "AddPartitionsToTxn of 20,000": ("root", begins, 20_000, "AddPartitionsToTxn", {"topics": all_of_twenty()}),
     "EndTxn of 20,000 partitions": ("root", adds, 20_000, "EndTxn", {"committed": True}),
     "Produce of 100,000 batches": ("root", nothing, MANY, "Produce", {"transactional_id": None, "topics": partitions("t", range(1_000), records=wire.batch([b"v"])) * 100}),
     "CreateAcls of 100,000": ("root", nothing, MANY, "CreateAcls", {"creations": [creation(it) for it in range(MANY)]}),
@@ -89,7 +96,7 @@ ROWS = {
 def measure(user, before, api, fields):
     """The bytes of the frame, how long it takes at most, and how long another user waits at most, in seconds."""
     with Broker(SETTINGS, connections=2) as running, wire.Connection(running.address, timeout=600) as broker:
-        if broker.login(user, user):
+        if broker.login(user, user[0]):
             raise ValueError("the login is refused")
         frame = wire.request_frame(api, 1, {**before(broker), **fields})
         _, took, waited = beside_another(running.address, broker, [frame] * ROUNDS)

@@ -42,6 +42,7 @@ IN_TURN = (
     "refused_lines.py",
     "sessions.py",
     "served.py",
+    "abuse.py",
     "clients.py",
     "soak.py",
     "steered.py",
