@@ -22,8 +22,14 @@ READS = (
 SETTINGS = TOP + USERS + TOPIC + READS
 LISTEN = ("--listen", "127.0.0.1:0")
 
-# What is told of a session in which nobody asked.
+# What is told of a session in which nobody asked, and why some of them end.
 TOLD = "kbroker: session {} of nobody from 127.0.0.1: {}"
+CUT = "the connection was closed inside a request"
+FULL = "the trail holds as many events as `trail_limit` allows"
+
+# What is told of lines for which there was no room, and of a clock that stops.
+LEFT_OUT = re.compile(r"kbroker: lines left out, since nobody read them in time: (\d+)")
+STOPS = "kbroker: the clock stops, so no transaction ends any more: {}"
 
 # The words behind `serve` that are not understood.
 MISUSED = (
@@ -261,7 +267,7 @@ def peers_that_vanish():
         (sessions, _, refusals), told = server.settled()
     assert (sessions, refusals) == (4, 0), (sessions, refusals)
     # (what a peer that resets the connection comes to is for the operating system to say)
-    assert TOLD.format(1, "the connection was closed inside a request") in told and len(told) <= 2, told
+    assert TOLD.format(1, CUT) in told and len(told) <= 2, told
 
 
 def refusals_are_told():
@@ -282,6 +288,45 @@ def refusals_are_told():
     assert (sessions, refusals, told) == (2, 2, refused), (sessions, refusals, told)
 
 
+def unread_lines_hold_up_nobody():
+    """Lines that nobody reads hold up no session and no marker. Those that find no room are left out, and their number is told."""
+    strangers, refused = 3_000, 100
+    words = {"workers": 3, "connections": strangers + 2, "more": ("--audit", "-"), "errors": subprocess.PIPE}
+    with Broker(SETTINGS, **words) as server:
+        host, _, port = server.address.rpartition(":")
+        with wire.Connection(server.address) as broker, wire.Connection(server.address) as reader:
+            assert broker.login("root", "toor") == 0
+            assert reader.login("ann", "pw") == 0
+            for number in range(strangers):
+                with socket.create_connection((host, int(port)), timeout=20) as stranger:
+                    stranger.sendall(b"\0")
+                    stranger.shutdown(socket.SHUT_WR)
+                    assert stranger.recv(1) == b"", number
+            for _ in range(refused):
+                assert records_of(reader.ask("Produce", topics=of_b(records=wire.batch([b"x"]))))["error"] == 29
+            transaction(broker, [b"kept"], True)
+            wait_for_markers(broker)
+        (sessions, _, refusals), told = server.settled()
+    assert (sessions, refusals) == (strangers + 2, refused), (sessions, refusals)
+    counts = [int(found[1]) for found in map(LEFT_OUT.fullmatch, told) if found]
+    lines = [line for line in told if not LEFT_OUT.fullmatch(line)]
+    assert lines == [TOLD.format(2 + number, CUT) for number in range(len(lines))], lines
+    assert counts and len(lines) + sum(counts) == strangers + refused, (len(lines), counts)
+
+
+def a_full_trail_is_told():
+    """Where the trail is full the operator is told once that the clock stops, and each session ends at its next request."""
+    with Broker(TOP + "trail_limit = 5\n" + USERS + TOPIC) as server:
+        wait_until(lambda: server.told() == [STOPS.format(FULL)], "it is not told that the trail is full")
+        with wire.Connection(server.address) as broker:
+            assert broker.login("root", "toor") == 0
+            broker.send("Metadata", topics=None)
+            assert broker.input.read(1) == b"", "the connection is still open"
+        (sessions, events, _), told = server.settled()
+    assert (sessions, events) == (1, 5), (sessions, events)
+    assert told == [STOPS.format(FULL), TOLD.format(0, FULL)], told
+
+
 def announced_frames_take_little():
     """Clients that announce the longest frame and stop after a byte of it cost the broker no room for the rest."""
     clients, longest = 64, struct.pack(">i", 104_857_600)
@@ -293,7 +338,7 @@ def announced_frames_take_little():
             peer.sendall(longest + b"\0")
         for peer in peers:
             peer.shutdown(socket.SHUT_WR)
-        cut = sorted(TOLD.format(number, "the connection was closed inside a request") for number in range(clients))
+        cut = sorted(TOLD.format(number, CUT) for number in range(clients))
         wait_until(lambda: sorted(server.told()) == cut, "the sessions are not cut")
         assert server.peak_memory() < 16 << 20, server.peak_memory()
         for peer in peers:
@@ -370,6 +415,8 @@ def main():
         an_empty_fetch_is_held_back,
         peers_that_vanish,
         refusals_are_told,
+        unread_lines_hold_up_nobody,
+        a_full_trail_is_told,
         announced_frames_take_little,
         chosen_names_do_not_collide,
         time_is_over,

@@ -26,15 +26,18 @@ def topic(name, partitions=1):
 
 
 class Broker:
-    """`kbroker serve` on a port of its own, until it has served so many connections or more words end it."""
+    """`kbroker serve` on a port of its own, until it has served so many connections or more words end it.
 
-    def __init__(self, settings, workers=4, connections=1, more=(), listen="127.0.0.1:0"):
+    Its standard error goes to a file, or to `errors`: a pipe, `subprocess.PIPE`, is read by nobody until its end is waited for.
+    """
+
+    def __init__(self, settings, workers=4, connections=1, more=(), listen="127.0.0.1:0", errors=None):
         words = ["serve", "--listen", listen, "--workers", str(workers), "--connections", str(connections), *more]
-        self.errors = tempfile.TemporaryFile()
+        self.errors = tempfile.TemporaryFile() if errors is None else None
         with tempfile.TemporaryFile() as given:
             given.write(settings.encode())
             given.seek(0)
-            pipes = {"stdin": given, "stdout": subprocess.PIPE, "stderr": self.errors}
+            pipes = {"stdin": given, "stdout": subprocess.PIPE, "stderr": self.errors if errors is None else errors}
             self.process = subprocess.Popen([PROGRAM, *words], **pipes)
         first = self.process.stdout.readline()
         found = LISTENING.fullmatch(first)
@@ -54,11 +57,12 @@ class Broker:
         if self.process.poll() is None:
             self.process.send_signal(signal.SIGKILL)
         self.process.wait()
-        self.process.stdout.close()
-        self.errors.close()
+        for it in (self.process.stdout, self.process.stderr, self.errors):
+            if it:
+                it.close()
 
     def told(self):
-        """The lines on standard error so far."""
+        """The lines on standard error so far, where that is a file."""
         return os.pread(self.errors.fileno(), 1 << 20, 0).decode().splitlines()
 
     def peak_memory(self):
@@ -74,9 +78,11 @@ class Broker:
 
     def end(self, timeout=30):
         """Waits for its end, and gives its status, what it said last, and what it said on standard error."""
-        said, _ = self.process.communicate(timeout=timeout)
-        self.errors.seek(0)
-        return self.process.returncode, said.decode(), self.errors.read().decode()
+        said, told = self.process.communicate(timeout=timeout)
+        if self.errors:
+            self.errors.seek(0)
+            told = self.errors.read()
+        return self.process.returncode, said.decode(), told.decode()
 
     def settled(self, timeout=30):
         """Waits for its end, and gives the numbers of its last line, and the lines on standard error."""

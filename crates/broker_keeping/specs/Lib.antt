@@ -1,2 +1,3 @@
+pub mod LeftOut
 pub mod News
 pub mod Said

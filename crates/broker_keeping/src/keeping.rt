@@ -7,22 +7,19 @@ use crate::ticks::Ticks;
 use crate::watch::Watch;
 use request_handlers::Core;
 use session_pool::{Clocked, DeskLedger, Step, Steps, Why};
-use std::io::Write;
 use std::sync::Wait;
 use std::time;
 
-/// Tells the keeper its steps by the clock, and after each tells an operator what is new in the trail.
+/// Tells the keeper its steps by the clock. After each it tells an operator what is new in the trail, and where the step wasn't
+/// taken that the clock stops. It waits for nobody who reads that: what finds no room in the queue is left out.
 #[derive(Drop)]
-pub struct Timekeeper<'d, 'r, L: DeskLedger, R: Wait + time::Clock, E: Write> {
+pub struct Timekeeper<'d, 'r, L: DeskLedger, R: Wait + time::Clock> {
     clock: Clocked<Ticks<'d, 'r, L, R>>,
-    watch: Watch<'d, 'r, L, R, E>,
+    watch: Watch<'d, 'r, L, R>,
 }
 
-impl<'d, 'r, L: DeskLedger, R: Wait + time::Clock, E: Write> Timekeeper<'d, 'r, L, R, E> {
-    pub fn new(
-        clock: Ticks<'d, 'r, L, R>,
-        watch: Watch<'d, 'r, L, R, E>,
-    ) -> Timekeeper<'d, 'r, L, R, E> {
+impl<'d, 'r, L: DeskLedger, R: Wait + time::Clock> Timekeeper<'d, 'r, L, R> {
+    pub fn new(clock: Ticks<'d, 'r, L, R>, watch: Watch<'d, 'r, L, R>) -> Timekeeper<'d, 'r, L, R> {
         Timekeeper {
             clock: Clocked::new(clock),
             watch,
@@ -30,7 +27,7 @@ impl<'d, 'r, L: DeskLedger, R: Wait + time::Clock, E: Write> Timekeeper<'d, 'r, 
     }
 }
 
-impl<'d, 'r, L: DeskLedger, R: Wait + time::Clock, E: Write> Steps for Timekeeper<'d, 'r, L, R, E> {
+impl<'d, 'r, L: DeskLedger, R: Wait + time::Clock> Steps for Timekeeper<'d, 'r, L, R> {
     ghost owed = { λ keeper. Some keeper.clock.left };
 
     /// Until all workers have ended there is a next step.
@@ -56,6 +53,9 @@ impl<'d, 'r, L: DeskLedger, R: Wait + time::Clock, E: Write> Steps for Timekeepe
         ensures goes_on { result ≡ is_ok outcome }
     {
         self.watch.tell();
+        if let Err(why) = outcome {
+            self.watch.stop(why);
+        }
         self.clock.came(outcome)
     }
 }

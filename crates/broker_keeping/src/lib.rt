@@ -8,11 +8,13 @@ mod said;
 mod sentences;
 mod standing;
 mod state_text;
+mod teller;
 mod ticks;
 mod watch;
 
 pub use control::{Control, Steering};
 pub use keeping::Timekeeper;
 pub use sentences::Sentences;
+pub use teller::Teller;
 pub use ticks::Ticks;
 pub use watch::Watch;

@@ -1,38 +1,96 @@
-//! What is said to an operator.
+//! What is said to an operator, by whoever has something to say.
 
+ghost use Rattle.std.specs.Prelude.{◌≡◌, ◌==◌};
+ghost use Rattle.std.specs.List.{count_by};
+
+use crate::teller::{Saying, Teller};
+use crossbeam_channel::Sender;
 use session_pool::{Gate, Why};
-use std::alloc::Global;
+use std::alloc::{AllocError, Global};
 use std::io::Write;
-use std::sync::{Mutex, Wait};
-use wire_types::{Text, write_whole};
+use std::sync::Wait;
+use std::sync::atomic::{AtomicU64, Ordering};
+use wire_types::Text;
 
-/// Says what an operator is told. Of each session that ends by other than Closed that is a line of its own. If it can't be said,
-/// nothing else fails.
+/// So many sayings wait for the teller at most.
+const WAITING: usize = 1_024;
+
+/// Says what an operator is told. Of each session that ends by other than Closed that is a line of its own. What is said waits in
+/// a queue for a `Teller`, so nobody waits for whoever reads it: where the queue is full, lines are left out, and how many is told
+/// before what is said next. If something can't be said, nothing else fails.
 #[derive(Drop)]
-pub struct Sentences<'r, R: Wait, E: Write> {
+pub struct Sentences<'r, R: Wait> {
     rt: &'r R,
     alloc: Global,
-    errors: Mutex<E>,
+    to: Sender<Saying>,
+    /// How many lines were left out that the teller doesn't know of.
+    left_out: AtomicU64,
 }
 
-impl<'r, R: Wait, E: Write> Sentences<'r, R, E> {
-    /// Says it to a writer, one saying at a time.
-    pub fn new(rt: &'r R, alloc: Global, errors: E) -> Sentences<'r, R, E> {
-        Sentences {
+/// How many lines a text has.
+fn lines_in(text: &str) -> u64
+    ensures { result ≡ count_by (λ byte. byte == 10) text.now }
+{
+    text.as_bytes()
+        .iter()
+        .filter(|byte| **byte == b'\n')
+        .count() as u64
+}
+
+impl<'r, R: Wait> Sentences<'r, R> {
+    /// An empty queue, and the teller that writes what comes out of it. The room for 1,024 sayings is made here.
+    pub fn new<E: Write + Drop>(
+        rt: &'r R,
+        alloc: Global,
+        errors: E,
+    ) -> Result<(Sentences<'r, R>, Teller<E>), AllocError> {
+        let (to, from) = crossbeam_channel::bounded(alloc, WAITING)?;
+        let sentences = Sentences {
             rt,
             alloc,
-            errors: Mutex::new(errors),
+            to,
+            left_out: AtomicU64::new(0),
+        };
+        Ok((sentences, Teller::new(alloc, from, errors)))
+    }
+
+    /// Says whole lines, and neither fails nor waits for whoever reads them. Where the queue is full, or the teller is gone, they
+    /// are left out and counted.
+    pub fn say(&self, lines: String) {
+        let saying = Saying {
+            left_out: self.left_out.swap(0, Ordering::SeqCst),
+            lines: Some(lines),
+        };
+        if let Err(refused) = self.to.try_send(self.rt, saying) {
+            self.leave_out(refused.into_inner());
         }
     }
 
-    /// Writes whole lines.
-    pub fn say(&self, lines: &str) {
-        let mut errors = self.errors.lock(self.rt);
-        let _ = write_whole(&mut *errors, lines.as_bytes());
+    /// Counts the lines that weren't said, and those that it was to tell of.
+    fn leave_out(&self, saying: Saying) {
+        let Saying { left_out, lines } = saying;
+        let lines = lines.map_or(0, |lines| lines_in(lines.as_str()));
+        self.left_out.fetch_add(left_out, Ordering::SeqCst);
+        self.left_out.fetch_add(lines, Ordering::SeqCst);
+    }
+
+    /// How many lines were left out that the teller doesn't know of yet.
+    pub fn left_out(&self) -> u64 {
+        self.left_out.load(Ordering::SeqCst)
+    }
+
+    /// Tells the teller to end after what was said. Where the queue is full this waits until there is room, and where the teller is
+    /// gone it does nothing.
+    pub fn end(&self) {
+        let saying = Saying {
+            left_out: self.left_out.swap(0, Ordering::SeqCst),
+            lines: None,
+        };
+        let _ = self.to.send(self.rt, saying);
     }
 }
 
-impl<'r, R: Wait, E: Write> Gate for Sentences<'r, R, E> {
+impl<'r, R: Wait> Gate for Sentences<'r, R> {
     fn before(&self, _session: u64, _frame: u64) {}
 
     fn after(&self, _session: u64, _frame: u64) {}
@@ -47,7 +105,7 @@ impl<'r, R: Wait, E: Write> Gate for Sentences<'r, R, E> {
             "kbroker: session {session} of {who} from {host}: {why}\n"
         );
         if let Ok(line) = line {
-            self.say(line.as_str());
+            self.say(line);
         }
     }
 }

@@ -9,7 +9,7 @@ ghost use Rattle.request_handlers.specs.Seats.{most_seats};
 ghost use Rattle.session_workers.specs.Ends.{AreEnds};
 
 use crate::lines::{Failure, Unbegun, failure_line, listening_line, settled_line};
-use broker_keeping::{Control, Sentences, Steering, Ticks, Timekeeper, Watch};
+use broker_keeping::{Control, Sentences, Steering, Teller, Ticks, Timekeeper, Watch};
 use request_handlers::{Core, MOST_SEATS, Receipt, Seat};
 use session_logins::Users;
 use session_pool::{Closing, DeskLedger, LockedDesk, SessionEnd};
@@ -22,7 +22,7 @@ use std::net::{Net, TcpListener, TcpStream};
 use std::sync::Wait;
 use std::sync::ledger::Blank;
 use std::thread::Threads;
-use std::time;
+use std::{thread, time};
 use wire_types::{Shared, write_whole};
 
 /// The exit status where all is served and settled.
@@ -80,12 +80,11 @@ fn settle_ends<L: DeskLedger, R: Wait + Drop>(
 
 /// Serves a listener's connections while the keeper does its steps: those of the lines where they steer the broker, and else
 /// those of the clock.
-fn serve_kept<
+fn serve_steps<
     'x,
     'r,
     L: DeskLedger + Send + Sync,
     R: Net<Listener = TcpListener, Stream = TcpStream> + Threads + Wait + time::Clock + Sync,
-    E: Write + Drop + Send,
     I: BufRead + Drop,
     O: Write + Drop,
 >(
@@ -97,7 +96,7 @@ fn serve_kept<
     options: ServeOptions,
     steering: Option<Steering<I, O>>,
     closing: &'x Closing,
-    sentences: &'x Sentences<'r, R, E>,
+    sentences: &'x Sentences<'r, R>,
 ) -> Result<Vec<SessionEnd<Seat<L>>>, PoolFault>
     ensures { IfOk result (λ ends. (owed : Option ℕ) × AreEnds owed ends.items) }
 {
@@ -138,6 +137,50 @@ fn serve_kept<
     }
 }
 
+/// The same, while a teller in a thread of its own writes what is said to an operator; where none can be made for it, nothing is
+/// served. It returns once all that was said is written, or can't be.
+fn serve_kept<
+    'x,
+    'r,
+    L: DeskLedger + Send + Sync,
+    R: Net<Listener = TcpListener, Stream = TcpStream> + Threads + Wait + time::Clock + Sync,
+    E: Write + Drop + Send,
+    I: BufRead + Drop,
+    O: Write + Drop,
+>(
+    rt: &'r R,
+    alloc: Global,
+    desk: &'x LockedDesk<L, &'r R>,
+    users: &'x Shared<Users>,
+    listener: &'x TcpListener,
+    options: ServeOptions,
+    steering: Option<Steering<I, O>>,
+    closing: &'x Closing,
+    sentences: &'x Sentences<'r, R>,
+    teller: Teller<E>,
+) -> Result<Vec<SessionEnd<Seat<L>>>, PoolFault>
+    ensures { IfOk result (λ ends. (owed : Option ℕ) × AreEnds owed ends.items) }
+{
+    let here: &'x R = rt;
+    thread::scope(
+        thread::scope_env(),
+        here,
+        move |scope| -> Result<Vec<SessionEnd<Seat<L>>>, PoolFault>
+            ensures { IfOk result (λ ends. (owed : Option ℕ) × AreEnds owed ends.items) }
+        {
+            let telling = scope.spawn(move || drop(teller.tell_all(here)));
+            if telling.is_err() {
+                return Err(PoolFault::NoThread);
+            }
+            let ends = serve_steps(
+                rt, alloc, desk, users, listener, options, steering, closing, sentences,
+            );
+            sentences.end();
+            ends
+        },
+    )
+}
+
 /// Serves connections at a desk, and gives how many sessions there were and what the settled core did.
 fn serve_at<
     'r,
@@ -155,7 +198,8 @@ fn serve_at<
     listener: &TcpListener,
     options: ServeOptions,
     steering: Option<Steering<I, O>>,
-    sentences: &Sentences<'r, R, E>,
+    sentences: &Sentences<'r, R>,
+    teller: Teller<E>,
 ) -> Result<(usize, Settled), Failure>
     requires settings { core.settings ≡ L.settings }
     requires empty { core.trail ≡ [] }
@@ -165,7 +209,7 @@ fn serve_at<
     let desk: LockedDesk<L, &'r R> = LockedDesk::new(core, blank, rt);
     let closing = Closing::new();
     match serve_kept(
-        rt, alloc, &desk, users, listener, options, steering, &closing, sentences,
+        rt, alloc, &desk, users, listener, options, steering, &closing, sentences, teller,
     ) {
         Ok(ends) => settle_ends(alloc, desk, ends),
         Err(fault) => Err(Failure::Pool(fault)),
@@ -187,7 +231,8 @@ fn serve_booked<
     listener: &TcpListener,
     options: ServeOptions,
     steering: Option<Steering<I, O>>,
-    sentences: &Sentences<'r, R, E>,
+    sentences: &Sentences<'r, R>,
+    teller: Teller<E>,
 ) -> Result<(usize, Settled), Failure>
     requires { core.trail ≡ [] }
     ensures { IfOk result (λ told. IsCounted core.settings told.0 told.1) }
@@ -202,6 +247,34 @@ fn serve_booked<
         options,
         steering,
         sentences,
+        teller,
+    )
+}
+
+/// Serves connections, while a teller tells an operator what is said.
+fn serve_told<
+    R: Net<Listener = TcpListener, Stream = TcpStream> + Threads + Wait + time::Clock + Sync,
+    E: Write + Drop + Send,
+    I: BufRead + Drop,
+    O: Write + Drop,
+>(
+    rt: &R,
+    alloc: Global,
+    core: Core,
+    users: &Shared<Users>,
+    listener: &TcpListener,
+    options: ServeOptions,
+    steering: Option<Steering<I, O>>,
+    errors: E,
+) -> Result<(usize, Settled), Failure>
+    requires { core.trail ≡ [] }
+    ensures { IfOk result (λ told. IsCounted core.settings told.0 told.1) }
+{
+    let Ok((sentences, teller)) = Sentences::new(rt, alloc, errors) else {
+        return Err(Failure::Pool(PoolFault::NoMemory));
+    };
+    serve_booked(
+        rt, alloc, core, users, listener, options, steering, &sentences, teller,
     )
 }
 
@@ -233,9 +306,11 @@ fn last_line(alloc: Global, outcome: Result<(usize, Settled), Failure>) -> Optio
 
 /// Prints where it listens, serves connections until so many were served or no more are taken, settles the books and prints
 /// how that went. Gives the exit status. Where the listener can't tell its address, or memory is refused before anything is
-/// printed, it prints that and serves nothing. To `errors` it says in a sentence why a session ended, where it didn't end between two
-/// requests, and the line of each refusal, where that is asked for. Where lines steer it, there is no clock: a tick or a marker
-/// step comes only by a line, and connections are taken until the lines end or have it end.
+/// printed, it prints that and serves nothing. To `errors` it says in a sentence why a session ended, where it didn't end between
+/// two requests, and that the clock stops, where the core takes no more of its steps; and the line of each refusal, where that is
+/// asked for. A thread of its own waits for `errors`, and nobody else does: 1,024 sayings wait for it at most, and further lines are
+/// left out and counted. Only the last line comes after all that was said is written, or can't be. Where lines steer the server,
+/// there is no clock: a tick or a marker step comes only by a line, and connections are taken until the lines end or have it end.
 #[tactic(auto, using(crate::proofs::Served::unbegun_said))]
 pub fn serve<
     R: Net<Listener = TcpListener, Stream = TcpStream> + Threads + Wait + time::Clock + Sync,
@@ -268,10 +343,7 @@ pub fn serve<
         Ok(()) => {}
         Err(_) => return FAILED,
     }
-    let sentences = Sentences::new(rt, alloc, errors);
-    let outcome = serve_booked(
-        rt, alloc, core, users, listener, options, steering, &sentences,
-    );
+    let outcome = serve_told(rt, alloc, core, users, listener, options, steering, errors);
     let Some((last, status)) = last_line(alloc, outcome) else {
         return FAILED;
     };

@@ -14,7 +14,7 @@ use session_pool::{Desk, DeskLedger, LockedDesk};
 use session_workers::ConnectionOptions;
 use settings_text::{Document, document_of_text};
 use std::alloc::Global;
-use std::io::{Cursor, Read, Write};
+use std::io::{Cursor, ErrorKind, Read, Write};
 use std::marker::Brand;
 use std::net::{Net, Shutdown, SocketAddr, TcpListener, TcpStream};
 use std::sync::Wait;
@@ -22,7 +22,7 @@ use std::sync::ledger::Blank;
 use std::test::Fail;
 use std::thread::Threads;
 use std::time::{Duration, Instant};
-use std::{thread, time};
+use std::{io, thread, time};
 use wire_types::Shared;
 
 /// Broker 1 at `h` and port 9092, which is the controller, and the topic `b` with its one partition.
@@ -32,10 +32,32 @@ const METADATA_TOLD: &str = "00000041000000030000000100000001000168\
 /// So long each wait lasts at most, in seconds.
 const PATIENCE: u64 = 20;
 
+/// A writer that fails, as where whoever read has gone.
+#[derive(Drop)]
+struct Gone;
+
+impl Write for Gone {
+    fn write(&mut self, _bytes: &[u8]) -> io::Result<usize> {
+        Err(ErrorKind::BrokenPipe.into())
+    }
+
+    fn flush(&mut self) -> io::Result<()> {
+        Ok(())
+    }
+}
+
 /// Serves two connections, both at once, and gives the exit status and what was printed.
 fn serve_two<
     R: Net<Listener = TcpListener, Stream = TcpStream> + Threads + Wait + time::Clock + Sync,
->(rt: &R, alloc: Global, core: Core, users: &Shared<Users>, listener: &TcpListener) -> (u8, Vec<u8>)
+    E: Write + Drop + Send,
+>(
+    rt: &R,
+    alloc: Global,
+    core: Core,
+    users: &Shared<Users>,
+    listener: &TcpListener,
+    errors: E,
+) -> (u8, Vec<u8>)
     requires { core.trail ≡ [] }
 {
     let patience = Some(Duration::from_secs(PATIENCE));
@@ -52,7 +74,6 @@ fn serve_two<
     };
     let steering: Option<Steering<Cursor<Vec<u8>>, Vec<u8>>> = None;
     let mut printed = Vec::new(alloc);
-    let errors = Vec::new(alloc);
     let status = serve(
         rt,
         alloc,
@@ -110,7 +131,7 @@ fn two_clients_on_loopback(rt: HostRuntime) -> Result<(), Fail> {
         handle,
         move ||
             requires { core.trail ≡ [] }
-        { serve_two(handle, alloc, core, people, door) },
+        { serve_two(handle, alloc, core, people, door, Vec::<u8>::new(alloc)) },
         move || ask_twice(handle, alloc, address),
     );
     let (one, two) = answers?;
@@ -119,6 +140,44 @@ fn two_clients_on_loopback(rt: HostRuntime) -> Result<(), Fail> {
     let printed = String::from_utf8(printed).ok().ok_or("text")?;
     let first = format!(in alloc; "listening on {address}\nsessions 2 events ")?;
     assert!(rt; printed.starts_with(first.as_str()), "{printed}");
+    assert!(rt; printed.ends_with(" refusals 0\n"), "{printed}");
+    assert_eq!(rt; status, 0);
+    Ok(())
+}
+
+/// What a client is told after another one that was closed inside its first frame.
+fn ask_after_a_cut<R: Net<Stream = TcpStream>>(
+    rt: &R,
+    alloc: Global,
+    address: SocketAddr,
+) -> Result<Vec<u8>, Fail> {
+    let mut cut = TcpStream::connect(rt, address)?;
+    cut.set_read_timeout(Some(Duration::from_secs(PATIENCE)))?;
+    cut.write_all(b"\0")?;
+    cut.shutdown(Shutdown::Write)?;
+    told(alloc, cut)?;
+    let client = begin(rt, alloc, address)?;
+    told(alloc, client)
+}
+
+/// Whoever is told why a session ended has gone, and the next session is served all the same.
+#[test]
+fn an_operator_that_has_gone(rt: HostRuntime) -> Result<(), Fail> {
+    let alloc = rt.alloc();
+    let users = Shared::new(alloc, users(alloc)?).ok().ok_or("users")?;
+    let core = core(alloc).ok_or("core")?;
+    let listener = TcpListener::bind(&rt, "127.0.0.1:0")?;
+    let address = listener.local_addr()?;
+    let (handle, people, door) = (&rt, &users, &listener);
+    let ((status, printed), answer) = thread::join(
+        handle,
+        move ||
+            requires { core.trail ≡ [] }
+        { serve_two(handle, alloc, core, people, door, Gone) },
+        move || ask_after_a_cut(handle, alloc, address),
+    );
+    assert!(rt; answer? == bytes_of(alloc, &[HANDSHAKE_TOLD, LOGIN_TOLD, METADATA_TOLD])?);
+    let printed = String::from_utf8(printed).ok().ok_or("text")?;
     assert!(rt; printed.ends_with(" refusals 0\n"), "{printed}");
     assert_eq!(rt; status, 0);
     Ok(())
