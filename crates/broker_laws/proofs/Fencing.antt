@@ -34,7 +34,7 @@ use Rattle.txn_handlers.specs.TxnOffsetCommit.{Staging, staging, staging_refusal
 use Rattle.api_dispatch.specs.Step.{reached}
 use Rattle.broker_laws.specs.Entries.{entries_in}
 use Rattle.broker_laws.specs.Moves.{moves_of_all}
-use Rattle.broker_laws.specs.Laws.{InReached, IsRepeated, TurnsAway, FencedWriteNothing, NoDataBehindAGreaterMarker}
+use Rattle.broker_laws.specs.Laws.{InReached, IsRepeated, TurnsAway, FencedWriteNothing, NoDataAfterAGreaterMarker}
 use Rattle.broker_laws.proofs.Passing.{held_holds, owner_free}
 use Rattle.broker_laws.proofs.Noted.{stages_nothing}
 use Rattle.broker_laws.proofs.Failing.{requests_fail}
@@ -215,5 +215,5 @@ fenced w good more after id pair had left =
 pub fenced_write_nothing : InReached FencedWriteNothing
 fenced_write_nothing s es = fenced _ (good s es)
 
-pub no_data_behind_a_greater_marker : InReached NoDataBehindAGreaterMarker
-no_data_behind_a_greater_marker s es p = let is = good s es in subst IsOrdered (is.keeps (Partition p)) (is.sound.ordered (Partition p))
+pub no_data_after_a_greater_marker : InReached NoDataAfterAGreaterMarker
+no_data_after_a_greater_marker s es p = let is = good s es in subst IsOrdered (is.keeps (Partition p)) (is.sound.ordered (Partition p))

@@ -348,5 +348,5 @@ FencedWriteNothing w = (more after : List Event) (id : List ℕ) (pair : Pair)
     → HasPair w id pair → (HasPair (reached w more) id pair → ⊥) → IsShutOut pair (reached w more) (reached (reached w more) after)
 
 -- no data stands in a log behind a marker of its producer id with a greater epoch
-abbrev pub NoDataBehindAGreaterMarker : World → Type 0
-NoDataBehindAGreaterMarker w = (p : TopicPartition) → IsOrdered (entries_in w (Partition p))
+abbrev pub NoDataAfterAGreaterMarker : World → Type 0
+NoDataAfterAGreaterMarker w = (p : TopicPartition) → IsOrdered (entries_in w (Partition p))

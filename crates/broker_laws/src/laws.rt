@@ -7,7 +7,7 @@ ghost use Rattle.broker_laws.specs.Laws.{InReached, InCores};
 ghost use Rattle.broker_laws.specs.Laws.{EntriesAreTheLog, IsMoved, EventsAreMoves};
 ghost use Rattle.broker_laws.specs.Laws.{Prepares, OwesPrepared, CompletesPrepared, CompletesWaiting, EndsComplete, MarksAreNotRefused};
 ghost use Rattle.broker_laws.specs.Laws.{DecidesPrepared, DecidesWaiting, GroupsGoOn};
-ghost use Rattle.broker_laws.specs.Laws.{Fences, FencedWriteNothing, NoDataBehindAGreaterMarker};
+ghost use Rattle.broker_laws.specs.Laws.{Fences, FencedWriteNothing, NoDataAfterAGreaterMarker};
 ghost use Rattle.broker_laws.specs.LogEnds.{LogsGoOn, EndsPrepared, EndsWaiting};
 ghost use Rattle.broker_laws.specs.CommitAbort.{CommitsAreShown};
 ghost use Rattle.broker_laws.specs.FirstWorld.{FirstWorldIsTheSettings};
@@ -153,9 +153,9 @@ pub fn fenced_write_nothing()
 {}
 
 /// No data stands in a log after a marker of its producer id with a greater epoch.
-pub fn no_data_behind_a_greater_marker()
-    ensures reached { InReached NoDataBehindAGreaterMarker }
-    ensures cores { InCores NoDataBehindAGreaterMarker }
+pub fn no_data_after_a_greater_marker()
+    ensures reached { InReached NoDataAfterAGreaterMarker }
+    ensures cores { InCores NoDataAfterAGreaterMarker }
 {}
 
 /// A group has at most one member: it comes in by a JoinGroup that is told no error, which raises the generation by one as

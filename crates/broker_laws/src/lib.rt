@@ -10,6 +10,6 @@ pub use laws::{
     completes_over_a_trail, completes_prepared, completes_waiting, decides_groups, ends_batches,
     ends_complete, entries_are_the_log, events_are_moves, fenced_write_nothing, fences,
     first_world_is_the_settings, groups_go_on, logs_go_on, marks_are_not_refused,
-    member_calls_by_number, members_come_and_go, no_data_behind_a_greater_marker, owes_each,
+    member_calls_by_number, members_come_and_go, no_data_after_a_greater_marker, owes_each,
     prepares, targets_exist, ticks_end_what_is_over, trail_tells,
 };
