@@ -15,6 +15,7 @@ import wire
 from plain_apis import Request
 from plain_broker import World
 from program import ROOT
+from protocol import APIS, SCHEMAS
 
 UNSUPPORTED_VERSION = 35
 
@@ -23,15 +24,15 @@ def fields_of(api, frame):
     """The fields of a request, whose frame has no size field."""
     reader = wire.Reader(frame[8:])
     reader.read("s", False)
-    if wire.APIS[api][2]:
+    if APIS[api][2]:
         reader.skip_tags()
-    return reader.read(wire.SCHEMAS[api][0], wire.APIS[api][2])
+    return reader.read(SCHEMAS[api][0], APIS[api][2])
 
 
 def response(api, correlation, fields):
     """A whole response."""
-    flexible = wire.APIS[api][2]
-    body = struct.pack(">i", correlation) + b"\0" * flexible + wire.write(wire.SCHEMAS[api][1], fields, flexible)
+    flexible = APIS[api][2]
+    body = struct.pack(">i", correlation) + b"\0" * flexible + wire.write(SCHEMAS[api][1], fields, flexible)
     return (struct.pack(">i", len(body)) + body).hex()
 
 
@@ -42,7 +43,7 @@ def lines_of(world, user, host, frame):
     except spoilt.NoRequest:
         return ["closed"]
     if api is None:
-        key = wire.APIS["ApiVersions"][0]
+        key = APIS["ApiVersions"][0]
         told = {"error": UNSUPPORTED_VERSION, "apis": [{"key": key, "min": 0, "max": 0}]}
         return [response("ApiVersions", correlation, told)]
     request = Request(world, f"User:{user}", host)

@@ -10,6 +10,7 @@ import time
 
 import wire
 from program import PROGRAM
+from protocol import APIS
 from serving import COLLIDING, Broker
 
 TOP = 'node_id = 1\nhost = "h"\nport = 9092\nsupers = ["User:root"]\n'
@@ -90,7 +91,7 @@ def data(broker):
     """Topics and records, as a super user."""
     told = broker.ask("ApiVersions")["apis"]
     served = [(it["key"], version) for it in told for version in range(it["min"], it["max"] + 1)]
-    assert served == sorted((key, version) for key, version, *_ in wire.APIS.values()), told
+    assert served == sorted((key, version) for key, version, *_ in APIS.values()), told
     assert [it["topic"] for it in broker.ask("Metadata", topics=None)["topics"]] == ["b"]
     produced = records_of(broker.ask("Produce", topics=of_b(records=wire.batch([b"one", b"two"]))))
     assert (produced["error"], produced["base_offset"]) == (0, 0), produced

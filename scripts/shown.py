@@ -16,6 +16,7 @@ from typing import NamedTuple
 
 import wire
 from program import PROGRAM, ROOT
+from protocol import APIS, SCHEMAS
 
 HEAD = re.compile(
     r"line (\d+): (?:mark|tick \d+|User:.* at .* (?:asks (\w+) version (\d+)|sends \d+ bytes that are no request: .*"
@@ -29,7 +30,7 @@ READABLE = ROOT / "examples/fencing.txt"
 BY_HAND = ROOT / "tests/show"
 EACH_API = "each_api.script"
 # By key and version: the api's name in wire.py.
-NAMES = {(key, version): name for name, (key, version, *_) in wire.APIS.items()}
+NAMES = {(key, version): name for name, (key, version, *_) in APIS.items()}
 # Of these bytes the text tells something else: batches, and how long a password is.
 OTHERWISE = "records", "auth_bytes"
 
@@ -131,20 +132,20 @@ def asked(digits):
     api = NAMES.get((key, version))
     if api is None:
         return None
-    client, flexible = reader.read("s", False), wire.APIS[api][2]
+    client, flexible = reader.read("s", False), APIS[api][2]
     if flexible:
         reader.skip_tags()
-    fields = reader.read(wire.SCHEMAS[api][0], flexible)
+    fields = reader.read(SCHEMAS[api][0], flexible)
     if reader.at != len(reader.data):
         return None
     head = [str(correlation), "null" if client is None else Text(client)]
-    return api, version, head + wanted(wire.SCHEMAS[api][0], fields)
+    return api, version, head + wanted(SCHEMAS[api][0], fields)
 
 
 def answered(api, digits):
     """The values of an answer's body."""
     _, fields = wire.response_of(api, bytes.fromhex(digits)[4:])
-    return wanted(wire.SCHEMAS[api][1], fields)
+    return wanted(SCHEMAS[api][1], fields)
 
 
 def blocks_of(text):

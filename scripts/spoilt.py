@@ -17,6 +17,7 @@ import sys
 
 import wire
 from program import PROGRAM
+from protocol import APIS, SCHEMAS
 from serving import OF_ROOT, Broker, topic
 
 FRAMES, SEED = 20_000, 1
@@ -28,7 +29,7 @@ UNSUPPORTED_VERSION = 35
 
 SETTINGS = OF_ROOT + topic("a", 2)
 
-SERVED = {(key, version): name for name, (key, version, *_) in wire.APIS.items()}
+SERVED = {(key, version): name for name, (key, version, *_) in APIS.items()}
 NUMBERS = {"i8": (1, ">b"), "i16": (2, ">h"), "i32": (4, ">i"), "i64": (8, ">q")}
 
 
@@ -114,14 +115,14 @@ def asked_by(frame):
     key, version = reading.number("i16"), reading.number("i16")
     api = SERVED.get((key, version))
     if api is None:
-        if key == wire.APIS["ApiVersions"][0]:
+        if key == APIS["ApiVersions"][0]:
             return None, reading.number("i32")
         raise NoRequest("an api that is not served")
-    correlation, flexible = reading.number("i32"), wire.APIS[api][2]
+    correlation, flexible = reading.number("i32"), APIS[api][2]
     reading.value("s", False, True)
     if flexible:
         reading.tags()
-    reading.value(wire.SCHEMAS[api][0], flexible)
+    reading.value(SCHEMAS[api][0], flexible)
     if reading.at < len(frame):
         raise NoRequest("bytes behind the request")
     return api, correlation
@@ -189,8 +190,8 @@ class Drawing:
 
     def request(self):
         """A request's frame, without its size field."""
-        api = self.random.choice([*wire.APIS])
-        fields = self.value(wire.SCHEMAS[api][0])
+        api = self.random.choice([*APIS])
+        fields = self.value(SCHEMAS[api][0])
         client = None if self.random.random() < 0.5 else self.text()
         return wire.request_frame(api, self.random.randrange(1 << 31), fields, client)[4:]
 
