@@ -3,7 +3,8 @@ use Rattle.std.proofs.Common.{◌≡◌, ℕ, ◌+◌, ◌*◌, ◌^◌, ◌<◌
 use Rattle.std.specs.List.{range_with_len}
 use Rattle.std.proofs.lemmas.List.FromFn.{get_or-map-range_with_len}
 use Rattle.record_batch.specs.Crc.{shifted_by}
-use Rattle.record_batch.specs.declared.table.TheConstants.{BYTE_REMAINDERS, FAR_REMAINDERS}
+use Rattle.record_batch.specs.declared.far_table.TheConstants.{FAR_REMAINDERS}
+use Rattle.record_batch.specs.declared.table.TheConstants.{BYTE_REMAINDERS}
 
 -- those of all bytes, each with so many zero bytes after it
 abbrev remainders_before : ℕ → List ℕ

@@ -4,7 +4,8 @@ ghost use Rattle.std.specs.Prelude.{◌≡◌, ℕ, ◌<◌, ◌^◌, ◌/◌, �
 ghost use Rattle.std.specs.List.{concat, flat_map};
 ghost use Rattle.record_batch.specs.Crc.{crc_step, crc_after, crc32c, shifted_by};
 
-use crate::table::{byte_remainder, far_byte_remainder};
+use crate::far_table::far_byte_remainder;
+use crate::table::byte_remainder;
 
 /// The remainder of eight bytes, the first one lowest.
 #[inline(always)]
@@ -113,7 +114,8 @@ fn crc32c_by_words(bytes: &[u8]) -> u32
     after_bytes(after_chunks(0xffff_ffff, chunks), rest) ^ 0xffff_ffff
 }
 
-/// The CRC-32C of some bytes, by triples of words as far as they go.
+/// The CRC-32C of some bytes, by triples of words as far as they go. It isn't inlined, so that fewer bytes don't pay for the
+/// registers that it saves.
 #[inline(never)]
 fn crc32c_by_triples(bytes: &[u8]) -> u32
     ensures { result ≡ crc32c bytes.now }

@@ -5,6 +5,7 @@ mod batch;
 mod check;
 mod control;
 mod crc;
+mod far_table;
 mod fault;
 mod fields;
 mod header;
