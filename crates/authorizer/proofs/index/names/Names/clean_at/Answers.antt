@@ -53,4 +53,4 @@ invariant_of-self-else-not-lose c =
     let left = has_left lent.entries c.args.name.now c.leave.new.self some in
     let is = subst (λ (ks : List (String Global)). IsLongest c.self.inside.longest (lengths ks)) (sym kept) c.self.invariant in
     subst (λ (es : List (String Global × List Numbered)). IsLongest c.lose.new.self (lengths (keys_of es))) (sym c.swap_remove.ensures.entries)
-    (c.lose.ensures _ _ left is (search rules))
+    (c.lose.ensures.left _ _ left is (search rules))
