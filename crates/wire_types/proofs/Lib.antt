@@ -9,3 +9,4 @@ pub mod Announced
 pub mod Taken
 pub mod Fronts
 pub mod Runs
+pub mod FirstBytes

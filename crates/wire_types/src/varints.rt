@@ -16,7 +16,7 @@ use std::alloc::AllocError;
 impl<'a> Cursor<'a> {
     /// A number of variable length: `more` bytes may follow the first, and the last of them all is at most `top`.
     #[tactic(auto, unfolding(crate::specs::Reading::varint_at, crate::specs::Reading::varint_limit))]
-    fn read_varint_within(&mut self, more: u32, top: u8) -> Result<u64, Malformed>
+    fn read_varint_slowly(&mut self, more: u32, top: u8) -> Result<u64, Malformed>
         requires { varint_limit more top ≤ 2 ^ 64 }
         ensures found { Takes (varint_at more top self.old) result self.new }
         ensures bound { IfOk result (λ n. n < varint_limit more top) }
@@ -32,8 +32,29 @@ impl<'a> Cursor<'a> {
         if first < 128 {
             return Ok(first as u64);
         }
-        let high = self.read_varint_within(more - 1, top)?;
+        let high = self.read_varint_slowly(more - 1, top)?;
         Ok((first - 128) as u64 + 128 * high)
+    }
+
+    /// The same where `more` is at least two: most numbers have one byte or two, and are read with no call for each byte.
+    #[inline(always)]
+    #[tactic(auto, using(crate::proofs::FirstBytes::first_bytes))]
+    fn read_varint_within(&mut self, more: u32, top: u8) -> Result<u64, Malformed>
+        requires enough { 2 ≤ more }
+        requires bounded { varint_limit more top ≤ 2 ^ 64 }
+        ensures found { Takes (varint_at more top self.old) result self.new }
+        ensures bound { IfOk result (λ n. n < varint_limit more top) }
+    {
+        let first = self.read_byte()?;
+        if first < 128 {
+            return Ok(first as u64);
+        }
+        let second = self.read_byte()?;
+        if second < 128 {
+            return Ok((first - 128) as u64 + 128 * second as u64);
+        }
+        let high = self.read_varint_slowly(more - 2, top)?;
+        Ok((first - 128) as u64 + 128 * ((second - 128) as u64 + 128 * high))
     }
 
     /// An unsigned number of 32 bits in up to five bytes.
