@@ -3,3 +3,4 @@ pub mod Ranges
 pub mod Rows
 pub mod Kept
 pub mod Counting
+pub mod Opening

@@ -1,6 +1,6 @@
 -- Each call keeps producer ids and epochs in their ranges.
 use Rattle.std.proofs.Common.{◌≡◌, ℕ, ℤ, pos, ◌+◌, List, [], ◌∷◌, ◌++◌, length, map, Option, Some, None, Result, Ok, Err, Bool, true, false, cond, refl, sym, subst, ap, ◌∙◌, arith}
-use Rattle.std.specs.Prelude.{◌&&◌, ◌<ℤ◌, int_le, int_lt, IfOk}
+use Rattle.std.specs.Prelude.{◌&&◌, ◌<ℤ◌, int_le, int_lt, IfOk, OnOk, OnErr}
 use Rattle.std.specs.Ordering.{int_eq}
 use Rattle.std.proofs.lemmas.Int.{ints}
 use Rattle.std.proofs.lemmas.List.{length-append}
@@ -20,13 +20,14 @@ use Rattle.transactions.specs.declared.ending.EndForm.TheVariants as forms
 use Rattle.transactions.specs.declared.turn.Turn.{Turn}
 use Rattle.transactions.specs.declared.turn.Turn.TheVariants.{Stays, Puts}
 use Rattle.transactions.specs.Words.{last_epoch, is_empty, raised, is_exhausted, pair_after, given_after, is_ongoing, prepared, complete}
-use Rattle.transactions.specs.Coordinator.{CoordinatorValue, has_id, recorded, put, turned}
+use Rattle.transactions.specs.Coordinator.{CoordinatorValue, has_id, recorded, put, records_after, turned}
 use Rattle.transactions.specs.Preparing.{markers, fenced, pair_refusal}
 use Rattle.transactions.specs.InitProducerId.{timeout_within, begun, init_in, init_for, init}
 use Rattle.transactions.specs.Adding.{with_partitions, with_group, open_in, open_by, open_found, open_transaction, grown, add_partitions, add_group}
 use Rattle.transactions.specs.EndTxn.{other_epoch, renewed, end_ongoing, end_closed, end_in, is_again, end_again, end_by, end_found, end}
 use Rattle.transactions.specs.Expiry.{is_due, expired}
 use Rattle.transactions.specs.Warrants.{owes, with_completed, written_by, written}
+use Rattle.transactions.proofs.Table.{either_way}
 use Rattle.transactions.specs.Bounds.{IsPairInRange, AllCanRaise, IsInRange, AreInRange, IsCoordinator, IsTurnInRange}
 
 -- ---- lists of records
@@ -176,12 +177,27 @@ partitions_range c id p moment (q ∷ ps) s = grown_range (length c.given) (with
 pub group_range : (c : CoordinatorValue) (id : List ℕ) (p : Pair) (moment : ℕ) (g : List ℕ) → IsCoordinator c → IsTurnInRange (length c.given) (add_group c id p moment g)
 group_range c id p moment g s = grown_range (length c.given) (with_group g) (λ t h. record { pair = h.pair; can_raise = h.can_raise }) _ (open_range c id p moment s)
 
--- a record that only grows
-pub grown_put : (n : ℕ) (t u : Transaction) (turn : Turn) → IsInRange n t → u.pair ≡ t.pair → u.phase ≡ t.phase → turn ≡ Puts codes.None u [] [] → IsTurnInRange n turn
-grown_put n t u turn s pair_is phase_is is = subst (IsTurnInRange n) (sym is) (range_more n 0 u (record {
-  pair = subst (IsPairInRange n) (sym pair_is) s.pair;
-  can_raise = λ e. subst (λ (p : Pair). p.epoch <ℤ last_epoch) (sym pair_is) (s.can_raise (sym phase_is ∙ e));
-}))
+-- the records after a call that only grows one, or that failed
+grown_records : (n : ℕ) (ts : List Transaction) (id : List ℕ) (p : Pair) (moment : ℕ) (grow : Transaction → Transaction) → ((t : Transaction) → IsInRange n t → IsInRange n (grow t)) → AreInRange n ts
+    → AreInRange n (records_after ts (grown grow (open_found (recorded ts id) p moment)))
+grown_records n ts id p moment grow keeps s = by_result (open_found (recorded ts id) p moment) (open_found_range (recorded ts id) n ts id p moment s refl) where
+  by_result : (o : Result Transaction ErrorCode) → IfOk o (IsInRange n) → AreInRange n (records_after ts (grown grow o))
+  by_result (Ok t) h = range_put n ts (grow t) s (keeps t h)
+  by_result (Err code) h = s
+
+pub partitions_records : {T E : Type 0} (r : Result T E) (n : ℕ) (ts us : List Transaction) (id : List ℕ) (p : Pair) (moment : ℕ) (ps : List TopicPartition) → AreInRange n ts
+    → OnOk r (us ≡ records_after ts (grown (with_partitions ps) (open_found (recorded ts id) p moment))) → OnErr r (us ≡ ts) → AreInRange n us
+partitions_records r n ts us id p moment ps s ok err =
+    either_way r _ _ _
+    (λ e. subst (AreInRange n) (sym e) (grown_records n ts id p moment (with_partitions ps) (λ t h. record { pair = h.pair; can_raise = h.can_raise }) s))
+    (λ e. subst (AreInRange n) (sym e) s) ok err
+
+pub group_records : {T E : Type 0} (r : Result T E) (n : ℕ) (ts us : List Transaction) (id : List ℕ) (p : Pair) (moment : ℕ) (g : List ℕ) → AreInRange n ts
+    → OnOk r (us ≡ records_after ts (grown (with_group g) (open_found (recorded ts id) p moment))) → OnErr r (us ≡ ts) → AreInRange n us
+group_records r n ts us id p moment g s ok err =
+    either_way r _ _ _
+    (λ e. subst (AreInRange n) (sym e) (grown_records n ts id p moment (with_group g) (λ t h. record { pair = h.pair; can_raise = h.can_raise }) s))
+    (λ e. subst (AreInRange n) (sym e) s) ok err
 
 -- ---- ending
 

@@ -1,6 +1,6 @@
 -- The records as a table keeps them: what is looked up, put and changed there.
 use Rattle.std.proofs.Common.{◌≡◌, ℕ, zero, suc, ◌+◌, ◌<◌, List, [], ◌∷◌, drop, slice_get, get_or, length, add-one, Option, Some, None, Bool, true, false, cond, refl, sym, subst, ap, ◌∙◌, arith}
-use Rattle.std.specs.Prelude.{Result, Ok, Err, IsOk, OnOk}
+use Rattle.std.specs.Prelude.{Result, Ok, Err, IsOk, OnOk, OnErr}
 use Rattle.std.proofs.lemmas.List.{length-map}
 use Rattle.std.proofs.lemmas.Option.{slice_get_within, get_or_from_slice_get}
 use Rattle.std.proofs.lemmas.Slice.Eq.{bytes_eq-Decides}
@@ -13,7 +13,10 @@ use Rattle.indexmap.specs.IndexMap.{insert_entry, set_value_at}
 use Rattle.keyed_tables.proofs.Tables.{is_under, same_test, looked_up as looked_up_by, found_key, keyed_set, keyed_changed}
 use Rattle.transactions.specs.declared.transaction.Transaction.{Transaction}
 use Rattle.record_batch.specs.declared.outcome.Outcome.{Outcome}
-use Rattle.transactions.specs.Coordinator.{has_id, recorded, put}
+use Rattle.transactions.specs.Coordinator.{has_id, recorded, put, records_after}
+use Rattle.transactions.specs.declared.turn.Turn.{Turn}
+use Rattle.transactions.specs.declared.turn.Turn.TheVariants.{Stays, Puts}
+use Rattle.transactions.specs.Adding.{after}
 use Rattle.transactions.specs.Preparing.{fenced}
 use Rattle.transactions.specs.Bounds.{CanRaise, AllCanRaise}
 use Rattle.transactions.specs.Expiry.{is_due, expired}
@@ -70,6 +73,70 @@ completed_in es id t o h found =
 
 pub ids_completed : (es : List Entry) (id : List ℕ) (t : Transaction) (o : Outcome) → AreIds es → lookup (is_under id) es ≡ Some t → AreIds (set_value (is_under id) es (completed o t))
 ids_completed es id t o h found = keyed_set id_of es (is_under id) t (completed o t) (sym found) refl h
+
+-- ---- the record of an id after a call
+
+set_same : (es : List Entry) (id : List ℕ) (t : Transaction) → lookup (is_under id) es ≡ Some t → set_value (is_under id) es t ≡ es
+set_same [] id t found = refl
+set_same (e ∷ es) id t found = by_test (is_under id e.0) found (set_same es id t) where
+  by_test : (b : Bool) → cond b (Some e.1) (lookup (is_under id) es) ≡ Some t → (lookup (is_under id) es ≡ Some t → set_value (is_under id) es t ≡ es)
+      → cond b ((e.0, t) ∷ es) (e ∷ set_value (is_under id) es t) ≡ e ∷ es
+  by_test true found more = let same : e.1 ≡ t = cc in ap (λ (x : Transaction). (e.0, x) ∷ es) (sym same)
+  by_test false found more = ap (λ (l : List Entry). e ∷ l) (more found)
+
+-- one that fails leaves the records
+pub left_in : (es : List Entry) (id : List ℕ) (t : Transaction) → lookup (is_under id) es ≡ Some t → values_of (set_value (is_under id) es t) ≡ values_of es
+left_in es id t found = ap values_of (set_same es id t found)
+
+pub turned_in : (es : List Entry) (id : List ℕ) (t : Transaction) (turn : Turn) → (after turn t).id ≡ t.id → AreIds es → lookup (is_under id) es ≡ Some t
+    → values_of (set_value (is_under id) es (after turn t)) ≡ records_after (values_of es) turn
+turned_in es id t (Stays code) same h found = left_in es id t found
+turned_in es id t (Puts code u given owed) same h found = set_in es id t u (same ∙ found_key id_of es id t h found) h found
+
+pub ids_turned : (es : List Entry) (id : List ℕ) (t new : Transaction) → new.id ≡ t.id → AreIds es → lookup (is_under id) es ≡ Some t → AreIds (set_value (is_under id) es new)
+ids_turned es id t new same h found = keyed_set id_of es (is_under id) t new (sym found) same h
+
+-- ---- a call that changes the record of an id in its place, or fails
+
+ok_then : {T E : Type 0} (r : Result T E) (P Q : Type 0) → (P → Q) → OnOk r P → OnOk r Q
+ok_then (Ok x) P Q f h = f h
+ok_then (Err e) P Q f h = tt
+
+err_then : {T E : Type 0} (r : Result T E) (P Q : Type 0) → (P → Q) → OnErr r P → OnErr r Q
+err_then (Ok x) P Q f h = tt
+err_then (Err e) P Q f h = f h
+
+pub either_way : {T E : Type 0} (r : Result T E) (P Q R : Type 0) → (P → R) → (Q → R) → OnOk r P → OnErr r Q → R
+either_way (Ok x) P Q R f g ok err = f ok
+either_way (Err e) P Q R f g ok err = g err
+
+-- what is looked up under an id is what is recorded of it
+pub is_recorded : (es : List Entry) (ts : List Transaction) (id : List ℕ) (found : Option Transaction) → lookup (is_under id) es ≡ found → AreIds es → values_of es ≡ ts → found ≡ recorded ts id
+is_recorded es ts id found is h ts_is = sym is ∙ looked_up es id h ∙ ap (λ (l : List Transaction). recorded l id) ts_is
+
+-- the entries before and after it, the records before it, its id, the record before and after it, how it went, and its turn
+module _ {T E : Type 0} (es now : List Entry) (ts : List Transaction) (id : List ℕ) (t new : Transaction) (r : Result T E) (turn : Option Transaction → Turn)
+    (h : AreIds es) (found : lookup (is_under id) es ≡ Some t) (ts_is : values_of es ≡ ts) (written : now ≡ set_value (is_under id) es new) (keeps : (after (turn (Some t)) t).id ≡ t.id) where
+  pub called_ids : OnOk r (new ≡ after (turn (Some t)) t) → OnErr r (new ≡ t) → AreIds now
+  called_ids ok err =
+      let same : new.id ≡ t.id = either_way r _ _ _ (λ e. ap (λ (x : Transaction). x.id) e ∙ keeps) (ap (λ (x : Transaction). x.id)) ok err in
+      subst AreIds (sym written) (ids_turned es id t new same h found)
+
+  pub called_ok : OnOk r (new ≡ after (turn (Some t)) t) → OnOk r (values_of now ≡ records_after ts (turn (recorded ts id)))
+  called_ok ok =
+      let is_set : (new ≡ after (turn (Some t)) t) → values_of now ≡ records_after ts (turn (recorded ts id)) = λ e.
+      ap values_of written
+      ∙ ap (λ (x : Transaction). values_of (set_value (is_under id) es x)) e
+      ∙ turned_in es id t (turn (Some t)) keeps h found
+      ∙ ap (λ (l : List Transaction). records_after l (turn (Some t))) ts_is
+      ∙ ap (λ (x : Option Transaction). records_after ts (turn x)) (is_recorded es ts id (Some t) found h ts_is) in
+      ok_then r _ _ is_set ok
+
+  pub called_err : OnErr r (new ≡ t) → OnErr r (values_of now ≡ ts)
+  called_err err =
+      let is_left : (new ≡ t) → values_of now ≡ ts = λ e.
+      ap values_of written ∙ ap (λ (x : Transaction). values_of (set_value (is_under id) es x)) e ∙ left_in es id t found ∙ ts_is in
+      err_then r _ _ is_left err
 
 -- ---- the records that expire
 

@@ -9,7 +9,7 @@ use Rattle.transactions.specs.declared.transaction.Phase.TheVariants.{Empty, Ong
 use Rattle.transactions.specs.declared.transaction.Transaction.{Transaction}
 use Rattle.transactions.specs.declared.turn.Turn.{Turn}
 use Rattle.transactions.specs.declared.turn.Turn.TheVariants.{Stays, Puts}
-use Rattle.transactions.specs.Words.{is_empty, has_partition, has_group}
+use Rattle.transactions.specs.Words.{is_empty, is_ongoing, has_partition, has_group}
 use Rattle.transactions.specs.Coordinator.{CoordinatorValue, recorded}
 use Rattle.transactions.specs.Preparing.{pair_refusal}
 
@@ -58,11 +58,24 @@ open_found (Some t) pair moment = open_by (pair_refusal codes.InvalidProducerEpo
 abbrev pub open_transaction : CoordinatorValue → List ℕ → Pair → ℕ → Result Transaction ErrorCode
 open_transaction c id pair moment = if is_empty id then Err codes.InvalidRequest else open_found (recorded c.transactions id) pair moment
 
+abbrev pub refusal_of : Result Transaction ErrorCode → Option ErrorCode
+refusal_of (Ok t) = None
+refusal_of (Err code) = Some code
+
+-- one that isn't refused, once it is open
+abbrev pub opened : Transaction → ℕ → Transaction
+opened t moment = if is_ongoing t.phase then record t { kept = None } else beginning t moment
+
 -- ---- the calls
 
 abbrev pub grown : (Transaction → Transaction) → Result Transaction ErrorCode → Turn
 grown grow (Ok t) = Puts codes.None (grow t) [] []
 grown grow (Err code) = Stays code
+
+-- the record of the id after a call
+abbrev pub after : Turn → Transaction → Transaction
+after (Stays code) t = t
+after (Puts code new given owed) t = new
 
 -- where no partition is named, nothing changes
 abbrev pub add_partitions : CoordinatorValue → List ℕ → Pair → ℕ → List TopicPartition → Turn

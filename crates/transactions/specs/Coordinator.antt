@@ -65,6 +65,10 @@ abbrev pub turn_code : Turn → ErrorCode
 turn_code (Stays code) = code
 turn_code (Puts code t given owed) = code
 
+abbrev pub records_after : List Transaction → Turn → List Transaction
+records_after ts (Stays code) = ts
+records_after ts (Puts code t given owed) = put ts t
+
 abbrev pub turned : CoordinatorValue → Turn → CoordinatorValue
 turned c (Stays code) = c
 turned c (Puts code t given owed) = record { transactions = put c.transactions t; given = c.given ++ given; warrants = c.warrants ++ owed }

@@ -1,106 +1,90 @@
 //! What the adding of partitions and of a group makes of a transaction.
 
-ghost use Rattle.std.specs.Prelude.{◌≡◌, IfOk};
-ghost use Rattle.transactions.specs.Adding.{partitions_added, group_added, with_partitions, with_group, open_in};
+ghost use Rattle.std.specs.Prelude.{◌≡◌, ℕ, Some, IfOk, OnOk, OnErr};
+ghost use Rattle.transactions.specs.Coordinator.{turn_code};
+ghost use Rattle.transactions.specs.Adding.{group_added, with_partitions, with_group, open_found, refusal_of, opened, grown, after};
 
-use crate::target::{TopicPartition, has_group, has_partition};
+use crate::pair::Pair;
+use crate::target::{TopicPartition, has_group};
 use crate::transaction::{Phase, Transaction};
 use std::alloc::AllocError;
 use wire_types::{ErrorCode, Items, Text};
 
 impl Transaction {
-    /// The transaction to which a call adds that comes with the id's pair.
-    pub fn open(self, moment: u64) -> Result<Transaction, ErrorCode>
-        ensures { result ≡ open_in self.phase self moment }
+    /// The refusal of a call that adds, with this pair.
+    fn adding_refusal(&self, pair: Pair) -> Option<ErrorCode>
+        ensures { (moment : ℕ) → result ≡ refusal_of (open_found (Some self.now) pair moment) }
     {
-        match self.phase {
-            Phase::Ongoing => Ok(Transaction { kept: None, ..self }),
-            Phase::Empty | Phase::CompleteCommit | Phase::CompleteAbort => Ok(Transaction {
-                phase: Phase::Ongoing,
-                start: moment,
-                kept: None,
-                ..self
-            }),
-            Phase::PrepareCommit | Phase::PrepareAbort => Err(ErrorCode::ConcurrentTransactions),
+        match (
+            self.pair_refusal(ErrorCode::InvalidProducerEpoch, pair),
+            self.phase,
+        ) {
+            (Some(code), _) => Some(code),
+            (None, Phase::PrepareCommit | Phase::PrepareAbort) => {
+                Some(ErrorCode::ConcurrentTransactions)
+            }
+            (None, _) => None,
         }
     }
 
-    /// The transaction with these partitions, each added once.
-    pub fn with_partitions(self, partitions: &[TopicPartition]) -> Result<Transaction, AllocError>
-        ensures { IfOk result (λ t. t ≡ with_partitions partitions.now self) }
+    /// Begins at this moment, where no transaction is open.
+    fn open(&mut self, moment: u64)
+        ensures { self.new ≡ opened self.old moment }
     {
-        let Transaction {
-            id,
-            pair,
-            timeout,
-            start,
-            phase,
-            partitions: added,
-            groups,
-            kept,
-        } = self;
-        let partitions = partitions_added(added, partitions)?;
-        Ok(Transaction {
-            id,
-            pair,
-            timeout,
-            start,
-            phase,
-            partitions,
-            groups,
-            kept,
-        })
-    }
-
-    /// The transaction with this group, added once.
-    pub fn with_group(self, group: &Text) -> Result<Transaction, AllocError>
-        ensures { IfOk result (λ t. t ≡ with_group group.now self) }
-    {
-        let Transaction {
-            id,
-            pair,
-            timeout,
-            start,
-            phase,
-            partitions,
-            groups: added,
-            kept,
-        } = self;
-        let groups = group_added(added, group)?;
-        Ok(Transaction {
-            id,
-            pair,
-            timeout,
-            start,
-            phase,
-            partitions,
-            groups,
-            kept,
-        })
-    }
-}
-
-fn partitions_added(
-    added: Items<TopicPartition>,
-    partitions: &[TopicPartition],
-) -> Result<Items<TopicPartition>, AllocError>
-    ensures { IfOk result (λ all. all ≡ partitions_added added partitions.now) }
-{
-    let mut all = added;
-    for partition in partitions {
-        if !has_partition(all.as_slice(), partition) {
-            all.push(partition.copied()?)?;
+        if !self.phase.is_ongoing() {
+            self.phase = Phase::Ongoing;
+            self.start = moment;
         }
+        self.kept = None;
     }
-    Ok(all)
+
+    /// Adds partitions, each once, to the open transaction or to one that begins at this moment, unless the call is refused.
+    /// After an error the record is as it was.
+    pub(crate) fn add_partitions(
+        &mut self,
+        pair: Pair,
+        moment: u64,
+        partitions: &[TopicPartition],
+    ) -> Result<ErrorCode, AllocError>
+        ensures ok { OnOk result (self.new ≡ after (grown (with_partitions partitions.now) (open_found (Some self.old) pair moment)) self.old) }
+        ensures code { IfOk result (λ code. code ≡ turn_code (grown (with_partitions partitions.now) (open_found (Some self.old) pair moment))) }
+        ensures err { OnErr result (self.new ≡ self.old) }
+    {
+        if let Some(code) = self.adding_refusal(pair) {
+            return Ok(code);
+        }
+        self.partitions.add(partitions)?;
+        self.open(moment);
+        Ok(ErrorCode::None)
+    }
+
+    /// The same of a group.
+    pub(crate) fn add_group(
+        &mut self,
+        pair: Pair,
+        moment: u64,
+        group: &Text,
+    ) -> Result<ErrorCode, AllocError>
+        ensures ok { OnOk result (self.new ≡ after (grown (with_group group.now) (open_found (Some self.old) pair moment)) self.old) }
+        ensures code { IfOk result (λ code. code ≡ turn_code (grown (with_group group.now) (open_found (Some self.old) pair moment))) }
+        ensures err { OnErr result (self.new ≡ self.old) }
+    {
+        if let Some(code) = self.adding_refusal(pair) {
+            return Ok(code);
+        }
+        add_group(&mut self.groups, group)?;
+        self.open(moment);
+        Ok(ErrorCode::None)
+    }
 }
 
-fn group_added(added: Items<Text>, group: &Text) -> Result<Items<Text>, AllocError>
-    ensures { IfOk result (λ all. all ≡ group_added added group.now) }
+/// Adds the group, unless it is there. After an error the groups are as they were.
+fn add_group(groups: &mut Items<Text>, group: &Text) -> Result<(), AllocError>
+    ensures ok { OnOk result (groups.new ≡ group_added groups.old group.now) }
+    ensures err { OnErr result (groups.new ≡ groups.old) }
 {
-    let mut all = added;
-    if !has_group(all.as_slice(), group) {
-        all.push(group.clone()?)?;
+    if !has_group(groups.as_slice(), group) {
+        groups.push(group.clone()?)?;
     }
-    Ok(all)
+    Ok(())
 }

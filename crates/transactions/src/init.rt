@@ -9,10 +9,12 @@ ghost use Rattle.transactions.specs.Bounds.{CanRaise};
 ghost use Rattle.transactions.specs.InitProducerId.{timeout_within, created, begun, init_in};
 
 use crate::pair::Pair;
+use crate::partitions::Partitions;
 use crate::transaction::{Phase, Transaction};
 use crate::turn::Turn;
 use record_batch::Outcome;
 use std::alloc::{AllocError, Global};
+use std::hash::RandomState;
 use wire_types::{ErrorCode, Items, Text};
 
 /// The timeout that is asked for, where it is from 1 to the greatest.
@@ -26,8 +28,14 @@ pub fn timeout_within(timeout: i32, greatest: i32) -> Option<u32>
     }
 }
 
-/// A new id, with the producer id that is the next one to be given out.
-pub fn created(alloc: Global, id: &Text, next: i64, timeout: u32) -> Result<Turn, AllocError>
+/// A new id, with the producer id that is the next one to be given out. Its partitions are hashed by `hasher`.
+pub fn created(
+    alloc: Global,
+    hasher: RandomState,
+    id: &Text,
+    next: i64,
+    timeout: u32,
+) -> Result<Turn, AllocError>
     ensures { IfOk result (λ turn. turn ≡ Puts codes.None (created id.now next timeout) (Some id.now ∷ []) []) }
 {
     let mut given = Items::new(alloc);
@@ -41,7 +49,7 @@ pub fn created(alloc: Global, id: &Text, next: i64, timeout: u32) -> Result<Turn
         timeout,
         start: 0,
         phase: Phase::Empty,
-        partitions: Items::new(alloc),
+        partitions: Partitions::new(alloc, hasher),
         groups: Items::new(alloc),
         kept: None,
     };

@@ -1,20 +1,23 @@
 //! The records of transactional ids, in the order of their creation.
 
-ghost use Rattle.std.specs.Prelude.{◌≡◌, ◌<◌, [], OnOk, map, string_bytes};
+ghost use Rattle.std.specs.Prelude.{◌≡◌, ◌<◌, [], OnOk, OnErr, IfOk, map, string_bytes};
 ghost use Rattle.std.specs.Option.{option_copied};
-ghost use Rattle.transactions.specs.Coordinator.{recorded, put};
+ghost use Rattle.transactions.specs.Coordinator.{recorded, put, records_after, turn_code};
+ghost use Rattle.transactions.specs.Adding.{with_partitions, with_group, open_found, grown};
 ghost use Rattle.transactions.specs.Expiry.{expired};
 ghost use Rattle.transactions.specs.Bounds.{AllCanRaise};
 ghost use Rattle.transactions.specs.Warrants.{with_completed};
 
 use crate::expiry::expire_all;
+use crate::pair::Pair;
+use crate::target::TopicPartition;
 use crate::transaction::Transaction;
 use indexmap::IndexMap;
 use record_batch::Outcome;
 use std::alloc::{AllocError, Global};
 use std::hash::RandomState;
 use std::marker::Model;
-use wire_types::Text;
+use wire_types::{ErrorCode, Text};
 
 /// The record of each transactional id, under it; seen as the list of records.
 pub struct Records {
@@ -61,6 +64,48 @@ impl Records {
         ensures { option_copied result ≡ recorded self.now.list id.now }
     {
         self.table.get(id.as_str())
+    }
+
+    /// How names are hashed in these records.
+    pub fn hasher(&self) -> RandomState {
+        *self.table.hasher()
+    }
+
+    /// Adds partitions to the transaction of an id, for a call with this pair at this moment. After an error the records are as they
+    /// were.
+    pub fn add_partitions(
+        &mut self,
+        id: &Text,
+        pair: Pair,
+        moment: u64,
+        partitions: &[TopicPartition],
+    ) -> Result<ErrorCode, AllocError>
+        ensures ok { OnOk result (self.new.list ≡ records_after self.old.list (grown (with_partitions partitions.now) (open_found (recorded self.old.list id.now) pair moment))) }
+        ensures code { IfOk result (λ code. code ≡ turn_code (grown (with_partitions partitions.now) (open_found (recorded self.old.list id.now) pair moment))) }
+        ensures err { OnErr result (self.new.list ≡ self.old.list) }
+    {
+        let Some(transaction) = self.table.get_mut(id.as_str()) else {
+            return Ok(ErrorCode::InvalidProducerIdMapping);
+        };
+        transaction.add_partitions(pair, moment, partitions)
+    }
+
+    /// The same of a group.
+    pub fn add_group(
+        &mut self,
+        id: &Text,
+        pair: Pair,
+        moment: u64,
+        group: &Text,
+    ) -> Result<ErrorCode, AllocError>
+        ensures ok { OnOk result (self.new.list ≡ records_after self.old.list (grown (with_group group.now) (open_found (recorded self.old.list id.now) pair moment))) }
+        ensures code { IfOk result (λ code. code ≡ turn_code (grown (with_group group.now) (open_found (recorded self.old.list id.now) pair moment))) }
+        ensures err { OnErr result (self.new.list ≡ self.old.list) }
+    {
+        let Some(transaction) = self.table.get_mut(id.as_str()) else {
+            return Ok(ErrorCode::InvalidProducerIdMapping);
+        };
+        transaction.add_group(pair, moment, group)
     }
 
     /// Makes room for one more record.

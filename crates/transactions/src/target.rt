@@ -1,13 +1,14 @@
 //! The partitions and groups that transactions take in.
 
 ghost use Rattle.std.specs.Prelude.{◌≡◌, IfOk};
-ghost use Rattle.transactions.specs.Words.{is_same_partition, has_partition, has_group};
+ghost use Rattle.transactions.specs.Words.{has_group};
 
 use std::alloc::AllocError;
+use std::hash::{Hash, Hasher};
 use wire_types::Text;
 
 /// A partition of a topic.
-#[derive(Clone, Debug, Drop)]
+#[derive(Clone, Debug, Drop, PartialEq, Eq)]
 pub struct TopicPartition {
     pub topic: Text,
     pub index: i32,
@@ -26,18 +27,23 @@ impl TopicPartition {
     {
         self.clone()
     }
-
-    fn is_same(&self, other: &TopicPartition) -> bool
-        ensures { result ≡ is_same_partition self.now other.now }
-    {
-        self.topic == other.topic && self.index == other.index
-    }
 }
 
-pub(crate) fn has_partition(added: &[TopicPartition], partition: &TopicPartition) -> bool
-    ensures { result ≡ has_partition added.now partition.now }
-{
-    added.iter().any(|other| other.is_same(partition))
+/// By its topic's name and its index.
+impl Hash for TopicPartition {
+    ghost use Rattle.std.specs.Prelude.{◌++◌};
+    ghost use Rattle.std.proofs.Common.{rules};
+    ghost use Rattle.std.specs.Hash as fed;
+    ghost use Rattle.std.specs.Cmp.Rules.{hashing};
+
+    ghost hash_input = { λ p. fed.str p.topic ++ fed.i32 p.index };
+
+    ghost respects_eq = { Prim.search (hashing, rules) };
+
+    fn hash<H: Hasher>(&self, state: &mut H) {
+        self.topic.as_str().hash(state);
+        self.index.hash(state);
+    }
 }
 
 pub(crate) fn has_group(added: &[Text], group: &Text) -> bool

@@ -6,7 +6,8 @@ ghost use Rattle.transactions.specs.Preparing.{pair_refusal};
 ghost use Rattle.transactions.specs.Warrants.{completed};
 
 use crate::pair::Pair;
-use crate::target::{Target, TopicPartition, has_group, has_partition};
+use crate::partitions::Partitions;
+use crate::target::{Target, has_group};
 use record_batch::Outcome;
 use std::alloc::{AllocError, Global};
 use wire_types::{ErrorCode, Items, Text};
@@ -38,7 +39,7 @@ pub struct Transaction {
     pub start: u64,
     pub phase: Phase,
     /// The partitions that were added, in the order of adding.
-    pub partitions: Items<TopicPartition>,
+    pub partitions: Partitions,
     /// The groups that were added, in the order of adding.
     pub groups: Items<Text>,
     /// The pair that an EndTxn of version 5 came with, until an InitProducerId or an adding changes the record.
@@ -87,7 +88,7 @@ impl Transaction {
         ensures { result ≡ has_target self.now target.now }
     {
         match target {
-            Target::Partition(partition) => has_partition(self.partitions.as_slice(), partition),
+            Target::Partition(partition) => self.partitions.contains(partition),
             Target::Group(group) => has_group(self.groups.as_slice(), group),
         }
     }
@@ -111,7 +112,7 @@ impl Transaction {
         ensures { self.new ≡ completed outcome self.old }
     {
         self.phase = Phase::complete(outcome);
-        self.partitions = Items::new(alloc);
+        self.partitions.clear();
         self.groups = Items::new(alloc);
     }
 }

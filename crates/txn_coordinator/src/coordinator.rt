@@ -4,12 +4,12 @@ ghost use Rattle.std.specs.Prelude.{◌≡◌, ◌+◌, ◌<◌, ◌^◌, ◌++�
 ghost use Rattle.std.specs.Option.{option_copied};
 ghost use Rattle.transactions.specs.Coordinator.{no_transactions, turned, turn_code, turn_answer, pair_answer, recorded, fresh, owner, given_by, given_free};
 ghost use Rattle.transactions.specs.InitProducerId.{init};
-ghost use Rattle.transactions.specs.Adding.{add_partitions, add_group, open_transaction};
+ghost use Rattle.transactions.specs.Adding.{add_partitions, add_group};
 ghost use Rattle.transactions.specs.EndTxn.{end};
 ghost use Rattle.transactions.specs.Expiry.{expire};
 ghost use Rattle.transactions.specs.Holding.{holds, is_usable};
 ghost use Rattle.transactions.specs.Warrants.{next_warrant, written};
-ghost use Rattle.transactions.specs.Bounds.{IsInRange, IsTurnInRange};
+ghost use Rattle.transactions.specs.Bounds.{IsTurnInRange};
 ghost use Rattle.txn_coordinator.specs.Permission.{MayWrite};
 
 use crate::warrant::Warrant;
@@ -99,7 +99,6 @@ impl Coordinator {
     /// AddPartitionsToTxn, at this moment in milliseconds.
     pub fn add_partitions(
         &mut self,
-        alloc: Global,
         policy: &Policy,
         permit: Permit,
         id: &Text,
@@ -115,13 +114,12 @@ impl Coordinator {
     {
         (
             permit.spend(policy),
-            self.take_partitions(alloc, id, pair, moment, partitions),
+            self.take_partitions(id, pair, moment, partitions),
         )
     }
 
     fn take_partitions(
         &mut self,
-        alloc: Global,
         id: &Text,
         pair: Pair,
         moment: u64,
@@ -131,14 +129,18 @@ impl Coordinator {
         ensures code { IfOk result (λ code. code ≡ turn_code (add_partitions self.old id.now pair moment partitions.now)) }
         ensures err { OnErr result (self.new ≡ self.old) }
     {
-        let turn = self.partitions_turn(alloc, id, pair, moment, partitions)?;
-        self.take(turn)
+        if partitions.is_empty() {
+            return Ok(ErrorCode::None);
+        }
+        if id.is_empty() {
+            return Ok(ErrorCode::InvalidRequest);
+        }
+        self.records.add_partitions(id, pair, moment, partitions)
     }
 
     /// AddOffsetsToTxn, at this moment in milliseconds.
     pub fn add_group(
         &mut self,
-        alloc: Global,
         policy: &Policy,
         permit: Permit,
         id: &Text,
@@ -154,13 +156,12 @@ impl Coordinator {
     {
         (
             permit.spend(policy),
-            self.take_group(alloc, id, pair, moment, group),
+            self.take_group(id, pair, moment, group),
         )
     }
 
     fn take_group(
         &mut self,
-        alloc: Global,
         id: &Text,
         pair: Pair,
         moment: u64,
@@ -170,8 +171,10 @@ impl Coordinator {
         ensures code { IfOk result (λ code. code ≡ turn_code (add_group self.old id.now pair moment group.now)) }
         ensures err { OnErr result (self.new ≡ self.old) }
     {
-        let turn = self.group_turn(alloc, id, pair, moment, group)?;
-        self.take(turn)
+        if id.is_empty() {
+            return Ok(ErrorCode::InvalidRequest);
+        }
+        self.records.add_group(id, pair, moment, group)
     }
 
     /// EndTxn. Before version 5 the pair of the answer is left out.
@@ -355,66 +358,7 @@ impl Coordinator {
         };
         match self.records.get(id) {
             Some(transaction) => transaction.inited(alloc, self.next_id(), timeout),
-            None => created(alloc, id, self.next_id(), timeout),
-        }
-    }
-
-    /// The transaction that a call with this pair adds to, or its refusal.
-    fn open_transaction(
-        &self,
-        id: &Text,
-        pair: Pair,
-        moment: u64,
-    ) -> Result<Result<Transaction, ErrorCode>, AllocError>
-        ensures opened { IfOk result (λ opened. opened ≡ open_transaction self.now id.now pair moment) }
-        ensures in_range { IfOk result (λ opened. IfOk opened (IsInRange (length self.now.given))) }
-    {
-        if id.is_empty() {
-            return Ok(Err(ErrorCode::InvalidRequest));
-        }
-        let Some(transaction) = self.records.get(id) else {
-            return Ok(Err(ErrorCode::InvalidProducerIdMapping));
-        };
-        match transaction.pair_refusal(ErrorCode::InvalidProducerEpoch, pair) {
-            Some(code) => Ok(Err(code)),
-            None => Ok(transaction.copied()?.open(moment)),
-        }
-    }
-
-    fn partitions_turn(
-        &self,
-        alloc: Global,
-        id: &Text,
-        pair: Pair,
-        moment: u64,
-        partitions: &[TopicPartition],
-    ) -> Result<Turn, AllocError>
-        ensures turn { IfOk result (λ turn. turn ≡ add_partitions self.now id.now pair moment partitions.now) }
-        ensures in_range { IfOk result (λ turn. IsTurnInRange (length self.now.given) turn) }
-    {
-        if partitions.is_empty() {
-            return Ok(Turn::Stays(ErrorCode::None));
-        }
-        match self.open_transaction(id, pair, moment)? {
-            Ok(transaction) => Ok(Turn::puts(alloc, transaction.with_partitions(partitions)?)),
-            Err(code) => Ok(Turn::Stays(code)),
-        }
-    }
-
-    fn group_turn(
-        &self,
-        alloc: Global,
-        id: &Text,
-        pair: Pair,
-        moment: u64,
-        group: &Text,
-    ) -> Result<Turn, AllocError>
-        ensures turn { IfOk result (λ turn. turn ≡ add_group self.now id.now pair moment group.now) }
-        ensures in_range { IfOk result (λ turn. IsTurnInRange (length self.now.given) turn) }
-    {
-        match self.open_transaction(id, pair, moment)? {
-            Ok(transaction) => Ok(Turn::puts(alloc, transaction.with_group(group)?)),
-            Err(code) => Ok(Turn::Stays(code)),
+            None => created(alloc, self.records.hasher(), id, self.next_id(), timeout),
         }
     }
 

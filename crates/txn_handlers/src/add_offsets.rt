@@ -26,7 +26,6 @@ fn add_offsets_reply(error: ErrorCode) -> Reply
 
 /// Adds the group by a permit for the transactional id.
 fn add_by(
-    alloc: Global,
     coordinator: &mut Coordinator,
     policy: &Policy,
     permit: Permit,
@@ -44,7 +43,7 @@ fn add_by(
     };
     let id = &request.transactional_id;
     let group = &request.group;
-    let (spent, code) = coordinator.add_group(alloc, policy, permit, id, pair, moment, group);
+    let (spent, code) = coordinator.add_group(policy, permit, id, pair, moment, group);
     Ok((spent, code?))
 }
 
@@ -68,7 +67,7 @@ pub fn answer_add_offsets(
         Ok(TwoPermits { first, second }) => {
             let (coordinator, policy) = (&mut state.coordinator, &state.policy);
             let group = second.spend(policy);
-            let (id, code) = add_by(alloc, coordinator, policy, first, moment, request)?;
+            let (id, code) = add_by(coordinator, policy, first, moment, request)?;
             Ok(served_whole(alloc, add_offsets_reply(code), Paid::two(id, group)))
         }
         Err(refusal) => {

@@ -268,7 +268,6 @@ fn add_all(
     let permit = granted(&state.policy, question);
     let (coordinator, policy) = (&mut state.coordinator, &state.policy);
     let (_spent, code) = coordinator.add_partitions(
-        alloc,
         policy,
         permit,
         id,
