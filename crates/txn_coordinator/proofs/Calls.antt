@@ -1,50 +1,33 @@
--- A call that adds, in the words of the coordinator: it changes the records alone.
-use Rattle.std.proofs.Common.{◌≡◌, ℕ, List, [], ◌∷◌, Option, Some, None, Result, Ok, Err, Bool, true, false, cond, refl, sym, ap, ◌∙◌}
+-- A call that adds a group, in the words of the coordinator: it changes the records alone.
+use Rattle.std.proofs.Common.{◌≡◌, ℕ, List, [], ◌∷◌, Option, Result, Ok, Err, Bool, false, cond, refl, sym, ap, ◌∙◌}
+use Rattle.std.specs.Prelude.{OnOk}
 use Rattle.std.proofs.lemmas.List.{append-nil}
 use Rattle.wire_types.specs.declared.error_code.ErrorCode.{ErrorCode}
 use Rattle.wire_types.specs.declared.error_code.ErrorCode.TheVariants as codes
 use Rattle.transactions.specs.declared.pair.Pair.{Pair}
-use Rattle.transactions.specs.declared.target.TopicPartition.{TopicPartition}
 use Rattle.transactions.specs.declared.transaction.Transaction.{Transaction}
 use Rattle.transactions.specs.declared.marker.OwedMarker.{OwedMarker}
-use Rattle.transactions.specs.declared.turn.Turn.{Turn}
 use Rattle.transactions.specs.Words.{is_empty}
-use Rattle.transactions.specs.Coordinator.{CoordinatorValue, recorded, turned, turn_code, records_after}
-use Rattle.transactions.specs.Adding.{with_partitions, with_group, open_found, open_transaction, grown, add_partitions, add_group}
+use Rattle.transactions.specs.Coordinator.{CoordinatorValue, recorded, turned, records_after}
+use Rattle.transactions.specs.Adding.{with_group, open_found, grown, add_group}
+
+ok_then : {T E : Type 0} (r : Result T E) (P Q : Type 0) → (P → Q) → OnOk r P → OnOk r Q
+ok_then (Ok x) P Q f h = f h
+ok_then (Err e) P Q f h = tt
 
 -- nothing is given out and nothing is owed for it
-pub only_records : (c : CoordinatorValue) (grow : Transaction → Transaction) (o : Result Transaction ErrorCode) → record c { transactions = records_after c.transactions (grown grow o) } ≡ turned c (grown grow o)
+only_records : (c : CoordinatorValue) (grow : Transaction → Transaction) (o : Result Transaction ErrorCode) → record c { transactions = records_after c.transactions (grown grow o) } ≡ turned c (grown grow o)
 only_records c grow (Ok t) =
     ap (λ (given : List (Option (List ℕ))). record c { transactions = records_after c.transactions (grown grow (Ok t)); given = given }) (sym (append-nil c.given))
     ∙ ap (λ (owed : List OwedMarker). record (turned c (grown grow (Ok t))) { warrants = owed }) (sym (append-nil c.warrants))
 only_records c grow (Err code) = refl
 
-opened_by : (c : CoordinatorValue) (id : List ℕ) (p : Pair) (moment : ℕ) → is_empty id ≡ false → open_found (recorded c.transactions id) p moment ≡ open_transaction c id p moment
-opened_by c id p moment h = ap (λ (b : Bool). cond b (Err codes.InvalidRequest) (open_found (recorded c.transactions id) p moment)) (sym h)
+-- an id that isn't empty is looked up
+looked_up : (c : CoordinatorValue) (id : List ℕ) (p : Pair) (moment : ℕ) (g : List ℕ) → (id ≡ [] → ⊥) → grown (with_group g) (open_found (recorded c.transactions id) p moment) ≡ add_group c id p moment g
+looked_up c [] p moment g some = absurd (some refl)
+looked_up c (byte ∷ bytes) p moment g some = refl
 
-pub partitions_turn : (c : CoordinatorValue) (id : List ℕ) (p : Pair) (moment : ℕ) (ps : List TopicPartition) → (ps ≡ [] → ⊥) → is_empty id ≡ false
-    → grown (with_partitions ps) (open_found (recorded c.transactions id) p moment) ≡ add_partitions c id p moment ps
-partitions_turn c id p moment [] some h = absurd (some refl)
-partitions_turn c id p moment (q ∷ ps) some h = ap (grown (with_partitions (q ∷ ps))) (opened_by c id p moment h)
-
-pub group_turn : (c : CoordinatorValue) (id : List ℕ) (p : Pair) (moment : ℕ) (g : List ℕ) → is_empty id ≡ false → grown (with_group g) (open_found (recorded c.transactions id) p moment) ≡ add_group c id p moment g
-group_turn c id p moment g h = ap (grown (with_group g)) (opened_by c id p moment h)
-
--- no partition, and no id
-pub no_partition : (c : CoordinatorValue) (id : List ℕ) (p : Pair) (moment : ℕ) (ps : List TopicPartition) → ps ≡ [] → (c ≡ turned c (add_partitions c id p moment ps)) × (codes.None ≡ turn_code (add_partitions c id p moment ps))
-no_partition c id p moment [] h = (refl, refl)
-no_partition c id p moment (q ∷ ps) h = cc
-
-turns_without : (grow : Transaction → Transaction) (c : CoordinatorValue) (id : List ℕ) (p : Pair) (moment : ℕ) → is_empty id ≡ true
-    → (c ≡ turned c (grown grow (open_transaction c id p moment))) × (codes.InvalidRequest ≡ turn_code (grown grow (open_transaction c id p moment)))
-turns_without grow c id p moment h =
-    let is : Err codes.InvalidRequest ≡ open_transaction c id p moment = ap (λ (b : Bool). cond b (Err codes.InvalidRequest) (open_found (recorded c.transactions id) p moment)) (sym h) in
-    (ap (λ (o : Result Transaction ErrorCode). turned c (grown grow o)) is, ap (λ (o : Result Transaction ErrorCode). turn_code (grown grow o)) is)
-
-pub no_id_for_partitions : (c : CoordinatorValue) (id : List ℕ) (p : Pair) (moment : ℕ) (ps : List TopicPartition) → (ps ≡ [] → ⊥) → is_empty id ≡ true
-    → (c ≡ turned c (add_partitions c id p moment ps)) × (codes.InvalidRequest ≡ turn_code (add_partitions c id p moment ps))
-no_id_for_partitions c id p moment [] some h = absurd (some refl)
-no_id_for_partitions c id p moment (q ∷ ps) some h = turns_without (with_partitions (q ∷ ps)) c id p moment h
-
-pub no_id_for_group : (c : CoordinatorValue) (id : List ℕ) (p : Pair) (moment : ℕ) (g : List ℕ) → is_empty id ≡ true → (c ≡ turned c (add_group c id p moment g)) × (codes.InvalidRequest ≡ turn_code (add_group c id p moment g))
-no_id_for_group c id p moment g h = turns_without (with_group g) c id p moment h
+pub group_added : {E : Type 0} (r : Result ErrorCode E) (c : CoordinatorValue) (after : List Transaction) (id : List ℕ) (p : Pair) (moment : ℕ) (g : List ℕ) → (id ≡ [] → ⊥)
+    → OnOk r (after ≡ records_after c.transactions (grown (with_group g) (open_found (recorded c.transactions id) p moment))) → OnOk r (record c { transactions = after } ≡ turned c (add_group c id p moment g))
+group_added r c after id p moment g some h =
+    ok_then r _ _ (λ e. ap (λ (ts : List Transaction). record c { transactions = ts }) e ∙ only_records c (with_group g) (open_found (recorded c.transactions id) p moment) ∙ ap (turned c) (looked_up c id p moment g some)) h

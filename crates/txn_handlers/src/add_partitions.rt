@@ -267,13 +267,6 @@ fn add_all(
     let question = id_question(caller, id)?;
     let permit = granted(&state.policy, question);
     let (coordinator, policy) = (&mut state.coordinator, &state.policy);
-    let (_spent, code) = coordinator.add_partitions(
-        policy,
-        permit,
-        id,
-        pair,
-        moment,
-        &partitions,
-    );
+    let (_spent, code) = coordinator.add_partitions(policy, permit, id, pair, moment, &partitions);
     code
 }
