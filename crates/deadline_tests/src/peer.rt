@@ -1,0 +1,118 @@
+//! A clock and a peer that tests move.
+
+use std::cell::Cell;
+use std::io::{ErrorKind, Read, Write};
+use std::net::OpenStream;
+use std::time::Duration;
+use std::{io, time};
+
+/// A clock that shows so many milliseconds, or can't be read.
+#[derive(Drop)]
+pub(crate) struct Hand {
+    pub(crate) shows: Cell<Option<u64>>,
+}
+
+impl Hand {
+    pub(crate) fn at(millis: u64) -> Hand {
+        Hand {
+            shows: Cell::new(Some(millis)),
+        }
+    }
+
+    /// Goes on by so many milliseconds.
+    fn pass(&self, millis: u64) {
+        self.shows
+            .set(self.shows.get().map(|shows| shows.saturating_add(millis)));
+    }
+}
+
+impl time::Clock for Hand {
+    fn monotonic(&self) -> io::Result<Duration> {
+        match self.shows.get() {
+            Some(millis) => Ok(Duration::from_millis(millis)),
+            None => Err(ErrorKind::Other.into()),
+        }
+    }
+
+    fn since_1970(&self) -> io::Result<Duration> {
+        self.monotonic()
+    }
+}
+
+/// Bytes that come so many milliseconds after the read that waits for them.
+pub(crate) type Piece = (u64, &'static [u8]);
+
+/// A peer that says its pieces one after the other, and then no more. A read that waits for less time than a piece takes ends
+/// for its wait, after that time.
+#[derive(Drop)]
+pub(crate) struct Peer<'x> {
+    pub(crate) clock: &'x Hand,
+    pub(crate) pieces: &'x [Piece],
+    /// How many pieces were read.
+    pub(crate) read: &'x Cell<usize>,
+    /// For how many milliseconds the last read waits at most, if there is an end to it.
+    pub(crate) waits: &'x Cell<Option<u64>>,
+}
+
+impl OpenStream for Peer<'_> {
+    fn set_read_timeout(&self, time: Option<Duration>) -> io::Result<()> {
+        let millis = time.map(|time| u64::try_from(time.as_millis()).unwrap_or(u64::MAX));
+        self.waits.set(millis);
+        Ok(())
+    }
+}
+
+impl Read for Peer<'_> {
+    ghost use Rattle.std.specs.Prelude.{None};
+
+    ghost remaining = { λ _. None };
+
+    fn read(&mut self, piece: &mut [u8]) -> io::Result<usize> {
+        let read = self.read.get();
+        let Some((after, bytes)) = self.pieces.get(read) else {
+            return Ok(0);
+        };
+        if let Some(wait) = self.waits.get() {
+            if wait <= *after {
+                self.clock.pass(wait);
+                return Err(ErrorKind::WouldBlock.into());
+            }
+        }
+        self.clock.pass(*after);
+        self.read.set(read.saturating_add(1));
+        let mut bytes = *bytes;
+        bytes.read(piece)
+    }
+}
+
+/// A peer that reads nothing: a write to it ends for its wait, or for want of a clock where it would wait without end.
+#[derive(Drop)]
+pub(crate) struct Deaf<'x> {
+    pub(crate) clock: &'x Hand,
+    /// For how many milliseconds the last write waits at most, if there is an end to it.
+    pub(crate) waits: &'x Cell<Option<u64>>,
+}
+
+impl OpenStream for Deaf<'_> {
+    fn set_write_timeout(&self, time: Option<Duration>) -> io::Result<()> {
+        let millis = time.map(|time| u64::try_from(time.as_millis()).unwrap_or(u64::MAX));
+        self.waits.set(millis);
+        Ok(())
+    }
+}
+
+impl Write for Deaf<'_> {
+    fn write(&mut self, _bytes: &[u8]) -> io::Result<usize> {
+        match self.waits.get() {
+            Some(wait) => {
+                self.clock.pass(wait);
+                Err(ErrorKind::WouldBlock.into())
+            }
+            None => Err(ErrorKind::Other.into()),
+        }
+    }
+
+    fn flush(&mut self) -> io::Result<()> {
+        Ok(())
+    }
+}

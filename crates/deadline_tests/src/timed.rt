@@ -1,0 +1,190 @@
+//! When a peer's time is over.
+
+use crate::peer::{Deaf, Hand, Peer, Piece};
+use deadlines::{Limit, Notes, Timed, TimedWriter, Times};
+use std::cell::Cell;
+use std::io::{Read, Write};
+use std::test::Fail;
+use std::time::Duration;
+
+/// A second for a login, and a second for a frame.
+fn times() -> Times {
+    Times {
+        idle: None,
+        login: Duration::from_secs(1),
+        frame: Duration::from_secs(1),
+    }
+}
+
+/// A frame of three bytes, whole.
+const WHOLE: &[u8] = b"\0\0\0\x03abc";
+
+/// What came of a session: how many pieces were read, what the clock showed then, and which time was over, if one was.
+type End = (usize, Option<u64>, Option<Limit>);
+
+/// Reads until the peer says no more, or a read fails. The session begins at 7,000 milliseconds, and its user is known once so
+/// many pieces were read.
+fn end_of(times: Times, pieces: &[Piece], known_after: usize) -> End {
+    let clock = Hand::at(7_000);
+    let notes = Notes::new();
+    let (read, waits) = (Cell::new(0), Cell::new(None));
+    let peer = Peer {
+        clock: &clock,
+        pieces,
+        read: &read,
+        waits: &waits,
+    };
+    let mut timed = Timed::new(&clock, peer, times, &notes);
+    let mut piece = [0u8; 64];
+    for turn in 0..pieces.len() {
+        if turn == known_after {
+            notes.log_in();
+        }
+        if timed.read(&mut piece).is_err() {
+            break;
+        }
+    }
+    (read.get(), clock.shows.get(), notes.over())
+}
+
+#[test]
+fn a_silent_peer_has_the_time_of_a_login(rt: HostRuntime) -> Result<(), Fail> {
+    assert!(rt; end_of(times(), &[(5_000, WHOLE)], 9) == (0, Some(8_000), Some(Limit::Login)));
+    Ok(())
+}
+
+#[test]
+fn whole_frames_do_not_stretch_a_login(rt: HostRuntime) -> Result<(), Fail> {
+    let pieces = [(400, WHOLE), (400, WHOLE), (400, WHOLE)];
+    assert!(rt; end_of(times(), &pieces, 9) == (2, Some(8_000), Some(Limit::Login)));
+    Ok(())
+}
+
+#[test]
+fn a_known_user_has_no_time_between_frames(rt: HostRuntime) -> Result<(), Fail> {
+    let pieces = [(400, WHOLE), (400_000, WHOLE), (900, WHOLE)];
+    assert!(rt; end_of(times(), &pieces, 1) == (3, Some(408_300), None));
+    Ok(())
+}
+
+#[test]
+fn an_idle_peer_has_so_long_for_each_read(rt: HostRuntime) -> Result<(), Fail> {
+    let times = Times {
+        idle: Some(Duration::from_millis(500)),
+        ..times()
+    };
+    let pieces = [(400, WHOLE), (400, WHOLE), (400, WHOLE), (500, WHOLE)];
+    assert!(rt; end_of(times, &pieces, 1) == (3, Some(8_700), Some(Limit::Idle)));
+    Ok(())
+}
+
+#[test]
+fn a_frame_has_its_time_from_its_first_byte(rt: HostRuntime) -> Result<(), Fail> {
+    let begins: Piece = (300, b"\0");
+    let pieces = [
+        begins,
+        (300, b"\0"),
+        (300, b"\0"),
+        (300, b"\x03"),
+        (300, b"a"),
+        (300, b"bc"),
+    ];
+    assert!(rt; end_of(times(), &pieces, 0) == (4, Some(8_300), Some(Limit::Frame)));
+    Ok(())
+}
+
+#[test]
+fn a_frame_may_begin_in_the_read_that_ends_another(rt: HostRuntime) -> Result<(), Fail> {
+    let begins: Piece = (300, b"\0\0\0\x03ab");
+    let pieces = [begins, (600, b"c\0"), (600, b"\0"), (600, b"\0")];
+    assert!(rt; end_of(times(), &pieces, 0) == (3, Some(8_900), Some(Limit::Frame)));
+    Ok(())
+}
+
+#[test]
+fn each_frame_has_its_own_time(rt: HostRuntime) -> Result<(), Fail> {
+    let begins: Piece = (300, b"\0\0\0\x03ab");
+    let pieces = [
+        begins,
+        (900, b"c"),
+        (900, b"\0\0"),
+        (900, b"\0\x03abc"),
+        (900, WHOLE),
+    ];
+    assert!(rt; end_of(times(), &pieces, 0) == (5, Some(10_900), None));
+    Ok(())
+}
+
+#[test]
+fn frames_in_one_read_are_told_apart(rt: HostRuntime) -> Result<(), Fail> {
+    let begins: Piece = (300, b"\0\0\0\0\0\0\0\x01a\0\0\0\x02ab\0\0\x01");
+    let pieces = [begins, (900, b"\0"), (200, b"a")];
+    assert!(rt; end_of(times(), &pieces, 0) == (2, Some(8_300), Some(Limit::Frame)));
+    Ok(())
+}
+
+#[test]
+fn where_no_time_is_left_nothing_is_read(rt: HostRuntime) -> Result<(), Fail> {
+    let clock = Hand::at(7_000);
+    let notes = Notes::new();
+    let (read, waits) = (Cell::new(0), Cell::new(None));
+    let peer = Peer {
+        clock: &clock,
+        pieces: &[(0, WHOLE)],
+        read: &read,
+        waits: &waits,
+    };
+    let mut timed = Timed::new(&clock, peer, times(), &notes);
+    clock.shows.set(Some(8_000));
+    assert!(rt; timed.read(&mut [0u8; 64]).is_err());
+    assert!(rt; (read.get(), waits.get()) == (0, None));
+    assert!(rt; notes.over() == Some(Limit::Login));
+    Ok(())
+}
+
+#[test]
+fn a_clock_that_cannot_be_read_leaves_no_time(rt: HostRuntime) -> Result<(), Fail> {
+    let clock = Hand::at(7_000);
+    let notes = Notes::new();
+    let (read, waits) = (Cell::new(0), Cell::new(None));
+    let peer = Peer {
+        clock: &clock,
+        pieces: &[(0, WHOLE), (0, b"\0"), (0, b"\0")],
+        read: &read,
+        waits: &waits,
+    };
+    let mut timed = Timed::new(&clock, peer, times(), &notes);
+    notes.log_in();
+    clock.shows.set(None);
+    assert!(rt; timed.read(&mut [0u8; 64]).is_ok());
+    assert!(rt; timed.read(&mut [0u8; 64]).is_ok());
+    assert!(rt; timed.read(&mut [0u8; 64]).is_err());
+    assert!(rt; (read.get(), notes.over()) == (2, Some(Limit::Frame)));
+    Ok(())
+}
+
+/// A second after it began, a write to a peer that reads nothing fails, unless its user is known: then the stream waits for it
+/// without end.
+#[test]
+fn a_peer_that_reads_nothing_has_the_time_of_a_login(rt: HostRuntime) -> Result<(), Fail> {
+    for (is_known, wait, over) in [(false, Some(600), Some(Limit::Login)), (true, None, None)] {
+        let clock = Hand::at(7_000);
+        let notes = Notes::new();
+        let waits = Cell::new(None);
+        let peer = Deaf {
+            clock: &clock,
+            waits: &waits,
+        };
+        let mut writer = TimedWriter::new(&clock, peer, times(), &notes);
+        if is_known {
+            notes.log_in();
+        }
+        clock.shows.set(Some(7_400));
+        assert!(rt; writer.write(b"answer").is_err());
+        assert!(rt; (waits.get(), notes.over()) == (wait, over));
+        clock.shows.set(Some(8_000));
+        assert!(rt; writer.write(b"answer").is_err());
+        assert!(rt; (waits.get(), notes.over()) == (wait, over));
+    }
+    Ok(())
+}

@@ -1,0 +1,99 @@
+//! A session's times as they pass.
+
+use crate::limits::{Bound, Limit, Times};
+use std::cell::Cell;
+use std::io::ErrorKind;
+use std::time::{Duration, Instant};
+use std::{io, time};
+
+/// What is noted of a session's times: that its user is known, by whoever serves it, and which time was over, by what reads and
+/// writes it.
+#[derive(Drop)]
+pub struct Notes {
+    known: Cell<bool>,
+    over: Cell<Option<Limit>>,
+}
+
+impl Notes {
+    /// The user isn't known, and no time is over.
+    pub fn new() -> Notes {
+        Notes {
+            known: Cell::new(false),
+            over: Cell::new(None),
+        }
+    }
+
+    /// The user is known.
+    pub fn log_in(&self) {
+        self.known.set(true);
+    }
+
+    /// Which time was over, if one was.
+    pub fn over(&self) -> Option<Limit> {
+        self.over.get()
+    }
+}
+
+/// The times of a session, and when it began.
+#[derive(Drop)]
+pub(crate) struct Course<'x, R> {
+    rt: &'x R,
+    times: Times,
+    notes: &'x Notes,
+    /// None where that can't be told.
+    start: Option<Instant>,
+}
+
+impl<'x, R: time::Clock> Course<'x, R> {
+    /// It begins now.
+    pub(crate) fn begin(rt: &'x R, times: Times, notes: &'x Notes) -> Course<'x, R> {
+        Course {
+            rt,
+            times,
+            notes,
+            start: Instant::now(rt).ok(),
+        }
+    }
+
+    /// How long ago it began, if that can be told.
+    pub(crate) fn now(&self) -> Option<Duration> {
+        self.start?.elapsed(self.rt).ok()
+    }
+
+    /// For how long a call may wait for the peer, where a frame began at this moment or none did. Where no time is left, that is
+    /// noted, and it fails.
+    pub(crate) fn bound(&self, begun: Option<Duration>) -> io::Result<Option<Bound>> {
+        let known = self.notes.known.get();
+        let bound = self.times.bound(known, begun, self.now());
+        if let Some(bound) = bound {
+            if bound.time.is_zero() {
+                self.notes.over.set(Some(bound.by));
+                return Err(ErrorKind::TimedOut.into());
+            }
+        }
+        Ok(bound)
+    }
+
+    /// Notes that a time is over, if a call ended for its wait.
+    pub(crate) fn note(&self, bound: Option<Bound>, error: &io::Error) {
+        if matches!(error.kind(), ErrorKind::WouldBlock | ErrorKind::TimedOut) {
+            self.notes.over.set(by_of(bound));
+        }
+    }
+}
+
+/// The limit of a bound.
+fn by_of(bound: Option<Bound>) -> Option<Limit> {
+    match bound {
+        None => None,
+        Some(bound) => Some(bound.by),
+    }
+}
+
+/// The time of a bound.
+pub(crate) fn time_of(bound: Option<Bound>) -> Option<Duration> {
+    match bound {
+        None => None,
+        Some(bound) => Some(bound.time),
+    }
+}

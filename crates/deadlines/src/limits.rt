@@ -1,0 +1,112 @@
+//! The times of a session, and what they leave.
+
+ghost use Rattle.std.specs.Prelude.{◌≡◌, IfSome, IfNone, None, Some, option_map};
+ghost use Rattle.std.specs.Duration.{as_nanos};
+ghost use Rattle.deadlines.specs.declared.limits.Limit.{Limit};
+ghost use Rattle.deadlines.specs.Limits.{IsBound, IsLeast, IsLesser, left, left_by};
+
+use std::time::Duration;
+
+/// What a peer has times for.
+#[derive(Clone, Copy, Debug, PartialEq, Eq)]
+pub enum Limit {
+    /// A wait for it.
+    Idle,
+    /// Its login, from the session's beginning until its user is known.
+    Login,
+    /// A frame, from its first byte to its last.
+    Frame,
+}
+
+/// The times that a peer has.
+#[derive(Clone, Copy, Debug, PartialEq, Eq)]
+pub struct Times {
+    /// For a wait, if there is an end to it.
+    pub idle: Option<Duration>,
+    /// For its login.
+    pub login: Duration,
+    /// For each frame.
+    pub frame: Duration,
+}
+
+/// For how long a read may wait at most, and by which limit.
+#[derive(Clone, Copy, Debug, PartialEq, Eq)]
+pub(crate) struct Bound {
+    pub(crate) time: Duration,
+    pub(crate) by: Limit,
+}
+
+/// What is left of a time that began at one moment: nothing, where it can't be told what time it is.
+fn left(time: Duration, since: Duration, now: Option<Duration>) -> Duration
+    ensures { as_nanos result ≡ left time (as_nanos since) now }
+{
+    match now {
+        None => Duration::ZERO,
+        Some(now) => time.saturating_sub(now.saturating_sub(since)),
+    }
+}
+
+/// The bound that leaves less, of those that there are.
+fn lesser(one: Option<Bound>, other: Option<Bound>) -> Option<Bound>
+    ensures { IsLesser one other result }
+{
+    match (one, other) {
+        (Some(first), Some(second)) if second.time < first.time => other,
+        (None, _) => other,
+        _ => one,
+    }
+}
+
+/// The bound of a limit that holds.
+fn bound_by(by: Limit, time: Duration) -> Option<Bound>
+    ensures { IsBound by (Some (as_nanos time)) result }
+{
+    Some(Bound { time, by })
+}
+
+impl Times {
+    /// For how long a wait may be.
+    fn idle_bound(&self) -> Option<Bound>
+        ensures { IsBound Limit.Idle (option_map as_nanos self.now.idle) result }
+    {
+        match self.idle {
+            None => None,
+            Some(time) => bound_by(Limit::Idle, time),
+        }
+    }
+
+    /// What is left of the login's time, until the user is known.
+    fn login_bound(&self, known: bool, now: Option<Duration>) -> Option<Bound>
+        ensures { (begun : _) → IsBound Limit.Login (left_by self.now known begun now Limit.Login) result }
+    {
+        if known {
+            None
+        } else {
+            bound_by(Limit::Login, left(self.login, Duration::ZERO, now))
+        }
+    }
+
+    /// What is left of a frame's time, once it has begun.
+    fn frame_bound(&self, begun: Option<Duration>, now: Option<Duration>) -> Option<Bound>
+        ensures { (known : _) → IsBound Limit.Frame (left_by self.now known begun now Limit.Frame) result }
+    {
+        match begun {
+            None => None,
+            Some(since) => bound_by(Limit::Frame, left(self.frame, since, now)),
+        }
+    }
+
+    /// For how long a read may wait: as long as the limit allows that leaves least, of those that hold.
+    pub(crate) fn bound(
+        &self,
+        known: bool,
+        begun: Option<Duration>,
+        now: Option<Duration>,
+    ) -> Option<Bound>
+        ensures some { IfSome result (IsLeast (left_by self.now known begun now)) }
+        ensures none { IfNone result ((limit : Limit) → left_by self.now known begun now limit ≡ None) }
+    {
+        let least = lesser(self.idle_bound(), self.login_bound(known, now));
+        lesser(least, self.frame_bound(begun, now))
+    }
+}

@@ -1,0 +1,96 @@
+//! How far a peer has come in its frames.
+
+ghost use Rattle.std.specs.Prelude.{◌≡◌, ◌≤◌, ◌<◌, ℕ, List, [], ◌++◌, length, take, Option};
+ghost use Rattle.std.specs.declared.time.Duration.{Duration};
+ghost use Rattle.deadlines.specs.Progress.{Came, IsCut, at, begun, part_of};
+
+use std::time::Duration;
+
+/// What has come of the frame that the next byte belongs to.
+#[derive(Clone, Copy, Debug, PartialEq, Eq)]
+pub(crate) enum Part {
+    Nothing,
+    /// The first byte of its size field.
+    One(u8),
+    /// The first two.
+    Two(u8, u8),
+    /// The first three.
+    Three(u8, u8, u8),
+    /// Its size field, and its body but for so many bytes and the last.
+    Body(u32),
+}
+
+/// How far a peer has come, and when the first byte came of the frame that isn't whole.
+#[derive(Clone, Copy, Debug, PartialEq, Eq)]
+pub(crate) struct Progress {
+    part: Part,
+    since: Duration,
+}
+
+/// What has come of a frame of whose body so many bytes are to come.
+fn part_of(to_come: u32) -> Part
+    ensures { result ≡ part_of to_come }
+{
+    match to_come.checked_sub(1) {
+        None => Part::Nothing,
+        Some(more) => Part::Body(more),
+    }
+}
+
+impl Progress {
+    /// Nothing has come.
+    pub(crate) fn new() -> Progress
+        ensures { IsCut [] result }
+    {
+        Progress {
+            part: Part::Nothing,
+            since: Duration::ZERO,
+        }
+    }
+
+    /// When the frame began that isn't whole, if one did.
+    pub(crate) fn begun(&self) -> Option<Duration>
+        ensures { (came : List Came) → (cut : IsCut came self.now) → result ≡ begun cut.part }
+    {
+        match self.part {
+            Part::Nothing => None,
+            _ => Some(self.since),
+        }
+    }
+
+    /// Takes in the next byte, or as many as belong to the same body, and says how many.
+    fn step(&mut self, bytes: &[u8], now: Duration) -> usize
+        requires { 0 < length bytes.now }
+        ensures some { 0 < result }
+        ensures few { result ≤ length bytes.now }
+        ensures cut { (came : List Came) → IsCut came self.old → IsCut (came ++ at now (take result bytes.now)) self.new }
+    {
+        let byte = bytes[0];
+        match self.part {
+            Part::Nothing => {
+                self.since = now;
+                self.part = Part::One(byte);
+            }
+            Part::One(a) => self.part = Part::Two(a, byte),
+            Part::Two(a, b) => self.part = Part::Three(a, b, byte),
+            Part::Three(a, b, c) => self.part = part_of(u32::from_be_bytes([a, b, c, byte])),
+            Part::Body(more) => {
+                let to_come = more as usize + 1;
+                let count = bytes.len().min(to_come);
+                self.part = part_of((to_come - count) as u32);
+                return count;
+            }
+        }
+        1
+    }
+
+    /// Takes in bytes that came now.
+    pub(crate) fn pass(&mut self, bytes: &[u8], now: Duration)
+        ensures { (came : List Came) → IsCut came self.old → IsCut (came ++ at now bytes.now) self.new }
+    {
+        let mut passed = 0;
+        while passed < bytes.len() {
+            passed += self.step(&bytes[passed..], now);
+        }
+    }
+}

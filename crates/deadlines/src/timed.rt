@@ -1,0 +1,96 @@
+//! A reader that keeps times.
+
+ghost use Rattle.std.specs.Prelude.{◌≡◌, ℕ, List, [], Option, ◌++◌, length, take, IfOk, OnErr};
+ghost use Rattle.std.specs.Io.{ReadsAtMost};
+ghost use Rattle.std.specs.Io.KnownBytes.{ReadConsumes};
+ghost use Rattle.std.specs.declared.time.Duration.{Duration};
+ghost use Rattle.deadlines.specs.Progress.{Came, IsCut, at};
+ghost use Rattle.deadlines.specs.Timed.{progress_of, timed_remaining};
+
+use crate::course::{Course, Notes, time_of};
+use crate::limits::{Bound, Times};
+use crate::progress::Progress;
+use std::io::Read;
+use std::net::OpenStream;
+use std::time::Duration;
+use std::{io, time};
+
+/// Reads a stream as long as its peer has time.
+#[derive(Drop)]
+pub struct Timed<'x, S, R> {
+    stream: S,
+    course: Course<'x, R>,
+    progress: Progress,
+    /// How long a read of the stream waits, once that was set.
+    waits: Option<Option<Duration>>,
+}
+
+impl<'x, S: Read + OpenStream, R: time::Clock> Timed<'x, S, R> {
+    /// The session begins now.
+    pub fn new(rt: &'x R, stream: S, times: Times, notes: &'x Notes) -> Timed<'x, S, R>
+        ensures remaining { timed_remaining S.remaining result ≡ S.remaining stream }
+        ensures nothing { IsCut [] (progress_of result) }
+    {
+        Timed {
+            stream,
+            course: Course::begin(rt, times, notes),
+            progress: Progress::new(),
+            waits: None,
+        }
+    }
+
+    /// Has a read of the stream wait for so long at most.
+    fn wait(&mut self, time: Option<Duration>) -> io::Result<()>
+        ensures stream { self.new.stream ≡ self.old.stream }
+        ensures progress { self.new.progress ≡ self.old.progress }
+    {
+        if self.waits != Some(time) {
+            self.stream.set_read_timeout(time)?;
+            self.waits = Some(time);
+        }
+        Ok(())
+    }
+
+    /// Has a read of the stream wait for as long as its peer has time. Where none is left, it fails.
+    fn prepare(&mut self) -> io::Result<Option<Bound>>
+        ensures stream { self.new.stream ≡ self.old.stream }
+        ensures progress { self.new.progress ≡ self.old.progress }
+    {
+        let bound = self.course.bound(self.progress.begun())?;
+        self.wait(time_of(bound))?;
+        Ok(bound)
+    }
+
+    /// Takes in what was read. Where it can't be told what time it is, that came as the session began.
+    fn take_in(&mut self, bytes: &[u8])
+        ensures stream { self.new.stream ≡ self.old.stream }
+        ensures passed { (came : List Came) → IsCut came self.old.progress → (moment : Duration) × IsCut (came ++ at moment bytes.now) self.new.progress }
+    {
+        let now = self.course.now().unwrap_or(Duration::ZERO);
+        self.progress.pass(bytes, now);
+    }
+}
+
+impl<'x, S: Read + OpenStream, R: time::Clock> Read for Timed<'x, S, R> {
+    ghost remaining = { timed_remaining S.remaining };
+
+    /// Reads as the stream does. Where a time is over, before the read or in it, that is noted, and it fails.
+    fn read(&mut self, piece: &mut [u8]) -> io::Result<usize>
+        ensures bound { ReadsAtMost result piece.new }
+        ensures bytes { ReadConsumes (timed_remaining S.remaining self.old) (timed_remaining S.remaining self.new) result piece.new }
+        ensures passed { IfOk result (λ count. (came : List Came) → IsCut came (progress_of self.old) → (moment : Duration) × IsCut (came ++ at moment (take count piece.new)) (progress_of self.new)) }
+        ensures same { OnErr result (progress_of self.new ≡ progress_of self.old) }
+    {
+        let bound = self.prepare()?;
+        match self.stream.read(piece) {
+            Ok(count) => {
+                self.take_in(&piece[..count]);
+                Ok(count)
+            }
+            Err(error) => {
+                self.course.note(bound, &error);
+                Err(error)
+            }
+        }
+    }
+}
