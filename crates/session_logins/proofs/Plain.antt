@@ -1,12 +1,12 @@
 -- A message logs in whom its parts between its NULs name, and nobody else.
-use Rattle.std.proofs.Common.{◌≡◌, ◌≢◌, ◌⊎◌, inl, inr, ℕ, suc, ◌+◌, ◌<◌, ◌≤◌, ◌==◌, ◌&&◌, ◌||◌, not, Bool, true, false, cond, List, [], ◌∷◌, ◌++◌, length, take, drop, Option, Some, None, find, refl, sym, subst, ap, ◌∙◌, arith}
+use Rattle.std.proofs.Common.{◌≡◌, ◌≢◌, ◌⊎◌, inl, inr, ℕ, suc, ◌+◌, ◌==◌, ◌||◌, not, Bool, true, false, cond, List, [], ◌∷◌, ◌++◌, length, take, drop, Option, Some, None, find, refl, sym, subst, ap, ◌∙◌, arith}
 use Rattle.std.specs.Prelude.{codes, nat_lt, is_some, option_map, option_and_then}
 use Rattle.std.specs.List.{position, prefix_len}
 use Rattle.std.specs.Str.{bytes_eq}
 use Rattle.std.proofs.lemmas.Bool.{true≢false, ltb-true, ltb-false, lt-ltb, le-ltb, eqb-true, ne_eqb, eq-eqb, and_parts, and_from, or_cases}
 use Rattle.std.proofs.lemmas.Slice.Eq.{bytes_eq-Decides}
 use Rattle.settings_text.specs.declared.document.User.{User}
-use Rattle.session_logins.specs.Login.{is_nul, cut_at_nul, plain_of, is_user, acts_alone, user_of, principal_of, login_of}
+use Rattle.session_logins.specs.Login.{is_nul, cut_at_nul, plain_of, is_user, acts_alone, principal_of, login_of}
 use Rattle.session_logins.specs.Plain.{HasNoNul, IsOneOf, IsLogin, IsLoggedIn, LoginIsExact}
 
 -- ---- one NUL

@@ -1,5 +1,5 @@
 -- Who may log in, and by which message (RFC 4616, section 2, "PLAIN SASL Mechanism").
-use Rattle.std.specs.Prelude.{ℕ, ◌+◌, ◌==◌, ◌&&◌, ◌||◌, Bool, List, ◌++◌, codes, length, take, drop, Option, Some, None, is_some, option_map, option_and_then, if◌then◌else◌}
+use Rattle.std.specs.Prelude.{ℕ, ◌+◌, ◌*◌, ◌==◌, ◌&&◌, ◌||◌, max, Bool, List, [], ◌∷◌, ◌++◌, codes, length, take, drop, Option, Some, None, is_some, option_map, option_and_then, if◌then◌else◌}
 use Rattle.std.specs.List.{position, find}
 use Rattle.std.specs.Str.{bytes_eq}
 use Rattle.msg_login.specs.SaslHandshake.{plain}
@@ -40,3 +40,14 @@ principal_of u = codes "User:" ++ u.name
 -- the principal that the message logs in
 abbrev pub login_of : List User → List ℕ → Option (List ℕ)
 login_of users message = option_map principal_of (user_of users message)
+
+-- ---- how long a message may be
+
+-- a user's longest message: the name twice, the password, and two NULs
+abbrev pub length_of_login : User → ℕ
+length_of_login u = 2 * length u.name + length u.password + 2
+
+-- the longest of any user; where there is none, it has no bytes
+abbrev pub longest_login : List User → ℕ
+longest_login [] = 0
+longest_login (u ∷ us) = max (length_of_login u) (longest_login us)

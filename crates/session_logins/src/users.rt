@@ -1,10 +1,10 @@
 //! Who may log in.
 
-ghost use Rattle.std.specs.Prelude.{◌≡◌, Ok, Err, if◌then◌else◌, option_map};
+ghost use Rattle.std.specs.Prelude.{◌≡◌, ◌-◌, ◌^◌, Ok, Err, if◌then◌else◌, min, option_map};
 ghost use Rattle.std.specs.List.{find};
 ghost use Rattle.settings_text.specs.declared.fault.SettingsFault.TheVariants as faults;
 ghost use Rattle.settings_text.specs.Users.{are_users};
-ghost use Rattle.session_logins.specs.Login.{is_user};
+ghost use Rattle.session_logins.specs.Login.{is_user, length_of_login, longest_login};
 ghost use Rattle.session_logins.specs.Users.{Admits};
 
 use crate::compare::are_same;
@@ -12,6 +12,15 @@ use settings_text::{SettingsFault, User, are_users};
 use std::alloc::Global;
 use std::marker::Model;
 use wire_types::Items;
+
+/// How long a user's longest message is, or the greatest number of its type where that is less.
+fn length_of_login(user: &User) -> usize
+    ensures { result ≡ min (length_of_login user.now) (2 ^ 64 - 1) }
+{
+    let name = user.name.len();
+    let names = name.saturating_add(name);
+    names.saturating_add(user.password.len()).saturating_add(2)
+}
 
 /// The users who may log in.
 #[derive(Drop)]
@@ -60,5 +69,17 @@ impl Users {
             }
         }
         found
+    }
+
+    /// How long the longest message is that logs one of them in, or the greatest number of its type where that is less.
+    #[tactic(auto, using(crate::proofs::Longest::none_so_far, crate::proofs::Longest::one_more, crate::proofs::Longest::all_seen))]
+    pub fn longest_login(&self) -> usize
+        ensures { result ≡ min (longest_login self.now) (2 ^ 64 - 1) }
+    {
+        let mut longest = 0;
+        for user in self.users.as_slice() {
+            longest = longest.max(length_of_login(user));
+        }
+        longest
     }
 }
