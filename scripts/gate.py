@@ -42,6 +42,8 @@ IN_TURN = (
     "refused_lines.py",
     "sessions.py",
     "served.py",
+    "deadlines.py",
+    "strangers.py",
     "abuse.py",
     "clients.py",
     "soak.py",

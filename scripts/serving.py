@@ -10,6 +10,8 @@ from program import PROGRAM
 
 LISTENING = re.compile(rb"listening on (\S+)\n")
 LAST = re.compile(r"sessions (\d+) events (\d+) refusals (\d+)\n")
+# What is told where as many connections were taken as are served.
+USED_UP = "kbroker: no more connections are taken, since --connections is {}"
 
 # With any eight characters after it a name has one and the same hash by the default hasher of the toolchain's tables, whose
 # keys everybody knows.
@@ -26,13 +28,15 @@ def topic(name, partitions=1):
 
 
 class Broker:
-    """`kbroker serve` on a port of its own, until it has served so many connections or more words end it.
+    """`kbroker serve` on a port of its own, until it has served so many connections (None: that is left out) or more words end it.
 
     Its standard error goes to a file, or to `errors`: a pipe, `subprocess.PIPE`, is read by nobody until its end is waited for.
     """
 
     def __init__(self, settings, workers=4, connections=1, more=(), listen="127.0.0.1:0", errors=None):
-        words = ["serve", "--listen", listen, "--workers", str(workers), "--connections", str(connections), *more]
+        counted = () if connections is None else ("--connections", str(connections))
+        words = ["serve", "--listen", listen, "--workers", str(workers), *counted, *more]
+        self.used_up = USED_UP.format(connections)
         self.errors = tempfile.TemporaryFile() if errors is None else None
         with tempfile.TemporaryFile() as given:
             given.write(settings.encode())
@@ -61,14 +65,22 @@ class Broker:
             if it:
                 it.close()
 
+    def lines(self, errors):
+        """The lines of standard error, but for the one that no more connections are taken, by which most of these brokers end."""
+        return [line for line in errors.splitlines() if line != self.used_up]
+
     def told(self):
-        """The lines on standard error so far, where that is a file."""
-        return os.pread(self.errors.fileno(), 1 << 20, 0).decode().splitlines()
+        """These lines so far, where standard error is a file."""
+        return self.lines(os.pread(self.errors.fileno(), 1 << 20, 0).decode())
+
+    def memory(self, of="VmRSS"):
+        """How many bytes of its memory are resident."""
+        with open(f"/proc/{self.process.pid}/status", encoding="ascii") as status:
+            return next(int(line.split()[1]) << 10 for line in status if line.startswith(f"{of}:"))
 
     def peak_memory(self):
-        """How many bytes of its memory were resident at once, at most, since it began."""
-        with open(f"/proc/{self.process.pid}/status", encoding="ascii") as status:
-            return next(int(line.split()[1]) << 10 for line in status if line.startswith("VmHWM:"))
+        """How many were resident at once, at most, since it began."""
+        return self.memory("VmHWM")
 
     def processor_seconds(self):
         """The processor time that it has taken since it began."""
@@ -85,9 +97,9 @@ class Broker:
         return self.process.returncode, said.decode(), told.decode()
 
     def settled(self, timeout=30):
-        """Waits for its end, and gives the numbers of its last line, and the lines on standard error."""
+        """Waits for its end, and gives the numbers of its last line, and the lines of standard error."""
         status, said, errors = self.end(timeout)
         found = LAST.fullmatch(said)
         if status or not found:
             raise RuntimeError(f"the broker ends with status {status} and says {said!r}")
-        return tuple(map(int, found.groups())), errors.splitlines()
+        return tuple(map(int, found.groups())), self.lines(errors)

@@ -59,6 +59,45 @@ PRODUCE = "000000160000000300000009ffffffff00010000000000000000"
 PRODUCE_TOLD = "0000000c000000090000000000000000"
 SILENT_PRODUCE = "000000160000000300000009ffffffff00000000000000000000"
 
+# Requests whose bodies can't be read: a Produce, and Metadata that counts more topics than there are bytes, with a byte after
+# its body, and without a client's name; an api that isn't served, and one in a version that isn't.
+SPOILT_PRODUCE = "000000150000000300000009ffffffff000100000000000000"
+SPOILT = (
+    "000000100003000100000001ffff7fffffff0000",
+    "0000000f0003000100000001ffffffffffff00",
+    "000000080003000100000001",
+    "0000000a00ff000000000001ffff",
+    "0000000a0003000000000001ffff",
+    SPOILT_PRODUCE,
+)
+
+
+def framed(key, version, correlation, client, body):
+    """A request's frame, in digits."""
+    name = struct.pack(">h", -1) if client is None else struct.pack(">h", len(client)) + client
+    frame = struct.pack(">hhi", key, version, correlation) + name + body
+    return (struct.pack(">i", len(frame)) + frame).hex()
+
+
+def login_of(size, more=0):
+    """A login of so many bytes by another password, which counts so many bytes more than it has."""
+    message = b"\0ann\0" + b"p" * (size - 8 - 2 - 4 - 5)
+    return framed(36, 0, 2, None, struct.pack(">i", len(message) + more) + message)
+
+
+# So long is the longest frame whose body is read before a login: a handshake with the longest names of a client and of a
+# mechanism. No user's message is so long that a login would be longer.
+LONGEST = 65_546
+NAME = b"c" * 32_767
+HANDSHAKE_AT_LENGTH = framed(17, 1, 1, NAME, struct.pack(">h", 5) + b"PLAIN")
+LOGIN_AT_LENGTH = framed(36, 0, 2, NAME, struct.pack(">i", 7) + b"\0ann\0pw")
+UNKNOWN_AT_LENGTH = framed(17, 1, 1, NAME, struct.pack(">h", len(NAME)) + NAME)
+UNKNOWN_TOO_LONG = framed(17, 1, 1, NAME, struct.pack(">h", len(NAME)) + NAME + b"c")
+VERSIONS_TOO_LONG = framed(18, 0, 7, None, bytes(LONGEST))
+VERSIONS_IN_THREE_TOO_LONG = framed(18, 3, 7, None, bytes(LONGEST))
+LOGIN_IN_ONE_TOO_LONG = framed(36, 1, 2, None, bytes(LONGEST))
+PRODUCE_TOO_LONG = framed(0, 3, 9, None, bytes(1 << 20))
+
 CUT = "the connection was closed inside a request"
 BAD_FRAME = "a frame is shorter than a request can be, or longer than the limit"
 MALFORMED = "a frame is no request that is served"
@@ -86,15 +125,32 @@ ROWS = (
     Row(("ffffffff",), why=BAD_FRAME),
     Row(("00000007", "00120000000000"), why=BAD_FRAME),
     Row(("06400001", "00"), why=BAD_FRAME),
-    # an api that isn't served, one in a version that isn't, a body that is too short, and one that is too long
-    Row(("0000000a00ff000000000001ffff",), why=MALFORMED),
-    Row(("0000000a0003000000000001ffff",), why=MALFORMED),
+    # a body that is too short, and one that is too long
     Row(("000000080012000000000001",), why=MALFORMED),
     Row(("0000000b0012000000000001ffff00",), why=MALFORMED),
-    # Metadata that counts more topics than there are bytes, one with a byte after its body, and one without a client's name
-    Row(("000000100003000100000001ffff7fffffff0000",), why=MALFORMED),
-    Row(("0000000f0003000100000001ffffffffffff00",), why=MALFORMED),
-    Row(("000000080003000100000001",), why=MALFORMED),
+    # what can't be read: before a login the api alone counts
+    *(Row((it,), why=NO_LOGIN) for it in SPOILT),
+    *(Row((HANDSHAKE, it), (HANDSHAKE_TOLD,), why=NO_LOGIN) for it in SPOILT),
+    *(Row((HANDSHAKE, LOGIN, it), (HANDSHAKE_TOLD, LOGIN_TOLD), why=MALFORMED) for it in SPOILT),
+    # what is as long as it may be before a login, and longer
+    Row((HANDSHAKE_AT_LENGTH, LOGIN_AT_LENGTH, METADATA), (HANDSHAKE_TOLD, LOGIN_TOLD, METADATA_TOLD), 1),
+    Row((UNKNOWN_AT_LENGTH, LOGIN), (SCRAM_TOLD,), why=NO_LOGIN),
+    Row((UNKNOWN_TOO_LONG,), why=MALFORMED),
+    Row((VERSIONS_TOO_LONG,), why=MALFORMED),
+    Row((HANDSHAKE, VERSIONS_TOO_LONG), (HANDSHAKE_TOLD,), why=MALFORMED),
+    Row((HANDSHAKE, login_of(LONGEST)), (HANDSHAKE_TOLD, WRONG_TOLD), why=NO_LOGIN),
+    Row((HANDSHAKE, login_of(LONGEST + 1)), (HANDSHAKE_TOLD, WRONG_TOLD), why=NO_LOGIN),
+    Row((HANDSHAKE, login_of(LONGEST, 1)), (HANDSHAKE_TOLD,), why=MALFORMED),
+    Row((HANDSHAKE, login_of(LONGEST + 1, 1)), (HANDSHAKE_TOLD, WRONG_TOLD), why=NO_LOGIN),
+    Row((HANDSHAKE, LOGIN_IN_ONE_TOO_LONG), (HANDSHAKE_TOLD,), why=MALFORMED),
+    Row((login_of(LONGEST + 1),), why=NO_LOGIN),
+    Row((PRODUCE_TOO_LONG,), why=NO_LOGIN),
+    Row((HANDSHAKE, PRODUCE_TOO_LONG), (HANDSHAKE_TOLD,), why=NO_LOGIN),
+    Row((HANDSHAKE, PRODUCE_TOO_LONG[:-2]), (HANDSHAKE_TOLD,), why=CUT),
+    Row(
+        (VERSIONS_IN_THREE_TOO_LONG, HANDSHAKE, VERSIONS_IN_THREE_TOO_LONG, LOGIN, VERSIONS_IN_THREE_TOO_LONG),
+        (VERSIONS_IN_THREE_TOLD, HANDSHAKE_TOLD, VERSIONS_IN_THREE_TOLD, LOGIN_TOLD, VERSIONS_IN_THREE_TOLD),
+    ),
     # logins
     Row((HANDSHAKE, LOGIN, METADATA), (HANDSHAKE_TOLD, LOGIN_TOLD, METADATA_TOLD), 1),
     Row((HANDSHAKE, WRONG, METADATA), (HANDSHAKE_TOLD, WRONG_TOLD), why=NO_LOGIN),

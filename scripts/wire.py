@@ -146,11 +146,11 @@ def response_of(api, frame):
 
 
 class Connection:
-    """A connection to the broker: requests out, responses in."""
+    """A connection to the broker, from a host of this machine if one is named: requests out, responses in."""
 
-    def __init__(self, address, timeout=30):
+    def __init__(self, address, timeout=30, source=None):
         host, _, port = address.rpartition(":")
-        self.socket = socket.create_connection((host.strip("[]"), int(port)), timeout)
+        self.socket = socket.create_connection((host.strip("[]"), int(port)), timeout, source and (source, 0))
         self.socket.setsockopt(socket.IPPROTO_TCP, socket.TCP_NODELAY, 1)
         self.input, self.correlation = self.socket.makefile("rb"), 0
 

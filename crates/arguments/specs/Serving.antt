@@ -11,12 +11,15 @@ IsIn most number = (1 ≤ number) × (number ≤ most)
 abbrev pub MaySteer : Bool → Bool → Type 0
 MaySteer has_file audit = (has_file ≡ true) × (audit ≡ false)
 
--- at most 64 connections at once, 1,000,000 in all, and times of at most 1,000,000 seconds
+-- at most 64 connections at once, 1,000,000 in all and of one host, and times of at most 1,000,000 seconds
 pub record IsWithin (s : Serving) : Type 0 where
   pub workers : IsIn 64 s.workers
   pub connections : IsIn 1000000 s.connections
+  pub per_host : IfSome s.per_host (IsIn 1000000)
   pub open_seconds : IfSome s.open_seconds (IsIn 1000000)
   pub idle_seconds : IfSome s.idle_seconds (IsIn 1000000)
+  pub login_seconds : IsIn 1000000 s.login_seconds
+  pub frame_seconds : IsIn 1000000 s.frame_seconds
   pub steered : s.control ≡ true → MaySteer (is_some s.settings) s.audit
 
 -- a text writes a number in decimal digits, a plus before them or not
@@ -28,10 +31,14 @@ abbrev pub Tells : Option (List ℕ) → ℕ → ℕ → Type 0
 Tells None usual number = number ≡ usual
 Tells (Some value) usual number = Writes value number
 
--- the seconds of an option, if it is given
-abbrev pub TellsSeconds : Option (List ℕ) → Option ℕ → Type 0
-TellsSeconds None told = told ≡ None
-TellsSeconds (Some value) told = (number : ℕ) × (told ≡ Some number) × Writes value number
+-- the number of an option, if it is given
+abbrev pub TellsIfGiven : Option (List ℕ) → Option ℕ → Type 0
+TellsIfGiven None told = told ≡ None
+TellsIfGiven (Some value) told = (number : ℕ) × (told ≡ Some number) × Writes value number
+
+-- no number is given of connections that aren't counted
+abbrev pub GoesUncounted : Bool → Option (List ℕ) → Type 0
+GoesUncounted endless connections = endless ≡ true → connections ≡ None
 
 -- refusals are told where the option is given, whose value is `-`
 abbrev pub TellsAudit : Option (List ℕ) → Bool → Type 0
@@ -48,8 +55,13 @@ pub record IsServedBy (value_of : List ℕ → Option (List ℕ)) (s : Serving) 
   pub listen : value_of (codes "listen") ≡ Some s.listen.now
   pub workers : Tells (value_of (codes "workers")) 4 s.workers
   pub connections : Tells (value_of (codes "connections")) 1000000 s.connections
-  pub open_seconds : TellsSeconds (value_of (codes "for")) s.open_seconds
-  pub idle_seconds : TellsSeconds (value_of (codes "idle")) s.idle_seconds
+  pub endless : s.endless ≡ is_given (value_of (codes "endless"))
+  pub uncounted : GoesUncounted s.endless (value_of (codes "connections"))
+  pub per_host : TellsIfGiven (value_of (codes "per-host")) s.per_host
+  pub open_seconds : TellsIfGiven (value_of (codes "for")) s.open_seconds
+  pub idle_seconds : TellsIfGiven (value_of (codes "idle")) s.idle_seconds
+  pub login_seconds : Tells (value_of (codes "login-within")) 10 s.login_seconds
+  pub frame_seconds : Tells (value_of (codes "frame-within")) 30 s.frame_seconds
   pub audit : TellsAudit (value_of (codes "audit")) s.audit
   pub settings : option_map (λ file. file.now) s.settings ≡ value_of (codes "settings")
   pub control : s.control ≡ is_given (value_of (codes "control"))

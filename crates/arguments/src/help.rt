@@ -122,11 +122,23 @@ pub(crate) const WORKERS: &str =
 pub(crate) const CONNECTIONS: &str =
     "How many connections are served in all, 1 to 1,000,000; 1,000,000 if it isn't given";
 
+pub(crate) const ENDLESS: &str =
+    "Connections are served without end: they aren't counted; without --connections";
+
+pub(crate) const PER_HOST: &str =
+    "How many connections of one host are served at once at most, 1 to 1,000,000; any number if it isn't given";
+
 pub(crate) const FOR: &str =
     "For how many seconds connections are taken, 1 to 1,000,000; those that are open then are served to their end";
 
 pub(crate) const IDLE: &str =
     "After how many seconds of waiting for its peer a connection is closed, 1 to 1,000,000; never if it isn't given";
+
+pub(crate) const LOGIN_WITHIN: &str =
+    "Within how many seconds a client logs in, 1 to 1,000,000; else its connection is closed; 10 if it isn't given";
+
+pub(crate) const FRAME_WITHIN: &str =
+    "Within how many seconds a request comes, from its first byte to its last, 1 to 1,000,000; else its connection is closed; 30 if it isn't given";
 
 pub(crate) const AUDIT: &str =
     "Where each refusal is told as it happens: -, which is standard error";

@@ -5,10 +5,13 @@ ghost use Rattle.clap.specs.Simple.{app_of};
 ghost use Rattle.clap.specs.Matches.{first_value, found_of};
 ghost use Rattle.clap.specs.Walk.{rule_of};
 ghost use Rattle.clap.specs.declared.builder.command.Command.TheViews.{out-Command as fields_of};
-ghost use Rattle.arguments.specs.CommandLine.{flag_rule, option_rule, with_rules, with_two_rules, with_serve_numbers, with_serve_clients, with_serve_options, with_serve_steering, with_serve_switches};
-ghost use Rattle.arguments.specs.Serving.{IsIn, IsServedBy, IsWithin, MaySteer, NoneServes, Tells, TellsAudit, TellsSeconds, Writes, is_given};
+ghost use Rattle.arguments.specs.CommandLine.{flag_rule, option_rule, with_rules, with_two_rules, with_serve_clients, with_serve_deadlines, with_serve_numbers, with_serve_options, with_serve_shares, with_serve_steering, with_serve_switches};
+ghost use Rattle.arguments.specs.Serving.{GoesUncounted, IsIn, IsServedBy, IsWithin, MaySteer, NoneServes, Tells, TellsAudit, TellsIfGiven, Writes, is_given};
 
-use crate::help::{AUDIT, CONNECTIONS, CONTROL, FOR, IDLE, LIBRDKAFKA, LISTEN, SETTINGS, WORKERS};
+use crate::help::{
+    AUDIT, CONNECTIONS, CONTROL, ENDLESS, FOR, FRAME_WITHIN, IDLE, LIBRDKAFKA, LISTEN,
+    LOGIN_WITHIN, PER_HOST, SETTINGS, WORKERS,
+};
 use clap::{Arg, ArgAction, ArgMatches, Command};
 use std::alloc::{AllocError, Global};
 
@@ -19,12 +22,20 @@ pub struct Serving<'a> {
     pub listen: &'a str,
     /// How many connections are served at once, 1 to 64.
     pub workers: u64,
-    /// How many are served in all, 1 to 1,000,000.
+    /// How many are served in all, 1 to 1,000,000, if they are counted.
     pub connections: u64,
+    /// Whether they aren't counted.
+    pub endless: bool,
+    /// How many of one host are served at once, 1 to 1,000,000, if there is a limit to it.
+    pub per_host: Option<u64>,
     /// For how many seconds connections are taken, 1 to 1,000,000, if they aren't always.
     pub open_seconds: Option<u64>,
     /// After how many seconds of waiting for its peer a session ends, 1 to 1,000,000, if it ever does.
     pub idle_seconds: Option<u64>,
+    /// Within how many seconds a session's user is known, 1 to 1,000,000.
+    pub login_seconds: u64,
+    /// Within how many seconds a frame comes, from its first byte to its last, 1 to 1,000,000.
+    pub frame_seconds: u64,
     /// Whether each refusal is told on standard error.
     pub audit: bool,
     /// The file that holds the settings, if standard input doesn't.
@@ -39,18 +50,28 @@ const MOST_WORKERS: u64 = 64;
 
 const MOST_CONNECTIONS: u64 = 1_000_000;
 
+const MOST_PER_HOST: u64 = 1_000_000;
+
 const MOST_SECONDS: u64 = 1_000_000;
 
 const USUAL_WORKERS: u64 = 4;
 
-/// Which option has a value that it can't have.
+const USUAL_LOGIN_SECONDS: u64 = 10;
+
+const USUAL_FRAME_SECONDS: u64 = 30;
+
+/// Which option has a value that it can't have, or goes with another that it doesn't go with.
 #[derive(Clone, Copy, Debug, PartialEq, Eq)]
 pub(crate) enum Misused {
     Listen,
     Workers,
     Connections,
+    Endless,
+    PerHost,
     For,
     Idle,
+    LoginWithin,
+    FrameWithin,
     Audit,
     Control,
 }
@@ -62,8 +83,14 @@ impl Misused {
             Misused::Listen => "--listen takes an address and a port, as in 127.0.0.1:9092",
             Misused::Workers => "--workers takes a number from 1 to 64",
             Misused::Connections => "--connections takes a number from 1 to 1000000",
+            Misused::Endless => {
+                "--endless doesn't go with --connections, which says how many are served in all"
+            }
+            Misused::PerHost => "--per-host takes a number from 1 to 1000000",
             Misused::For => "--for takes a number of seconds from 1 to 1000000",
             Misused::Idle => "--idle takes a number of seconds from 1 to 1000000",
+            Misused::LoginWithin => { "--login-within takes a number of seconds from 1 to 1000000" }
+            Misused::FrameWithin => { "--frame-within takes a number of seconds from 1 to 1000000" }
             Misused::Audit => "--audit takes - alone, which is standard error",
             Misused::Control => {
                 "--control takes standard input, so --settings names the settings' file; --audit doesn't go with it"
@@ -153,6 +180,26 @@ fn with_switches<'a>(alloc: Global, command: Command<'a>) -> Result<Command<'a>,
     with_three(command, open, idle, audit)
 }
 
+/// The command with the options of the time that a login has, and a frame.
+fn with_deadlines<'a>(alloc: Global, command: Command<'a>) -> Result<Command<'a>, AllocError>
+    ensures app { IfOk result (λ made. app_of made ≡ with_serve_deadlines (app_of command.entry)) }
+    ensures local { IfOk result (λ made. (fields_of made).has_globals ≡ (fields_of command.entry).has_globals) }
+{
+    let login = option(alloc, "login-within", "SECONDS", LOGIN_WITHIN, false);
+    let frame = option(alloc, "frame-within", "SECONDS", FRAME_WITHIN, false);
+    with_two(command, login, frame)
+}
+
+/// The command with the options of connections that aren't counted, and of those of one host.
+fn with_shares<'a>(alloc: Global, command: Command<'a>) -> Result<Command<'a>, AllocError>
+    ensures app { IfOk result (λ made. app_of made ≡ with_serve_shares (app_of command.entry)) }
+    ensures local { IfOk result (λ made. (fields_of made).has_globals ≡ (fields_of command.entry).has_globals) }
+{
+    let endless = flag(alloc, "endless", ENDLESS);
+    let per_host = option(alloc, "per-host", "N", PER_HOST, false);
+    with_two(command, endless, per_host)
+}
+
 /// The command with the options of a broker that is steered.
 fn with_steering<'a>(alloc: Global, command: Command<'a>) -> Result<Command<'a>, AllocError>
     ensures app { IfOk result (λ made. app_of made ≡ with_serve_steering (app_of command.entry)) }
@@ -181,6 +228,8 @@ pub(crate) fn with_options<'a>(
 {
     let command = with_numbers(alloc, command)?;
     let command = with_switches(alloc, command)?;
+    let command = with_deadlines(alloc, command)?;
+    let command = with_shares(alloc, command)?;
     let command = with_steering(alloc, command)?;
     with_clients(alloc, command)
 }
@@ -209,19 +258,56 @@ fn number_or(text: Option<&str>, most: u64, usual: u64, misused: Misused) -> Res
     }
 }
 
-/// The seconds of an option, if it is given.
-fn seconds_of(text: Option<&str>, misused: Misused) -> Result<Option<u64>, Misused>
-    ensures within { IfOk result (λ told. IfSome told (IsIn 1000000)) }
-    ensures told { IfOk result (TellsSeconds (option_map (λ t. t.now) text.entry)) }
-    ensures none { IfErr result (λ _. (told : _) → IfSome told (IsIn 1000000) → TellsSeconds (option_map (λ t. t.now) text.entry) told → ⊥) }
+/// The number of an option, if it is given.
+fn number_if_given(text: Option<&str>, most: u64, misused: Misused) -> Result<Option<u64>, Misused>
+    ensures within { IfOk result (λ told. IfSome told (IsIn most)) }
+    ensures told { IfOk result (TellsIfGiven (option_map (λ t. t.now) text.entry)) }
+    ensures none { IfErr result (λ _. (told : _) → IfSome told (IsIn most) → TellsIfGiven (option_map (λ t. t.now) text.entry) told → ⊥) }
 {
     let Some(text) = text else {
         return Ok(None);
     };
-    match number_of(text, MOST_SECONDS) {
-        Some(seconds) => Ok(Some(seconds)),
+    match number_of(text, most) {
+        Some(number) => Ok(Some(number)),
         None => Err(misused),
     }
+}
+
+/// The seconds of an option, if it is given.
+fn seconds_of(text: Option<&str>, misused: Misused) -> Result<Option<u64>, Misused>
+    ensures within { IfOk result (λ told. IfSome told (IsIn 1000000)) }
+    ensures told { IfOk result (TellsIfGiven (option_map (λ t. t.now) text.entry)) }
+    ensures none { IfErr result (λ _. (told : _) → IfSome told (IsIn 1000000) → TellsIfGiven (option_map (λ t. t.now) text.entry) told → ⊥) }
+{
+    number_if_given(text, MOST_SECONDS, misused)
+}
+
+/// The same, or the usual seconds where it isn't given.
+fn seconds_or(text: Option<&str>, usual: u64, misused: Misused) -> Result<u64, Misused>
+    requires { IsIn 1000000 usual }
+    ensures within { IfOk result (IsIn 1000000) }
+    ensures told { IfOk result (Tells (option_map (λ t. t.now) text.entry) usual) }
+    ensures none { IfErr result (λ _. (number : _) → IsIn 1000000 number → Tells (option_map (λ t. t.now) text.entry) usual number → ⊥) }
+{
+    number_or(text, MOST_SECONDS, usual, misused)
+}
+
+/// How many connections are served in all, of which no number is given where they aren't counted.
+fn connections_of(text: Option<&str>, endless: bool) -> Result<u64, Misused>
+    ensures within { IfOk result (IsIn 1000000) }
+    ensures told { IfOk result (Tells (option_map (λ t. t.now) text.entry) 1000000) }
+    ensures uncounted { IfOk result (λ _. GoesUncounted endless (option_map (λ t. t.now) text.entry)) }
+    ensures none { IfErr result (λ _. (number : _) → IsIn 1000000 number → Tells (option_map (λ t. t.now) text.entry) 1000000 number → GoesUncounted endless (option_map (λ t. t.now) text.entry) → ⊥) }
+{
+    if endless && text.is_some() {
+        return Err(Misused::Endless);
+    }
+    number_or(
+        text,
+        MOST_CONNECTIONS,
+        MOST_CONNECTIONS,
+        Misused::Connections,
+    )
 }
 
 /// Whether refusals are told. The one place for them is standard error, which goes by the name `-`.
@@ -265,20 +351,18 @@ pub(crate) fn serving_by<'a>(options: &ArgMatches<'a>) -> Result<Serving<'a>, Mi
     ensures none { IfErr result (λ _. NoneServes (first_value (found_of options.now))) }
 {
     let listen = options.get_str("listen").ok_or(Misused::Listen)?;
-    let workers = number_or(
-        options.get_str("workers"),
-        MOST_WORKERS,
-        USUAL_WORKERS,
-        Misused::Workers,
-    )?;
-    let connections = number_or(
-        options.get_str("connections"),
-        MOST_CONNECTIONS,
-        MOST_CONNECTIONS,
-        Misused::Connections,
-    )?;
+    let workers = options.get_str("workers");
+    let workers = number_or(workers, MOST_WORKERS, USUAL_WORKERS, Misused::Workers)?;
+    let endless = is_given(options.get_str("endless"));
+    let connections = connections_of(options.get_str("connections"), endless)?;
+    let per_host = options.get_str("per-host");
+    let per_host = number_if_given(per_host, MOST_PER_HOST, Misused::PerHost)?;
     let open_seconds = seconds_of(options.get_str("for"), Misused::For)?;
     let idle_seconds = seconds_of(options.get_str("idle"), Misused::Idle)?;
+    let login = options.get_str("login-within");
+    let login_seconds = seconds_or(login, USUAL_LOGIN_SECONDS, Misused::LoginWithin)?;
+    let frame = options.get_str("frame-within");
+    let frame_seconds = seconds_or(frame, USUAL_FRAME_SECONDS, Misused::FrameWithin)?;
     let audit = audit_of(options.get_str("audit"))?;
     let settings = options.get_str("settings");
     let control = control_of(options.get_str("control"), settings, audit)?;
@@ -287,8 +371,12 @@ pub(crate) fn serving_by<'a>(options: &ArgMatches<'a>) -> Result<Serving<'a>, Mi
         listen,
         workers,
         connections,
+        endless,
+        per_host,
         open_seconds,
         idle_seconds,
+        login_seconds,
+        frame_seconds,
         audit,
         settings,
         control,

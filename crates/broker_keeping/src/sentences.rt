@@ -4,9 +4,13 @@ ghost use Rattle.std.specs.Prelude.{◌≡◌, ◌==◌};
 ghost use Rattle.std.specs.List.{count_by};
 
 use crate::teller::{Saying, Teller};
+use admission::Doorman;
 use crossbeam_channel::Sender;
+use request_handlers::MOST_SEATS;
 use session_pool::{Gate, Why};
 use std::alloc::{AllocError, Global};
+use std::fmt::Display;
+use std::io;
 use std::io::Write;
 use std::sync::Wait;
 use std::sync::atomic::{AtomicU64, Ordering};
@@ -15,9 +19,10 @@ use wire_types::Text;
 /// So many sayings wait for the teller at most.
 const WAITING: usize = 1_024;
 
-/// Says what an operator is told. Of each session that ends by other than Closed that is a line of its own. What is said waits in
-/// a queue for a `Teller`, so nobody waits for whoever reads it: where the queue is full, lines are left out, and how many is told
-/// before what is said next. If something can't be said, nothing else fails.
+/// Says what an operator is told. Of each session that ends by other than Closed that is a line of its own, and what becomes of
+/// connections that aren't served is told too. What is said waits in a queue for a `Teller`, so nobody waits for whoever reads it:
+/// where the queue is full, lines are left out, and how many is told before what is said next. If something can't be said, nothing
+/// else fails.
 #[derive(Drop)]
 pub struct Sentences<'r, R: Wait> {
     rt: &'r R,
@@ -25,6 +30,8 @@ pub struct Sentences<'r, R: Wait> {
     to: Sender<Saying>,
     /// How many lines were left out that the teller doesn't know of.
     left_out: AtomicU64,
+    /// How many sessions found no seat.
+    unseated: AtomicU64,
 }
 
 /// How many lines a text has.
@@ -50,6 +57,7 @@ impl<'r, R: Wait> Sentences<'r, R> {
             alloc,
             to,
             left_out: AtomicU64::new(0),
+            unseated: AtomicU64::new(0),
         };
         Ok((sentences, Teller::new(alloc, from, errors)))
     }
@@ -66,6 +74,13 @@ impl<'r, R: Wait> Sentences<'r, R> {
         }
     }
 
+    /// Says a line, unless memory was refused for it.
+    fn say_line(&self, line: Result<String, AllocError>) {
+        if let Ok(line) = line {
+            self.say(line);
+        }
+    }
+
     /// Counts the lines that weren't said, and those that it was to tell of.
     fn leave_out(&self, saying: Saying) {
         let Saying { left_out, lines } = saying;
@@ -77,6 +92,15 @@ impl<'r, R: Wait> Sentences<'r, R> {
     /// How many lines were left out that the teller doesn't know of yet.
     pub fn left_out(&self) -> u64 {
         self.left_out.load(Ordering::SeqCst)
+    }
+
+    /// Says why a session ended.
+    fn say_end<D: Display + Drop>(&self, session: u64, host: &Text, who: Option<&Text>, why: D) {
+        let host = host.as_str();
+        let who = who.map_or("nobody", |who| who.as_str());
+        self.say_line(format!(in self.alloc;
+            "kbroker: session {session} of {who} from {host}: {why}\n"
+        ));
     }
 
     /// Tells the teller to end after what was said. Where the queue is full this waits until there is room, and where the teller is
@@ -93,19 +117,48 @@ impl<'r, R: Wait> Sentences<'r, R> {
 impl<'r, R: Wait> Gate for Sentences<'r, R> {
     fn before(&self, _session: u64, _frame: u64) {}
 
+    fn logged_in(&self, _session: u64, _who: &Text) {}
+
     fn after(&self, _session: u64, _frame: u64) {}
 
     fn ended(&self, session: u64, host: &Text, who: Option<&Text>, why: Why) {
-        if why == Why::Closed {
-            return;
+        if why != Why::Closed {
+            self.say_end(session, host, who, why);
         }
+    }
+
+    fn overdue(&self, session: u64, host: &Text, who: Option<&Text>, _why: Why, words: &str) {
+        self.say_end(session, host, who, words);
+    }
+}
+
+impl<'r, R: Wait> Doorman for Sentences<'r, R> {
+    fn failed(&self, error: &io::Error) {
+        self.say_line(format!(in self.alloc;
+            "kbroker: connections can't be accepted for now: {error}\n"
+        ));
+    }
+
+    fn used_up(&self, connections: u64) {
+        self.say_line(format!(in self.alloc;
+            "kbroker: no more connections are taken, since --connections is {connections}\n"
+        ));
+    }
+
+    fn turned_away(&self, host: &Text) {
         let host = host.as_str();
-        let who = who.map_or("nobody", |who| who.as_str());
-        let line = format!(in self.alloc;
-            "kbroker: session {session} of {who} from {host}: {why}\n"
-        );
-        if let Ok(line) = line {
-            self.say(line);
+        self.say_line(format!(in self.alloc;
+            "kbroker: a connection from {host} was closed at once, since its host has as many as --per-host says\n"
+        ));
+    }
+
+    /// Says so the first time.
+    fn unseated(&self) {
+        if self.unseated.fetch_add(1, Ordering::SeqCst) == 0 {
+            let seats = MOST_SEATS;
+            self.say_line(format!(in self.alloc;
+                "kbroker: no seat is left for further sessions, since {seats} have asked\n"
+            ));
         }
     }
 }

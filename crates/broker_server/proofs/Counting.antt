@@ -19,12 +19,13 @@ pub ends_at_least : (ends : List (SessionEnd SeatValue)) → ((owed : Option ℕ
 ends_at_least ends (owed, h) =
     omega (arith, ap length h.are, length-append h.sessions (h.keeper ∷ []))
 
-pub counted : (settings : Settings) (core : CoreValue) (ends : List (SessionEnd SeatValue)) (receipts : List (Vec ReceiptValue Global)) (sessions : ℕ) (settled : Settled)
-    → ((owed : Option ℕ) × AreEnds owed ends) → sessions + 1 ≡ length ends → IsDeskCore settings core → receipts ≡ receipts_of ends
+pub counted : (settings : Settings) (core : CoreValue) (ends : List (SessionEnd SeatValue)) (receipts : List (Vec ReceiptValue Global)) (sessions others : ℕ) (settled : Settled)
+    → ((owed : Option ℕ) × AreEnds owed ends) → sessions + 1 ≡ length ends + others → IsDeskCore settings core → receipts ≡ receipts_of ends
     → Settles core.trail receipts × (settled ≡ record { events = length core.trail; refusals = refusal_count core.trail }) → IsCounted settings sessions settled
-counted settings core ends receipts sessions settled (owed, are) many opened same (settles, counts) = record {
+counted settings core ends receipts sessions others settled (owed, are) many opened same (settles, counts) = record {
   owed = owed;
   ends = ends;
+  others = others;
   core = core;
   are = are;
   many = many;

@@ -16,14 +16,15 @@ use Rattle.settlement.specs.Settle.{Settles}
 abbrev pub receipts_of : List (SessionEnd SeatValue) → List (Vec ReceiptValue Global)
 receipts_of ends = map (λ (end : SessionEnd SeatValue). end.receipts) ends
 
--- so many sessions ended, the keeper's end left out, and the receipts of all ends are settled with a core of these settings,
--- of whose trail these are the numbers
+-- So many sessions ended: those whose ends are kept, the keeper's left out, and others, which have no receipt. The receipts of all
+-- ends are settled with a core of these settings, of whose trail these are the numbers.
 pub record IsCounted (settings : Settings) (sessions : ℕ) (settled : Settled) : Type 0 where
   pub owed : Option ℕ
   pub ends : List (SessionEnd SeatValue)
+  pub others : ℕ
   pub core : CoreValue
   pub are : AreEnds owed ends
-  pub many : sessions + 1 ≡ length ends
+  pub many : sessions + 1 ≡ length ends + others
   pub opened : IsDeskCore settings core
   pub settles : Settles core.trail (receipts_of ends)
   pub counts : settled ≡ record { events = length core.trail; refusals = refusal_count core.trail }

@@ -52,7 +52,7 @@ pub(crate) fn listening_line(alloc: Global, address: &str) -> Result<String, All
 /// The last line, where the books are settled.
 pub(crate) fn settled_line(
     alloc: Global,
-    sessions: usize,
+    sessions: u64,
     settled: Settled,
 ) -> Result<String, AllocError>
     ensures { IfOk result (λ text. string_bytes text ≡ settled_line sessions settled) }

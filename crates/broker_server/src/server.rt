@@ -13,7 +13,7 @@ use broker_keeping::{Control, Sentences, Steering, Teller, Ticks, Timekeeper, Wa
 use request_handlers::{Core, MOST_SEATS, Receipt, Seat};
 use session_logins::Users;
 use session_pool::{Closing, DeskLedger, LockedDesk, SessionEnd};
-use session_workers::{ConnectionOptions, PoolFault, serve_connections};
+use session_workers::{ConnectionOptions, Ended, PoolFault, serve_connections};
 use settlement::{SettleFault, Settled, settle};
 use std::alloc::{AllocError, Global};
 use std::io::{BufRead, Write};
@@ -49,13 +49,14 @@ fn receipts_of<L: DeskLedger>(
     ends.into_iter().map(|end| end.receipts).collect(alloc)
 }
 
-/// How many sessions ended, the keeper's end left out.
+/// How many sessions ended: those whose ends are kept, the keeper's left out, and the others. None where 64 bits don't count them.
 #[tactic(auto, using(crate::proofs::Counting::ends_at_least))]
-fn sessions_of<L: DeskLedger>(ends: &[SessionEnd<Seat<L>>]) -> usize
+fn sessions_of<L: DeskLedger>(ends: &[SessionEnd<Seat<L>>], others: u64) -> Option<u64>
     requires { (owed : Option ℕ) × AreEnds owed ends.now }
-    ensures { result + 1 ≡ length ends.now }
+    ensures { IfSome result (λ sessions. sessions + 1 ≡ length ends.now + others) }
 {
-    ends.len() - 1
+    let kept = (ends.len() - 1) as u64;
+    kept.checked_add(others)
 }
 
 /// Settles the ends with the core of a desk.
@@ -63,12 +64,15 @@ fn sessions_of<L: DeskLedger>(ends: &[SessionEnd<Seat<L>>]) -> usize
 fn settle_ends<L: DeskLedger, R: Wait + Drop>(
     alloc: Global,
     desk: LockedDesk<L, R>,
-    ends: Vec<SessionEnd<Seat<L>>>,
-) -> Result<(usize, Settled), Failure>
-    requires { (owed : Option ℕ) × AreEnds owed ends.items }
+    ended: Ended<L>,
+) -> Result<(u64, Settled), Failure>
+    requires { (owed : Option ℕ) × AreEnds owed ended.ends.items }
     ensures { IfOk result (λ told. IsCounted L.settings told.0 told.1) }
 {
-    let sessions = sessions_of(ends.as_slice());
+    let Ended { ends, others } = ended;
+    let Some(sessions) = sessions_of(ends.as_slice(), others) else {
+        return Err(Failure::Pool(PoolFault::NoMemory));
+    };
     let Ok(receipts) = receipts_of(alloc, ends) else {
         return Err(Failure::Settle(SettleFault::NoMemory));
     };
@@ -97,8 +101,8 @@ fn serve_steps<
     steering: Option<Steering<I, O>>,
     closing: &'x Closing,
     sentences: &'x Sentences<'r, R>,
-) -> Result<Vec<SessionEnd<Seat<L>>>, PoolFault>
-    ensures { IfOk result (λ ends. (owed : Option ℕ) × AreEnds owed ends.items) }
+) -> Result<Ended<L>, PoolFault>
+    ensures { IfOk result (λ ended. (owed : Option ℕ) × AreEnds owed ended.ends.items) }
 {
     let ServeOptions { connections, audit } = options;
     let here: &'x R = rt;
@@ -158,25 +162,25 @@ fn serve_kept<
     closing: &'x Closing,
     sentences: &'x Sentences<'r, R>,
     teller: Teller<E>,
-) -> Result<Vec<SessionEnd<Seat<L>>>, PoolFault>
-    ensures { IfOk result (λ ends. (owed : Option ℕ) × AreEnds owed ends.items) }
+) -> Result<Ended<L>, PoolFault>
+    ensures { IfOk result (λ ended. (owed : Option ℕ) × AreEnds owed ended.ends.items) }
 {
     let here: &'x R = rt;
     thread::scope(
         thread::scope_env(),
         here,
-        move |scope| -> Result<Vec<SessionEnd<Seat<L>>>, PoolFault>
-            ensures { IfOk result (λ ends. (owed : Option ℕ) × AreEnds owed ends.items) }
+        move |scope| -> Result<Ended<L>, PoolFault>
+            ensures { IfOk result (λ ended. (owed : Option ℕ) × AreEnds owed ended.ends.items) }
         {
             let telling = scope.spawn(move || drop(teller.tell_all(here)));
             if telling.is_err() {
                 return Err(PoolFault::NoThread);
             }
-            let ends = serve_steps(
+            let ended = serve_steps(
                 rt, alloc, desk, users, listener, options, steering, closing, sentences,
             );
             sentences.end();
-            ends
+            ended
         },
     )
 }
@@ -200,7 +204,7 @@ fn serve_at<
     steering: Option<Steering<I, O>>,
     sentences: &Sentences<'r, R>,
     teller: Teller<E>,
-) -> Result<(usize, Settled), Failure>
+) -> Result<(u64, Settled), Failure>
     requires settings { core.settings ≡ L.settings }
     requires empty { core.trail ≡ [] }
     requires ledger { (blank.name ≡ L.name) × (blank.parts ≡ L.parts) × (blank.parts ≡ most_seats + 1) }
@@ -211,7 +215,7 @@ fn serve_at<
     match serve_kept(
         rt, alloc, &desk, users, listener, options, steering, &closing, sentences, teller,
     ) {
-        Ok(ends) => settle_ends(alloc, desk, ends),
+        Ok(ended) => settle_ends(alloc, desk, ended),
         Err(fault) => Err(Failure::Pool(fault)),
     }
 }
@@ -233,7 +237,7 @@ fn serve_booked<
     steering: Option<Steering<I, O>>,
     sentences: &Sentences<'r, R>,
     teller: Teller<E>,
-) -> Result<(usize, Settled), Failure>
+) -> Result<(u64, Settled), Failure>
     requires { core.trail ≡ [] }
     ensures { IfOk result (λ told. IsCounted core.settings told.0 told.1) }
 {
@@ -266,7 +270,7 @@ fn serve_told<
     options: ServeOptions,
     steering: Option<Steering<I, O>>,
     errors: E,
-) -> Result<(usize, Settled), Failure>
+) -> Result<(u64, Settled), Failure>
     requires { core.trail ≡ [] }
     ensures { IfOk result (λ told. IsCounted core.settings told.0 told.1) }
 {
@@ -295,7 +299,7 @@ fn first_line(alloc: Global, listener: &TcpListener) -> Result<String, Unbegun>
 }
 
 /// The last line, and the exit status.
-fn last_line(alloc: Global, outcome: Result<(usize, Settled), Failure>) -> Option<(String, u8)>
+fn last_line(alloc: Global, outcome: Result<(u64, Settled), Failure>) -> Option<(String, u8)>
     ensures { (settings : Settings) → IfOk outcome (λ told. IsCounted settings told.0 told.1) → IfSome result (λ told. IsLast settings told.1 (string_bytes told.0)) }
 {
     match outcome {
@@ -307,8 +311,8 @@ fn last_line(alloc: Global, outcome: Result<(usize, Settled), Failure>) -> Optio
 /// Prints where it listens, serves connections until so many were served or no more are taken, settles the books and prints
 /// how that went. Gives the exit status. Where the listener can't tell its address, or memory is refused before anything is
 /// printed, it prints that and serves nothing. To `errors` it says in a sentence why a session ended, where it didn't end between
-/// two requests, and that the clock stops, where the core takes no more of its steps; and the line of each refusal, where that is
-/// asked for. A thread of its own waits for `errors`, and nobody else does: 1,024 sayings wait for it at most, and further lines are
+/// two requests, that the clock stops, where the core takes no more of its steps, and what becomes of connections that aren't served;
+/// and the line of each refusal, where that is asked for. A thread of its own waits for `errors`, and nobody else does: 1,024 sayings wait for it at most, and further lines are
 /// left out and counted. Only the last line comes after all that was said is written, or can't be. Where lines steer the server,
 /// there is no clock: a tick or a marker step comes only by a line, and connections are taken until the lines end or have it end.
 #[tactic(auto, using(crate::proofs::Served::unbegun_said))]

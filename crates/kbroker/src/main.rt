@@ -48,8 +48,12 @@ fn options_of(serving: Serving<'_>) -> ServeOptions {
         connections: ConnectionOptions {
             workers: serving.workers as usize,
             connections: serving.connections,
+            endless: serving.endless,
+            per_host: serving.per_host,
             open: serving.open_seconds.map(Duration::from_secs),
             idle: serving.idle_seconds.map(Duration::from_secs),
+            login_within: Duration::from_secs(serving.login_seconds),
+            frame_within: Duration::from_secs(serving.frame_seconds),
             listed,
             patience,
         },

@@ -3,15 +3,20 @@
 use arguments::{Job, Serving, arguments};
 use std::test::Fail;
 
-/// `serve` with an address alone: four workers, a million connections, and nothing else that is asked for.
+/// `serve` with an address alone: four workers, a million connections, ten seconds for a login and thirty for a frame, and nothing
+/// else that is asked for.
 #[test]
 fn serve_with_an_address_alone(rt: HostRuntime) -> Result<(), Fail> {
     let usual = Serving {
         listen: "127.0.0.1:0",
         workers: 4,
         connections: 1_000_000,
+        endless: false,
+        per_host: None,
         open_seconds: None,
         idle_seconds: None,
+        login_seconds: 10,
+        frame_seconds: 30,
         audit: false,
         settings: None,
         control: false,
@@ -36,7 +41,31 @@ fn librdkafka_is_a_flag(rt: HostRuntime) {
     }
 }
 
-/// As many workers as there may be, and one too few and one too many, and the same of connections.
+/// `--endless` goes without a number of connections, and with all else.
+#[test]
+fn endless_goes_without_a_number(rt: HostRuntime) {
+    for (option, number, is_taken) in [
+        ("--workers", "4", Some(true)),
+        ("--connections", "4", None),
+    ] {
+        let words = [
+            "kbroker",
+            "serve",
+            "--listen",
+            "127.0.0.1:0",
+            "--endless",
+            option,
+            number,
+        ];
+        let is_endless = match arguments(rt.alloc(), &words) {
+            Ok(Job::Serve(serving)) => Some(serving.endless),
+            _ => None,
+        };
+        assert!(rt; is_endless == is_taken, "{option}");
+    }
+}
+
+/// As many workers as there may be, and one too few and one too many, and the same of the other numbers.
 #[test]
 fn numbers_at_their_limits(rt: HostRuntime) {
     for (option, number, is_served) in [
@@ -48,6 +77,18 @@ fn numbers_at_their_limits(rt: HostRuntime) {
         ("--connections", "1000000", true),
         ("--connections", "0", false),
         ("--connections", "1000001", false),
+        ("--per-host", "1", true),
+        ("--per-host", "1000000", true),
+        ("--per-host", "0", false),
+        ("--per-host", "1000001", false),
+        ("--login-within", "1", true),
+        ("--login-within", "1000000", true),
+        ("--login-within", "0", false),
+        ("--login-within", "1000001", false),
+        ("--frame-within", "1", true),
+        ("--frame-within", "1000000", true),
+        ("--frame-within", "0", false),
+        ("--frame-within", "1000001", false),
     ] {
         let words = [
             "kbroker",

@@ -13,21 +13,24 @@ use std::sync::Wait;
 use std::sync::atomic::{AtomicU64, Ordering};
 use std::sync::ledger::Blank;
 use std::test::Fail;
+use wire_types::Text;
 
 /// Counts its calls, and adds up the frames that it was called with.
 #[derive(Drop)]
 struct Counting {
     befores: AtomicU64,
+    logins: AtomicU64,
     afters: AtomicU64,
     frames: AtomicU64,
     others: AtomicU64,
 }
 
 impl Counting {
-    /// Calls before and after, the frames added up, and calls of other sessions than 7.
-    fn counts(&self) -> [u64; 4] {
+    /// Calls before, of ann's login and after, the frames added up, and calls of other sessions than 7 or of other users.
+    fn counts(&self) -> [u64; 5] {
         [
             self.befores.load(Ordering::SeqCst),
+            self.logins.load(Ordering::SeqCst),
             self.afters.load(Ordering::SeqCst),
             self.frames.load(Ordering::SeqCst),
             self.others.load(Ordering::SeqCst),
@@ -43,6 +46,12 @@ impl Gate for Counting {
             .fetch_add(u64::from(session != 7), Ordering::SeqCst);
     }
 
+    fn logged_in(&self, session: u64, who: &Text) {
+        let is_ann = session == 7 && who.as_bytes() == b"User:ann".as_slice();
+        self.logins.fetch_add(u64::from(is_ann), Ordering::SeqCst);
+        self.others.fetch_add(u64::from(!is_ann), Ordering::SeqCst);
+    }
+
     fn after(&self, session: u64, frame: u64) {
         self.afters.fetch_add(1, Ordering::SeqCst);
         self.frames.fetch_add(frame, Ordering::SeqCst);
@@ -51,13 +60,14 @@ impl Gate for Counting {
     }
 }
 
-/// Three frames, and the end of the input where a fourth would be.
+/// Three frames, of which the second is a login, and the end of the input where a fourth would be.
 #[test]
 fn round_each_frame(rt: HostRuntime) -> Result<(), Fail> {
     let alloc = rt.alloc();
     let input = bytes_of(alloc, &[HANDSHAKE, LOGIN, METADATA])?;
     let gate = Counting {
         befores: AtomicU64::new(0),
+        logins: AtomicU64::new(0),
         afters: AtomicU64::new(0),
         frames: AtomicU64::new(0),
         others: AtomicU64::new(0),
@@ -73,7 +83,7 @@ fn round_each_frame(rt: HostRuntime) -> Result<(), Fail> {
         &gate,
     )?;
     assert!(rt; end.why == Why::Closed);
-    assert!(rt; gate.counts() == [4, 4, 2 * (1 + 2 + 3), 0]);
+    assert!(rt; gate.counts() == [4, 1, 4, 2 * (1 + 2 + 3), 0]);
     Ok(())
 }
 

@@ -2,11 +2,12 @@
 
 use session_pool::Gate;
 use std::io::{Cursor, Read, Write};
+use std::net::OpenStream;
 use std::sync::atomic::{AtomicU64, Ordering};
 use std::sync::{Mutex, Wait};
 use std::time::Duration;
 use std::{io, thread, time};
-use wire_types::Shared;
+use wire_types::{Shared, Text};
 
 /// How far the two sessions have come.
 #[derive(Drop)]
@@ -78,6 +79,8 @@ impl<R: time::Clock + Drop> Gate for Hold<R> {
         }
     }
 
+    fn logged_in(&self, _session: u64, _who: &Text) {}
+
     fn after(&self, session: u64, frame: u64) {
         if session == 2 && frame == self.last {
             self.flags.value().served.store(1, Ordering::SeqCst);
@@ -92,6 +95,12 @@ pub(crate) struct Talk<R: time::Clock + Drop> {
     pub(crate) flags: Shared<Flags>,
     pub(crate) holds: bool,
     pub(crate) bytes: Cursor<Vec<u8>>,
+}
+
+impl<R: time::Clock + Drop> OpenStream for Talk<R> {
+    fn set_read_timeout(&self, _time: Option<Duration>) -> io::Result<()> {
+        Ok(())
+    }
 }
 
 impl<R: time::Clock + Drop> Read for Talk<R> {
@@ -113,6 +122,12 @@ impl<R: time::Clock + Drop> Read for Talk<R> {
 pub(crate) struct Answers<R: Wait + Drop> {
     pub(crate) rt: R,
     pub(crate) bytes: Shared<Mutex<Vec<u8>>>,
+}
+
+impl<R: Wait + Drop> OpenStream for Answers<R> {
+    fn set_write_timeout(&self, _time: Option<Duration>) -> io::Result<()> {
+        Ok(())
+    }
 }
 
 impl<R: Wait + Drop> Write for Answers<R> {

@@ -26,11 +26,11 @@ use std::{io, thread, time};
 use wire_types::Shared;
 
 /// Broker 1 at `h` and port 9092, which is the controller, and the topic `b` with its one partition.
-const METADATA_TOLD: &str = "00000041000000030000000100000001000168\
+pub(crate) const METADATA_TOLD: &str = "00000041000000030000000100000001000168\
     00002384ffff0000000100000001000000016200000000010000000000000000000100000001000000010000000100000001";
 
 /// So long each wait lasts at most, in seconds.
-const PATIENCE: u64 = 20;
+pub(crate) const PATIENCE: u64 = 20;
 
 /// A writer that fails, as where whoever read has gone.
 #[derive(Drop)]
@@ -65,8 +65,12 @@ fn serve_two<
         connections: ConnectionOptions {
             workers: 2,
             connections: 2,
+            endless: false,
+            per_host: None,
             open: patience,
             idle: patience,
+            login_within: Duration::from_secs(PATIENCE),
+            frame_within: Duration::from_secs(PATIENCE),
             listed: ListedVersions::AsServed,
             patience: None,
         },

@@ -224,13 +224,23 @@ fn reads_of<R: Wait + Drop>(rt: R, alloc: Global, bytes: &[u8]) -> Result<(Why, 
     Ok((why, reads.load(Ordering::SeqCst)))
 }
 
-/// Room is made for as much as has come, so a long frame comes in few reads.
+/// Room is made for as much as has come, so a long frame comes in few reads after a login.
 #[test]
 fn a_long_frame_in_few_reads(rt: HostRuntime) -> Result<(), Fail> {
+    let mut input = bytes_of(rt.alloc(), &[HANDSHAKE, LOGIN, "000f4240"])?;
+    input.resize(21 + 25 + 4 + 1_000_000, 0)?;
+    let (why, reads) = reads_of(rt, rt.alloc(), input.as_slice())?;
+    assert!(rt; why == Why::Malformed && reads < 12);
+    Ok(())
+}
+
+/// Before a login it is read past, by pieces of 8,192 bytes.
+#[test]
+fn a_long_frame_before_a_login(rt: HostRuntime) -> Result<(), Fail> {
     let mut input = bytes_of(rt.alloc(), &["000f4240"])?;
     input.resize(4 + 1_000_000, 0)?;
     let (why, reads) = reads_of(rt, rt.alloc(), input.as_slice())?;
-    assert!(rt; why == Why::Malformed && reads < 12);
+    assert!(rt; why == Why::Login && reads > 120 && reads < 130);
     Ok(())
 }
 

@@ -12,6 +12,7 @@ use crate::talk::{
 use acl_binding::Caller;
 use audit_trail::{Event, Trail};
 use crossbeam_channel::Sender;
+use deadlines::Times;
 use msg_admin::Request;
 use request_handlers::{Core, MOST_SEATS, Receipt, Seat};
 use session_logins::Users;
@@ -32,9 +33,9 @@ use wire_types::{Shared, Text};
 
 /// Counts milliseconds until all workers have ended.
 #[derive(Drop)]
-struct Ticks<R: time::Clock + Drop> {
-    rt: R,
-    moment: u64,
+pub(crate) struct Ticks<R: time::Clock + Drop> {
+    pub(crate) rt: R,
+    pub(crate) moment: u64,
 }
 
 impl<R: time::Clock + Drop> Clock for Ticks<R> {
@@ -144,6 +145,11 @@ fn job_of<R: Wait + time::Clock + Copy>(
         host: Text::of(alloc, "10.0.0.5")?,
         users: users.share()?,
         limits: Limits::default(),
+        times: Times {
+            idle: None,
+            login: Duration::from_secs(60),
+            frame: Duration::from_secs(60),
+        },
     })
 }
 
@@ -188,7 +194,7 @@ fn serve_both<L: DeskLedger + Send + Sync, R: Threads + Wait + time::Clock + Cop
     drop(to);
     let clock = Ticks { rt, moment: 0 };
     match serve_all(&rt, alloc, desk, from, workers, clock, &gate) {
-        Ok(ends) => Ok(ends),
+        Ok(ended) => Ok(ended.ends),
         Err(_) => Err(Fail::from("served")),
     }
 }

@@ -2,10 +2,10 @@
 use Rattle.std.proofs.Common.{◌≡◌, ℕ, ◌+◌, ◌-◌, ◌<◌, ◌≤◌, List, [], ◌++◌, refl, Option, Some, None, ap, sym, ◌∙◌, length, take, arith, subst, le_refl, drop_at, slice_range, length-take-le, take_all, append_assoc, length-append}
 use Rattle.std.proofs.lemmas.Slice.{take-put_mid_below, take-put_mid}
 use Rattle.std.specs.Io.KnownBytes.{Consumes, IsAtEnd}
-use Rattle.std.proofs.KnownBytes.{Consumes-trans}
+use Rattle.std.proofs.KnownBytes.{Consumes-nil, Consumes-trans}
 use Rattle.session_pool.specs.declared.why.Why.{Why}
 use Rattle.session_pool.specs.declared.why.Why.TheVariants as why
-use Rattle.session_pool.specs.Reads.{Took, StopsShort, HeadLacks, BodyLacks, ReadsOn}
+use Rattle.session_pool.specs.Reads.{Took, StopsShort, HeadLacks, BodyLacks, ReadsOn, Passes, ReadsPast}
 use borrow.Rule.Slice.PartMut.{put_mid, post_of}
 use lib.Seq.{take-add, take-append-le}
 
@@ -108,3 +108,31 @@ read_on a b c held more first (read, whole, next) = subst (Consumes a c) (sym wh
 pub front_kept : (n end : ℕ) (xs more : List ℕ) → length xs ≡ n → n ≤ end → take n (take end xs ++ more) ≡ xs
 front_kept n end xs more all within =
     ap (λ l. take n (l ++ more)) (take_all end xs (omega (arith, all, within))) ∙ take-append-le n xs more (omega (arith, all)) ∙ take_all n xs (omega (arith, all))
+
+-- ---- what is read past
+
+pub none_passed : (a : Option (List ℕ)) (n : ℕ) → n ≡ 0 → Passes a a n
+none_passed a n none = ([], sym none, Consumes-nil a)
+
+pub more_passed : (a b c : Option (List ℕ)) (n m : ℕ) (piece : List ℕ) → Passes a b n → length piece ≡ m → Consumes b c piece → Passes a c (n + m)
+more_passed a b c n m piece (read, long, first) is next =
+    (read ++ piece, length-append read piece ∙ (λ i. long i + is i), Consumes-trans a b c read piece first next)
+
+-- the next piece lacks
+pub passing_lacks : (a b c : Option (List ℕ)) (n m size : ℕ) (w : Why) → n + m ≤ size → Passes a b n → Took b c (BodyLacks m w) → Took a c (BodyLacks size w)
+passing_lacks a b c n m size w within (read, long, first) lacks = piece_lacks a b c m size read w (omega (arith, within, long)) first lacks
+
+-- a front lacks, and so does the whole
+lacks_front : (kept size : ℕ) (w : Why) (read rest : List ℕ) → kept ≤ size → BodyLacks kept w read rest → BodyLacks size w read rest
+lacks_front kept size w read rest within h = lacks_more 0 kept size w [] read rest refl (omega (arith, within)) h
+
+pub front_lacks : (a b : Option (List ℕ)) (kept size : ℕ) (w : Why) → kept ≤ size → Took a b (BodyLacks kept w) → Took a b (BodyLacks size w)
+front_lacks None b kept size w within h = tt
+front_lacks (Some xs) b kept size w within (read, rest, whole, after, lacks) = (read, rest, whole, after, lacks_front kept size w read rest within lacks)
+
+pub some_kept : (a b c : Option (List ℕ)) (kept size : ℕ) (body : List ℕ) → kept ≤ size → length body ≡ kept → Consumes a b body → Passes b c (size - kept) → ReadsPast a c body size
+some_kept a b c kept size body within long first (read, more, next) = (read, omega (arith, within, long, more), Consumes-trans a b c body read first next)
+
+-- what lacks after a front
+pub rest_lacks : (a b c : Option (List ℕ)) (kept size : ℕ) (body : List ℕ) (w : Why) → kept ≤ size → length body ≡ kept → Consumes a b body → Took b c (BodyLacks (size - kept) w) → Took a c (BodyLacks size w)
+rest_lacks a b c kept size body w within long first lacks = piece_lacks a b c (size - kept) size body w (omega (arith, within, long)) first lacks

@@ -1,14 +1,16 @@
 -- What stands at the front of what a reader has left.
-use Rattle.std.proofs.Common.{◌≡◌, ℕ, ◌+◌, ◌<◌, ◌≤◌, ◌==◌, nat_lt, ◌||◌, true, false, List, [], ◌∷◌, ◌++◌, length, take, drop, Option, Some, None, refl, ap, sym, ◌∙◌, arith, length-append, append_assoc, ◌⊎◌, inl, inr}
+use Rattle.std.proofs.Common.{◌≡◌, ℕ, ◌+◌, ◌<◌, ◌≤◌, ◌==◌, nat_lt, ◌||◌, Bool, true, false, cond, List, [], ◌∷◌, ◌++◌, length, take, drop, Option, Some, None, refl, ap, sym, ◌∙◌, arith, length-append, append_assoc, append-nil, ◌⊎◌, inl, inr}
 use Rattle.std.proofs.Math.Seq.{take-append_seam, drop-append_seam}
+use Rattle.std.proofs.lemmas.Bool.{ltb-true, ltb-false}
 use Rattle.std.proofs.lemmas.Bool.Decides.{nat_tests}
 use Rattle.std.specs.Int.{from_be_bytes, w32}
 use Rattle.std.specs.Io.KnownBytes.{Consumes}
+use Rattle.session_pool.specs.declared.frame.Came.{Came}
 use Rattle.session_pool.specs.declared.why.Why.{Why}
 use Rattle.session_pool.specs.declared.why.Why.TheVariants as why
 use Rattle.session_pool.specs.Frames.{Nothing, Part, Bad, Whole, size_of, sized, front_of}
-use Rattle.session_pool.specs.Reads.{HeadLacks, BodyLacks, Took}
-use Rattle.session_pool.specs.Turns.{Lacks, Comes}
+use Rattle.session_pool.specs.Reads.{HeadLacks, BodyLacks, Took, ReadsPast}
+use Rattle.session_pool.specs.Turns.{Lacks, Arrives, kept_of}
 
 take_front : (n : ℕ) (xs front ys : List ℕ) → xs ≡ front ++ ys → length front ≡ n → take n xs ≡ front
 take_front n xs front ys h l = ap (take n) h ∙ ap (λ m. take m (front ++ ys)) (sym l) ∙ take-append_seam front ys
@@ -48,20 +50,40 @@ part_front limit size ys least most short =
     let c : nat_lt (length ys) size ≡ true = grind (arith, nat_tests) in
     rw (a, b, c) refl
 
+-- what is kept of a frame that begins with these bytes
+kept_front : (most size : ℕ) (body more : List ℕ) → length body + length more ≡ size → (most < size → length body ≡ 8) → (size ≤ most → length body ≡ size) → body ≡ kept_of most (body ++ more)
+kept_front most size body more long some all = by_test (nat_lt most (length (body ++ more))) refl where
+  total : length (body ++ more) ≡ size
+  total = length-append body more ∙ long
+
+  no_more : (rest : List ℕ) → length rest ≡ 0 → body ≡ body ++ rest
+  no_more [] none = sym (append-nil body)
+  no_more (x ∷ rest) none = absurd (omega arith)
+
+  by_test : (t : Bool) → nat_lt most (length (body ++ more)) ≡ t → body ≡ cond t (take 8 (body ++ more)) (body ++ more)
+  by_test true e = sym (take_front 8 (body ++ more) body more refl (some (omega (arith, ltb-true most (length (body ++ more)) e, total))))
+  by_test false e = no_more more (omega (arith, long, all (omega (arith, ltb-false most (length (body ++ more)) e, total))))
+
 -- a head and a body are the frame that comes next
-pub framed : (a b c : Option (List ℕ)) (head body : List ℕ) (limit size : ℕ)
-    → length head ≡ 4 → size ≡ from_be_bytes w32 head → 8 ≤ size → size ≤ limit → length body ≡ size
-    → Consumes a b head → Consumes b c body → Took a c (Comes limit body)
-framed None b c head body limit size l is least most long h r = tt
-framed (Some xs) None c head body limit size l is least most long h r = absurd h
-framed (Some xs) (Some ys) None head body limit size l is least most long h r = absurd r
-framed (Some xs) (Some ys) (Some zs) head body limit size l is least most long h r = (
-  head ++ body,
-  zs,
-  h ∙ ap (λ t. head ++ t) r ∙ sym (append_assoc head body zs),
-  refl,
-  λ tail. headed limit ((head ++ body) ++ tail) head (body ++ tail) (append_assoc head body tail) l ∙ ap (λ n. sized limit n (body ++ tail)) (sym is) ∙ whole_front limit size body tail least most long,
-)
+pub framed : (a b c : Option (List ℕ)) (head body : List ℕ) (limit most size : ℕ)
+    → length head ≡ 4 → size ≡ from_be_bytes w32 head → 8 ≤ size → size ≤ limit → (most < size → length body ≡ 8) → (size ≤ most → length body ≡ size)
+    → Consumes a b head → ReadsPast b c body size → Took a c (Arrives limit most (record { kept = body; size = size }))
+framed None b c head body limit most size l is least within some all h r = tt
+framed (Some xs) None c head body limit most size l is least within some all h r = absurd h
+framed (Some xs) (Some ys) None head body limit most size l is least within some all h r = absurd r.2
+framed (Some xs) (Some ys) (Some zs) head body limit most size l is least within some all h (more, long, r) =
+    let total : length (body ++ more) ≡ size = length-append body more ∙ long in (
+      head ++ (body ++ more),
+      zs,
+      h ∙ ap (λ t. head ++ t) r ∙ sym (append_assoc head (body ++ more) zs),
+      refl,
+      (
+        body ++ more,
+        (kept_front most size body more long some all, sym total),
+        λ tail. headed limit ((head ++ (body ++ more)) ++ tail) head ((body ++ more) ++ tail) (append_assoc head (body ++ more) tail) l ∙ ap (λ n. sized limit n ((body ++ more) ++ tail)) (sym is)
+            ∙ whole_front limit size (body ++ more) tail least within total,
+      ),
+    )
 
 -- no head comes
 none_front : (limit : ℕ) (p : List ℕ) → length p ≡ 0 → front_of limit p ≡ Nothing
@@ -125,3 +147,8 @@ no_body (Some xs) (Some ys) c head limit size w l is least most h (p, rest, whol
   after,
   lacks_body limit size w head p rest (headed limit (head ++ p) head p refl l ∙ ap (λ n. sized limit n p) (sym is)) least most lacks,
 )
+
+-- ... for want of memory for what came
+pub no_room : (a b : Option (List ℕ)) (limit most : ℕ) (came : Came) → Took a b (Arrives limit most came) → Took a b (Lacks limit why.NoMemory)
+no_room None b limit most came h = tt
+no_room (Some input) b limit most came (read, rest, whole, after, frame) = (read, rest, whole, after, tt)

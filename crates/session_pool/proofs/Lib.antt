@@ -1,5 +1,7 @@
 pub mod Bytes
 pub mod Fronts
+pub mod Lengths
 pub mod Own
 pub mod Sessions
 pub mod Stays
+pub mod Unread

@@ -1,5 +1,5 @@
 -- Only who told a password in a frame before asks.
-use Rattle.std.proofs.Common.{◌≡◌, ℕ, ℤ, Bool, true, false, List, [], ◌∷◌, ◌++◌, Option, Some, None, Result, Ok, Err, refl, inl, inr, if◌then◌else◌}
+use Rattle.std.proofs.Common.{◌≡◌, ℕ, ℤ, Bool, true, false, List, [], ◌∷◌, ◌++◌, Option, Some, None, Result, Ok, Err, refl, inl, inr, if◌then◌else◌, cond, not, ◌&&◌, nat_lt, length}
 use Rattle.wire_types.specs.declared.fault.Malformed.{Malformed}
 use Rattle.msg_login.specs.declared.sasl_authenticate.SaslAuthenticateRequest.{SaslAuthenticateRequest}
 use Rattle.msg_admin.specs.declared.header.Header.{Header}
@@ -9,7 +9,8 @@ use Rattle.msg_admin.specs.Request.{request_at}
 use Rattle.msg_admin.specs.Versions.{unsupported_at}
 use Rattle.audit_trail.specs.declared.event.Event.{Event}
 use Rattle.settings_text.specs.declared.document.User.{User}
-use Rattle.session_pool.specs.Asks.{Setting, Tells, Refuses, asked, asks_of, fresh, offered, known, logs_in, greets, admits, readable, supported}
+use Rattle.session_pool.specs.declared.login.State.{State}
+use Rattle.session_pool.specs.Asks.{Setting, Tells, Refuses, asked, asks_of, Step, fresh, offered, known, start_of, is_served, is_login, longest_before_login, logs_in, greets, admits, readable, begun, supported}
 use Rattle.session_pool.specs.Frames.{cut}
 use Rattle.session_logins.specs.Login.{is_plain, login_of}
 use Rattle.session_pool.specs.Own.{TellsPassword, SomeTells, AreOwn, AsksAreOwn}
@@ -29,6 +30,20 @@ told_last : (users : List User) (before : List (List ℕ)) (frame who : List ℕ
 told_last users [] frame who h = inl h
 told_last users (f ∷ before) frame who h = inr (told_last users before frame who h)
 
+-- a frame whose body may be read, or is refused before
+begun_so : (g : Setting) (before : List (List ℕ)) (frame : List ℕ) (frames : List (List ℕ)) (a b : Bool) (last : List ℕ) (step : Step) (more : State → List Event)
+    → AreOwn g before (frame ∷ frames) (asked step more) → AreOwn g before (frame ∷ frames) (asked (cond (not a) (Refuses []) (cond b (Refuses last) step)) more)
+begun_so g before frame frames false b last step more h = tt
+begun_so g before frame frames true true last step more h = tt
+begun_so g before frame frames true false last step more h = h
+
+-- ... by what it starts with
+begun_own : (g : Setting) (before : List (List ℕ)) (s : State) (frame : List ℕ) (frames : List (List ℕ)) (o : Option ((ℤ × ℤ) × ℤ))
+    → AreOwn g before (frame ∷ frames) (asked (readable g s (request_at frame)) (λ t. asks_of g t frames)) → AreOwn g before (frame ∷ frames) (asked (begun g s frame o) (λ t. asks_of g t frames))
+begun_own g before s frame frames None h = tt
+begun_own g before s frame frames (Some x) h =
+    begun_so g before frame frames (is_served s x.0.0) (is_login s x.0 && nat_lt (longest_before_login g.users) (length frame)) _ (readable g s (request_at frame)) (λ t. asks_of g t frames) h
+
 -- ---- once a user is known
 
 known_reads : (g : Setting) (before : List (List ℕ)) (who frame : List ℕ) (frames : List (List ℕ)) (r : Result (Header × Request) Malformed) → request_at frame ≡ r → SomeTells g.users before who
@@ -39,7 +54,7 @@ known_reads g before who frame frames (Err e) is tells later = tt
 known_goes : (g : Setting) (before : List (List ℕ)) (who frame : List ℕ) (frames : List (List ℕ)) (o : Option ℤ) → SomeTells g.users before who
     → AreOwn g (before ++ frame ∷ []) frames (asks_of g (known who) frames) → AreOwn g before (frame ∷ frames) (asked (supported g (known who) frame o) (λ t. asks_of g t frames))
 known_goes g before who frame frames (Some c) tells later = passed g before frame frames (asks_of g (known who) frames) later
-known_goes g before who frame frames None tells later = known_reads g before who frame frames (request_at frame) refl tells later
+known_goes g before who frame frames None tells later = begun_own g before (known who) frame frames (start_of frame) (known_reads g before who frame frames (request_at frame) refl tells later)
 
 known_own : (g : Setting) (before : List (List ℕ)) (who : List ℕ) (frames : List (List ℕ)) → SomeTells g.users before who → AreOwn g before frames (asks_of g (known who) frames)
 known_own g before who [] tells = tt
@@ -67,7 +82,7 @@ offered_reads g before frame frames (Err e) is later = tt
 offered_goes : (g : Setting) (before : List (List ℕ)) (frame : List ℕ) (frames : List (List ℕ)) (o : Option ℤ) → AreOwn g (before ++ frame ∷ []) frames (asks_of g offered frames)
     → AreOwn g before (frame ∷ frames) (asked (supported g offered frame o) (λ t. asks_of g t frames))
 offered_goes g before frame frames (Some c) later = passed g before frame frames (asks_of g offered frames) later
-offered_goes g before frame frames None later = offered_reads g before frame frames (request_at frame) refl later
+offered_goes g before frame frames None later = begun_own g before offered frame frames (start_of frame) (offered_reads g before frame frames (request_at frame) refl later)
 
 offered_own : (g : Setting) (before frames : List (List ℕ)) → AreOwn g before frames (asks_of g offered frames)
 offered_own g before [] = tt
@@ -94,7 +109,7 @@ fresh_reads g before frame frames (Err e) later = tt
 fresh_goes : (g : Setting) (before : List (List ℕ)) (frame : List ℕ) (frames : List (List ℕ)) (o : Option ℤ) → AreOwn g (before ++ frame ∷ []) frames (asks_of g fresh frames)
     → AreOwn g before (frame ∷ frames) (asked (supported g fresh frame o) (λ t. asks_of g t frames))
 fresh_goes g before frame frames (Some c) later = passed g before frame frames (asks_of g fresh frames) later
-fresh_goes g before frame frames None later = fresh_reads g before frame frames (request_at frame) later
+fresh_goes g before frame frames None later = begun_own g before fresh frame frames (start_of frame) (fresh_reads g before frame frames (request_at frame) later)
 
 fresh_own : (g : Setting) (before frames : List (List ℕ)) → AreOwn g before frames (asks_of g fresh frames)
 fresh_own g before [] = tt

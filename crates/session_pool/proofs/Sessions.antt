@@ -1,5 +1,5 @@
 -- What a turn asks and writes is what its frame asks and is told.
-use Rattle.std.proofs.Common.{◌≡◌, ℕ, ℤ, suc, Bool, true, false, List, [], ◌∷◌, ◌++◌, Option, Some, None, Result, Ok, Err, ◌⊎◌, inl, inr, refl, ap, sym, ◌∙◌, subst, append_assoc, append-nil}
+use Rattle.std.proofs.Common.{◌≡◌, ◌≤◌, ℕ, ℤ, suc, length, arith, Bool, true, false, List, [], ◌∷◌, ◌++◌, Option, Some, None, Result, Ok, Err, ◌⊎◌, inl, inr, refl, ap, sym, ◌∙◌, subst, append_assoc, append-nil}
 use Rattle.std.proofs.KnownBytes.{Appends-nil, Appends-trans}
 use Rattle.std.specs.Io.KnownBytes.{Appends}
 use Rattle.msg_admin.specs.Response.{response, IsTooLong}
@@ -15,9 +15,11 @@ use Rattle.session_pool.specs.declared.respond.Outcome.TheVariants as outcome
 use Rattle.session_pool.specs.declared.why.Why.{Why}
 use Rattle.session_pool.specs.declared.why.Why.TheVariants as why
 use Rattle.session_pool.specs.Frames.{Front, Nothing, Part, Bad, Whole, front_of, Cut, cut, cut_on}
-use Rattle.session_pool.specs.Asks.{Setting, Step, Tells, Submits, Refuses, Garbles, step_of, asked, told, ended, asks_of, text_of, end_of, asks, text, ends, events_held, fresh}
+use Rattle.msg_admin.specs.Request.{request_at}
+use Rattle.session_pool.specs.declared.frame.Came.{Came}
+use Rattle.session_pool.specs.Asks.{Setting, Step, Tells, Submits, Refuses, Garbles, readable, step_of, asked, told, ended, asks_of, text_of, end_of, asks, text, ends, events_held, fresh}
 use Rattle.session_pool.specs.Reads.{Took, TookLast}
-use Rattle.session_pool.specs.Turns.{Comes, Lacks, Says, Meant, Sends, Finishes, why_of}
+use Rattle.session_pool.specs.Turns.{Comes, Lacks, IsOf, Arrives, most_kept, CameOf, Says, Meant, Sends, Finishes, why_of}
 use Rattle.session_pool.specs.Sessions.{is_cause, is_broken, HasCause, Served, Stands, Ended, Goes, Turned, TurnsOn, SessionOf}
 
 -- what the session has by itself leaves the receipts
@@ -29,6 +31,22 @@ said may_stop step rs outcome.Garbled h = (h, refl)
 said may_stop step rs outcome.Fails h = refl
 said may_stop step rs (outcome.Stopped s) h = absurd h
 said may_stop step rs (outcome.Unsent f) h = absurd h
+
+-- by what a frame's first bytes say it leads to
+pub said_of : (g : Setting) (s : State) (came : Came) (step : Step) (rs : List ReceiptValue) (o : Outcome)
+    → ((limit : ℕ) (frame : List ℕ) → CameOf g limit s came frame → step_of g s frame ≡ step) → Says step o
+    → (limit : ℕ) (frame : List ℕ) → CameOf g limit s came frame → Meant g.may_stop (step_of g s frame) rs rs o
+said_of g s came step rs o is says limit frame of = subst (λ (x : Step). Meant g.may_stop x rs rs o) (sym (is limit frame of)) (said g.may_stop step rs o says)
+
+-- by its body
+pub meant_of : (g : Setting) (s : State) (came : Came) (old new : List ReceiptValue) (o : Outcome)
+    → ((limit : ℕ) (frame : List ℕ) → CameOf g limit s came frame → (came.kept ≡ frame) × (step_of g s frame ≡ readable g s (request_at frame)))
+    → Meant g.may_stop (readable g s (request_at came.kept)) old new o
+    → (limit : ℕ) (frame : List ℕ) → CameOf g limit s came frame → Meant g.may_stop (step_of g s frame) old new o
+meant_of g s came old new o is meant limit frame of =
+    let h = is limit frame of in
+    let step : step_of g s frame ≡ readable g s (request_at came.kept) = h.1 ∙ ap (λ (f : List ℕ). readable g s (request_at f)) (sym h.0) in
+    subst (λ (x : Step). Meant g.may_stop x old new o) (sym step) meant
 
 -- ---- a frame comes
 
@@ -280,10 +298,14 @@ turned g limit s frame p rest held held' old new (outcome.Unsent f) r e (c, x, t
     (fault_caused g (suc n) limit s (p ++ tail) (asks g n limit t tail) c x f long) (fault_broken f)))
 
 -- with what is known of a reader's bytes
-pub turned_on : (g : Setting) (limit : ℕ) (s : State) (a b held held' : Option (List ℕ)) (frame : List ℕ) (old new : List ReceiptValue) (o : Outcome) (r : Result State Why)
-    → Took a b (Comes limit frame) → Meant g.may_stop (step_of g s frame) old new o → Finishes held held' o r → Took a b (TurnsOn g limit s held held' old new r)
-turned_on g limit s None b held held' frame old new o r h meant fin = tt
-turned_on g limit s (Some input) b held held' frame old new o r (p, rest, whole, after, e) meant fin = (p, rest, whole, after, turned g limit s frame p rest held held' old new o r e meant fin)
+pub turned_on : (g : Setting) (limit most : ℕ) (s : State) (a b held held' : Option (List ℕ)) (came : Came) (old new : List ReceiptValue) (o : Outcome) (r : Result State Why)
+    → most ≡ most_kept g.users limit s → came.size ≤ limit → Took a b (Arrives limit most came)
+    → ((l : ℕ) (frame : List ℕ) → CameOf g l s came frame → Meant g.may_stop (step_of g s frame) old new o) → Finishes held held' o r → Took a b (TurnsOn g limit s held held' old new r)
+turned_on g limit most s None b held held' came old new o r is within h meant fin = tt
+turned_on g limit most s (Some input) b held held' came old new o r is within (p, rest, whole, after, (frame, of, comes)) meant fin =
+    let short : length frame ≤ limit = omega (arith, within, of.1) in
+    let came_of : CameOf g limit s came frame = (short, subst (λ (m : ℕ). IsOf m came frame) is of) in
+    (p, rest, whole, after, turned g limit s frame p rest held held' old new o r comes (meant limit frame came_of) fin)
 
 -- no frame came
 pub turned_off : (g : Setting) (limit : ℕ) (s : State) (a b held : Option (List ℕ)) (old : List ReceiptValue) (w : Why)

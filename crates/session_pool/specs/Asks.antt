@@ -1,5 +1,7 @@
 -- What a session asks and writes, and why it ends: functions of the bytes that come in.
-use Rattle.std.specs.Prelude.{ℕ, ℤ, Bool, List, [], ◌∷◌, ◌++◌, map, Option, Some, None, Result, Ok, Err, if◌then◌else◌}
+use Rattle.std.specs.Prelude.{ℕ, ℤ, pos, ◌+◌, max, nat_lt, Bool, true, false, not, ◌&&◌, ◌||◌, List, [], ◌∷◌, ◌++◌, length, map, Option, Some, None, option_map, Result, Ok, Err, if◌then◌else◌}
+use Rattle.std.specs.Ordering.{int_eq}
+use Rattle.std.specs.Result.{result_ok}
 use Rattle.wire_types.specs.declared.fault.Malformed.{Malformed}
 use Rattle.wire_types.specs.declared.error_code.ErrorCode.TheVariants as codes
 use Rattle.msg_login.specs.SaslHandshake.{handshake_reply}
@@ -10,7 +12,7 @@ use Rattle.msg_admin.specs.declared.request.Request.TheVariants as requests
 use Rattle.msg_admin.specs.declared.reply.Reply.TheVariants as replies
 use Rattle.msg_admin.specs.Request.{request_at}
 use Rattle.msg_admin.specs.Response.{response}
-use Rattle.msg_admin.specs.Versions.{unsupported_at, unsupported_response}
+use Rattle.msg_admin.specs.Versions.{start, unsupported_at, unsupported_response}
 use Rattle.audit_trail.specs.declared.event.Event.{Event}
 use Rattle.audit_trail.specs.declared.event.Event.TheVariants.{Ask}
 use Rattle.request_handlers.specs.declared.stop.Stop.{Stop}
@@ -23,7 +25,7 @@ use Rattle.session_pool.specs.declared.why.Why.TheVariants.{Malformed as IsMalfo
 use Rattle.session_pool.specs.Frames.{cut}
 use Rattle.session_logins.specs.declared.listed.ListedVersions.{ListedVersions}
 use Rattle.session_logins.specs.Listed.{versions_listed}
-use Rattle.session_logins.specs.Login.{is_plain, login_of}
+use Rattle.session_logins.specs.Login.{is_plain, login_of, longest_login}
 
 -- the users who may log in, how versions are listed before that, the host that calls, and whether the desk may answer an event
 -- by a stop
@@ -93,10 +95,49 @@ abbrev pub readable : Setting → State → Result (Header × Request) Malformed
 readable g s (Ok x) = leads g s x.0 x.1
 readable g s (Err e) = Garbles
 
+-- ---- by its first bytes, before a body is read
+
+-- a user told the right password
+abbrev pub is_known : State → Bool
+is_known (Known k) = true
+is_known s = false
+
+-- what each request header starts with: the key and the version of its api, and the correlation id
+abbrev pub start_of : List ℕ → Option ((ℤ × ℤ) × ℤ)
+start_of frame = option_map (λ x. x.0) (result_ok (start.reading frame))
+
+-- Before a login ApiVersions (18) is served, and SaslHandshake (17) or SaslAuthenticate (36); after it each api is.
+abbrev pub is_served : State → ℤ → Bool
+is_served (Fresh f) key = int_eq key (pos 18) || int_eq key (pos 17)
+is_served (Offered o) key = int_eq key (pos 18) || int_eq key (pos 36)
+is_served (Known k) key = true
+
+-- a SaslAuthenticate in its version 0, where it is served
+abbrev pub is_login : State → ℤ × ℤ → Bool
+is_login (Offered o) names = int_eq names.0 (pos 36) && int_eq names.1 (pos 0)
+is_login s names = false
+
+-- The longest frame whose body is read before a login. A header has 10 bytes at most, and 32,767 of a client's name. After it
+-- stand nothing, or 2 bytes and 32,767 of a mechanism's name, or 4 bytes and a user's message.
+abbrev pub longest_before_login : List User → ℕ
+longest_before_login users = max 65546 (32781 + longest_login users)
+
+-- What a frame leads to by what it starts with: what isn't served is refused without an answer, and a login that is longer than
+-- any, as a wrong password is.
+abbrev pub begins : Setting → State → List ℕ → (ℤ × ℤ) × ℤ → Step
+begins g s frame x =
+    if not (is_served s x.0.0) then Refuses []
+    else if is_login s x.0 && nat_lt (longest_before_login g.users) (length frame) then logs_in x.1 None
+    else readable g s (request_at frame)
+
+abbrev pub begun : Setting → State → List ℕ → Option ((ℤ × ℤ) × ℤ) → Step
+begun g s frame (Some x) = begins g s frame x
+begun g s frame None = Garbles
+
 -- at any time a client is told which version of ApiVersions is served
 abbrev pub supported : Setting → State → List ℕ → Option ℤ → Step
 supported g s frame (Some correlation) = Tells (unsupported_response correlation) s
-supported g s frame None = readable g s (request_at frame)
+supported g s frame None = begun g s frame (start_of frame)
 
 -- what a frame leads to
 abbrev pub step_of : Setting → State → List ℕ → Step

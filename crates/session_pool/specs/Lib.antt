@@ -7,3 +7,4 @@ pub mod Reads
 pub mod Sessions
 pub mod Steps
 pub mod Turns
+pub mod Unread

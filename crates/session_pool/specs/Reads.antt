@@ -1,5 +1,5 @@
 -- Why a part of a frame does not come, by what was read and what is left.
-use Rattle.std.specs.Prelude.{◌≡◌, ◌<◌, ℕ, List, [], ◌++◌, length, Option, Some, IfSome}
+use Rattle.std.specs.Prelude.{◌≡◌, ◌<◌, ◌+◌, ℕ, List, [], ◌++◌, length, Option, Some, IfSome}
 use Rattle.std.specs.Io.KnownBytes.{Consumes}
 use Rattle.session_pool.specs.declared.why.Why.{Why}
 use Rattle.session_pool.specs.declared.why.Why.TheVariants as why
@@ -19,6 +19,14 @@ StopsShort old new n = (read : List ℕ) × Consumes old new read × (length rea
 -- what was read stands behind what was held
 abbrev pub ReadsOn : Option (List ℕ) → Option (List ℕ) → List ℕ → List ℕ → Type 0
 ReadsOn old new held more = (read : List ℕ) × (more ≡ held ++ read) × Consumes old new read
+
+-- so many bytes were read past
+abbrev pub Passes : Option (List ℕ) → Option (List ℕ) → ℕ → Type 0
+Passes old new n = (read : List ℕ) × (length read ≡ n) × Consumes old new read
+
+-- so many bytes were read, and these are the first of them
+abbrev pub ReadsPast : Option (List ℕ) → Option (List ℕ) → List ℕ → ℕ → Type 0
+ReadsPast old new front n = (more : List ℕ) × (length front + length more ≡ n) × Consumes old new (front ++ more)
 
 abbrev pub HeadLacks : Why → List ℕ → List ℕ → Type 0
 HeadLacks why.Closed read rest = (length read ≡ 0) × (rest ≡ [])

@@ -1,24 +1,51 @@
 -- What one frame comes to.
-use Rattle.std.specs.Prelude.{◌≡◌, ℕ, ℤ, Bool, true, List, [], ◌∷◌, ◌++◌, Option, Result, Ok, Err, ◌⊎◌}
+use Rattle.std.specs.Prelude.{◌≡◌, ◌≤◌, ℕ, ℤ, min, nat_lt, Bool, true, List, [], ◌∷◌, ◌++◌, length, take, Option, None, Result, Ok, Err, ◌⊎◌, if◌then◌else◌}
 use Rattle.std.specs.Io.KnownBytes.{Appends}
 use Rattle.wire_types.specs.declared.fault.WriteFault.{WriteFault}
 use Rattle.wire_types.specs.declared.fault.WriteFault.TheVariants as faults
+use Rattle.msg_admin.specs.Request.{request_at}
 use Rattle.msg_admin.specs.Response.{response, IsTooLong}
+use Rattle.msg_admin.specs.Versions.{unsupported_response}
 use Rattle.audit_trail.specs.declared.event.Event.{Event}
 use Rattle.request_handlers.specs.declared.stop.Stop.{Stop}
 use Rattle.request_handlers.specs.Receipt.{ReceiptValue}
 use Rattle.session_pool.specs.declared.login.State.{State}
 use Rattle.session_pool.specs.declared.login.State.TheVariants.{Known}
+use Rattle.settings_text.specs.declared.document.User.{User}
+use Rattle.session_pool.specs.declared.begin.Begun.{Begun}
+use Rattle.session_pool.specs.declared.begin.Begun.TheVariants as begun
+use Rattle.session_pool.specs.declared.frame.Came.{Came}
 use Rattle.session_pool.specs.declared.respond.Outcome.{Outcome}
 use Rattle.session_pool.specs.declared.respond.Outcome.TheVariants as outcome
 use Rattle.session_pool.specs.declared.why.Why.{Why}
 use Rattle.session_pool.specs.declared.why.Why.TheVariants as why
-use Rattle.session_pool.specs.Asks.{Step, Tells, Submits, Refuses, Garbles}
+use Rattle.session_pool.specs.Asks.{Setting, Step, Tells, Submits, Refuses, Garbles, longest_before_login, logs_in, readable, step_of}
 use Rattle.session_pool.specs.Frames.{Nothing, Part, Bad, Whole, front_of}
 
 -- the bytes that were read are a frame, whatever follows
 abbrev pub Comes : ℕ → List ℕ → List ℕ → List ℕ → Type 0
 Comes limit frame read rest = (tail : List ℕ) → front_of limit (read ++ tail) ≡ Whole frame tail
+
+-- what is kept of a frame: the whole, or of one with more than so many bytes the first eight
+abbrev pub kept_of : ℕ → List ℕ → List ℕ
+kept_of most frame = if nat_lt most (length frame) then take 8 frame else frame
+
+-- what came is of this frame
+abbrev pub IsOf : ℕ → Came → List ℕ → Type 0
+IsOf most came frame = (came.kept ≡ kept_of most frame) × (came.size ≡ length frame)
+
+-- the bytes that were read are a frame of which this came, whatever follows
+abbrev pub Arrives : ℕ → ℕ → Came → List ℕ → List ℕ → Type 0
+Arrives limit most came read rest = (frame : List ℕ) × IsOf most came frame × Comes limit frame read rest
+
+-- so many bytes a frame may have that is kept, where none has more than the limit
+abbrev pub most_kept : List User → ℕ → State → ℕ
+most_kept users limit (Known k) = limit
+most_kept users limit s = min limit (longest_before_login users)
+
+-- this came of the frame
+abbrev pub CameOf : Setting → ℕ → State → Came → List ℕ → Type 0
+CameOf g limit s came frame = (length frame ≤ limit) × IsOf (most_kept g.users limit s) came frame
 
 -- where a frame does not come
 abbrev pub Lacks : ℕ → Why → List ℕ → List ℕ → Type 0
@@ -30,6 +57,14 @@ Lacks limit why.NoMemory read rest = Unit {0}
 Lacks limit _ read rest = ⊥
 
 -- ---- what comes of a frame
+
+-- what a frame leads to, of which this came, as far as its first bytes say it
+abbrev pub IsBegun : Setting → State → Came → List ℕ → Begun → Type 0
+IsBegun g s came frame (begun.OtherVersion correlation) = step_of g s frame ≡ Tells (unsupported_response correlation) s
+IsBegun g s came frame begun.Unserved = step_of g s frame ≡ Refuses []
+IsBegun g s came frame (begun.Overlong correlation) = step_of g s frame ≡ logs_in correlation None
+IsBegun g s came frame begun.Unreadable = step_of g s frame ≡ Garbles
+IsBegun g s came frame begun.Whole = (came.kept ≡ frame) × (step_of g s frame ≡ readable g s (request_at frame))
 
 -- an outcome that the session has by itself
 abbrev pub Says : Step → Outcome → Type 0

@@ -3,8 +3,8 @@
 ghost use Rattle.std.specs.Prelude.{◌≡◌, ◌+◌, ◌-◌, ◌≤◌, ◌<◌, length, max, take, IfOk, IfErr, OnOk, OnErr};
 ghost use Rattle.std.specs.Io.KnownBytes.{Consumes, Keeps, IsAtEnd};
 ghost use Rattle.session_pool.specs.declared.why.Why.TheVariants.{ReadFault, NoMemory};
-ghost use Rattle.session_pool.specs.Turns.{Lacks, Comes};
-ghost use Rattle.session_pool.specs.Reads.{HeadLacks, BodyLacks, Took, StopsShort, ReadsOn};
+ghost use Rattle.session_pool.specs.Turns.{Lacks, Arrives};
+ghost use Rattle.session_pool.specs.Reads.{HeadLacks, BodyLacks, Took, StopsShort, ReadsOn, Passes, ReadsPast};
 
 use crate::why::Why;
 use std::alloc::Global;
@@ -153,16 +153,71 @@ fn read_body<R: Read>(
     Ok(body)
 }
 
-/// Reads a frame of at most so many bytes after its size field.
+/// Reads past so many bytes, by pieces of 8,192.
+#[tactic(auto, using(crate::proofs::Bytes::none_passed, crate::proofs::Bytes::more_passed))]
+fn read_past<R: Read>(reader: &mut R, size: usize) -> Result<(), Why>
+    ensures ok { IfOk result (λ _. Passes (R.remaining reader.old) (R.remaining reader.new) size) }
+    ensures err { IfErr result (λ why. Took (R.remaining reader.old) (R.remaining reader.new) (BodyLacks size why)) }
+{
+    if size == 0 {
+        return Ok(());
+    }
+    let mut piece = [0; PIECE];
+    let mut passed = 0;
+    while passed < size {
+        let more = PIECE.min(size - passed);
+        if let Err(why) = read_piece(reader, &mut piece[..more]) {
+            return Err(why);
+        }
+        passed += more;
+    }
+    Ok(())
+}
+
+/// Reads so many bytes, and keeps so many of them, the first ones.
+#[tactic(auto, using(crate::proofs::Bytes::some_kept, crate::proofs::Bytes::front_lacks, crate::proofs::Bytes::rest_lacks))]
+fn read_keeping<R: Read>(
+    alloc: Global,
+    reader: &mut R,
+    longest: usize,
+    kept: usize,
+    size: usize,
+) -> Result<Vec<u8>, Why>
+    requires { kept ≤ size }
+    ensures len { IfOk result (λ body. length body.items ≡ kept) }
+    ensures ok { IfOk result (λ body. ReadsPast (R.remaining reader.old) (R.remaining reader.new) body.items size) }
+    ensures err { IfErr result (λ why. Took (R.remaining reader.old) (R.remaining reader.new) (BodyLacks size why)) }
+{
+    let body = match read_body(alloc, reader, longest, kept) {
+        Ok(body) => body,
+        Err(why) => return Err(why),
+    };
+    match read_past(reader, size - kept) {
+        Ok(()) => Ok(body),
+        Err(why) => Err(why),
+    }
+}
+
+/// What came of a frame.
+#[derive(Drop)]
+pub(crate) struct Came {
+    /// All its bytes, or the first eight of a frame that is too long to be kept.
+    pub(crate) kept: Bytes,
+    /// How many it has.
+    pub(crate) size: usize,
+}
+
+/// Reads a frame of at most so many bytes after its size field, and keeps what is kept of it.
 #[tactic(auto, using(crate::proofs::Fronts::no_head, crate::proofs::Fronts::bad, crate::proofs::Fronts::no_body))]
 fn read_sized<R: Read>(
     alloc: Global,
     reader: &mut R,
     longest: usize,
+    most: u32,
     limit: u32,
-) -> Result<Vec<u8>, Why>
-    ensures within { IfOk result (λ frame. length frame.items ≤ limit) }
-    ensures ok { IfOk result (λ frame. Took (R.remaining reader.old) (R.remaining reader.new) (Comes limit frame.items)) }
+) -> Result<(Vec<u8>, usize), Why>
+    ensures within { IfOk result (λ came. (length came.0.items ≤ came.1) × (came.1 ≤ limit)) }
+    ensures ok { IfOk result (λ came. Took (R.remaining reader.old) (R.remaining reader.new) (Arrives limit most (record { kept = came.0.items; size = came.1 }))) }
     ensures err { IfErr result (λ why. Took (R.remaining reader.old) (R.remaining reader.new) (Lacks limit why)) }
 {
     let head = read_head(reader)?;
@@ -170,31 +225,35 @@ fn read_sized<R: Read>(
     if size < LEAST || size > limit {
         return Err(Why::BadFrame);
     }
-    match read_body(alloc, reader, longest, size as usize) {
-        Ok(body) => Ok(body),
+    let kept = if size > most { LEAST } else { size };
+    match read_keeping(alloc, reader, longest, kept as usize, size as usize) {
+        Ok(body) => Ok((body, size as usize)),
         Err(why) => Err(why),
     }
 }
 
-/// The next frame, without its size field. What was read becomes the frame, and isn't copied. The length of the session's
-/// longest frame counts what came alone, never what a size field announced.
+/// What comes of the next frame, without its size field: the whole of it, or of a frame above so many bytes the first eight,
+/// and its length. What was read and kept isn't copied. The length of the session's longest frame counts what was kept alone,
+/// never what a size field announced.
+#[tactic(auto, using(crate::proofs::Fronts::no_room))]
 pub(crate) fn read_frame<R: Read>(
     alloc: Global,
     reader: &mut R,
     longest: &mut usize,
+    most: u32,
     limit: u32,
-) -> Result<Bytes, Why>
-    ensures within { IfOk result (λ frame. length frame ≤ limit) }
-    ensures ok { IfOk result (λ frame. Took (R.remaining reader.old) (R.remaining reader.new) (Comes limit frame)) }
+) -> Result<Came, Why>
+    ensures within { IfOk result (λ came. (length came.kept ≤ came.size) × (came.size ≤ limit)) }
+    ensures ok { IfOk result (λ came. Took (R.remaining reader.old) (R.remaining reader.new) (Arrives limit most came)) }
     ensures err { IfErr result (λ why. Took (R.remaining reader.old) (R.remaining reader.new) (Lacks limit why)) }
-    ensures longest { IfOk result (λ frame. longest.new ≡ max longest.old (length frame)) }
+    ensures longest { IfOk result (λ came. longest.new ≡ max longest.old (length came.kept)) }
     ensures same { OnErr result (longest.new ≡ longest.old) }
 {
-    let body = read_sized(alloc, reader, *longest, limit)?;
-    let came = body.len();
-    let Ok(frame) = Bytes::from_vec(body) else {
+    let (body, size) = read_sized(alloc, reader, *longest, most, limit)?;
+    let kept = body.len();
+    let Ok(bytes) = Bytes::from_vec(body) else {
         return Err(Why::NoMemory);
     };
-    *longest = (*longest).max(came);
-    Ok(frame)
+    *longest = (*longest).max(kept);
+    Ok(Came { kept: bytes, size })
 }

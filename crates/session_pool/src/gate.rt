@@ -12,17 +12,27 @@ pub trait Gate {
     /// Comes once an event has its receipt, before its answer is written.
     fn answered(&self, _receipt: &Receipt) {}
 
+    /// The session's user is known from here on. Comes once in a session, after the login's answer was written.
+    fn logged_in(&self, session: u64, who: &Text);
+
     /// Comes once it was answered or the session was ended on it.
     fn after(&self, session: u64, frame: u64);
 
     /// Comes once the session has ended, from whoever serves it: with the host that it came from, the principal that asked,
     /// if one did, and why it ended.
     fn ended(&self, _session: u64, _host: &Text, _who: Option<&Text>, _why: Why) {}
+
+    /// Comes in place of that where a read or a write failed since the peer took longer than it may, which the words say.
+    fn overdue(&self, session: u64, host: &Text, who: Option<&Text>, why: Why, _words: &str) {
+        self.ended(session, host, who, why);
+    }
 }
 
 /// Nobody.
 impl Gate for () {
     fn before(&self, _session: u64, _frame: u64) {}
+
+    fn logged_in(&self, _session: u64, _who: &Text) {}
 
     fn after(&self, _session: u64, _frame: u64) {}
 }

@@ -6,6 +6,7 @@
 //! as whoever steers the broker has it.
 #![tactic(auto)]
 
+mod begin;
 mod closing;
 mod desk;
 mod frame;
@@ -22,7 +23,7 @@ mod why;
 pub use closing::Closing;
 pub use desk::{Desk, DeskLedger};
 pub use gate::Gate;
-pub use laws::asks_are_own;
+pub use laws::{asks_are_own, long_frames_go_by_their_front, long_frames_log_nobody_in};
 pub use locked::{LockedDesk, Quiet};
 pub use login::{Closed, Fresh, Known, LoginFault, Offered};
 pub use session::{Limits, SessionEnd, serve_session, serve_session_listing};

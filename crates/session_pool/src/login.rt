@@ -4,6 +4,7 @@
 ghost use Rattle.std.specs.Prelude.{◌≡◌, IfOk, MatchResult, true, false};
 ghost use Rattle.audit_trail.specs.declared.event.Event.TheVariants.{Ask};
 ghost use Rattle.session_logins.specs.Login.{is_plain, login_of};
+ghost use Rattle.session_pool.specs.Asks.{is_known};
 ghost use Rattle.session_pool.specs.Logins.{mechanism_unknown, LogsIn};
 
 use acl_binding::Caller;
@@ -52,6 +53,18 @@ pub(crate) enum State {
     Known(Known),
 }
 
+impl State {
+    /// Whether its user is known.
+    pub(crate) fn is_known(&self) -> bool
+        ensures { result ≡ is_known self.now }
+    {
+        match self {
+            State::Known(_) => true,
+            _ => false,
+        }
+    }
+}
+
 impl Fresh {
     pub fn new() -> Fresh {
         Fresh(())
@@ -88,6 +101,13 @@ impl Offered {
 }
 
 impl Known {
+    /// The user's principal.
+    pub(crate) fn who(&self) -> &Text
+        ensures { result.now ≡ self.now.who }
+    {
+        &self.who
+    }
+
     /// What the user asks, from this host: the event for a core.
     pub fn ask(&self, host: &Text, header: Header, request: Request) -> Result<Event, AllocError>
         ensures { IfOk result (λ event. event ≡ Ask (record { who = self.now.who; host = host.now }) header.client request) }

@@ -1,22 +1,23 @@
 //! What a frame leads to.
 
-ghost use Rattle.std.specs.Prelude.{◌≡◌, ◌+◌, ◌≤◌, [], length, vec_len, MatchResult};
+ghost use Rattle.std.specs.Prelude.{◌≡◌, ◌+◌, ◌≤◌, ℕ, List, [], None, length, vec_len, MatchResult};
 ghost use Rattle.msg_admin.specs.declared.request.TheConstants.{FRAME_LIMIT as LIMIT};
-ghost use Rattle.msg_admin.specs.Request.{Fits};
+ghost use Rattle.msg_admin.specs.Request.{Fits, request_at};
 ghost use Rattle.msg_admin.specs.Versions.{unsupported_response};
 ghost use Rattle.api_dispatch.specs.Bounds.{EventFits};
 ghost use Rattle.session_pool.specs.declared.login.State.TheVariants as state;
 ghost use Rattle.session_pool.specs.declared.respond.Outcome.TheVariants as outcome;
-ghost use Rattle.session_pool.specs.Asks.{Step, Tells, Submits, Refuses, step_of, leads, greets, admits, submits, offers, logs_in};
+ghost use Rattle.session_pool.specs.Asks.{Step, Tells, Submits, Refuses, step_of, readable, leads, greets, admits, submits, offers, logs_in};
 ghost use Rattle.session_logins.specs.Login.{login_of};
-ghost use Rattle.session_pool.specs.Turns.{Says, Meant};
+ghost use Rattle.session_pool.specs.Turns.{CameOf, Says, Meant};
 
+use crate::begin::{Begun, begin};
 use crate::desk::Desk;
+use crate::frame::Came;
 use crate::login::{Closed, Fresh, Known, LoginFault, Offered, State};
 use audit_trail::Event;
 use msg_admin::{
-    FRAME_LIMIT, Header, Request, read_request, unsupported_versions, write_reply,
-    write_unsupported_versions,
+    FRAME_LIMIT, Header, Request, read_request, write_reply, write_unsupported_versions,
 };
 use request_handlers::{Receipt, Stop};
 use session_logins::{ListedVersions, Users, write_handshake, write_login, write_versions};
@@ -236,9 +237,16 @@ fn tell_served(alloc: Global, correlation: i32, state: State) -> Outcome
     tell(write_unsupported_versions(alloc, correlation), state)
 }
 
-/// What a frame leads to.
+/// Refuses a login.
+fn refuse_login(alloc: Global, correlation: i32) -> Outcome
+    ensures { Says (logs_in correlation None) result }
+{
+    refuse(write_login(alloc, correlation, ErrorCode::SaslAuthenticationFailed))
+}
+
+/// What a frame leads to whose body is read.
 #[tactic(auto, using(crate::proofs::Sessions::said))]
-pub(crate) fn respond<S, D: Desk<S>>(
+fn read<S, D: Desk<S>>(
     alloc: Global,
     host: &Text,
     users: &Users,
@@ -251,11 +259,8 @@ pub(crate) fn respond<S, D: Desk<S>>(
 ) -> (S, Outcome)
     requires { length frame.now ≤ LIMIT }
     ensures risen { (D.view result.0).count + vec_len receipts.old ≡ (D.view seat).count + vec_len receipts.new }
-    ensures meant { Meant D.may_stop (step_of (record { users = users.now; listed = listed; host = host.now; may_stop = D.may_stop }) state frame.now) receipts.old.items receipts.new.items result.1 }
+    ensures meant { Meant D.may_stop (readable (record { users = users.now; listed = listed; host = host.now; may_stop = D.may_stop }) state (request_at frame.now)) receipts.old.items receipts.new.items result.1 }
 {
-    if let Some(correlation) = unsupported_versions(frame) {
-        return (seat, tell_served(alloc, correlation, state));
-    }
     match read_request(alloc, frame) {
         Ok((header, request)) => {
             lead(
@@ -264,5 +269,36 @@ pub(crate) fn respond<S, D: Desk<S>>(
         }
         Err(ReadFault::Malformed(_)) => (seat, Outcome::Garbled),
         Err(ReadFault::NoMemory) => (seat, Outcome::Fails),
+    }
+}
+
+/// What a frame leads to, of which this came. Its body is read only where its first bytes don't say it.
+pub(crate) fn respond<S, D: Desk<S>>(
+    alloc: Global,
+    host: &Text,
+    users: &Users,
+    listed: ListedVersions,
+    desk: &D,
+    state: State,
+    came: &Came,
+    seat: S,
+    receipts: &mut Vec<Receipt>,
+) -> (S, Outcome)
+    requires { (length came.now.kept ≤ came.now.size) × (came.now.size ≤ LIMIT) }
+    ensures risen { (D.view result.0).count + vec_len receipts.old ≡ (D.view seat).count + vec_len receipts.new }
+    ensures meant { (limit : ℕ) (frame : List ℕ) → CameOf (record { users = users.now; listed = listed; host = host.now; may_stop = D.may_stop }) limit state came.now frame
+        → Meant D.may_stop (step_of (record { users = users.now; listed = listed; host = host.now; may_stop = D.may_stop }) state frame) receipts.old.items receipts.new.items result.1 }
+{
+    match begin(&state, came) {
+        Begun::OtherVersion(correlation) => (seat, tell_served(alloc, correlation, state)),
+        Begun::Unserved => (seat, close()),
+        Begun::Overlong(correlation) => (seat, refuse_login(alloc, correlation)),
+        Begun::Unreadable => (seat, Outcome::Garbled),
+        Begun::Whole => {
+            let frame = &came.kept;
+            read(
+                alloc, host, users, listed, desk, state, frame, seat, receipts,
+            )
+        }
     }
 }

@@ -5,7 +5,7 @@ ghost use Rattle.msg_admin.specs.declared.request.TheConstants.{FRAME_LIMIT as L
 ghost use Rattle.session_logins.specs.declared.listed.ListedVersions.TheVariants.{AsServed};
 ghost use Rattle.session_pool.specs.Reads.{Took, TookLast};
 ghost use Rattle.session_pool.specs.Sessions.{TurnsOn, SessionOf};
-ghost use Rattle.session_pool.specs.Turns.{Sends, Finishes, why_of};
+ghost use Rattle.session_pool.specs.Turns.{most_kept, Sends, Finishes, why_of};
 
 use crate::desk::Desk;
 use crate::frame::read_frame;
@@ -82,10 +82,43 @@ fn finish<W: Write>(writer: &mut W, outcome: Outcome) -> Result<State, Why>
     }
 }
 
-/// Reads and answers one frame. The gate is told of the event's receipt before its answer is written.
-#[tactic(auto, using(crate::proofs::Sessions::turned_on, crate::proofs::Sessions::turned_off))]
+/// The longest SaslHandshake, and what a SaslAuthenticate has before its message at most: a header and the message's length.
+const LONGEST_HANDSHAKE: usize = 65_546;
+
+const LONGEST_BEFORE_MESSAGE: usize = 32_781;
+
+/// How many bytes a frame may have that is kept, where none has more than the limit.
+fn most_kept(users: &Users, state: &State, limit: u32) -> u32
+    ensures { result ≡ most_kept users.now limit state.now }
+{
+    if state.is_known() {
+        return limit;
+    }
+    let login = LONGEST_BEFORE_MESSAGE.saturating_add(users.longest_login());
+    login.max(LONGEST_HANDSHAKE).min(limit as usize) as u32
+}
+
+/// Tells the gate of the receipt at this place, if there is one.
+fn tell_receipt<G: Gate>(gate: &G, receipts: &[Receipt], place: usize) {
+    if let Some(receipt) = receipts.get(place) {
+        gate.answered(receipt);
+    }
+}
+
+/// Tells the gate of the user who is known now and wasn't before.
+fn tell_login<G: Gate>(gate: &G, session: u64, was_known: bool, next: &Result<State, Why>) {
+    if let Ok(State::Known(known)) = next {
+        if !was_known {
+            gate.logged_in(session, known.who());
+        }
+    }
+}
+
+/// Reads and answers one frame. The gate is told of the event's receipt before its answer is written, and of a user after that.
+#[tactic(auto, using(crate::proofs::Sessions::turned_off))]
 fn turn<S, Rd: Read, Wr: Write, D: Desk<S>, G: Gate>(
     alloc: Global,
+    session: u64,
     reader: &mut Rd,
     longest: &mut usize,
     writer: &mut Wr,
@@ -103,18 +136,19 @@ fn turn<S, Rd: Read, Wr: Write, D: Desk<S>, G: Gate>(
     ensures risen { (D.view result.0).count + vec_len receipts.old ≡ (D.view seat).count + vec_len receipts.new }
     ensures turns { Took (Rd.remaining reader.old) (Rd.remaining reader.new) (TurnsOn (record { users = users.now; listed = listed; host = host.now; may_stop = D.may_stop }) limit state (Wr.contents writer.old) (Wr.contents writer.new) receipts.old.items receipts.new.items result.1) }
 {
-    let frame = match read_frame(alloc, reader, longest, limit) {
-        Ok(frame) => frame,
+    let most = most_kept(users, &state, limit);
+    let came = match read_frame(alloc, reader, longest, most, limit) {
+        Ok(came) => came,
         Err(why) => return (seat, Err(why)),
     };
+    let was_known = state.is_known();
     let place = receipts.len();
     let (seat, outcome) = respond(
-        alloc, host, users, listed, desk, state, &frame, seat, receipts,
+        alloc, host, users, listed, desk, state, &came, seat, receipts,
     );
-    if let Some(receipt) = receipts.as_slice().get(place) {
-        gate.answered(receipt);
-    }
+    tell_receipt(gate, receipts.as_slice(), place);
     let next = finish(writer, outcome);
+    tell_login(gate, session, was_known, &next);
     (seat, next)
 }
 
@@ -144,6 +178,7 @@ fn serve<S, Rd: Read, Wr: Write, D: Desk<S>, G: Gate>(
         gate.before(session, frame);
         let (back, outcome) = turn(
             alloc,
+            session,
             reader,
             &mut longest,
             writer,

@@ -8,7 +8,7 @@ use Rattle.session_pool.specs.declared.why.Why.{Why}
 use Rattle.session_pool.specs.declared.steps.Step.{Step}
 use Rattle.session_pool.specs.declared.steps.Step.TheVariants as steps
 use Rattle.session_pool.specs.Steps.{IsDue, step_event, told, noted}
-use Rattle.session_workers.specs.Ends.{IsOfKeeper, HasRisen, Keeps, Adds, AreEnds, owed_after, markers_left}
+use Rattle.session_workers.specs.Ends.{IsOfKeeper, HasRisen, HasReceipt, Keeps, Adds, AreEnds, owed_after, markers_left}
 
 -- a step is the keeper's
 pub of_keeper : (step : Step) → IsOfKeeper (step_event step)
@@ -59,12 +59,13 @@ turned owed was now seen next old new outcome so same adds again came =
 
 -- the keeper's end stands after the others
 pub are_ends : (owed : Option ℕ) (sessions ends : List (SessionEnd SeatValue)) (keeper : SessionEnd SeatValue) (seat : SeatValue)
-    → ends ≡ sessions ++ keeper ∷ [] → All HasRisen sessions → seat ≡ fresh_seat → keeper.seat.count ≡ seat.count + vec_len keeper.receipts
+    → ends ≡ sessions ++ keeper ∷ [] → All HasRisen sessions → All HasReceipt sessions → seat ≡ fresh_seat → keeper.seat.count ≡ seat.count + vec_len keeper.receipts
     → Keeps owed keeper.receipts.items → AreEnds owed ends
-are_ends owed sessions ends keeper seat are risen fresh grown kept = record {
+are_ends owed sessions ends keeper seat are risen asked fresh grown kept = record {
   sessions = sessions;
   keeper = keeper;
   are = are;
   risen = risen;
+  asked = asked;
   kept = (omega (arith, grown, ap (λ (s : SeatValue). s.count) fresh), kept);
 }

@@ -1,5 +1,5 @@
 -- What contracts say of the ends of sessions, and of the keeper's.
-use Rattle.std.specs.Prelude.{◌≡◌, ℕ, List, [], ◌∷◌, ◌++◌, Option, Result, Ok, Err, vec_len, All}
+use Rattle.std.specs.Prelude.{◌≡◌, ℕ, ◌+◌, ◌<◌, List, [], ◌∷◌, ◌++◌, Option, Result, Ok, Err, vec_len, All}
 use Rattle.msg_admin.specs.declared.reply.Reply.{Reply}
 use Rattle.msg_admin.specs.declared.reply.Reply.TheVariants.{Marked, Ticked}
 use Rattle.audit_trail.specs.declared.event.Event.{Event}
@@ -46,10 +46,21 @@ Adds owed old new (Err why) = new ≡ old
 abbrev pub IsKept : Option ℕ → SessionEnd SeatValue → Type 0
 IsKept owed end = HasRisen end × Keeps owed end.receipts.items
 
--- the ends of sessions, and after them that of the keeper, which goes by what is owed or doesn't
+-- the session asked something that was answered
+abbrev pub HasReceipt : SessionEnd SeatValue → Type 0
+HasReceipt end = 0 < vec_len end.receipts
+
+-- The ends of those sessions that have a receipt, and after them that of the keeper, which goes by what is owed or doesn't. Of a
+-- session without a receipt nothing is kept.
 pub record AreEnds (owed : Option ℕ) (ends : List (SessionEnd SeatValue)) : Type 0 where
   pub sessions : List (SessionEnd SeatValue)
   pub keeper : SessionEnd SeatValue
   pub are : ends ≡ sessions ++ keeper ∷ []
   pub risen : All HasRisen sessions
+  pub asked : All HasReceipt sessions
   pub kept : IsKept owed keeper
+
+-- a session more has ended: its end is kept if it has a receipt, and counted among the others if it has none
+pub record AddsSession (kept kept' : List (SessionEnd SeatValue)) (others others' : ℕ) (end : SessionEnd SeatValue) : Type 0 where
+  pub keeps : HasReceipt end → (kept' ≡ kept ++ end ∷ []) × (others' ≡ others)
+  pub counts : vec_len end.receipts ≡ 0 → (kept' ≡ kept) × (others' ≡ others + 1)

@@ -3,15 +3,16 @@
 ghost use Rattle.std.specs.Prelude.{IfOk};
 ghost use Rattle.session_workers.specs.Ends.{AreEnds};
 
-use crate::accept::accept_all;
+use crate::accept::Door;
 use crate::patience::Patient;
+use crate::sessions::Ended;
 use crate::workers::{PoolFault, serve_all_stepped};
-use request_handlers::Seat;
+use admission::{Doorman, Hosts};
 use session_logins::{ListedVersions, Users};
-use session_pool::{Closing, DeskLedger, Gate, LockedDesk, SessionEnd, Steps};
+use session_pool::{Closing, DeskLedger, Gate, LockedDesk, Steps};
 use std::alloc::Global;
 use std::net::{Net, TcpListener, TcpStream};
-use std::sync::Wait;
+use std::sync::{Mutex, Wait};
 use std::thread::Threads;
 use std::time::Duration;
 use std::{thread, time};
@@ -22,12 +23,20 @@ use wire_types::Shared;
 pub struct ConnectionOptions {
     /// So many connections are served at once. Two more wait for a worker, and the others in the listener's queue.
     pub workers: usize,
-    /// So many are served in all.
+    /// So many are served in all, unless that is endless.
     pub connections: u64,
+    /// Whether connections aren't counted.
+    pub endless: bool,
+    /// So many connections of one host are served or wait for a worker at once, if that is limited.
+    pub per_host: Option<u64>,
     /// For so long connections are taken, if there is an end to it.
     pub open: Option<Duration>,
     /// After so long a wait for its peer a session ends, if it ever does. It is above zero.
     pub idle: Option<Duration>,
+    /// Within so long from its beginning a session's user is known, or it ends.
+    pub login_within: Duration,
+    /// Within so long a frame comes, from its first byte to its last, or its session ends.
+    pub frame_within: Duration,
     /// How the versions that are served are listed before a login.
     pub listed: ListedVersions,
     /// For how long at most the answer to a Fetch is held back that brings no record, within what the request would wait; if it
@@ -38,6 +47,68 @@ pub struct ConnectionOptions {
 /// How many connections wait for a worker in the channel, where one more waits for its turn.
 const WAITING: usize = 1;
 
+/// As `serve_connections`, with what the threads share lent at one lifetime.
+fn serve_lent<
+    'x,
+    'r,
+    L: DeskLedger + Send + Sync,
+    R: Net<Listener = TcpListener, Stream = TcpStream> + Threads + Wait + time::Clock + Sync,
+    K: Steps + Drop,
+    G: Gate + Doorman + Sync,
+>(
+    rt: &'x R,
+    alloc: Global,
+    desk: &'x LockedDesk<L, &'r R>,
+    users: &'x Shared<Users>,
+    listener: &'x TcpListener,
+    options: ConnectionOptions,
+    closing: Option<&'x Closing>,
+    hosts: &'x Mutex<Hosts>,
+    steps: K,
+    gate: &'x G,
+) -> Result<Ended<L>, PoolFault>
+    ensures { IfOk result (λ ended. AreEnds (K.owed steps) ended.ends.items) }
+{
+    let (to, from) = crossbeam_channel::bounded(alloc, WAITING).map_err(|_| PoolFault::NoMemory)?;
+    let door = Door {
+        rt,
+        alloc,
+        users,
+        options,
+        hosts,
+        doorman: gate,
+    };
+    thread::scope(
+        thread::scope_env(),
+        rt,
+        move |scope| -> Result<Ended<L>, PoolFault>
+            ensures { IfOk result (λ ended. AreEnds (K.owed steps) ended.ends.items) }
+        {
+            let accepting = scope.spawn(move || door.accept_all(listener, closing, to));
+            if accepting.is_err() {
+                return Err(PoolFault::NoThread);
+            }
+            let patient = Patient::new(rt, gate, options.patience);
+            let ended = serve_all_stepped(
+                rt,
+                alloc,
+                options.listed,
+                desk,
+                from,
+                options.workers,
+                steps,
+                &patient,
+                gate,
+            );
+            // Without workers nobody reads the lines' end.
+            if let Some(closing) = closing {
+                closing.close();
+            }
+            ended
+        },
+    )
+}
+
 /// Serves the connections of a listener at a desk, while the keeper does its steps on the calling thread. They are accepted in a
 /// thread of their own; where none can be made for it, none is accepted. The keeper's end is the last.
 pub fn serve_connections<
@@ -46,7 +117,7 @@ pub fn serve_connections<
     L: DeskLedger + Send + Sync,
     R: Net<Listener = TcpListener, Stream = TcpStream> + Threads + Wait + time::Clock + Sync,
     K: Steps + Drop,
-    G: Gate + Sync,
+    G: Gate + Doorman + Sync,
 >(
     rt: &'x R,
     alloc: Global,
@@ -57,38 +128,11 @@ pub fn serve_connections<
     closing: Option<&'x Closing>,
     steps: K,
     gate: &'x G,
-) -> Result<Vec<SessionEnd<Seat<L>>>, PoolFault>
-    ensures { IfOk result (λ ends. AreEnds (K.owed steps) ends.items) }
+) -> Result<Ended<L>, PoolFault>
+    ensures { IfOk result (λ ended. AreEnds (K.owed steps) ended.ends.items) }
 {
-    let (to, from) = crossbeam_channel::bounded(alloc, WAITING).map_err(|_| PoolFault::NoMemory)?;
-    thread::scope(
-        thread::scope_env(),
-        rt,
-        move |scope| -> Result<Vec<SessionEnd<Seat<L>>>, PoolFault>
-            ensures { IfOk result (λ ends. AreEnds (K.owed steps) ends.items) }
-        {
-            let accepting = scope.spawn(move || accept_all(
-                rt, alloc, listener, users, options, closing, to,
-            ));
-            if accepting.is_err() {
-                return Err(PoolFault::NoThread);
-            }
-            let gate = Patient::new(rt, gate, options.patience);
-            let ends = serve_all_stepped(
-                rt,
-                alloc,
-                options.listed,
-                desk,
-                from,
-                options.workers,
-                steps,
-                &gate,
-            );
-            // Without workers nobody reads the lines' end.
-            if let Some(closing) = closing {
-                closing.close();
-            }
-            ends
-        },
+    let hosts = Mutex::new(Hosts::new(alloc, options.per_host.unwrap_or(0)));
+    serve_lent(
+        rt, alloc, desk, users, listener, options, closing, &hosts, steps, gate,
     )
 }

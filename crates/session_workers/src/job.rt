@@ -1,20 +1,24 @@
 //! A session that is to be served.
 
-ghost use Rattle.std.specs.Prelude.{◌≤◌, IfSome};
+ghost use Rattle.std.specs.Prelude.{◌≤◌};
 ghost use Rattle.msg_admin.specs.declared.request.TheConstants.{FRAME_LIMIT as LIMIT};
-ghost use Rattle.session_workers.specs.Ends.{HasRisen};
 
+use crate::sessions::{Done, Unused};
+use crate::times::{Noting, tell_end};
 use audit_trail::Event;
-use request_handlers::{Receipt, Seat};
+use deadlines::{Notes, Timed, TimedWriter, Times};
+use request_handlers::Receipt;
 use session_logins::{ListedVersions, Users};
-use session_pool::{DeskLedger, Gate, Limits, LockedDesk, SessionEnd, serve_session_listing};
+use session_pool::{DeskLedger, Gate, Limits, LockedDesk, serve_session_listing};
 use std::alloc::Global;
 use std::io::{Read, Write};
+use std::net::OpenStream;
 use std::sync::Wait;
-use std::sync::ledger::Ledger;
+use std::time;
 use wire_types::{Shared, Text};
 
-/// A session that is to be served: its number, what is read and written, the peer's host, and who may log in.
+/// A session that is to be served: its number, what is read and written, the peer's host, who may log in, and the times that the
+/// peer has, from when a worker takes the session.
 #[derive(Drop)]
 pub struct Job<Rd, Wr> {
     pub session: u64,
@@ -23,14 +27,8 @@ pub struct Job<Rd, Wr> {
     pub host: Text,
     pub users: Shared<Users>,
     pub limits: Limits,
+    pub times: Times,
     pub ghost within: { limits.frame ≤ LIMIT },
-}
-
-/// The end of a session whose seat was fresh.
-#[derive(Drop)]
-pub(crate) struct Done<L: Ledger> {
-    pub(crate) end: SessionEnd<Seat<L>>,
-    pub(crate) ghost risen: { HasRisen end },
 }
 
 /// The principal that asked, if one did.
@@ -41,23 +39,40 @@ fn who_asked(receipts: &[Receipt]) -> Option<&Text> {
     }
 }
 
-/// Serves a job. None where no seat is left: then the job is let go.
-pub(crate) fn serve_job<L: DeskLedger, R: Wait, Rd: Read + Drop, Wr: Write + Drop, G: Gate>(
+/// Serves a job with a seat that no session has used.
+pub(crate) fn serve_job<
+    L: DeskLedger,
+    R: Wait,
+    Rd: Read + OpenStream + Drop,
+    Wr: Write + OpenStream + Drop,
+    G: Gate,
+    T: time::Clock,
+>(
+    rt: &T,
     alloc: Global,
     listed: ListedVersions,
     desk: &LockedDesk<L, R>,
+    seat: Unused<L>,
     job: Job<Rd, Wr>,
     gate: &G,
-) -> Option<Done<L>> {
+) -> Done<L> {
+    let Unused { seat } = seat;
     let Job {
         session,
         reader,
-        mut writer,
+        writer,
         host,
         users,
         limits,
+        times,
     } = job;
-    let seat = desk.seat()?;
+    let notes = Notes::new();
+    let reader = Timed::new(rt, reader, times, &notes);
+    let mut writer = TimedWriter::new(rt, writer, times, &notes);
+    let noting = Noting {
+        gate,
+        notes: &notes,
+    };
     let end = serve_session_listing(
         alloc,
         session,
@@ -69,8 +84,9 @@ pub(crate) fn serve_job<L: DeskLedger, R: Wait, Rd: Read + Drop, Wr: Write + Dro
         desk,
         seat,
         limits,
-        gate,
+        &noting,
     );
-    gate.ended(session, &host, who_asked(end.receipts.as_slice()), end.why);
-    Some(Done { end })
+    let who = who_asked(end.receipts.as_slice());
+    tell_end(alloc, gate, session, &host, who, &end, times, notes.over());
+    Done { end }
 }

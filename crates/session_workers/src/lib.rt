@@ -3,16 +3,21 @@
 //!
 //! `serve_all` starts the workers, each of which takes one job after the other from a channel and serves it at a locked desk,
 //! and keeps the core's time on the calling thread until all of them have ended: a tick at each moment of a clock, and marks
-//! after it. `serve_all_stepped` does the same with a keeper that is told each of its steps.
+//! after it. `serve_all_stepped` does the same with a keeper that is told each of its steps. What a session reads is held to the
+//! times that its peer has (`deadlines`).
 #![tactic(auto)]
 
 mod accept;
 mod connections;
+mod guest;
 mod job;
 mod keeper;
 mod patience;
+mod sessions;
+mod times;
 mod workers;
 
 pub use connections::{ConnectionOptions, serve_connections};
 pub use job::Job;
+pub use sessions::Ended;
 pub use workers::{PoolFault, serve_all, serve_all_stepped};

@@ -61,11 +61,19 @@ impl<'x, R: time::Clock, G: Gate> Gate for Patient<'x, R, G> {
         }
     }
 
+    fn logged_in(&self, session: u64, who: &Text) {
+        self.gate.logged_in(session, who);
+    }
+
     fn after(&self, session: u64, frame: u64) {
         self.gate.after(session, frame);
     }
 
     fn ended(&self, session: u64, host: &Text, who: Option<&Text>, why: Why) {
         self.gate.ended(session, host, who, why);
+    }
+
+    fn overdue(&self, session: u64, host: &Text, who: Option<&Text>, why: Why, words: &str) {
+        self.gate.overdue(session, host, who, why, words);
     }
 }

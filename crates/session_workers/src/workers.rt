@@ -1,29 +1,31 @@
 //! Worker threads, which take jobs from a channel.
 
-ghost use Rattle.std.specs.Prelude.{◌≡◌, ◌+◌, Some, vec_len, All, IfOk, OnOk};
+ghost use Rattle.std.specs.Prelude.{◌≡◌, Some, IfOk};
 ghost use Rattle.request_handlers.specs.Seats.{fresh_seat};
-ghost use Rattle.session_workers.specs.Ends.{HasRisen, AreEnds};
+ghost use Rattle.session_workers.specs.Ends.{AreEnds};
 ghost use Rattle.session_workers.specs.Faults.{fault_name};
 
-use crate::job::{Done, Job, serve_job};
+use crate::job::{Job, serve_job};
 use crate::keeper::keep;
+use crate::sessions::{Ended, Sessions, Unused};
+use admission::Doorman;
 use crossbeam_channel::Receiver;
 use request_handlers::Seat;
 use session_logins::ListedVersions;
-use session_pool::{Clock, Clocked, DeskLedger, Gate, LockedDesk, SessionEnd, Steps};
+use session_pool::{Clock, Clocked, DeskLedger, Gate, LockedDesk, Steps};
 use std::alloc::{AllocError, Global};
 use std::io::{Read, Write};
+use std::net::OpenStream;
 use std::sync::Wait;
 use std::sync::atomic::{AtomicU64, Ordering};
-use std::sync::ledger::Ledger;
-use std::thread;
 use std::thread::{JoinHandle, Threads};
+use std::{thread, time};
 use thiserror::Error;
 
 /// Why the ends of all sessions are given up.
 #[derive(Clone, Copy, Debug, PartialEq, Eq, Error)]
 pub enum PoolFault {
-    /// Memory was refused for a worker's handle or an end.
+    /// Memory was refused for a worker's handle or an end, or more sessions ended than 64 bits count.
     #[error("there is not enough memory for the ends of the sessions")]
     NoMemory,
     /// No worker could be started.
@@ -47,59 +49,71 @@ impl PoolFault {
     }
 }
 
-/// What serves jobs, and hands back the ends of its sessions.
-type Worker<L> = JoinHandle<Result<Vec<Done<L>>, AllocError>>;
+/// What serves jobs, and hands back what is left of its sessions.
+type Worker<L> = JoinHandle<Result<Sessions<L>, AllocError>>;
 
-/// Serves jobs until the channel is closed.
-fn work<L: DeskLedger, R: Wait, Rd: Read + Drop, Wr: Write + Drop, G: Gate, T: Wait>(
+/// The seat that came back, or a fresh one. None where no seat is left.
+fn seat_of<L: DeskLedger, R: Wait>(
+    desk: &LockedDesk<L, R>,
+    back: Option<Unused<L>>,
+) -> Option<Unused<L>> {
+    match back {
+        Some(unused) => Some(unused),
+        None => Some(Unused { seat: desk.seat()? }),
+    }
+}
+
+/// Serves jobs until the channel is closed. The seat of a session that ended without a receipt serves the next one. Where no seat is
+/// left, a job is let go, and the doorman is told.
+fn work<
+    L: DeskLedger,
+    R: Wait,
+    Rd: Read + OpenStream + Drop,
+    Wr: Write + OpenStream + Drop,
+    G: Gate,
+    D: Doorman,
+    T: Wait + time::Clock,
+>(
     rt: &T,
     alloc: Global,
     listed: ListedVersions,
     desk: &LockedDesk<L, R>,
     jobs: &Receiver<Job<Rd, Wr>>,
     gate: &G,
-) -> Result<Vec<Done<L>>, AllocError> {
-    let mut ends = Vec::new(alloc);
+    doorman: &D,
+) -> Result<Sessions<L>, AllocError> {
+    let mut sessions = Sessions::new(alloc);
+    let mut back = None;
     for _ in rt.forever() {
         let Ok(job) = jobs.recv(rt) else {
             break;
         };
-        if let Some(done) = serve_job(alloc, listed, desk, job, gate) {
-            ends.push(done)?;
+        match seat_of(desk, back) {
+            Some(seat) => {
+                let done = serve_job(rt, alloc, listed, desk, seat, job, gate);
+                (sessions, back) = sessions.add(done)?;
+            }
+            None => {
+                back = None;
+                drop(job);
+                doorman.unseated();
+            }
         }
     }
-    Ok(ends)
+    Ok(sessions)
 }
 
-/// Takes the ends out of what a worker hands back, after those that are there.
-fn collect<L: Ledger>(
-    ends: &mut Vec<SessionEnd<Seat<L>>>,
-    done: Vec<Done<L>>,
-) -> Result<(), AllocError>
-    requires { All HasRisen ends.old.items }
-    ensures risen { OnOk result (All HasRisen ends.new.items) }
-    ensures all { OnOk result (vec_len ends.new ≡ vec_len ends.old + vec_len done) }
-{
-    for Done { end } in done {
-        ends.push(end)?;
-    }
-    Ok(())
-}
-
-/// Joins all workers, and gives their ends.
+/// Joins all workers, and gives what is left of their sessions.
 fn join_all<L: DeskLedger, T: Threads>(
     rt: &T,
     alloc: Global,
     workers: Vec<Worker<L>>,
-) -> Result<Vec<SessionEnd<Seat<L>>>, PoolFault>
-    ensures { IfOk result (λ ends. All HasRisen ends.items) }
-{
-    let mut ends = Vec::new(alloc);
+) -> Result<Sessions<L>, AllocError> {
+    let mut sessions = Sessions::new(alloc);
     for worker in workers {
-        let done = worker.join(rt).map_err(|_| PoolFault::NoMemory)?;
-        collect(&mut ends, done).map_err(|_| PoolFault::NoMemory)?;
+        sessions = sessions.join(worker.join(rt)?)?;
     }
-    Ok(ends)
+    Ok(sessions)
 }
 
 /// Keeps the core's time until all workers have ended, joins them, and puts the keeper's end after theirs.
@@ -112,18 +126,17 @@ fn keep_and_join<L: DeskLedger, R: Wait, K: Steps + Drop, T: Threads + Wait>(
     steps: K,
     running: &AtomicU64,
     workers: Vec<Worker<L>>,
-) -> Result<Vec<SessionEnd<Seat<L>>>, PoolFault>
+) -> Result<Ended<L>, PoolFault>
     requires { seat ≡ fresh_seat }
-    ensures { IfOk result (λ ends. AreEnds (K.owed steps) ends.items) }
+    ensures { IfOk result (λ ended. AreEnds (K.owed steps) ended.ends.items) }
 {
     let mut steps = steps;
-    let kept = keep(rt, alloc, desk, seat, &mut steps, running);
-    let mut ends = match join_all(rt, alloc, workers) {
-        Ok(ends) => ends,
-        Err(fault) => return Err(fault),
+    let keeper = keep(rt, alloc, desk, seat, &mut steps, running);
+    let Ok(Sessions { mut kept, others }) = join_all(rt, alloc, workers) else {
+        return Err(PoolFault::NoMemory);
     };
-    match ends.push(kept) {
-        Ok(()) => Ok(ends),
+    match kept.push(keeper) {
+        Ok(()) => Ok(Ended { ends: kept, others }),
         Err(_) => Err(PoolFault::NoMemory),
     }
 }
@@ -133,11 +146,12 @@ fn serve_lent<
     'x,
     L: DeskLedger + Send + Sync,
     R: Wait + Sync,
-    Rd: Read + Drop + Send,
-    Wr: Write + Drop + Send,
+    Rd: Read + OpenStream + Drop + Send,
+    Wr: Write + OpenStream + Drop + Send,
     K: Steps + Drop,
     G: Gate + Sync,
-    T: Threads + Wait + Sync,
+    D: Doorman + Sync,
+    T: Threads + Wait + time::Clock + Sync,
 >(
     rt: &'x T,
     alloc: Global,
@@ -148,14 +162,15 @@ fn serve_lent<
     workers: usize,
     steps: K,
     gate: &'x G,
-) -> Result<Vec<SessionEnd<Seat<L>>>, PoolFault>
-    ensures { IfOk result (λ ends. AreEnds (K.owed steps) ends.items) }
+    doorman: &'x D,
+) -> Result<Ended<L>, PoolFault>
+    ensures { IfOk result (λ ended. AreEnds (K.owed steps) ended.ends.items) }
 {
     thread::scope(
         thread::scope_env(),
         rt,
-        move |scope| -> Result<Vec<SessionEnd<Seat<L>>>, PoolFault>
-            ensures { IfOk result (λ ends. AreEnds (K.owed steps) ends.items) }
+        move |scope| -> Result<Ended<L>, PoolFault>
+            ensures { IfOk result (λ ended. AreEnds (K.owed steps) ended.ends.items) }
         {
             let Some(seat) = desk.seat() else {
                 return Err(PoolFault::NoSeat);
@@ -166,9 +181,9 @@ fn serve_lent<
             for _ in 0..workers {
                 running.fetch_add(1, Ordering::SeqCst);
                 let worker = scope.spawn(move || {
-                    let ends = work(rt, alloc, listed, desk, jobs, gate);
+                    let sessions = work(rt, alloc, listed, desk, jobs, gate, doorman);
                     running.fetch_sub(1, Ordering::SeqCst);
-                    ends
+                    sessions
                 });
                 match worker {
                     Ok(handle) => handles.push(handle).map_err(|_| PoolFault::NoMemory)?,
@@ -192,11 +207,12 @@ fn serve_lent<
 pub fn serve_all_stepped<
     L: DeskLedger + Send + Sync,
     R: Wait + Sync,
-    Rd: Read + Drop + Send,
-    Wr: Write + Drop + Send,
+    Rd: Read + OpenStream + Drop + Send,
+    Wr: Write + OpenStream + Drop + Send,
     K: Steps + Drop,
     G: Gate + Sync,
-    T: Threads + Wait + Sync,
+    D: Doorman + Sync,
+    T: Threads + Wait + time::Clock + Sync,
 >(
     rt: &T,
     alloc: Global,
@@ -206,12 +222,13 @@ pub fn serve_all_stepped<
     workers: usize,
     steps: K,
     gate: &G,
-) -> Result<Vec<SessionEnd<Seat<L>>>, PoolFault>
-    ensures { IfOk result (λ ends. AreEnds (K.owed steps) ends.items) }
+    doorman: &D,
+) -> Result<Ended<L>, PoolFault>
+    ensures { IfOk result (λ ended. AreEnds (K.owed steps) ended.ends.items) }
 {
     let running = AtomicU64::new(0);
     serve_lent(
-        rt, alloc, listed, desk, &jobs, &running, workers, steps, gate,
+        rt, alloc, listed, desk, &jobs, &running, workers, steps, gate, doorman,
     )
 }
 
@@ -220,11 +237,11 @@ pub fn serve_all_stepped<
 pub fn serve_all<
     L: DeskLedger + Send + Sync,
     R: Wait + Sync,
-    Rd: Read + Drop + Send,
-    Wr: Write + Drop + Send,
+    Rd: Read + OpenStream + Drop + Send,
+    Wr: Write + OpenStream + Drop + Send,
     C: Clock + Drop,
     G: Gate + Sync,
-    T: Threads + Wait + Sync,
+    T: Threads + Wait + time::Clock + Sync,
 >(
     rt: &T,
     alloc: Global,
@@ -233,10 +250,10 @@ pub fn serve_all<
     workers: usize,
     clock: C,
     gate: &G,
-) -> Result<Vec<SessionEnd<Seat<L>>>, PoolFault>
-    ensures { IfOk result (λ ends. AreEnds (Some 0) ends.items) }
+) -> Result<Ended<L>, PoolFault>
+    ensures { IfOk result (λ ended. AreEnds (Some 0) ended.ends.items) }
 {
     let listed = ListedVersions::AsServed;
     let steps = Clocked::new(clock);
-    serve_all_stepped(rt, alloc, listed, desk, jobs, workers, steps, gate)
+    serve_all_stepped(rt, alloc, listed, desk, jobs, workers, steps, gate, &())
 }

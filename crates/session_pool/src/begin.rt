@@ -1,0 +1,96 @@
+//! What the first bytes of a frame say of it, before a body is read.
+
+ghost use Rattle.std.specs.Prelude.{◌≡◌, ◌≤◌, ℕ, List, length};
+ghost use Rattle.wire_types.specs.Reading.{Takes};
+ghost use Rattle.msg_admin.specs.Versions.{start};
+ghost use Rattle.session_pool.specs.Asks.{Setting, start_of, is_served, is_login};
+ghost use Rattle.session_pool.specs.Turns.{CameOf, IsBegun};
+
+use crate::frame::Came;
+use crate::login::State;
+use msg_admin::unsupported_versions;
+use wire_types::{Bytes, Cursor, Malformed};
+
+const SASL_HANDSHAKE: i16 = 17;
+
+const API_VERSIONS: i16 = 18;
+
+const SASL_AUTHENTICATE: i16 = 36;
+
+/// What the first bytes of a frame say of it.
+#[derive(Drop)]
+pub(crate) enum Begun {
+    /// It asks ApiVersions in a version that isn't served, under this correlation id.
+    OtherVersion(i32),
+    /// Its api isn't served before a login.
+    Unserved,
+    /// It is a login under this correlation id, and longer than any that is right.
+    Overlong(i32),
+    /// It is too long for what it asks.
+    Unreadable,
+    /// All of it came.
+    Whole,
+}
+
+/// The key and the version of an api, and the correlation id.
+fn read_start(cursor: &mut Cursor<'_>) -> Result<((i16, i16), i32), Malformed>
+    ensures { Takes (start.reading cursor.old) result cursor.new }
+{
+    let key = cursor.read_i16()?;
+    let version = cursor.read_i16()?;
+    let correlation = cursor.read_i32()?;
+    Ok(((key, version), correlation))
+}
+
+/// What each request header starts with.
+fn start_of(bytes: &Bytes) -> Option<((i16, i16), i32)>
+    ensures { result ≡ start_of bytes.now }
+{
+    let mut cursor = Cursor::over(bytes);
+    read_start(&mut cursor).ok()
+}
+
+/// Whether an api is served in this state.
+fn is_served(state: &State, key: i16) -> bool
+    ensures { result ≡ is_served state.now key }
+{
+    match state {
+        State::Fresh(_) => key == API_VERSIONS || key == SASL_HANDSHAKE,
+        State::Offered(_) => key == API_VERSIONS || key == SASL_AUTHENTICATE,
+        State::Known(_) => true,
+    }
+}
+
+/// Whether this is a login, where one is served.
+fn is_login(state: &State, names: (i16, i16)) -> bool
+    ensures { result ≡ is_login state.now names }
+{
+    match state {
+        State::Offered(_) => names.0 == SASL_AUTHENTICATE && names.1 == 0,
+        _ => false,
+    }
+}
+
+/// What a frame leads to as far as its first bytes say it.
+pub(crate) fn begin(state: &State, came: &Came) -> Begun
+    requires { length came.now.kept ≤ came.now.size }
+    ensures { (g : Setting) (limit : ℕ) (frame : List ℕ) → CameOf g limit state.now came.now frame → IsBegun g state.now came.now frame result }
+{
+    if let Some(correlation) = unsupported_versions(&came.kept) {
+        return Begun::OtherVersion(correlation);
+    }
+    let Some((names, correlation)) = start_of(&came.kept) else {
+        return Begun::Unreadable;
+    };
+    if !is_served(state, names.0) {
+        return Begun::Unserved;
+    }
+    if came.kept.len() == came.size {
+        return Begun::Whole;
+    }
+    if is_login(state, names) {
+        Begun::Overlong(correlation)
+    } else {
+        Begun::Unreadable
+    }
+}

@@ -1,0 +1,79 @@
+//! A session's times: who is told that its user is known, and that its peer took too long.
+
+use deadlines::{Limit, Notes, Times};
+use request_handlers::Receipt;
+use session_pool::{Gate, SessionEnd, Why};
+use std::alloc::Global;
+use std::time::Duration;
+use wire_types::Text;
+
+/// The gate of one session: notes that its user is known, and leaves all else to the gate of all sessions.
+#[derive(Drop)]
+pub(crate) struct Noting<'x, G> {
+    pub(crate) gate: &'x G,
+    pub(crate) notes: &'x Notes,
+}
+
+impl<'x, G: Gate> Gate for Noting<'x, G> {
+    fn before(&self, session: u64, frame: u64) {
+        self.gate.before(session, frame);
+    }
+
+    fn answered(&self, receipt: &Receipt) {
+        self.gate.answered(receipt);
+    }
+
+    fn logged_in(&self, session: u64, who: &Text) {
+        self.notes.log_in();
+        self.gate.logged_in(session, who);
+    }
+
+    fn after(&self, session: u64, frame: u64) {
+        self.gate.after(session, frame);
+    }
+
+    fn ended(&self, session: u64, host: &Text, who: Option<&Text>, why: Why) {
+        self.gate.ended(session, host, who, why);
+    }
+
+    fn overdue(&self, session: u64, host: &Text, who: Option<&Text>, why: Why, words: &str) {
+        self.gate.overdue(session, host, who, why, words);
+    }
+}
+
+/// What took longer than so many seconds, in words; none where there is no memory for them.
+fn words_of(alloc: Global, what: &str, time: Duration) -> Option<String> {
+    let seconds = time.as_secs();
+    let unit = if seconds == 1 { "second" } else { "seconds" };
+    format!(in alloc; "{what} took longer than {seconds} {unit}").ok()
+}
+
+/// Which time of a peer's was over, in words. A wait is no time of its own.
+fn overdue(alloc: Global, times: Times, over: Option<Limit>) -> Option<String> {
+    match over? {
+        Limit::Idle => None,
+        Limit::Login => words_of(alloc, "its login", times.login),
+        Limit::Frame => words_of(alloc, "a frame", times.frame),
+    }
+}
+
+/// Tells the gate that a session has ended: that a time of its peer's was over, where a read or a write failed for that, and else why.
+pub(crate) fn tell_end<S, G: Gate>(
+    alloc: Global,
+    gate: &G,
+    session: u64,
+    host: &Text,
+    who: Option<&Text>,
+    end: &SessionEnd<S>,
+    times: Times,
+    over: Option<Limit>,
+) {
+    let words = match end.why {
+        Why::ReadFault | Why::WriteFault => overdue(alloc, times, over),
+        _ => None,
+    };
+    match words {
+        Some(words) => gate.overdue(session, host, who, end.why, words.as_str()),
+        None => gate.ended(session, host, who, end.why),
+    }
+}

@@ -1,0 +1,179 @@
+#!/usr/bin/env python3
+"""What peers and users can cause at most, beside the goals for it: one line of a table for each.
+
+The figures stand in bench/README.md. A line that misses its goal says so, and the exit status is then 1. It takes some
+minutes; what of it is short stands in the gate as scripts/abuse.py, deadlines.py, strangers.py and served.py.
+"""
+
+import socket
+import struct
+import sys
+import threading
+import time
+from concurrent.futures import ThreadPoolExecutor
+from pathlib import Path
+
+sys.dont_write_bytecode = True
+ROOT = Path(__file__).resolve().parent.parent.parent
+sys.path += [str(ROOT / "scripts"), str(ROOT / "bench")]
+
+import latency  # noqa: E402
+import wire  # noqa: E402
+from abuse import LONGEST  # noqa: E402
+from serving import COLLIDING, OF_ROOT, Broker, topic  # noqa: E402
+
+MILLION = 1_000_000
+STRANGERS = 64  # connections that send the longest frame before a login
+LONGEST_FRAME = 104_857_600
+HOSTILE = 300  # connections that are there before the good client comes
+PAUSE = 1.0  # seconds between two bytes of a dripping one
+REFUSED = {
+    64_000: ("OffsetCommit", {"group": LONGEST, "topics": latency.commits("t", range(2_230))}),
+    MILLION: ("OffsetCommit", {"group": LONGEST, "topics": latency.commits("t", range(69_000))}),
+    MILLION - 1: ("Metadata", {"topics": [LONGEST[2:] + f"{it:02}" for it in range(30)]}),
+    MILLION - 2: ("Metadata", {"topics": [f"n{it}" for it in range(126_000)]}),
+}
+
+
+def waits_beside_refusals(most):
+    """How long another user waits beside refused frames of up to so many bytes, in milliseconds."""
+    named = {it: request for it, request in REFUSED.items() if it <= most}
+    return max(latency.measure("nobody", latency.nothing, api, fields)[2] for api, fields in named.values()) * 1000
+
+
+def waits_for_each_megabyte():
+    """How long another user waits beside a request for each MB of its frame, of the largest frames, in milliseconds."""
+    worst = {}
+    for name, (user, before, _, api, fields) in latency.ROWS.items():
+        size, _, waited = latency.measure(user, before, api, fields)
+        if size > 64_000:
+            worst[name] = waited * 1000 / (size / MILLION)
+    name = max(worst, key=worst.get)
+    return worst[name], name
+
+
+def kept_for_each(api, count, fields):
+    """How many bytes the broker keeps for each of so many things that a request names, beside the frame's own bytes."""
+    with Broker(latency.SETTINGS) as running, wire.Connection(running.address, timeout=600) as broker:
+        if broker.login("root", "r"):
+            raise ValueError("the login is refused")
+        frame = wire.request_frame(api, 1, fields)
+        before = running.memory()
+        for _ in range(3):
+            broker.socket.sendall(frame)
+            broker.input.read(struct.unpack(">i", broker.input.read(4))[0])
+        return ((running.memory() - before) / 3 - len(frame)) / count
+
+
+def kept_for_each_thing():
+    """The most of these, and what it was."""
+    rows = {
+        "Metadata of 1,000 partitions, 500 times": ("Metadata", 500, {"topics": ["t"] * 500}),
+        "Metadata of 100,000 names": ("Metadata", 100_000, {"topics": [f"n{it}" for it in range(100_000)]}),
+        "OffsetCommit of 100,000": ("OffsetCommit", 100_000, {"group": "g", "topics": latency.commits("t", range(1_000)) * 100}),
+        "CreateAcls of 50,000": ("CreateAcls", 50_000, {"creations": [latency.creation(it) for it in range(50_000)]}),
+    }
+    kept = {name: kept_for_each(*row) for name, row in rows.items()}
+    name = max(kept, key=kept.get)
+    return kept[name], name
+
+
+def send_longest(address):
+    """Sends the longest Produce before a login, and waits for the end of the connection."""
+    piece = bytes(1 << 20)
+    with socket.create_connection(address, timeout=300) as peer:
+        peer.sendall(struct.pack(">ihhi", LONGEST_FRAME, 0, 3, 1))
+        for left in range(LONGEST_FRAME - 8, 0, -len(piece)):
+            peer.sendall(piece[:left])
+        peer.recv(1)
+
+
+def address_of(broker):
+    host, _, port = broker.address.rpartition(":")
+    return host, int(port)
+
+
+def kept_before_a_login():
+    """How many kB a peer that hasn't logged in makes the broker take at once."""
+    with Broker(OF_ROOT, workers=STRANGERS, connections=STRANGERS, more=["--frame-within", "300", "--login-within", "300"]) as broker:
+        before = broker.peak_memory()
+        with ThreadPoolExecutor(STRANGERS) as pool:
+            list(pool.map(send_longest, [address_of(broker)] * STRANGERS))
+        return (broker.peak_memory() - before) / STRANGERS / 1000
+
+
+def collisions():
+    """How many times as long groups take whose names collide by keys that everybody knows."""
+    settings = OF_ROOT + topic("b")
+
+    def seconds(running, broker, front):
+        before = running.processor_seconds()
+        for number in range(8_000):
+            partition = {"index": 0, "offset": number, "metadata": ""}
+            broker.ask("OffsetCommit", group=f"{front}{number:08}", topics=[{"topic": "b", "partitions": [partition]}])
+        return running.processor_seconds() - before
+
+    with Broker(settings) as running, wire.Connection(running.address) as broker:
+        if broker.login("root", "toor"):
+            raise ValueError("the login is refused")
+        ordinary = min(seconds(running, broker, f"an ordinary name: group{it}") for it in range(2))
+        return seconds(running, broker, COLLIDING) / ordinary
+
+
+def drip(peer, ended):
+    """Sends a byte of an announced frame now and then."""
+    for byte in struct.pack(">ihhi", 1_000, 18, 0, 1) + bytes(1_000):
+        if ended.wait(PAUSE):
+            return
+        try:
+            peer.sendall(bytes([byte]))
+        except OSError:
+            return
+
+
+def first_answer_beside_hostile_ones():
+    """After how many seconds a good client that comes after silent and dripping connections has its first answer."""
+    ended = threading.Event()
+    with Broker(OF_ROOT, workers=64, connections=HOSTILE + 1) as broker:
+        peers = [socket.create_connection(address_of(broker)) for _ in range(HOSTILE)]
+        with ThreadPoolExecutor(HOSTILE) as pool:
+            for number, peer in enumerate(peers):
+                if number % 2:
+                    pool.submit(drip, peer, ended)
+            began = time.monotonic()
+            with wire.Connection(broker.address, timeout=300) as good:
+                if good.login("root", "toor"):
+                    raise ValueError("the login is refused")
+                good.ask("Metadata", topics=None)
+                took = time.monotonic() - began
+            ended.set()
+        for peer in peers:
+            peer.close()
+    return took
+
+
+# What is measured, its unit, its goal, and by what.
+GOALS = (
+    ("longest wait of another user beside one without rights, frames of up to 64 kB", "ms", 10, lambda: waits_beside_refusals(64_000)),
+    ("the same, frames of up to 1 MB", "ms", 100, lambda: waits_beside_refusals(MILLION)),
+    ("the same beside any request, for each MB of its frame", "ms", 150, waits_for_each_megabyte),
+    ("kept for each thing that a request names, beside its own bytes", "bytes", 256, kept_for_each_thing),
+    ("memory of a peer before its login that sends 100 MB", "kB", 128, kept_before_a_login),
+    ("colliding names beside others", "times", 1.2, collisions),
+    (f"a good client's first answer, {HOSTILE} hostile connections before it, 64 workers", "s", 12, first_answer_beside_hostile_ones),
+)
+
+
+def main():
+    missed = 0
+    print("| what | goal | measured | |\n|---|--:|--:|---|", flush=True)
+    for name, unit, goal, measure in GOALS:
+        found = measure()
+        value, of = found if isinstance(found, tuple) else (found, "")
+        missed += value > goal
+        print(f"| {name} | {goal:,} {unit} | {value:,.1f} {unit} | {of}{' MISSED' * (value > goal)} |", flush=True)
+    sys.exit(1 if missed else 0)
+
+
+if __name__ == "__main__":
+    main()
