@@ -71,7 +71,7 @@ def copy(room, crate, test):
 
 def run(trial, folder):
     """What the tests of a copy come to: each test's end by its name, and all that is said."""
-    room = folder / trial.name.replace(" ", "_")
+    room = folder / f"{trial.crate}-{trial.test}-{trial.name}".replace("::", "-").replace(" ", "_")
     copy(room, trial.crate, trial.test)
     if trial.edit:
         edits.apply(trial.edit, "test", room / "crates")
