@@ -128,18 +128,27 @@ def answers_that_nobody_reads():
     assert told == [TOLD.format(0, NOBODY, "its login")], told
 
 
+def assert_cut_off_dripping(peer, data, began):
+    """Sends bytes one by one over a connection, which has to be closed a second after this moment."""
+    dripping = drip(peer, data)
+    closes(peer, began)
+    dripping.join()
+
+
+def assert_a_frame_took_too_long(broker):
+    """That is all that the operator is told."""
+    _, told = broker.settled()
+    assert told == [TOLD.format(0, "User:root", "a frame")], told
+
+
 def a_dripping_peer():
     """It is closed in the time of its frame, which begins with the first byte, and is told as what it is."""
     with Broker(OF_ROOT, more=("--frame-within", "1")) as broker:
         with logged_in(broker.address) as client:
             time.sleep(SECOND + DRIP)  # between frames there is no time
             assert client.ask("Metadata", topics=None)["brokers"], "the client gets no answer"
-            began = time.monotonic()
-            dripping = drip(client.socket, metadata())
-            closes(client.socket, began)
-            dripping.join()
-        _, told = broker.settled()
-    assert told == [TOLD.format(0, "User:root", "a frame")], told
+            assert_cut_off_dripping(client.socket, metadata(), time.monotonic())
+        assert_a_frame_took_too_long(broker)
 
 
 def a_frame_that_begins_with_another():
@@ -152,11 +161,8 @@ def a_frame_that_begins_with_another():
             began = time.monotonic()
             client.socket.sendall(frame[-4:] + frame[:1])
             assert client.receive("Metadata")[0] == 3, "the first frame gets no answer"
-            dripping = drip(client.socket, frame[1:])
-            closes(client.socket, began)
-            dripping.join()
-        _, told = broker.settled()
-    assert told == [TOLD.format(0, "User:root", "a frame")], told
+            assert_cut_off_dripping(client.socket, frame[1:], began)
+        assert_a_frame_took_too_long(broker)
 
 
 def slow_and_timely_frames():
