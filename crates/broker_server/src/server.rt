@@ -67,7 +67,8 @@ fn settle_ends<L: DeskLedger, R: Wait + Drop>(
     ended: Ended<L>,
 ) -> Result<(u64, Settled), Failure>
     requires { (owed : Option ℕ) × AreEnds owed ended.ends.items }
-    ensures { IfOk result (λ told. IsCounted L.settings told.0 told.1) }
+    ensures counted { IfOk result (λ told. IsCounted L.settings told.0 told.1) }
+    ensures all { IfOk result (λ told. told.0 + 1 ≡ length ended.ends.items + ended.others) }
 {
     let Ended { ends, others } = ended;
     let Some(sessions) = sessions_of(ends.as_slice(), others) else {
