@@ -17,12 +17,12 @@ use broker_world::{Outcome, State, Topics, magnitude, refused_by, served_in_part
 use msg_admin::Reply;
 use msg_data::{ProduceReply, ProduceRequest, ProducedOffset, ProducedRecords};
 use partition_log::Log;
-use record_batch::{Batch, BatchFault, BatchHeader};
+use record_batch::{Batch, BatchFault, BatchHeader, SentBatch};
 use std::alloc::{AllocError, Global};
 use transactions::{Given, Pair, Target, TopicPartition};
 use txn_coordinator::Coordinator;
 use walk::{Part, PartApi, refusal_code, walk};
-use wire_types::{Bytes, ErrorCode, Items, Text, Topic};
+use wire_types::{ErrorCode, Items, Text, Topic};
 
 /// What a Produce says of all its partitions, the greatest size of a batch, and the transactions that are open.
 #[derive(Drop)]
@@ -82,7 +82,7 @@ impl<'a> Producing<'a> {
         name: &Text,
         part: &ProducedRecords,
         target: &Target,
-        records: Option<Bytes>,
+        records: Option<SentBatch>,
     ) -> Result<(Spent, ProducedOffset), AllocError>
         requires permit { MayWrite policy.now name.now permit }
         requires target { target.now ≡ partition_at name.now part.now.index }
@@ -97,7 +97,7 @@ impl<'a> Producing<'a> {
     }
 
     /// The batch to be appended to a partition, or why none is, whether or not the partition is there.
-    fn judge(&self, target: &Target, records: Option<Bytes>) -> Result<Batch, ErrorCode>
+    fn judge(&self, target: &Target, records: Option<SentBatch>) -> Result<Batch, ErrorCode>
         ensures { result ≡ judged self.now.most self.now.coordinator.now self.now.id.now self.now.acks target.now records }
     {
         if !are_acks(self.acks) {
@@ -186,7 +186,7 @@ fn unproduced(code: ErrorCode, part: &ProducedRecords, log: Option<&Log>) -> Pro
 
 /// The batch, if there are records.
 fn batch_in(
-    records: Option<Bytes>,
+    records: Option<SentBatch>,
     most: u32,
     coordinator: &Coordinator,
     id: &Option<Text>,
@@ -226,11 +226,11 @@ fn are_acks(acks: i16) -> bool
     acks == -1 || acks == 0 || acks == 1
 }
 
-/// The batch that a producer sent, or its first fault.
-fn sent(bytes: Bytes, most: u32) -> Result<Batch, BatchFault>
-    ensures { result ≡ sent most bytes }
+/// The batch that a producer sent, or its first fault, which was found when it was read.
+fn sent(records: SentBatch, most: u32) -> Result<Batch, BatchFault>
+    ensures { result ≡ sent most records }
 {
-    Batch::check(bytes, most)
+    records.batch(most)
 }
 
 /// Why a batch of a producer or of a transaction is refused, if it is.

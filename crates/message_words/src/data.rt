@@ -17,7 +17,7 @@ impl Fields for ProducedRecords {
     fn push_fields(&self, sheet: &mut Sheet) -> Result<(), AllocError> {
         sheet.push("index", self.index)?;
         match &self.records {
-            Some(records) => push_records(sheet, records),
+            Some(records) => push_records(sheet, records.bytes()),
             None => sheet.push("records", "null"),
         }
     }

@@ -1,17 +1,24 @@
 //! Produce, version 3: batches of records to be appended to partitions.
 
+ghost use Rattle.std.specs.Io.{StartsWith};
+ghost use Rattle.std.specs.Prelude.{◌≡◌, OnErr};
+ghost use Rattle.wire_types.specs.Reading.{Reads};
+ghost use Rattle.wire_types.specs.Schema.{nullable_bytes};
+ghost use Rattle.wire_types.specs.Writing.{Puts};
+
+use record_batch::SentBatch;
 use std::alloc::Global;
 use wire_types::{
-    Bytes, Cursor, ErrorCode, Items, ReadFault, Text, Topic, Wire, WriteFault, array_room,
-    nullable_bytes_room, nullable_room, read_array, room_behind, write_array, write_i16, write_i32,
-    write_i64, write_nullable, write_nullable_bytes,
+    Cursor, ErrorCode, Items, ReadFault, Text, Topic, Wire, WriteFault, array_room, bytes_room,
+    nullable_bytes_room, nullable_room, read_array, room_behind, write_array, write_bytes,
+    write_i16, write_i32, write_i64, write_nullable, write_nullable_bytes,
 };
 
-/// A partition, and the batch that is to be appended.
+/// A partition, and the batch that is to be appended, which was looked at when it was read.
 #[derive(Drop, PartialEq, Eq)]
 pub struct ProducedRecords {
     pub index: i32,
-    pub records: Option<Bytes>,
+    pub records: Option<SentBatch>,
 }
 
 /// Asks for batches to be appended.
@@ -39,6 +46,38 @@ pub struct ProduceReply {
     pub throttle: i32,
 }
 
+/// The batch for a partition, if there is one. This is where its bytes are looked at.
+fn read_records(alloc: Global, cursor: &mut Cursor<'_>) -> Result<Option<SentBatch>, ReadFault>
+    ensures { Reads (nullable_bytes.reading cursor.old) result cursor.new }
+{
+    match cursor.read_nullable_bytes(alloc)? {
+        Some(bytes) => Ok(Some(SentBatch::of(bytes))),
+        None => Ok(None),
+    }
+}
+
+#[tactic(auto, unfolding(wire_types::specs::Spelling::behind_fits, wire_types::specs::Spelling::null_behind_fits, wire_types::specs::Spelling::null_behind_put, wire_types::specs::Spelling::null_count_fits))]
+fn write_records(out: &mut Vec<u8>, records: &Option<SentBatch>) -> Result<(), WriteFault>
+    ensures spelled { Puts nullable_bytes records.now out.old.items result out.new.items }
+    ensures err { OnErr result (out.new.items ≡ out.old.items) }
+    ensures grown { StartsWith out.new.items out.old.items }
+{
+    match records {
+        Some(records) => write_bytes(out, records.bytes()),
+        None => write_nullable_bytes(out, &None),
+    }
+}
+
+#[tactic(auto, unfolding(wire_types::specs::Spelling::null_behind_left, wire_types::specs::Spelling::null_count_fits))]
+fn records_room(records: &Option<SentBatch>, room: usize) -> Option<usize>
+    ensures { result ≡ nullable_bytes.left records.now room }
+{
+    match records {
+        Some(records) => bytes_room(records.bytes(), room),
+        None => nullable_bytes_room(&None, room),
+    }
+}
+
 impl Wire for ProducedRecords {
     ghost use Rattle.msg_data.specs.Produce.{produced_records};
 
@@ -46,19 +85,19 @@ impl Wire for ProducedRecords {
 
     fn read(alloc: Global, cursor: &mut Cursor<'_>) -> Result<ProducedRecords, ReadFault> {
         let index = cursor.read_i32()?;
-        let records = cursor.read_nullable_bytes(alloc)?;
+        let records = read_records(alloc, cursor)?;
         Ok(ProducedRecords { index, records })
     }
 
     fn put(&self, out: &mut Vec<u8>) -> Result<(), WriteFault> {
         write_i32(out, self.index)?;
-        write_nullable_bytes(out, &self.records)?;
+        write_records(out, &self.records)?;
         Ok(())
     }
 
     fn room_left(&self, room: usize) -> Option<usize> {
         let room = room_behind(4, room)?;
-        nullable_bytes_room(&self.records, room)
+        records_room(&self.records, room)
     }
 }
 

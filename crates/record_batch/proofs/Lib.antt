@@ -7,6 +7,7 @@ pub mod RecordLaws
 pub mod HeaderLaws
 pub mod Checked
 pub mod Faultless
+pub mod AnySize
 pub mod Offsets
 pub mod Kept
 pub mod Moved

@@ -62,6 +62,15 @@ fault_behind max bytes (Err e) = Some Length
 unfoldable pub first_fault : ℕ → List ℕ → Option BatchFault
 first_fault max bytes = fault_behind max bytes (batch_header.reading bytes)
 
+-- the first fault of these bytes, whatever their number
+abbrev pub fault_at_any_size : List ℕ → Option BatchFault
+fault_at_any_size bytes = first_fault (length bytes) bytes
+
+-- the same where at most so many bytes are taken, which is looked at last
+abbrev pub held_to : ℕ → List ℕ → Option BatchFault → Option BatchFault
+held_to max bytes (Some fault) = Some fault
+held_to max bytes None = if nat_lt max (length bytes) then Some TooLarge else None
+
 -- data of a producer, or of none: what a batch has to be beside its format
 pub record IsData (b : BatchData) : Type 0 where
   pub unmarked : b.marker ≡ None

@@ -2,7 +2,7 @@
 use Rattle.std.specs.Prelude.{◌≡◌, ◌≤◌, ◌↔◌, ℕ, ℤ, List, length, drop, slice_range, None, FitsSigned}
 use Rattle.std.specs.Int.{w64}
 use Rattle.record_batch.specs.Batch.{BatchData, IsBatch, renumbered, written_at}
-use Rattle.record_batch.specs.Faults.{IsData, first_fault}
+use Rattle.record_batch.specs.Faults.{IsData, first_fault, fault_at_any_size, held_to}
 
 -- bytes are one batch at most, with one list of records
 abbrev pub OneBatch : Type 0
@@ -24,3 +24,7 @@ OffsetAloneChanges = (b : BatchData) → IsBatch b → (offset : ℤ)
 -- a batch at another offset has the faults that it had
 abbrev pub SameFaults : Type 0
 SameFaults = (b : BatchData) → IsBatch b → (offset : ℤ) → FitsSigned w64 offset → (max : ℕ) → first_fault max (written_at offset b).bytes ≡ first_fault max b.bytes
+
+-- the number of bytes is looked at last: the first fault is that of any size, or else that of the size
+abbrev pub SizeIsLast : Type 0
+SizeIsLast = (max : ℕ) (bytes : List ℕ) → first_fault max bytes ≡ held_to max bytes (fault_at_any_size bytes)

@@ -1,17 +1,18 @@
 //! Batches: bytes that were found to be one, with their header read once.
 
-ghost use Rattle.std.specs.Prelude.{◌≡◌, ◌↔◌, IsTrue, ◌+ℤ◌, ◌++◌, pos, length, slice_range, IfOk, None};
+ghost use Rattle.std.specs.Prelude.{◌≡◌, ◌↔◌, IsTrue, ◌+ℤ◌, ◌++◌, pos, length, drop, slice_range, IfOk, Ok, None};
 ghost use Rattle.wire_types.specs.Schema.{int32, int64};
 ghost use Rattle.record_batch.specs.Batch.{BatchData, IsBatch, HasOffsets, next_offset, placed, written_at};
 ghost use Rattle.record_batch.specs.Control.{control};
-ghost use Rattle.record_batch.specs.Faults.{first_fault, fault_in};
+ghost use Rattle.record_batch.specs.BatchHeader.{batch_header};
+ghost use Rattle.record_batch.specs.Faults.{first_fault, fault_at_any_size, fault_in};
 
-use crate::check::check;
 use crate::control::control_batch;
 use crate::fault::BatchFault;
 use crate::header::BatchHeader;
 use crate::outcome::Outcome;
 use crate::record::{RecordAt, read_records};
+use crate::sent::SentBatch;
 use std::alloc::{AllocError, Global};
 use std::marker::Model;
 use wire_types::{Bytes, Cursor, Items, Piece, ReadFault};
@@ -52,12 +53,20 @@ impl Batch {
         ensures fault { fault_in result ≡ first_fault max bytes }
         ensures batch { IfOk result (λ b. (b.bytes ≡ bytes) × (b.marker ≡ None) × IsBatch b) }
     {
-        let header = check(bytes.as_slice(), max)?;
-        Ok(Batch {
+        SentBatch::of(bytes).batch(max)
+    }
+
+    /// The batch of a header and the bytes that it was read from, which have no fault.
+    pub(crate) fn faultless(header: BatchHeader, bytes: Bytes) -> Batch
+        requires header { batch_header.reading bytes ≡ Ok (header, drop 61 bytes) }
+        requires fault { fault_at_any_size bytes ≡ None }
+        ensures { (result.bytes ≡ bytes) × (result.marker ≡ None) × IsBatch result }
+    {
+        Batch {
             header,
             marker: None,
             bytes: Piece::of(bytes),
-        })
+        }
     }
 
     /// The control batch that marks how a producer's transaction ended.

@@ -1,9 +1,8 @@
 //! Looking for the first fault of bytes that a producer sent as a batch. It takes no memory.
 
-ghost use Rattle.std.specs.Prelude.{◌≡◌, ◌+◌, ◌≤◌, pos, length, slice_range, drop, Ok, true, IfOk};
-ghost use Rattle.record_batch.specs.BatchHeader.{batch_header};
+ghost use Rattle.std.specs.Prelude.{◌≡◌, ◌+◌, ◌≤◌, pos, length, slice_range, drop, true};
 ghost use Rattle.record_batch.specs.Batch.{has_producer};
-ghost use Rattle.record_batch.specs.Faults.{end_of, has_length, has_count, has_records, is_valid, data_tests, fault_tests, first_found, first_fault, fault_in};
+ghost use Rattle.record_batch.specs.Faults.{end_of, has_length, has_count, has_records, is_valid, data_tests, fault_tests, first_found, fault_at_any_size, fault_in};
 
 use crate::crc::crc32c;
 use crate::fault::BatchFault;
@@ -63,9 +62,9 @@ impl BatchHeader {
             && self.has_records(body)
     }
 
-    /// Whether a producer may send the batch, its format being right.
-    fn check_data(&self, body: &[u8], bytes: &[u8], max: u32) -> Result<(), BatchFault>
-        ensures { fault_in result ≡ first_found (data_tests max bytes.now self.now body.now) }
+    /// Whether a producer may send the batch, its format being right, whatever its size.
+    fn check_data(&self, body: &[u8], bytes: &[u8]) -> Result<(), BatchFault>
+        ensures { fault_in result ≡ first_found (data_tests (length bytes.now) bytes.now self.now body.now) }
     {
         if !self.is_valid(body, bytes) {
             return Err(BatchFault::Invalid);
@@ -73,15 +72,12 @@ impl BatchHeader {
         if self.has_append_time() {
             return Err(BatchFault::Timestamp);
         }
-        if bytes.len() > max as usize {
-            return Err(BatchFault::TooLarge);
-        }
         Ok(())
     }
 
-    fn check_all(&self, body: &[u8], bytes: &[u8], max: u32) -> Result<(), BatchFault>
+    fn check_all(&self, body: &[u8], bytes: &[u8]) -> Result<(), BatchFault>
         requires { 61 ≤ length bytes.now }
-        ensures { fault_in result ≡ first_found (fault_tests max bytes.now self.now body.now) }
+        ensures { fault_in result ≡ first_found (fault_tests (length bytes.now) bytes.now self.now body.now) }
     {
         if !self.has_length(bytes.len()) {
             return Err(BatchFault::Length);
@@ -95,19 +91,20 @@ impl BatchHeader {
         if !self.is_uncompressed() {
             return Err(BatchFault::Compressed);
         }
-        self.check_data(body, bytes, max)
+        self.check_data(body, bytes)
     }
 }
 
-/// The header of the batch that all these bytes are, or their first fault.
+/// The first fault of bytes as a batch, whatever its size.
 #[tactic(auto, unfolding(crate::specs::Faults::first_fault))]
-pub(crate) fn check(bytes: &[u8], max: u32) -> Result<BatchHeader, BatchFault>
-    ensures fault { fault_in result ≡ first_fault max bytes.now }
-    ensures header { IfOk result (λ h. batch_header.reading bytes.now ≡ Ok (h, drop 61 bytes.now)) }
+pub(crate) fn fault_of(bytes: &[u8]) -> Option<BatchFault>
+    ensures { result ≡ fault_at_any_size bytes.now }
 {
     let Some(header) = BatchHeader::first_of(bytes) else {
-        return Err(BatchFault::Length);
+        return Some(BatchFault::Length);
     };
-    header.check_all(&bytes[61..], bytes, max)?;
-    Ok(header)
+    match header.check_all(&bytes[61..], bytes) {
+        Ok(()) => None,
+        Err(fault) => Some(fault),
+    }
 }

@@ -1,6 +1,6 @@
 //! The laws of batches, each the contract of a function with nothing to do.
 
-ghost use Rattle.record_batch.specs.Laws.{OneBatch, FaultlessIsBatch, LastOffsetStays, OffsetAloneChanges, SameFaults};
+ghost use Rattle.record_batch.specs.Laws.{OneBatch, FaultlessIsBatch, LastOffsetStays, OffsetAloneChanges, SameFaults, SizeIsLast};
 
 /// Bytes are one batch at most, with one header and one list of records.
 pub fn one_batch()
@@ -25,4 +25,9 @@ pub fn offset_alone_changes()
 /// A batch at another offset passes the same checks, so its checksum is still right.
 pub fn same_faults()
     ensures { SameFaults }
+{}
+
+/// What a batch of any size is faulted for comes before its size.
+pub fn size_is_last()
+    ensures { SizeIsLast }
 {}

@@ -12,6 +12,7 @@ mod header;
 mod laws;
 mod outcome;
 mod record;
+mod sent;
 mod table;
 mod walk;
 
@@ -21,6 +22,8 @@ pub use fault::BatchFault;
 pub use header::BatchHeader;
 pub use laws::{
     faultless_is_batch, last_offset_stays, offset_alone_changes, one_batch, same_faults,
+    size_is_last,
 };
 pub use outcome::Outcome;
 pub use record::{Header, Rec, RecordAt};
+pub use sent::SentBatch;
