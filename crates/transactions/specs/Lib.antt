@@ -9,4 +9,5 @@ pub mod Holding
 pub mod Warrants
 pub mod Bounds
 pub mod Kept
+pub mod Shared
 pub mod Laws

@@ -10,29 +10,41 @@ use std::alloc::{AllocError, Global};
 use std::clone::Clone;
 use std::hash::RandomState;
 use std::marker::Model;
+use std::sync::Arc;
 
 /// Partitions in the order of adding, each once; seen as their list. To look whether one is there, or to add one, costs a look-up,
-/// whatever their number.
+/// whatever their number. A copy shares them until one is added: a call that changes a transaction's phase copies none.
 #[derive(Debug, Drop)]
 pub struct Partitions {
-    set: IndexSet<TopicPartition, RandomState>,
+    alloc: Global,
+    hasher: RandomState,
+    /// None where there are no partitions.
+    set: Option<Arc<IndexSet<TopicPartition, RandomState>>>,
 }
 
 impl Model for Partitions {
     ghost use Rattle.std.specs.Prelude.{List};
     ghost use Rattle.transactions.specs.declared.target.TopicPartition.{TopicPartition};
+    ghost use Rattle.std.specs.Option.{option_map};
+    ghost use Rattle.transactions.specs.Shared.{shared_partitions};
 
     ghost Value = { List TopicPartition };
 
-    ghost view = { λ p. p.set.keys };
+    ghost view = { λ p. shared_partitions (option_map (λ set. set.value.keys) p.set) };
 }
 
 impl Clone for Partitions {
     ghost is_clone = { λ partitions copy. copy ≡ partitions };
 
     fn clone(&self) -> Result<Partitions, AllocError> {
+        let set = match &self.set {
+            Some(set) => Some(Arc::try_clone(set)?),
+            None => None,
+        };
         Ok(Partitions {
-            set: self.set.clone()?,
+            alloc: self.alloc,
+            hasher: self.hasher,
+            set,
         })
     }
 }
@@ -43,7 +55,9 @@ impl Partitions {
         ensures { result ≡ [] }
     {
         Partitions {
-            set: IndexSet::with_hasher(alloc, hasher),
+            alloc,
+            hasher,
+            set: None,
         }
     }
 
@@ -51,14 +65,20 @@ impl Partitions {
     pub fn as_slice(&self) -> &[TopicPartition]
         ensures { result.now ≡ self.now }
     {
-        self.set.as_slice()
+        match &self.set {
+            Some(set) => set.as_slice(),
+            None => &[],
+        }
     }
 
     /// Whether the partition is one of them.
     pub(crate) fn contains(&self, partition: &TopicPartition) -> bool
         ensures { result ≡ has_partition self.now partition.now }
     {
-        self.set.contains(partition)
+        match &self.set {
+            Some(set) => set.contains(partition),
+            None => false,
+        }
     }
 
     /// Adds each that isn't there. After an error they are as they were.
@@ -66,32 +86,53 @@ impl Partitions {
         ensures ok { OnOk result (self.new ≡ partitions_added self.old partitions.now) }
         ensures err { OnErr result (self.new ≡ self.old) }
     {
-        let before = self.set.len();
-        for partition in partitions {
-            if self.add_one(partition).is_err() {
-                self.set.truncate(before);
-                return Err(AllocError);
+        match &mut self.set {
+            Some(set) => add_each(Arc::make_mut(set)?, partitions),
+            None => {
+                let mut set = IndexSet::with_hasher(self.alloc, self.hasher);
+                add_each(&mut set, partitions)?;
+                self.set = Some(Arc::new(self.alloc, set)?);
+                Ok(())
             }
         }
-        Ok(())
-    }
-
-    /// Adds one, unless it is there. After an error they are as they were.
-    fn add_one(&mut self, partition: &TopicPartition) -> Result<(), AllocError>
-        ensures ok { OnOk result (self.new ≡ partition_added self.old partition.now) }
-        ensures err { OnErr result (self.new ≡ self.old) }
-    {
-        if !self.set.contains(partition) {
-            self.set.insert(partition.copied()?)?;
-        }
-        Ok(())
     }
 
     /// Lets them all go.
     pub(crate) fn clear(&mut self)
         ensures { self.new ≡ [] }
     {
-        let (alloc, hasher) = (*self.set.allocator(), *self.set.hasher());
-        *self = Partitions::new(alloc, hasher);
+        self.set = None;
     }
+}
+
+/// Adds each that isn't there. After an error they are as they were.
+fn add_each(
+    set: &mut IndexSet<TopicPartition, RandomState>,
+    partitions: &[TopicPartition],
+) -> Result<(), AllocError>
+    ensures ok { OnOk result (set.new.keys ≡ partitions_added set.old.keys partitions.now) }
+    ensures err { OnErr result (set.new.keys ≡ set.old.keys) }
+{
+    let before = set.len();
+    for partition in partitions {
+        if add_one(set, partition).is_err() {
+            set.truncate(before);
+            return Err(AllocError);
+        }
+    }
+    Ok(())
+}
+
+/// Adds one, unless it is there. After an error they are as they were.
+fn add_one(
+    set: &mut IndexSet<TopicPartition, RandomState>,
+    partition: &TopicPartition,
+) -> Result<(), AllocError>
+    ensures ok { OnOk result (set.new.keys ≡ partition_added set.old.keys partition.now) }
+    ensures err { OnErr result (set.new.keys ≡ set.old.keys) }
+{
+    if !set.contains(partition) {
+        set.insert(partition.copied()?)?;
+    }
+    Ok(())
 }
