@@ -11,6 +11,7 @@ use std::time::Duration;
 fn times() -> Times {
     Times {
         idle: None,
+        first: Duration::from_secs(1),
         login: Duration::from_secs(1),
         frame: Duration::from_secs(1),
     }
@@ -50,6 +51,32 @@ fn end_of(times: Times, pieces: &[Piece], known_after: usize) -> End {
 #[test]
 fn a_silent_peer_has_the_time_of_a_login(rt: HostRuntime) -> Result<(), Fail> {
     assert!(rt; end_of(times(), &[(5_000, WHOLE)], 9) == (0, Some(8_000), Some(Limit::Login)));
+    Ok(())
+}
+
+#[test]
+fn a_silent_peer_that_has_waited_has_less(rt: HostRuntime) -> Result<(), Fail> {
+    for (waited, ends) in [(0, 8_000), (600, 7_400), (900, 7_250), (60_000, 7_250)] {
+        let times = times().after(Duration::from_millis(waited));
+        assert!(rt; end_of(times, &[(5_000, WHOLE)], 9) == (0, Some(ends), Some(Limit::Login)));
+    }
+    Ok(())
+}
+
+#[test]
+fn a_peer_that_has_waited_and_speaks_has_the_time_of_a_login(rt: HostRuntime) -> Result<(), Fail> {
+    let pieces = [(200, WHOLE), (700, WHOLE), (700, WHOLE)];
+    let times = times().after(Duration::from_secs(60));
+    assert!(rt; end_of(times, &pieces, 9) == (2, Some(8_000), Some(Limit::Login)));
+    Ok(())
+}
+
+#[test]
+fn a_peer_that_has_waited_and_drips_has_less(rt: HostRuntime) -> Result<(), Fail> {
+    let begins: Piece = (100, b"\0");
+    let pieces = [begins, (100, b"\0"), (100, b"\0")];
+    let times = times().after(Duration::from_secs(60));
+    assert!(rt; end_of(times, &pieces, 9) == (2, Some(7_250), Some(Limit::Login)));
     Ok(())
 }
 

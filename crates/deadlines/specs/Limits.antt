@@ -1,5 +1,5 @@
 -- How long a read may wait.
-use Rattle.std.specs.Prelude.{◌≡◌, ◌⊎◌, ◌-◌, ◌≤◌, ℕ, if◌then◌else◌, Bool, Option, None, Some, IfSome, option_map}
+use Rattle.std.specs.Prelude.{◌≡◌, ◌⊎◌, ◌-◌, ◌≤◌, ℕ, if◌then◌else◌, nat_lt, Bool, Option, None, Some, IfSome, option_map}
 use Rattle.std.specs.Duration.{as_nanos}
 use Rattle.std.specs.declared.time.Duration.{Duration}
 use Rattle.deadlines.specs.declared.limits.Bound.{Bound}
@@ -12,11 +12,20 @@ abbrev pub left : Duration → ℕ → Option Duration → ℕ
 left time since None = 0
 left time since (Some now) = as_nanos time - (as_nanos now - since)
 
+-- who is unheard has said no whole frame yet, and has the time of a first one
+abbrev pub login_time : Times → Bool → Duration
+login_time times unheard = if unheard then times.first else times.login
+
 -- what each limit leaves, if it holds: that of a login until the user is known, and that of a frame once it has begun
-abbrev pub left_by : Times → Bool → Option Duration → Option Duration → Limit → Option ℕ
-left_by times known begun now Idle = option_map as_nanos times.idle
-left_by times known begun now Login = if known then None else Some (left times.login 0 now)
-left_by times known begun now Frame = option_map (λ since. left times.frame (as_nanos since) now) begun
+abbrev pub left_by : Times → Bool → Bool → Option Duration → Option Duration → Limit → Option ℕ
+left_by times known unheard begun now Idle = option_map as_nanos times.idle
+left_by times known unheard begun now Login = if known then None else Some (left (login_time times unheard) 0 now)
+left_by times known unheard begun now Frame = option_map (λ since. left times.frame (as_nanos since) now) begun
+
+-- the time of a first frame for who has waited for so long to be served: the rest of it, and the least time at least, unless there
+-- was less from the first
+abbrev pub first_after : ℕ → ℕ → ℕ → ℕ
+first_after least first waited = if nat_lt (first - waited) least then (if nat_lt first least then first else least) else first - waited
 
 -- what a limit leaves is this bound, or there is none where it doesn't hold
 abbrev pub IsBound : Limit → Option ℕ → Option Bound → Type 0

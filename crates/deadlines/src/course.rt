@@ -60,11 +60,15 @@ impl<'x, R: time::Clock> Course<'x, R> {
         self.start?.elapsed(self.rt).ok()
     }
 
-    /// For how long a call may wait for the peer, where a frame began at this moment or none did. Where no time is left, that is
-    /// noted, and it fails.
-    pub(crate) fn bound(&self, begun: Option<Duration>) -> io::Result<Option<Bound>> {
+    /// For how long a call may wait for a peer of whom a frame was whole or none, and where a frame began at this moment or none
+    /// did. Where no time is left, that is noted, and it fails.
+    pub(crate) fn bound(
+        &self,
+        unheard: bool,
+        begun: Option<Duration>,
+    ) -> io::Result<Option<Bound>> {
         let known = self.notes.known.get();
-        let bound = self.times.bound(known, begun, self.now());
+        let bound = self.times.bound(known, unheard, begun, self.now());
         if let Some(bound) = bound {
             if bound.time.is_zero() {
                 self.notes.over.set(Some(bound.by));

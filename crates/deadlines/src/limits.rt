@@ -3,7 +3,8 @@
 ghost use Rattle.std.specs.Prelude.{◌≡◌, IfSome, IfNone, None, Some, option_map};
 ghost use Rattle.std.specs.Duration.{as_nanos};
 ghost use Rattle.deadlines.specs.declared.limits.Limit.{Limit};
-ghost use Rattle.deadlines.specs.Limits.{IsBound, IsLeast, IsLesser, left, left_by};
+ghost use Rattle.deadlines.specs.declared.limits.Times.{Times};
+ghost use Rattle.deadlines.specs.Limits.{IsBound, IsLeast, IsLesser, first_after, left, left_by, login_time};
 
 use std::time::Duration;
 
@@ -23,6 +24,8 @@ pub enum Limit {
 pub struct Times {
     /// For a wait, if there is an end to it.
     pub idle: Option<Duration>,
+    /// For its first frame.
+    pub first: Duration,
     /// For its login.
     pub login: Duration,
     /// For each frame.
@@ -64,7 +67,29 @@ fn bound_by(by: Limit, time: Duration) -> Option<Bound>
     Some(Bound { time, by })
 }
 
+/// The least time for a first frame, in milliseconds: whoever has something to say has said it by then.
+const LEAST: u64 = 250;
+
 impl Times {
+    /// The times of a peer that has waited for so long until it was served, after its connection was taken. That is taken off the
+    /// time for its first frame, of which a quarter of a second stays if there was as much: those that wait behind many silent ones
+    /// needn't wait for each of these as for the first.
+    pub fn after(self, waited: Duration) -> Times
+        ensures first { as_nanos result.first ≡ first_after 250000000 (as_nanos self.first) (as_nanos waited) }
+        ensures others { result ≡ record self { first = result.first } }
+    {
+        let least = Duration::from_millis(LEAST);
+        let rest = self.first.saturating_sub(waited);
+        let first = if least <= rest {
+            rest
+        } else if self.first < least {
+            self.first
+        } else {
+            least
+        };
+        Times { first, ..self }
+    }
+
     /// For how long a wait may be.
     fn idle_bound(&self) -> Option<Bound>
         ensures { IsBound Limit.Idle (option_map as_nanos self.now.idle) result }
@@ -75,20 +100,30 @@ impl Times {
         }
     }
 
+    /// For how long a peer may take until its user is known, and until a frame of it was whole.
+    fn login_time(&self, unheard: bool) -> Duration
+        ensures { result ≡ login_time self.now unheard }
+    {
+        if unheard { self.first } else { self.login }
+    }
+
     /// What is left of the login's time, until the user is known.
-    fn login_bound(&self, known: bool, now: Option<Duration>) -> Option<Bound>
-        ensures { (begun : _) → IsBound Limit.Login (left_by self.now known begun now Limit.Login) result }
+    fn login_bound(&self, known: bool, unheard: bool, now: Option<Duration>) -> Option<Bound>
+        ensures { (begun : _) → IsBound Limit.Login (left_by self.now known unheard begun now Limit.Login) result }
     {
         if known {
             None
         } else {
-            bound_by(Limit::Login, left(self.login, Duration::ZERO, now))
+            bound_by(
+                Limit::Login,
+                left(self.login_time(unheard), Duration::ZERO, now),
+            )
         }
     }
 
     /// What is left of a frame's time, once it has begun.
     fn frame_bound(&self, begun: Option<Duration>, now: Option<Duration>) -> Option<Bound>
-        ensures { (known : _) → IsBound Limit.Frame (left_by self.now known begun now Limit.Frame) result }
+        ensures { (known unheard : _) → IsBound Limit.Frame (left_by self.now known unheard begun now Limit.Frame) result }
     {
         match begun {
             None => None,
@@ -100,13 +135,14 @@ impl Times {
     pub(crate) fn bound(
         &self,
         known: bool,
+        unheard: bool,
         begun: Option<Duration>,
         now: Option<Duration>,
     ) -> Option<Bound>
-        ensures some { IfSome result (IsLeast (left_by self.now known begun now)) }
-        ensures none { IfNone result ((limit : Limit) → left_by self.now known begun now limit ≡ None) }
+        ensures some { IfSome result (IsLeast (left_by self.now known unheard begun now)) }
+        ensures none { IfNone result ((limit : Limit) → left_by self.now known unheard begun now limit ≡ None) }
     {
-        let least = lesser(self.idle_bound(), self.login_bound(known, now));
+        let least = lesser(self.idle_bound(), self.login_bound(known, unheard, now));
         lesser(least, self.frame_bound(begun, now))
     }
 }

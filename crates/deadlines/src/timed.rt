@@ -20,6 +20,8 @@ use std::{io, time};
 pub struct Timed<'x, S, R> {
     stream: S,
     course: Course<'x, R>,
+    /// Whether no read yet ended with a whole frame.
+    unheard: bool,
     progress: Progress,
     /// How long a read of the stream waits, once that was set.
     waits: Option<Option<Duration>>,
@@ -34,6 +36,7 @@ impl<'x, S: Read + OpenStream, R: time::Clock> Timed<'x, S, R> {
         Timed {
             stream,
             course: Course::begin(rt, times, notes),
+            unheard: true,
             progress: Progress::new(),
             waits: None,
         }
@@ -56,7 +59,7 @@ impl<'x, S: Read + OpenStream, R: time::Clock> Timed<'x, S, R> {
         ensures stream { self.new.stream ≡ self.old.stream }
         ensures progress { self.new.progress ≡ self.old.progress }
     {
-        let bound = self.course.bound(self.progress.begun())?;
+        let bound = self.course.bound(self.unheard, self.progress.begun())?;
         self.wait(time_of(bound))?;
         Ok(bound)
     }
@@ -68,6 +71,9 @@ impl<'x, S: Read + OpenStream, R: time::Clock> Timed<'x, S, R> {
     {
         let now = self.course.now().unwrap_or(Duration::ZERO);
         self.progress.pass(bytes, now);
+        if !bytes.is_empty() && self.progress.begun().is_none() {
+            self.unheard = false;
+        }
     }
 }
 

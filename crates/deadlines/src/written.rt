@@ -37,7 +37,7 @@ impl<'x, S: Write + OpenStream, R: time::Clock> TimedWriter<'x, S, R> {
     fn prepare(&mut self) -> io::Result<Option<Bound>>
         ensures { self.new.stream ≡ self.old.stream }
     {
-        let bound = self.course.bound(None)?;
+        let bound = self.course.bound(false, None)?;
         let time = time_of(bound);
         if self.waits != Some(time) {
             self.stream.set_write_timeout(time)?;

@@ -147,9 +147,11 @@ fn job_of<R: Wait + time::Clock + Copy>(
         limits: Limits::default(),
         times: Times {
             idle: None,
+            first: Duration::from_secs(60),
             login: Duration::from_secs(60),
             frame: Duration::from_secs(60),
         },
+        taken: None,
     })
 }
 

@@ -138,8 +138,10 @@ impl<'x, R: Wait + time::Clock, D: Doorman> Door<'x, R, D> {
             host,
             users: self.users.share()?,
             limits: Limits::default(),
+            taken: Instant::now(self.rt).ok(),
             times: Times {
                 idle: self.options.idle,
+                first: self.options.login_within,
                 login: self.options.login_within,
                 frame: self.options.frame_within,
             },

@@ -15,6 +15,7 @@ use std::io::{Read, Write};
 use std::net::OpenStream;
 use std::sync::Wait;
 use std::time;
+use std::time::{Duration, Instant};
 use wire_types::{Shared, Text};
 
 /// A session that is to be served: its number, what is read and written, the peer's host, who may log in, and the times that the
@@ -28,6 +29,8 @@ pub struct Job<Rd, Wr> {
     pub users: Shared<Users>,
     pub limits: Limits,
     pub times: Times,
+    /// When its connection was taken, if that can be told: who has waited long for a worker, and then sends no whole frame, is waited for less.
+    pub taken: Option<Instant>,
     pub ghost within: { limits.frame ≤ LIMIT },
 }
 
@@ -37,6 +40,14 @@ fn who_asked(receipts: &[Receipt]) -> Option<&Text> {
         Event::Ask { caller, .. } => Some(&caller.who),
         Event::Mark | Event::Tick(_) => None,
     }
+}
+
+/// For how long a job has waited, as far as that can be told.
+fn waited<T: time::Clock>(rt: &T, taken: Option<Instant>) -> Duration {
+    let Some(taken) = taken else {
+        return Duration::ZERO;
+    };
+    taken.elapsed(rt).unwrap_or(Duration::ZERO)
 }
 
 /// Serves a job with a seat that no session has used.
@@ -65,7 +76,9 @@ pub(crate) fn serve_job<
         users,
         limits,
         times,
+        taken,
     } = job;
+    let times = times.after(waited(rt, taken));
     let notes = Notes::new();
     let reader = Timed::new(rt, reader, times, &notes);
     let mut writer = TimedWriter::new(rt, writer, times, &notes);
