@@ -18,8 +18,8 @@ pub trait Gate {
     /// Comes once it was answered or the session was ended on it.
     fn after(&self, session: u64, frame: u64);
 
-    /// Comes once the session has ended, from whoever serves it: with the host that it came from, the principal that asked,
-    /// if one did, and why it ended.
+    /// Comes once the session has ended, from whoever serves it: with the host that it came from, the principal that had logged
+    /// in, if one had, and why it ended.
     fn ended(&self, _session: u64, _host: &Text, _who: Option<&Text>, _why: Why) {}
 
     /// Comes in place of that where a read or a write failed since the peer took longer than it may, which the words say.

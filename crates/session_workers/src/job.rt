@@ -5,9 +5,7 @@ ghost use Rattle.msg_admin.specs.declared.request.TheConstants.{FRAME_LIMIT as L
 
 use crate::sessions::{Done, Unused};
 use crate::times::{Noting, tell_end};
-use audit_trail::Event;
 use deadlines::{Notes, Timed, TimedWriter, Times};
-use request_handlers::Receipt;
 use session_logins::{ListedVersions, Users};
 use session_pool::{DeskLedger, Gate, Limits, LockedDesk, serve_session_listing};
 use std::alloc::Global;
@@ -32,14 +30,6 @@ pub struct Job<Rd, Wr> {
     /// When its connection was taken, if that can be told: who has waited long for a worker, and then sends no whole frame, is waited for less.
     pub taken: Option<Instant>,
     pub ghost within: { limits.frame ≤ LIMIT },
-}
-
-/// The principal that asked, if one did.
-fn who_asked(receipts: &[Receipt]) -> Option<&Text> {
-    match receipts.first()?.event() {
-        Event::Ask { caller, .. } => Some(&caller.who),
-        Event::Mark | Event::Tick(_) => None,
-    }
 }
 
 /// For how long a job has waited, as far as that can be told.
@@ -82,10 +72,7 @@ pub(crate) fn serve_job<
     let notes = Notes::new();
     let reader = Timed::new(rt, reader, times, &notes);
     let mut writer = TimedWriter::new(rt, writer, times, &notes);
-    let noting = Noting {
-        gate,
-        notes: &notes,
-    };
+    let noting = Noting::new(gate, &notes);
     let end = serve_session_listing(
         alloc,
         session,
@@ -99,7 +86,7 @@ pub(crate) fn serve_job<
         limits,
         &noting,
     );
-    let who = who_asked(end.receipts.as_slice());
+    let who = noting.who();
     tell_end(alloc, gate, session, &host, who, &end, times, notes.over());
     Done { end }
 }

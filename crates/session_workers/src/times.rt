@@ -4,14 +4,32 @@ use deadlines::{Limit, Notes, Times};
 use request_handlers::Receipt;
 use session_pool::{Gate, SessionEnd, Why};
 use std::alloc::Global;
+use std::cell::OnceCell;
 use std::time::Duration;
 use wire_types::Text;
 
-/// The gate of one session: notes that its user is known, and leaves all else to the gate of all sessions.
+/// The gate of one session: notes that its user is known and who that is, and leaves all else to the gate of all sessions.
 #[derive(Drop)]
 pub(crate) struct Noting<'x, G> {
-    pub(crate) gate: &'x G,
-    pub(crate) notes: &'x Notes,
+    gate: &'x G,
+    notes: &'x Notes,
+    who: OnceCell<Text>,
+}
+
+impl<'x, G> Noting<'x, G> {
+    /// Nobody is known.
+    pub(crate) fn new(gate: &'x G, notes: &'x Notes) -> Noting<'x, G> {
+        Noting {
+            gate,
+            notes,
+            who: OnceCell::new(),
+        }
+    }
+
+    /// The principal that has logged in, if one has.
+    pub(crate) fn who(&self) -> Option<&Text> {
+        self.who.get()
+    }
 }
 
 impl<'x, G: Gate> Gate for Noting<'x, G> {
@@ -25,6 +43,9 @@ impl<'x, G: Gate> Gate for Noting<'x, G> {
 
     fn logged_in(&self, session: u64, who: &Text) {
         self.notes.log_in();
+        if let Ok(who) = who.clone() {
+            let _another = self.who.set(who);
+        }
         self.gate.logged_in(session, who);
     }
 
