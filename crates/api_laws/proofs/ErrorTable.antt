@@ -76,6 +76,7 @@ use Rattle.walk.proofs.Weaving.{woven}
 use Rattle.broker_world.specs.World.{World, TopicValue, rules_of, find_topic, topic_names}
 use Rattle.broker_world.specs.First.{magnitude}
 use Rattle.broker_world.specs.Logs.{log_at}
+use Rattle.broker_world.specs.Partitions.{partitions_from}
 use Rattle.broker_world.specs.Questions.{read_question, topic_part, topic_refusal}
 use Rattle.broker_world.specs.Whole.{Served, whole_by, whole}
 use Rattle.data_handlers.specs.declared.room.Room.{Room}
@@ -83,7 +84,7 @@ use Rattle.data_handlers.specs.Judged.{partition_at}
 use Rattle.data_handlers.specs.Produce.{produce_questions, producing, produce_outcome}
 use Rattle.data_handlers.specs.Fetch.{fetch_rule, whole_room}
 use Rattle.data_handlers.specs.ListOffsets.{list_rule}
-use Rattle.data_handlers.specs.Metadata.{partitions_from, topic_found, plain_topic, plain_topics as plain_infos, describable, metadata_topics, answer_by as topic_by, topic_answer}
+use Rattle.data_handlers.specs.Metadata.{topic_found, plain_topic, plain_topics as plain_infos, describable, metadata_topics, answer_by as topic_by, topic_answer}
 use Rattle.group_handlers.specs.FindCoordinator.{find_questions, find_error, find_reply}
 use Rattle.group_handlers.specs.Members.{join_error, joined, sync_reply, synced, beat_reply, heard, leave_reply, left}
 use Rattle.group_handlers.specs.OffsetCommit.{committing, committing_rule}

@@ -25,7 +25,8 @@ use Rattle.walk.specs.Weave.{weave}
 use Rattle.broker_world.specs.World.{World, TopicValue, rules_of, find_topic}
 use Rattle.broker_world.specs.Whole.{whole_by}
 use Rattle.broker_world.specs.Questions.{topic_refusal}
-use Rattle.data_handlers.specs.Metadata.{topic_error, partitions_from, topic_found, plain_topic, plain_topics, allowed_topics, refused_topic, refused_topics, metadata_topics, metadata_answer}
+use Rattle.broker_world.specs.Partitions.{partitions_from}
+use Rattle.data_handlers.specs.Metadata.{topic_error, topic_found, plain_topic, plain_topics, allowed_topics, refused_topic, refused_topics, metadata_topics, metadata_answer}
 use Rattle.group_handlers.specs.FindCoordinator.{kind_of, find_questions, find_error, find_reply}
 use Rattle.api_laws.specs.OneNode.{IsLed, ListsTheNode, IsTheNode, IsNoNode, FindsTheNode, OneNodeIsAll}
 

@@ -1,5 +1,5 @@
 -- One part more: what is answered for it comes first, and then what the rest gives.
-use Rattle.std.proofs.Common.{◌≡◌, ℕ, suc, ◌+◌, ◌<◌, List, [], ◌∷◌, ◌++◌, length, get_or, drop, drop-cons, add-one, Bool, true, false, ◌&&◌, Some, refl, sym, ap, ◌∙◌, append_assoc, arith}
+use Rattle.std.proofs.Common.{◌≡◌, ℕ, suc, ◌+◌, ◌-◌, ◌<◌, ℤ, List, [], ◌∷◌, ◌++◌, length, get_or, drop, drop-cons, add-one, Bool, true, false, ◌&&◌, Some, refl, sym, ap, ◌∙◌, append_assoc, arith}
 use Rattle.std.specs.Prelude.{slice_get}
 use Rattle.std.specs.List.{list_all}
 use Rattle.std.proofs.lemmas.Option.{slice_get_within, get_or_from_slice_get}
@@ -10,6 +10,7 @@ use Rattle.acl_binding.specs.Book.{BookValue, added}
 use Rattle.acl_binding.specs.Creatable.{is_creatable, is_resource_name}
 use Rattle.authorizer.specs.Policy.{PolicyValue, policy_added}
 use Rattle.broker_world.specs.First.{with_bindings}
+use Rattle.broker_world.specs.Partitions.{partition_info, partitions_from}
 
 -- one more at the end of what is done, one less at the front of what is left
 pub one_more : {A : Type 0} (done : List A) (a : A) (left rest whole : List A) → left ≡ a ∷ rest → done ++ left ≡ whole → (done ++ a ∷ []) ++ rest ≡ whole
@@ -33,6 +34,10 @@ and_second false b h = absurd cc
 -- what holds of all that is left holds of the rest
 pub all_rest : {A : Type 0} (p : A → Bool) (xs : List A) (i : ℕ) (x : A) → i < length xs → x ≡ get_or xs i x → list_all p (drop i xs) ≡ true → list_all p (drop (i + 1) xs) ≡ true
 all_rest p xs i x lt is all = and_second (p x) (list_all p (drop (i + 1) xs)) (sym (ap (list_all p) (drop_at xs i x lt is)) ∙ all)
+
+-- the partition at a place
+pub partitions_at : (node : ℤ) (n i : ℕ) → i < n → partitions_from node i (n - i) ≡ partition_info node i ∷ partitions_from node (i + 1) (n - (i + 1))
+partitions_at node n i lt = let more : n - i ≡ suc (n - (i + 1)) = omega arith in ap (partitions_from node i) more
 
 -- ---- bindings in their order
 

@@ -2,6 +2,7 @@
 #![tactic(auto)]
 
 mod codes;
+mod infos;
 mod logs;
 mod moment;
 mod node;

@@ -68,14 +68,15 @@ impl State {
         requires { first_fault settings.now ≡ None }
         ensures { IfOk result (λ s. s ≡ first_world settings.now) }
     {
+        let node = Node::first(settings)?;
         Ok(State {
-            node: Node::first(settings)?,
             policy: first_policy(alloc, &settings.supers, settings.acls.as_slice(), hasher)?,
-            topics: Topics::first(alloc, settings.topics.as_slice())?,
+            topics: Topics::first(alloc, node.node_id, settings.topics.as_slice())?,
             coordinator: Coordinator::new(alloc, hasher),
             groups: Groups::new(alloc, hasher),
             moment: Moment::first(),
             events: 0,
+            node,
         })
     }
 

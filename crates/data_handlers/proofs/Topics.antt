@@ -1,5 +1,5 @@
 -- Topic by topic: what is answered for one comes first, and then what the rest gives.
-use Rattle.std.proofs.Common.{◌≡◌, ℕ, ℤ, suc, ◌+◌, ◌-◌, ◌<◌, List, ◌∷◌, ◌++◌, map, drop, Option, Some, None, cond, refl, ap, ◌∙◌, arith}
+use Rattle.std.proofs.Common.{◌≡◌, ℕ, ◌+◌, List, ◌∷◌, ◌++◌, map, drop, Option, Some, None, cond, refl, ap, ◌∙◌}
 use Rattle.std.specs.Prelude.{slice_get, is_none}
 use Rattle.std.specs.Option.{option_to_list}
 use Rattle.acl_binding.specs.declared.question.Caller.{Caller}
@@ -9,11 +9,7 @@ use Rattle.authorizer.specs.Tally.{raised, counted}
 use Rattle.broker_world.specs.World.{World, rules_of}
 use Rattle.broker_world.specs.Questions.{topic_part, topic_refusal}
 use Rattle.broker_world.proofs.Parts.{drop_get}
-use Rattle.data_handlers.specs.Metadata.{partition_info, partitions_from, plain_topic, plain_topics, describable, if_granted, described_topic}
-
--- the partition at a place
-pub partitions_at : (node : ℤ) (n i : ℕ) → i < n → partitions_from node i (n - i) ≡ partition_info node i ∷ partitions_from node (i + 1) (n - (i + 1))
-partitions_at node n i lt = let more : n - i ≡ suc (n - (i + 1)) = omega arith in ap (partitions_from node i) more
+use Rattle.data_handlers.specs.Metadata.{plain_topic, plain_topics, describable, if_granted, described_topic}
 
 -- the first topic's answer, if it may be described, and then those of the rest
 described_cons : (w : World) (caller : Caller) (name : List ℕ) (names : List (List ℕ)) → plain_topics w (describable (rules_of w) caller (name ∷ names)) ≡ option_to_list (described_topic w caller name) ++ plain_topics w (describable (rules_of w) caller names)

@@ -1,5 +1,5 @@
 -- Metadata: what the plain broker answers, and what is refused of it (Kafka protocol guide, "Metadata API (Key: 3)").
-use Rattle.std.specs.Prelude.{ℕ, zero, suc, ◌+◌, ℤ, pos, false, List, [], ◌∷◌, map, filter, length, Option, Some, None, is_none}
+use Rattle.std.specs.Prelude.{ℕ, ℤ, false, List, [], ◌∷◌, map, filter, length, Option, Some, None, is_none}
 use Rattle.std.specs.List.{filter_map}
 use Rattle.std.specs.Option.{option_map}
 use Rattle.acl_binding.specs.declared.question.Caller.{Caller}
@@ -9,12 +9,12 @@ use Rattle.authorizer.specs.Asking.{Rules}
 use Rattle.wire_types.specs.declared.error_code.ErrorCode.{ErrorCode}
 use Rattle.wire_types.specs.declared.error_code.ErrorCode.TheVariants as codes
 use Rattle.msg_data.specs.declared.metadata.BrokerInfo.{BrokerInfo}
-use Rattle.msg_data.specs.declared.metadata.PartitionInfo.{PartitionInfo}
 use Rattle.msg_data.specs.declared.metadata.TopicInfo.{TopicInfo}
 use Rattle.msg_data.specs.declared.metadata.MetadataRequest.{MetadataRequest}
 use Rattle.msg_data.specs.declared.metadata.MetadataReply.{MetadataReply}
 use Rattle.broker_world.specs.declared.node.Node.{Node}
 use Rattle.broker_world.specs.World.{World, TopicValue, rules_of, find_topic, topic_names}
+use Rattle.broker_world.specs.Partitions.{partitions_from}
 use Rattle.broker_world.specs.Outcome.{Outcome}
 use Rattle.msg_admin.specs.declared.reply.Reply.TheVariants as replies
 use Rattle.walk.specs.Codes.{refusal_code}
@@ -26,15 +26,6 @@ use Rattle.broker_world.specs.Questions.{topic_part, topic_refusal}
 -- a topic that is answered with an error code has no partitions
 abbrev pub topic_error : ErrorCode → List ℕ → TopicInfo
 topic_error code name = record { error = code; name = name; internal = false; partitions = [] }
-
--- a partition, which the one node leads and keeps
-abbrev pub partition_info : ℤ → ℕ → PartitionInfo
-partition_info node index = record { error = codes.None; index = pos index; leader = node; replicas = node ∷ []; in_sync = node ∷ [] }
-
--- so many partitions, from an index on
-abbrev pub partitions_from : ℤ → ℕ → ℕ → List PartitionInfo
-partitions_from node index zero = []
-partitions_from node index (suc n) = partition_info node index ∷ partitions_from node (index + 1) n
 
 -- a topic that is there, with its partitions, or else its name with the code that it is unknown
 abbrev pub topic_found : ℤ → List ℕ → Option TopicValue → TopicInfo

@@ -1,11 +1,11 @@
 //! Metadata: the cluster's one broker, and topics with their partitions.
 
-ghost use Rattle.std.specs.Prelude.{◌≡◌, ◌<◌, ◌^◌, [], ◌∷◌, false, IfOk, Some, None, pos};
+ghost use Rattle.std.specs.Prelude.{◌≡◌, [], ◌∷◌, false, IfOk, Some, None, pos};
 ghost use Rattle.std.specs.Option.{option_map};
 ghost use Rattle.authorizer.specs.Asking.{part_paid};
 ghost use Rattle.authorizer.specs.Tally.{counted};
 ghost use Rattle.broker_world.specs.World.{rules_of, topic_names};
-ghost use Rattle.data_handlers.specs.Metadata.{topic_error, partition_info, partitions_from, plain_topic, plain_topics, topic_refusals, topic_answer, describable, described_topic, metadata_topics, metadata_parts, broker_info, metadata_answer, metadata_outcome};
+ghost use Rattle.data_handlers.specs.Metadata.{topic_error, plain_topic, plain_topics, topic_refusals, topic_answer, describable, described_topic, metadata_topics, metadata_parts, broker_info, metadata_answer, metadata_outcome};
 ghost use Rattle.broker_world.specs.Questions.{topic_part, topic_refusal};
 ghost use Rattle.walk.specs.Steps.{ending_by, refusal_in, spent_in};
 
@@ -13,7 +13,7 @@ use acl_binding::{Caller, Kind, Operation};
 use authorizer::{Paid, Refusal, Tally, ask_one};
 use broker_world::{Node, Outcome, State, served_in_parts};
 use msg_admin::Reply;
-use msg_data::{BrokerInfo, MetadataReply, MetadataRequest, PartitionInfo, TopicInfo};
+use msg_data::{BrokerInfo, MetadataReply, MetadataRequest, SharedItems, TopicInfo};
 use std::alloc::{AllocError, Global};
 use walk::Part;
 use wire_types::{ErrorCode, Items, Text};
@@ -124,7 +124,7 @@ fn named_topic(
             Ok(Part::served(plain_topic(alloc, state, name)?, paid))
         }
         Err(refusal) => {
-            let answer = topic_error(alloc, ErrorCode::TopicAuthorizationFailed, name)?;
+            let answer = topic_error(ErrorCode::TopicAuthorizationFailed, name)?;
             Ok(Part::refused(answer, refusal))
         }
     }
@@ -177,14 +177,15 @@ fn described_topic(
 fn plain_topic(alloc: Global, state: &State, name: &Text) -> Result<TopicInfo, AllocError>
     ensures { IfOk result (λ t. t ≡ plain_topic state.now name.now) }
 {
-    match state.topics().partitions(name) {
-        Some(count) => Ok(TopicInfo {
+    let node = state.node().node_id;
+    match state.topics().partition_infos(alloc, name, node)? {
+        Some(partitions) => Ok(TopicInfo {
             error: ErrorCode::None,
             name: name.clone()?,
             internal: false,
-            partitions: partition_infos(alloc, state.node().node_id, count)?,
+            partitions,
         }),
-        None => topic_error(alloc, ErrorCode::UnknownTopicOrPartition, name),
+        None => topic_error(ErrorCode::UnknownTopicOrPartition, name),
     }
 }
 
@@ -199,38 +200,13 @@ fn broker_info(node: &Node) -> Result<BrokerInfo, AllocError>
     })
 }
 
-fn topic_error(alloc: Global, error: ErrorCode, name: &Text) -> Result<TopicInfo, AllocError>
+fn topic_error(error: ErrorCode, name: &Text) -> Result<TopicInfo, AllocError>
     ensures { IfOk result (λ t. t ≡ topic_error error name.now) }
 {
     Ok(TopicInfo {
         error,
         name: name.clone()?,
         internal: false,
-        partitions: Items::new(alloc),
+        partitions: SharedItems::empty(),
     })
-}
-
-/// A partition, which the one node leads and keeps.
-fn partition_info(alloc: Global, node: i32, index: u32) -> Result<PartitionInfo, AllocError>
-    requires { index < 2 ^ 31 }
-    ensures { IfOk result (λ p. p ≡ partition_info node index) }
-{
-    Ok(PartitionInfo {
-        error: ErrorCode::None,
-        index: index as i32,
-        leader: node,
-        replicas: Items::from(vec![in alloc; node]?),
-        in_sync: Items::from(vec![in alloc; node]?),
-    })
-}
-
-fn partition_infos(alloc: Global, node: i32, count: u32) -> Result<Items<PartitionInfo>, AllocError>
-    requires { count < 2 ^ 31 }
-    ensures { IfOk result (λ p. p ≡ partitions_from node 0 count) }
-{
-    let mut infos = Items::new(alloc);
-    for index in 0..count {
-        infos.push(partition_info(alloc, node, index)?)?;
-    }
-    Ok(infos)
 }

@@ -1,5 +1,6 @@
 //! Metadata, version 1: the brokers of the cluster, and topics with their partitions.
 
+use crate::shared_items::SharedItems;
 use std::alloc::Global;
 use wire_types::{
     Cursor, ErrorCode, Items, ReadFault, Text, Wire, WriteFault, array_room, nullable_array_room,
@@ -28,8 +29,8 @@ pub struct PartitionInfo {
     pub error: ErrorCode,
     pub index: i32,
     pub leader: i32,
-    pub replicas: Items<i32>,
-    pub in_sync: Items<i32>,
+    pub replicas: SharedItems<i32>,
+    pub in_sync: SharedItems<i32>,
 }
 
 /// A topic with its partitions, or why it has none.
@@ -38,7 +39,7 @@ pub struct TopicInfo {
     pub error: ErrorCode,
     pub name: Text,
     pub internal: bool,
-    pub partitions: Items<PartitionInfo>,
+    pub partitions: SharedItems<PartitionInfo>,
 }
 
 /// What the cluster consists of.
@@ -112,8 +113,8 @@ impl Wire for PartitionInfo {
         let error = ErrorCode::read(alloc, cursor)?;
         let index = cursor.read_i32()?;
         let leader = cursor.read_i32()?;
-        let replicas = read_array(alloc, cursor)?;
-        let in_sync = read_array(alloc, cursor)?;
+        let replicas = SharedItems::read(alloc, cursor)?;
+        let in_sync = SharedItems::read(alloc, cursor)?;
         Ok(PartitionInfo {
             error,
             index,
@@ -127,8 +128,8 @@ impl Wire for PartitionInfo {
         self.error.write(out)?;
         write_i32(out, self.index)?;
         write_i32(out, self.leader)?;
-        write_array(out, &self.replicas)?;
-        write_array(out, &self.in_sync)?;
+        self.replicas.put(out)?;
+        self.in_sync.put(out)?;
         Ok(())
     }
 
@@ -136,8 +137,8 @@ impl Wire for PartitionInfo {
         let room = self.error.room_left(room)?;
         let room = room_behind(4, room)?;
         let room = room_behind(4, room)?;
-        let room = array_room(&self.replicas, room)?;
-        array_room(&self.in_sync, room)
+        let room = self.replicas.room_left(room)?;
+        self.in_sync.room_left(room)
     }
 }
 
@@ -150,7 +151,7 @@ impl Wire for TopicInfo {
         let error = ErrorCode::read(alloc, cursor)?;
         let name = cursor.read_string(alloc)?;
         let internal = cursor.read_bool()?;
-        let partitions = read_array(alloc, cursor)?;
+        let partitions = SharedItems::read(alloc, cursor)?;
         Ok(TopicInfo {
             error,
             name,
@@ -163,7 +164,7 @@ impl Wire for TopicInfo {
         self.error.write(out)?;
         write_string(out, &self.name)?;
         write_bool(out, self.internal)?;
-        write_array(out, &self.partitions)?;
+        self.partitions.put(out)?;
         Ok(())
     }
 
@@ -171,7 +172,7 @@ impl Wire for TopicInfo {
         let room = self.error.room_left(room)?;
         let room = string_room(&self.name, room)?;
         let room = room_behind(1, room)?;
-        array_room(&self.partitions, room)
+        self.partitions.room_left(room)
     }
 }
 

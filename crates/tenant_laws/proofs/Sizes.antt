@@ -14,7 +14,8 @@ use Rattle.msg_data.specs.declared.metadata.TopicInfo.{TopicInfo}
 use Rattle.msg_group.specs.declared.offset_fetch.FetchedOffset.{FetchedOffset}
 use Rattle.offset_tables.specs.declared.event.OffsetEvent.{OffsetEvent}
 use Rattle.broker_world.specs.World.{TopicValue, find_topic, topic_names}
-use Rattle.data_handlers.specs.Metadata.{topic_error, partitions_from, topic_found, describable}
+use Rattle.broker_world.specs.Partitions.{partitions_from}
+use Rattle.data_handlers.specs.Metadata.{topic_error, topic_found, describable}
 use Rattle.broker_world.specs.Questions.{topic_refusal}
 use Rattle.group_handlers.specs.OffsetFetch.{told_from, told_as, told_topics}
 use Rattle.api_laws.specs.GroupLaws.{described_slots}

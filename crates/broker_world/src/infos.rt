@@ -1,0 +1,44 @@
+//! What is told of a topic's partitions.
+
+ghost use Rattle.std.specs.Prelude.{◌≡◌, ◌<◌, ◌^◌, [], ◌∷◌, IfOk};
+ghost use Rattle.broker_world.specs.Partitions.{partition_info, partitions_from};
+
+use msg_data::{PartitionInfo, SharedItems};
+use std::alloc::{AllocError, Global};
+use wire_types::{ErrorCode, Items};
+
+/// A partition, which the one node leads and keeps.
+fn partition_info(
+    node: i32,
+    nodes: &SharedItems<i32>,
+    index: u32,
+) -> Result<PartitionInfo, AllocError>
+    requires index { index < 2 ^ 31 }
+    requires nodes { nodes.now ≡ node ∷ [] }
+    ensures { IfOk result (λ p. p ≡ partition_info node index) }
+{
+    Ok(PartitionInfo {
+        error: ErrorCode::None,
+        index: index as i32,
+        leader: node,
+        replicas: nodes.share()?,
+        in_sync: nodes.share()?,
+    })
+}
+
+/// So many partitions, which the one node leads and keeps.
+pub(crate) fn led_by(
+    alloc: Global,
+    node: i32,
+    count: u32,
+) -> Result<SharedItems<PartitionInfo>, AllocError>
+    requires { count < 2 ^ 31 }
+    ensures { IfOk result (λ infos. infos ≡ partitions_from node 0 count) }
+{
+    let nodes = SharedItems::of(alloc, Items::from(vec![in alloc; node]?))?;
+    let mut infos = Items::new(alloc);
+    for index in 0..count {
+        infos.push(partition_info(node, &nodes, index)?)?;
+    }
+    SharedItems::of(alloc, infos)
+}
