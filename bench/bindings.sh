@@ -5,7 +5,7 @@ set -euo pipefail
 top="$(cd "$(dirname "$0")/.." && pwd)"
 text="$(mktemp)"
 trap 'rm -f "$text"' EXIT
-"$top/scripts/program.py"
+"$top/tools/program.py"
 
 for names in 100000 1000 1; do
     for bindings in 25000 50000 100000; do

@@ -7,36 +7,39 @@ while `shop` asks for the Metadata of one topic as fast as it can. What is told 
 import sys
 from pathlib import Path
 
-sys.path.append(str(Path(__file__).resolve().parent.parent / "scripts"))
+sys.path.append(str(Path(__file__).resolve().parent.parent))
 
-import wire  # noqa: E402
-from abuse import BOUND, LONGEST, beside_another  # noqa: E402
-from serving import Broker, topic  # noqa: E402
+from tests.abuse.beside import LONGEST, beside_another  # noqa: E402
+from tests.support import TOP, acl, topic, user  # noqa: E402
+
+from kbroker_testing.acl_model import OPEN, Entry, Kind, Operation, Pattern, Permission  # noqa: E402
+from kbroker_testing.broker import ClockedKbroker  # noqa: E402
+from kbroker_testing.protocol import batch, logged_in, request_frame  # noqa: E402
 
 MANY = 100_000
 ROUNDS = 3
 TWENTY = [f"u{it}" for it in range(20)]
-USERS = "".join(f'[[user]]\nname = "{it}"\npassword = "{it[0]}"\n' for it in ("root", "nobody", "shop"))
+USERS = "".join(user(it, it[0]) for it in ("root", "nobody", "shop"))
 SETTINGS = (
-    'node_id = 1\nhost = "h"\nport = 9092\nsupers = ["User:root"]\ntrail_limit = 10000000\n'
+    TOP
+    + 'supers = ["User:root"]\ntrail_limit = 10000000\n'
     + USERS
     + topic("shop-orders")
     + topic("t", 1_000)
     + "".join(topic(it, 1_000) for it in TWENTY)
-    + BOUND.format("Topic", "shop-")
+    + acl(name="shop-", principal="User:shop", operation="ALL", pattern="PREFIXED")
 )
 
 
 def creation(number):
     """A binding that nobody asks for."""
-    words = {"kind": 2, "name": f"topic-{number}", "pattern": 3, "principal": "User:ann", "host": "*"}
-    return {**words, "operation": 3, "permission": 3}
+    binding = Entry(f"topic-{number}", Pattern.LITERAL, Kind.Topic, "User:ann", "*", Operation.READ, Permission.ALLOW)
+    return binding._asdict()
 
 
 def picking(name):
     """A filter for the topics' bindings of this name, or of any."""
-    words = {"kind": 2, "name": name, "pattern": 1, "principal": None, "host": None}
-    return {**words, "operation": 1, "permission": 1}
+    return OPEN._replace(kind=Kind.Topic, name=name)._asdict()
 
 
 def partitions(name, indices, **more):
@@ -85,7 +88,7 @@ ROWS = {
     "TxnOffsetCommit of 100,000": ("root", begins, MANY, "TxnOffsetCommit", {"group": "g", "instance": None, "topics": commits("t", range(1_000), leader_epoch=-1) * 100}),
     "AddPartitionsToTxn of 20,000": ("root", begins, 20_000, "AddPartitionsToTxn", {"topics": all_of_twenty()}),
     "EndTxn of 20,000 partitions": ("root", adds, 20_000, "EndTxn", {"committed": True}),
-    "Produce of 100,000 batches": ("root", nothing, MANY, "Produce", {"transactional_id": None, "topics": partitions("t", range(1_000), records=wire.batch([b"v"])) * 100}),
+    "Produce of 100,000 batches": ("root", nothing, MANY, "Produce", {"transactional_id": None, "topics": partitions("t", range(1_000), records=batch([b"v"])) * 100}),
     "CreateAcls of 100,000": ("root", nothing, MANY, "CreateAcls", {"creations": [creation(it) for it in range(MANY)]}),
     "DescribeAcls of 100,000": ("root", binds, MANY, "DescribeAcls", picking(None)),
     "DeleteAcls, 200 filters with a name": ("root", binds, 200, "DeleteAcls", {"filters": [picking(f"other-{it}") for it in range(200)]}),
@@ -93,20 +96,18 @@ ROWS = {
 }
 
 
-def measure(user, before, api, fields):
+def measure(who, before, api, fields):
     """The bytes of the frame, how long it takes at most, and how long another user waits at most, in seconds."""
-    with Broker(SETTINGS, connections=2) as running, wire.Connection(running.address, timeout=600) as broker:
-        if broker.login(user, user[0]):
-            raise ValueError("the login is refused")
-        frame = wire.request_frame(api, 1, {**before(broker), **fields})
+    with ClockedKbroker(SETTINGS, connections=2) as running, logged_in(running.address, who, who[0], timeout=600) as broker:
+        frame = request_frame(api, 1, {**before(broker), **fields})
         _, took, waited = beside_another(running.address, broker, [frame] * ROUNDS)
     return len(frame), took, waited
 
 
 def main():
     print("| request | frame | it takes | another user waits | for each thousand |\n|---|--:|--:|--:|--:|")
-    for name, (user, before, count, api, fields) in ROWS.items():
-        size, took, waited = measure(user, before, api, fields)
+    for name, (who, before, count, api, fields) in ROWS.items():
+        size, took, waited = measure(who, before, api, fields)
         print(f"| {name} | {size / 1000:,.0f} kB | {took * 1000:.0f} ms | {waited * 1000:.0f} ms | {waited / count * 1e6:.1f} ms |", flush=True)
 
 

@@ -9,12 +9,12 @@ import subprocess
 import sys
 from pathlib import Path
 
-TOP = Path(__file__).resolve().parent.parent
-sys.path[:0] = [str(TOP / "scripts"), str(TOP / "bench")]
+sys.path[:0] = [str(Path(__file__).resolve().parent.parent)]
 
-from program import PROGRAM  # noqa: E402
-from serving import OF_ROOT, Broker, topic  # noqa: E402
 from tables import PLACE, ask, fetch, produce, run, settings  # noqa: E402
+from tests.support import OF_ROOT, PROGRAM, topic  # noqa: E402
+
+from kbroker_testing.broker import ClockedKbroker  # noqa: E402
 
 FEW, MANY = 20_000, 80_000
 PRODUCED, FETCHED = 400_000_000, 1_000_000_000
@@ -47,13 +47,10 @@ def small_events():
 
 def served(client, *words):
     """What a client's run adds to the peak of a broker of its own."""
-    broker = Broker(OF_ROOT + topic("b"), connections=2)
-    try:
+    with ClockedKbroker(OF_ROOT + topic("b"), connections=2) as broker:
         before = broker.peak_memory()
         subprocess.run([client, broker.address, "root", "toor", *words], check=True, capture_output=True)
         return broker.peak_memory() - before
-    finally:
-        broker.kill()
 
 
 def large_batches(client):

@@ -3,7 +3,7 @@
 # `bench/memory.sh`. It needs the proved program (`make prove`) and a Rust compiler for the client.
 set -euo pipefail
 top="$(cd "$(dirname "$0")/.." && pwd)"
-"$top/scripts/program.py"
+"$top/tools/program.py"
 made=$(mktemp -d)
 trap 'rm -rf "$made"' EXIT
 rustc -O --edition 2021 "$top/bench/serve/client.rs" -o "$made/client"

@@ -3,5 +3,5 @@
 # `bench/produce.sh`.
 set -euo pipefail
 top="$(cd "$(dirname "$0")/.." && pwd)"
-"$top/scripts/program.py"
+"$top/tools/program.py"
 exec python3 "$top/bench/produce.py" "$top/crates/kbroker/out/kbroker"

@@ -4,7 +4,7 @@ set -euo pipefail
 top="$(cd "$(dirname "$0")/.." && pwd)"
 text="$(mktemp)"
 trap 'rm -f "$text"' EXIT
-"$top/scripts/program.py"
+"$top/tools/program.py"
 
 for users in 25000 50000 100000; do
     awk -v users="$users" 'BEGIN {

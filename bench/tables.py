@@ -12,11 +12,13 @@ import tempfile
 import threading
 from pathlib import Path
 
-sys.path.append(str(Path(__file__).resolve().parent.parent / "scripts"))
+sys.path.append(str(Path(__file__).resolve().parent.parent))
 
-import wire  # noqa: E402
-from replaying import only, request  # noqa: E402
-from serving import COLLIDING  # noqa: E402
+from tests import support  # noqa: E402
+from tests.support import COLLIDING, OF_SUPER  # noqa: E402
+
+from kbroker_testing.acl_model import ANY, Entry, Kind, Pattern  # noqa: E402
+from kbroker_testing.protocol import batch, in_partition, request_digits  # noqa: E402
 
 RUNS = 3
 WORK = 20_000
@@ -31,18 +33,16 @@ TRAIL_LIMIT = 10_000_000
 def settings(topics=1, partitions=1, acls=()):
     """Settings with so many topics, `t` the last of them."""
     names = [f"topic{it}" for it in range(topics - 1)] + ["t"]
-    lines = [f'node_id = 1\nhost = "h"\nport = 9092\nsupers = ["User:root"]\ntrail_limit = {TRAIL_LIMIT}\n']
-    lines += [f'[[topic]]\nname = "{it}"\npartitions = {partitions}\n' for it in names]
+    lines = [f"{OF_SUPER}trail_limit = {TRAIL_LIMIT}\n", *(support.topic(it, partitions) for it in names)]
     return "".join([*lines, *acls])
 
 
 def acl(name, principal):
-    words = f'kind = "Topic"\nname = "{name}"\npattern = "LITERAL"\nprincipal = "User:{principal}"\n'
-    return f'[[acl]]\n{words}host = "*"\noperation = "READ"\npermission = "ALLOW"\n'
+    return support.acl(name=name, principal=f"User:{principal}")
 
 
 def ask(api, **fields):
-    return f"req root h {request(api, **fields)}\n"
+    return f"req root h {request_digits(api, **fields)}\n"
 
 
 def of_producer(name, producer):
@@ -65,12 +65,12 @@ def end(name, producer, is_commit):
 def produce(place=PLACE, name=None, producer=-1, sequence=-1):
     """A Produce of one record."""
     epoch = 0 if producer >= 0 else -1
-    sent = wire.batch([b"a"], producer, epoch, sequence, transactional=name is not None)
-    return ask("Produce", transactional_id=name, acks=1, topics=only(place, records=sent))
+    sent = batch([b"a"], producer, epoch, sequence, transactional=name is not None)
+    return ask("Produce", transactional_id=name, acks=1, topics=in_partition(place, records=sent))
 
 
 def fetch(place, offset, isolation=0, max_bytes=1 << 20):
-    topics = only(place, offset=offset, max_bytes=max_bytes)
+    topics = in_partition(place, offset=offset, max_bytes=max_bytes)
     return ask("Fetch", isolation=isolation, max_bytes=max_bytes, topics=topics)
 
 
@@ -97,7 +97,7 @@ def add_group(name, producer):
 
 def acl_filter(name=None, principal=None):
     """A filter over topics, of this literal name and principal, or of any."""
-    return {"kind": 2, "name": name, "pattern": 3, "principal": principal, "host": None, "operation": 1, "permission": 1}
+    return Entry(name, Pattern.LITERAL, Kind.Topic, principal, None, ANY, ANY)._asdict()
 
 
 def describe_acls(name=None, principal=None):

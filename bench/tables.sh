@@ -2,5 +2,5 @@
 # What look-ups cost among n and among 4n, for each table of the broker: `bench/tables.sh`.
 set -euo pipefail
 top="$(cd "$(dirname "$0")/.." && pwd)"
-"$top/scripts/program.py"
+"$top/tools/program.py"
 exec python3 "$top/bench/tables.py" "$top/crates/kbroker/out/kbroker"

@@ -2,10 +2,9 @@
 """What peers and users can cause at most, beside the goals for it: one line of a table for each.
 
 The figures stand in bench/README.md. A line that misses its goal says so, and the exit status is then 1. It takes some
-minutes; what of it is short stands in the gate as scripts/abuse.py, deadlines.py, strangers.py and served.py.
+minutes; what of it is short stands in the gate as test_abuse.py beside this file and tests/server.
 """
 
-import socket
 import struct
 import sys
 import threading
@@ -13,18 +12,18 @@ import time
 from concurrent.futures import ThreadPoolExecutor
 from pathlib import Path
 
-sys.dont_write_bytecode = True
 ROOT = Path(__file__).resolve().parent.parent.parent
-sys.path += [str(ROOT / "scripts"), str(ROOT / "bench")]
+sys.path += [str(ROOT), str(ROOT / "bench")]
 
 import latency  # noqa: E402
-import wire  # noqa: E402
-from abuse import LONGEST  # noqa: E402
-from serving import COLLIDING, OF_ROOT, Broker, topic  # noqa: E402
+from tests.abuse.beside import LONGEST  # noqa: E402
+from tests.support import COLLIDING, LONGEST_FRAME, OF_ROOT, connect, of_b, topic  # noqa: E402
+
+from kbroker_testing.broker import ClockedKbroker  # noqa: E402
+from kbroker_testing.protocol import logged_in, request_frame  # noqa: E402
 
 MILLION = 1_000_000
 STRANGERS = 64  # connections that send the longest frame before a login
-LONGEST_FRAME = 104_857_600
 HOSTILE = 300  # connections that are there before the good client comes
 PAUSE = 1.0  # seconds between two bytes of a dripping one
 REFUSED = {
@@ -54,10 +53,8 @@ def waits_for_each_megabyte():
 
 def kept_for_each(api, count, fields):
     """How many bytes the broker keeps for each of so many things that a request names, beside the frame's own bytes."""
-    with Broker(latency.SETTINGS) as running, wire.Connection(running.address, timeout=600) as broker:
-        if broker.login("root", "r"):
-            raise ValueError("the login is refused")
-        frame = wire.request_frame(api, 1, fields)
+    with ClockedKbroker(latency.SETTINGS) as running, logged_in(running.address, "root", "r", timeout=600) as broker:
+        frame = request_frame(api, 1, fields)
         before = running.memory()
         for _ in range(3):
             broker.socket.sendall(frame)
@@ -81,24 +78,20 @@ def kept_for_each_thing():
 def send_longest(address):
     """Sends the longest Produce before a login, and waits for the end of the connection."""
     piece = bytes(1 << 20)
-    with socket.create_connection(address, timeout=300) as peer:
+    with connect(address, 300) as peer:
         peer.sendall(struct.pack(">ihhi", LONGEST_FRAME, 0, 3, 1))
         for left in range(LONGEST_FRAME - 8, 0, -len(piece)):
             peer.sendall(piece[:left])
         peer.recv(1)
 
 
-def address_of(broker):
-    host, _, port = broker.address.rpartition(":")
-    return host, int(port)
-
-
 def kept_before_a_login():
     """How many kB a peer that hasn't logged in makes the broker take at once."""
-    with Broker(OF_ROOT, workers=STRANGERS, connections=STRANGERS, more=["--frame-within", "300", "--login-within", "300"]) as broker:
+    patient = ("--frame-within", "300", "--login-within", "300")
+    with ClockedKbroker(OF_ROOT, workers=STRANGERS, connections=STRANGERS, more=patient) as broker:
         before = broker.peak_memory()
         with ThreadPoolExecutor(STRANGERS) as pool:
-            list(pool.map(send_longest, [address_of(broker)] * STRANGERS))
+            list(pool.map(send_longest, [broker.address] * STRANGERS))
         return (broker.peak_memory() - before) / STRANGERS / 1000
 
 
@@ -109,13 +102,10 @@ def collisions():
     def seconds(running, broker, front):
         before = running.processor_seconds()
         for number in range(8_000):
-            partition = {"index": 0, "offset": number, "metadata": ""}
-            broker.ask("OffsetCommit", group=f"{front}{number:08}", topics=[{"topic": "b", "partitions": [partition]}])
+            broker.ask("OffsetCommit", group=f"{front}{number:08}", topics=of_b(offset=number, metadata=""))
         return running.processor_seconds() - before
 
-    with Broker(settings) as running, wire.Connection(running.address) as broker:
-        if broker.login("root", "toor"):
-            raise ValueError("the login is refused")
+    with ClockedKbroker(settings) as running, logged_in(running.address) as broker:
         ordinary = min(seconds(running, broker, f"an ordinary name: group{it}") for it in range(2))
         return seconds(running, broker, COLLIDING) / ordinary
 
@@ -134,16 +124,14 @@ def drip(peer, ended):
 def first_answer_beside_hostile_ones():
     """After how many seconds a good client that comes after silent and dripping connections has its first answer."""
     ended = threading.Event()
-    with Broker(OF_ROOT, workers=64, connections=HOSTILE + 1) as broker:
-        peers = [socket.create_connection(address_of(broker)) for _ in range(HOSTILE)]
+    with ClockedKbroker(OF_ROOT, workers=64, connections=HOSTILE + 1) as broker:
+        peers = [connect(broker.address) for _ in range(HOSTILE)]
         with ThreadPoolExecutor(HOSTILE) as pool:
             for number, peer in enumerate(peers):
                 if number % 2:
                     pool.submit(drip, peer, ended)
             began = time.monotonic()
-            with wire.Connection(broker.address, timeout=300) as good:
-                if good.login("root", "toor"):
-                    raise ValueError("the login is refused")
+            with logged_in(broker.address, timeout=300) as good:
                 good.ask("Metadata", topics=None)
                 took = time.monotonic() - began
             ended.set()

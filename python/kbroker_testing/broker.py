@@ -1,0 +1,372 @@
+"""A broker for tests: `kbroker serve` on a port of its own, as a context manager, and `kbroker replay` as a function.
+
+`Kbroker` is steered. There is no clock, and nothing happens in the broker between two calls but what clients ask:
+
+    with Kbroker(settings, program="kbroker") as broker:
+        client_of(broker.address)      # "127.0.0.1:PORT", which is also what Metadata tells
+        broker.tick(60_001)            # the clock shows so many milliseconds, and only now
+        broker.mark()                  # one marker is written, and `marks` writes all that are owed
+
+`ClockedKbroker` keeps its time itself, and takes so many connections. The settings are a TOML text. Where they don't say so,
+`node_id`, `host` and `port` are put before them.
+
+The program is the one that is named, or the one of the environment's KBROKER, or `kbroker` on the path.
+"""
+
+import contextlib
+import os
+import re
+import socket
+import subprocess
+import tempfile
+from typing import NamedTuple
+from urllib.parse import unquote
+
+ATTEMPTS = 5
+LISTENING = re.compile(r"listening on (\S+)\n")
+LAST = re.compile(r"sessions (\d+) events (\d+) refusals (\d+)\n")
+# What is told where as many connections were taken as are served.
+USED_UP = "kbroker: no more connections are taken, since --connections is {}"
+TICKS = os.sysconf("SC_CLK_TCK")
+
+
+class Moment(NamedTuple):
+    """What came of a tick: the broker's moment, the transactional ids whose time was over, and how many markers are owed."""
+
+    moment: int
+    aborted: tuple
+    owed: int
+
+
+class Marker(NamedTuple):
+    """A marker that was written: to a partition of a topic, or for a group, which has no index."""
+
+    outcome: str
+    producer: int
+    epoch: int
+    kind: str
+    name: str
+    index: int | None
+    owed: int
+
+
+class Partition(NamedTuple):
+    """A partition's log end offset and its last stable offset."""
+
+    end: int
+    stable: int
+
+
+class Transaction(NamedTuple):
+    """An open or a prepared transaction: its state by its name in KIP-98, its pair, when it began and how long it may take in
+    milliseconds, and the partitions and the groups that were added to it."""
+
+    state: str
+    producer: int
+    epoch: int
+    began: int
+    timeout: int
+    partitions: tuple
+    groups: tuple
+
+
+class Group(NamedTuple):
+    """A group's generation, its member if it has one, and its committed offsets by topic and partition."""
+
+    generation: int
+    member: str | None
+    committed: dict
+
+
+class State(NamedTuple):
+    """How things stand: partitions by topic and index, transactions by id, groups by name, and the length of the trail."""
+
+    moment: int
+    owed: int
+    partitions: dict
+    transactions: dict
+    groups: dict
+    events: int
+
+
+class Settled(NamedTuple):
+    """What the settled broker did."""
+
+    sessions: int
+    events: int
+    refusals: int
+
+
+class BrokerFailed(Exception):
+    """The broker didn't start, or didn't end as it should."""
+
+
+class NotTaken(Exception):
+    """The broker didn't take a step: it has no memory (`stop 1`), its trail is full (`stop 2`), or it is down (`stop 3`)."""
+
+
+def program_of_environment():
+    """The program that is run where none is named."""
+    return os.environ.get("KBROKER", "kbroker")
+
+
+def free_port(host):
+    """A port that was free just now."""
+    with socket.socket() as it:
+        it.bind((host, 0))
+        return it.getsockname()[1]
+
+
+def marker_of(line):
+    """The marker of a line, or None where none was owed."""
+    words = line.split(" ")
+    if words[:2] == ["marker", "none"]:
+        return None
+    outcome, producer, epoch, kind, name = words[1], int(words[3]), int(words[5]), words[6], unquote(words[7])
+    index = int(words[8]) if kind == "topic" else None
+    return Marker(outcome, producer, epoch, kind, name, index, int(words[-1]))
+
+
+def state_of(lines):
+    """What the lines after `state` tell."""
+    partitions, transactions, groups, numbers = {}, {}, {}, {}
+    for kind, *words in (line.split(" ") for line in lines):
+        if kind in ("moment", "owed", "events"):
+            numbers[kind] = int(words[0])
+            continue
+        name = unquote(words[0])
+        if kind == "partition":
+            partitions[name, int(words[1])] = Partition(int(words[3]), int(words[5]))
+        elif kind == "transaction":
+            transactions[name] = Transaction(words[1], *map(int, words[3::2]), (), ())
+        elif kind == "added" and words[1] == "topic":
+            had = transactions[name]
+            transactions[name] = had._replace(partitions=(*had.partitions, (unquote(words[2]), int(words[3]))))
+        elif kind == "added":
+            had = transactions[name]
+            transactions[name] = had._replace(groups=(*had.groups, unquote(words[2])))
+        elif kind == "group":
+            groups[name] = Group(int(words[2]), unquote(words[4]) if len(words) > 3 else None, {})
+        elif kind == "committed":
+            groups[name].committed[unquote(words[1]), int(words[2])] = int(words[3])
+    return State(partitions=partitions, transactions=transactions, groups=groups, **numbers)
+
+
+class BrokerProcess:
+    """`kbroker serve` with settings, as a context manager that leaves no process and no file."""
+
+    connections = None  # after which it ends, where that is said
+
+    def __init__(self, settings, program=None, host="127.0.0.1", workers=4, more=(), errors=None):
+        """Its standard error goes to a file, or to `errors`: a pipe, `subprocess.PIPE`, is read once its end is waited for."""
+        self.settings, self.program, self.host, self.workers = settings, program or program_of_environment(), host, workers
+        self.more, self.errors = more, errors
+        self.process = self.folder = self.file = self.address = None
+
+    def __enter__(self):
+        self.folder = tempfile.TemporaryDirectory()
+        try:
+            for _ in range(ATTEMPTS):
+                first = self.start()
+                if found := LISTENING.fullmatch(first):
+                    self.address = found[1]
+                    return self
+                told = self.told()
+                self.kill()
+            raise BrokerFailed(f"the broker says {first!r}, and {told}")
+        except BaseException:
+            self.close()
+            raise
+
+    def __exit__(self, *_):
+        self.close()
+
+    def words(self, settings):
+        """What stands after `serve`, but for where it listens, with the settings in this file; and its standard input."""
+        raise NotImplementedError
+
+    def start(self):
+        """Starts it, and gives its first line."""
+        listens, settings = f"{self.host}:0", self.settings
+        if not re.search("^node_id *=", settings, re.M):
+            port = free_port(self.host)
+            listens, settings = f"{self.host}:{port}", f'node_id = 1\nhost = "{self.host}"\nport = {port}\n{settings}'
+        path = os.path.join(self.folder.name, "settings.toml")
+        with open(path, "w", encoding="utf-8") as it:
+            it.write(settings)
+        self.file = None if self.errors else tempfile.TemporaryFile()
+        with open(path, encoding="utf-8") as given:
+            words, stdin = self.words(given)
+            words = ["serve", "--listen", listens, "--workers", str(self.workers), *words, *self.more]
+            pipes = {"stdin": stdin, "stdout": subprocess.PIPE, "stderr": self.errors or self.file}
+            coded = {"encoding": "utf-8", "errors": "surrogateescape"}
+            self.process = subprocess.Popen([self.program, *words], **pipes, **coded)
+        return self.process.stdout.readline()
+
+    def kill(self):
+        """Ends it at once, whatever it does."""
+        if self.process is None:
+            return
+        if self.process.poll() is None:
+            self.process.kill()
+        self.process.wait()
+        for it in (self.process.stdin, self.process.stdout, self.process.stderr, self.file):
+            with contextlib.suppress(OSError):
+                if it:
+                    it.close()
+
+    def close(self):
+        """Leaves nothing of it."""
+        self.kill()
+        self.folder.cleanup()
+
+    def lines_of(self, errors):
+        """The lines of standard error, but for the one that no more connections are taken."""
+        return [line for line in errors.splitlines() if line != self.used_up]
+
+    @property
+    def used_up(self):
+        """The line which tells that no more connections are taken."""
+        return USED_UP.format(self.connections)
+
+    def told(self):
+        """The lines of standard error so far, where it is a file."""
+        return self.lines_of(os.pread(self.file.fileno(), 1 << 20, 0).decode(errors="replace")) if self.file else []
+
+    def wait(self, line=None, timeout=30):
+        """Waits for its end, and gives its status, what it said last, and what it said on standard error."""
+        said, told = self.process.communicate(line, timeout=timeout)
+        if self.file:
+            self.file.seek(0)
+            told = self.file.read().decode()
+        return self.process.returncode, said, told
+
+    def settled(self, line=None, timeout=30):
+        """Waits for its end, and gives what it did, and the lines of standard error."""
+        status, said, errors = self.wait(line, timeout)
+        found = LAST.fullmatch(said)
+        if status or not found:
+            raise BrokerFailed(f"the broker ends with status {status} and says {said!r}, and {self.lines_of(errors)}")
+        return Settled(*map(int, found.groups())), self.lines_of(errors)
+
+    def memory(self, of="VmRSS"):
+        """How many bytes of its memory are resident."""
+        with open(f"/proc/{self.process.pid}/status", encoding="ascii") as status:
+            return next(int(line.split()[1]) << 10 for line in status if line.startswith(f"{of}:"))
+
+    def peak_memory(self):
+        """How many were resident at once, at most, since it began."""
+        return self.memory("VmHWM")
+
+    def processor_seconds(self):
+        """The processor time that it has taken since it began."""
+        with open(f"/proc/{self.process.pid}/stat", encoding="utf-8") as stat:
+            fields = stat.read().rpartition(")")[2].split()
+        return (int(fields[11]) + int(fields[12])) / TICKS
+
+
+class ClockedKbroker(BrokerProcess):
+    """A broker that keeps its time itself, until it has served so many connections (None: that isn't said), or more words end it."""
+
+    def __init__(self, settings, program=None, connections=1, **options):
+        super().__init__(settings, program, **options)
+        self.connections = connections
+
+    def words(self, settings):
+        counted = [] if self.connections is None else ["--connections", str(self.connections)]
+        return counted, settings
+
+
+class Kbroker(BrokerProcess):
+    """A broker that is steered. It ends with the `with`, and its books have to be settled then."""
+
+    def __init__(self, settings, program=None, host="127.0.0.1", workers=16, more=("--librdkafka",), errors=None):
+        super().__init__(settings, program, host, workers, more, errors)
+
+    def __exit__(self, kind, *_):
+        try:
+            if kind is None and self.process.poll() is None:
+                self.end()
+        finally:
+            self.close()
+
+    def words(self, settings):
+        return ["--control", "--settings", settings.name], subprocess.PIPE
+
+    def say(self, line):
+        """Hands in a line, and gives the first line of the answer."""
+        self.process.stdin.write(line + "\n")
+        self.process.stdin.flush()
+        return self.heard()
+
+    def heard(self):
+        """The next line of an answer."""
+        line = self.process.stdout.readline()
+        if not line:
+            raise EOFError(f"the broker has ended, and says {self.told()}")
+        line = line.rstrip("\n")
+        if line.startswith("stop "):
+            raise NotTaken(line)
+        return line
+
+    def lines(self, said, last):
+        """Hands in a line, and gives the lines of the answer up to the last, which begins with a word, and that word's number."""
+        found, line = [], self.say(said)
+        while not line.startswith(last + " "):
+            found.append(line)
+            line = self.heard()
+        return found, int(line.rpartition(" ")[2])
+
+    def tick(self, moment):
+        """The clock shows this moment, in milliseconds: a group's members and transactions whose time is over go."""
+        words = self.say(f"tick {moment}").split(" ")
+        aborted = tuple(map(unquote, words[3:-2:2]))
+        return Moment(int(words[1]), aborted, int(words[-1]))
+
+    def mark(self):
+        """Writes the first marker that is owed, and gives it; None where none is."""
+        return marker_of(self.say("mark"))
+
+    def marks(self):
+        """Writes all that are owed, and gives them."""
+        return [marker_of(line) for line in self.lines("marks", "markers")[0]]
+
+    def audit(self):
+        """The refusals since the last time, each as the line that `replay` prints."""
+        return self.lines("audit", "refusals")[0]
+
+    def state(self):
+        """How things stand."""
+        lines, events = self.lines("state", "events")
+        return state_of([*lines, f"events {events}"])
+
+    def end(self, timeout=30):
+        """Takes no more connections, waits until the open ones have ended, and gives what the settled broker did."""
+        return self.settled("end\n", timeout)[0]
+
+
+class Answered(NamedTuple):
+    """What `kbroker replay` prints for a line: the answer, or what stands in its place, and the lines of what is refused."""
+
+    answer: str
+    refused: list
+
+
+def answers_in(printed):
+    """What `kbroker replay` printed, line by line of the script."""
+    answers = []
+    for line in printed.splitlines():
+        if line.startswith(("denied ", "unmatched ")):
+            answers[-1].refused.append(line)
+        else:
+            answers.append(Answered(line, []))
+    return answers
+
+
+def replay(script, program=None, timeout=60):
+    """What is printed for each line of a script, which stands after its settings and a line `---`."""
+    words = [program or program_of_environment(), "replay"]
+    ran = subprocess.run(words, input=script.encode(), capture_output=True, timeout=timeout)
+    if ran.returncode:
+        raise BrokerFailed(f"the replay ends with status {ran.returncode}: {ran.stderr.decode(errors='replace')[:500]}")
+    return answers_in(ran.stdout.decode())

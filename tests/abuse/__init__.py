@@ -1,0 +1,1 @@
+"""What users without rights and strangers can cause."""

@@ -1,0 +1,1 @@
+"""Frames that are spoilt at random."""

@@ -1,0 +1,1 @@
+"""The package that users have, python/kbroker_testing."""

@@ -1,0 +1,122 @@
+"""The package's brokers: what their lines tell, how they start and end, and what is told of those that fail."""
+
+import unittest
+
+from kbroker_testing.broker import (
+    BrokerFailed,
+    ClockedKbroker,
+    Group,
+    Kbroker,
+    Marker,
+    NotTaken,
+    Partition,
+    Settled,
+    State,
+    Transaction,
+    answers_in,
+    marker_of,
+    replay,
+    state_of,
+)
+from kbroker_testing.protocol import Connection, logged_in, request_digits
+from tests.support import OF_ROOT, TOP, topic, user
+
+OWN = 'supers = ["User:root"]\n' + user("root", "toor") + topic("b")
+STATE = """moment 5
+owed 1
+partition a%20b 1 end 4 stable 2
+transaction t%25 PrepareCommit producer 3 epoch 1 began 2 timeout 60000
+added t%25 topic a%20b 1
+added t%25 group g
+group g generation 2 member m-1
+committed g a%20b 1 7
+group h generation 0
+events 9"""
+
+
+class Lines(unittest.TestCase):
+    def test_a_state(self):
+        told = Transaction("PrepareCommit", 3, 1, 2, 60_000, (("a b", 1),), ("g",))
+        groups = {"g": Group(2, "m-1", {("a b", 1): 7}), "h": Group(0, None, {})}
+        self.assertEqual(state_of(STATE.splitlines()), State(5, 1, {("a b", 1): Partition(4, 2)}, {"t%": told}, groups, 9))
+
+    def test_markers(self):
+        line = "marker commit producer 3 epoch 1 topic a%20b 1 owed 2"
+        self.assertEqual(marker_of(line), Marker("commit", 3, 1, "topic", "a b", 1, 2))
+        line = "marker abort producer 3 epoch 1 group g owed 0"
+        self.assertEqual(marker_of(line), Marker("abort", 3, 1, "group", "g", None, 0))
+        self.assertIsNone(marker_of("marker none owed 0"))
+
+    def test_answers(self):
+        printed = "00\ndenied a\nunmatched b\n-\nclosed\n"
+        self.assertEqual(answers_in(printed), [("00", ["denied a", "unmatched b"]), ("-", []), ("closed", [])])
+
+
+class Brokers(unittest.TestCase):
+    def test_metadata_tells_the_address(self):
+        """Of a broker whose settings don't say where it is."""
+        for broker in (Kbroker(OWN), ClockedKbroker(OWN, more=("--librdkafka",))):
+            with self.subTest(kind=type(broker).__name__), broker:
+                with logged_in(broker.address) as client:
+                    [told] = client.ask("Metadata", topics=None)["brokers"]
+                    self.assertEqual(f"{told['host']}:{told['port']}", broker.address)
+
+    def test_a_steered_broker_is_settled_at_its_end(self):
+        with Kbroker(OWN) as broker:
+            broker.tick(1)
+        self.assertEqual(broker.process.returncode, 0)
+
+    def test_a_clocked_broker_ends_after_its_connections(self):
+        with ClockedKbroker(OF_ROOT, connections=2) as broker:
+            for _ in range(2):
+                logged_in(broker.address).close()
+            self.assertEqual(broker.settled()[0].sessions, 2)
+
+    def test_a_broker_that_is_killed(self):
+        """Its client and who steers it are told, and its books aren't settled."""
+        with Kbroker(OWN) as broker:
+            with Connection(broker.address) as client:
+                broker.kill()
+                with self.assertRaises((EOFError, ConnectionError)):
+                    client.ask("ApiVersions")
+        with self.assertRaises((EOFError, ValueError, OSError)):
+            with Kbroker(OWN) as broker:
+                broker.process.kill()
+                broker.process.wait()
+                broker.tick(1)
+
+    def test_books_that_cannot_be_settled(self):
+        with self.assertRaisesRegex(BrokerFailed, "status -9"):
+            with ClockedKbroker(OF_ROOT) as broker:
+                broker.process.kill()
+                broker.settled()
+
+    def test_settings_with_a_fault(self):
+        for settings in (TOP + "x = 1\n", "x = 1\n"):
+            with self.subTest(settings=settings), self.assertRaisesRegex(BrokerFailed, "settings refused: Key"):
+                with Kbroker(settings):
+                    self.fail("it listens")
+
+    def test_a_step_that_is_not_taken(self):
+        with Kbroker("trail_limit = 1\n" + OWN) as broker:
+            broker.tick(1)
+            with self.assertRaisesRegex(NotTaken, "stop 2"):
+                broker.tick(2)
+            self.assertEqual(broker.end(), Settled(0, 1, 0))
+
+    def test_a_program_that_is_not_there(self):
+        with self.assertRaises(FileNotFoundError):
+            with Kbroker(OWN, program="/none/kbroker"):
+                self.fail("it listens")
+
+
+class Replays(unittest.TestCase):
+    def test_answers_and_refusals(self):
+        asked = request_digits("Metadata", topics=["b"])
+        first, second = replay(f"{OF_ROOT}{topic('b')}---\nreq root h {asked}\nreq ann h {asked}\n")
+        self.assertEqual((first.refused, second.refused), ([], ["unmatched DESCRIBE Topic b User:ann h"]))
+        self.assertNotEqual(first.answer, second.answer)
+
+    def test_a_replay_that_fails(self):
+        with self.assertRaisesRegex(BrokerFailed, "status 1"):
+            replay(OF_ROOT + "---\nreq\n")

@@ -1,0 +1,1 @@
+"""The server over TCP, clocked and steered."""

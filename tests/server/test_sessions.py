@@ -1,0 +1,212 @@
+"""Sessions over TCP, byte for byte: which messages log in, what is answered before a login and after it, why a session
+ends, and how many events it was. Lines steer the brokers, so nothing happens but what is asked."""
+
+import socket
+import struct
+import unittest
+from typing import NamedTuple
+
+from kbroker_testing.broker import Kbroker
+from tests.server.session_bytes import (
+    BARE_VERSIONS_IN_THREE,
+    HANDSHAKE,
+    HANDSHAKE_AGAIN_TOLD,
+    HANDSHAKE_AT_LENGTH,
+    HANDSHAKE_TOLD,
+    LOGIN,
+    LOGIN_AGAIN_TOLD,
+    LOGIN_AT_LENGTH,
+    LOGIN_IN_ONE_TOO_LONG,
+    LOGIN_TOLD,
+    LONGEST,
+    METADATA,
+    METADATA_TOLD,
+    PRODUCE,
+    PRODUCE_TOLD,
+    PRODUCE_TOO_LONG,
+    SCRAM,
+    SCRAM_TOLD,
+    SILENT_PRODUCE,
+    SPOILT,
+    UNKNOWN_AT_LENGTH,
+    UNKNOWN_TOO_LONG,
+    VERSIONS,
+    VERSIONS_IN_THREE,
+    VERSIONS_IN_THREE_TOLD,
+    VERSIONS_IN_THREE_TOO_LONG,
+    VERSIONS_TOLD,
+    VERSIONS_TOO_LONG,
+    WRONG,
+    WRONG_TOLD,
+    login_of,
+    settings,
+)
+from tests.server.told import BAD_FRAME, CUT, FULL, MALFORMED, NO_LOGIN
+from tests.support import connect
+
+
+
+class Row(NamedTuple):
+    """What is sent, what is answered, how many events it was, and why the session ended, where its input didn't end."""
+
+    asks: tuple
+    answers: tuple = ()
+    events: int = 0
+    why: str | None = None
+
+
+ROWS = (
+    # inputs that end
+    Row(()),
+    Row(("000000",), why=CUT),
+    Row(("00000011",), why=CUT),
+    Row((HANDSHAKE, "00"), (HANDSHAKE_TOLD,), why=CUT),
+    Row(("06400000", "00"), why=CUT),
+    # sizes that no frame has
+    Row(("ffffffff",), why=BAD_FRAME),
+    Row(("00000007", "00120000000000"), why=BAD_FRAME),
+    Row(("06400001", "00"), why=BAD_FRAME),
+    # a body that is too short, and one that is too long
+    Row(("000000080012000000000001",), why=MALFORMED),
+    Row(("0000000b0012000000000001ffff00",), why=MALFORMED),
+    # what can't be read: before a login the api alone counts
+    *(Row((it,), why=NO_LOGIN) for it in SPOILT),
+    *(Row((HANDSHAKE, it), (HANDSHAKE_TOLD,), why=NO_LOGIN) for it in SPOILT),
+    *(Row((HANDSHAKE, LOGIN, it), (HANDSHAKE_TOLD, LOGIN_TOLD), why=MALFORMED) for it in SPOILT),
+    # what is as long as it may be before a login, and longer
+    Row((HANDSHAKE_AT_LENGTH, LOGIN_AT_LENGTH, METADATA), (HANDSHAKE_TOLD, LOGIN_TOLD, METADATA_TOLD), 1),
+    Row((UNKNOWN_AT_LENGTH, LOGIN), (SCRAM_TOLD,), why=NO_LOGIN),
+    Row((UNKNOWN_TOO_LONG,), why=MALFORMED),
+    Row((VERSIONS_TOO_LONG,), why=MALFORMED),
+    Row((HANDSHAKE, VERSIONS_TOO_LONG), (HANDSHAKE_TOLD,), why=MALFORMED),
+    Row((HANDSHAKE, login_of(LONGEST)), (HANDSHAKE_TOLD, WRONG_TOLD), why=NO_LOGIN),
+    Row((HANDSHAKE, login_of(LONGEST + 1)), (HANDSHAKE_TOLD, WRONG_TOLD), why=NO_LOGIN),
+    Row((HANDSHAKE, login_of(LONGEST, 1)), (HANDSHAKE_TOLD,), why=MALFORMED),
+    Row((HANDSHAKE, login_of(LONGEST + 1, 1)), (HANDSHAKE_TOLD, WRONG_TOLD), why=NO_LOGIN),
+    Row((HANDSHAKE, LOGIN_IN_ONE_TOO_LONG), (HANDSHAKE_TOLD,), why=MALFORMED),
+    Row((login_of(LONGEST + 1),), why=NO_LOGIN),
+    Row((PRODUCE_TOO_LONG,), why=NO_LOGIN),
+    Row((HANDSHAKE, PRODUCE_TOO_LONG), (HANDSHAKE_TOLD,), why=NO_LOGIN),
+    Row((HANDSHAKE, PRODUCE_TOO_LONG[:-2]), (HANDSHAKE_TOLD,), why=CUT),
+    Row(
+        (VERSIONS_IN_THREE_TOO_LONG, HANDSHAKE, VERSIONS_IN_THREE_TOO_LONG, LOGIN, VERSIONS_IN_THREE_TOO_LONG),
+        (VERSIONS_IN_THREE_TOLD, HANDSHAKE_TOLD, VERSIONS_IN_THREE_TOLD, LOGIN_TOLD, VERSIONS_IN_THREE_TOLD),
+    ),
+    # logins
+    Row((HANDSHAKE, LOGIN, METADATA), (HANDSHAKE_TOLD, LOGIN_TOLD, METADATA_TOLD), 1),
+    Row((HANDSHAKE, WRONG, METADATA), (HANDSHAKE_TOLD, WRONG_TOLD), why=NO_LOGIN),
+    Row((SCRAM, LOGIN), (SCRAM_TOLD,), why=NO_LOGIN),
+    # what comes too soon, and too late
+    Row((LOGIN,), why=NO_LOGIN),
+    Row((METADATA,), why=NO_LOGIN),
+    Row((PRODUCE,), why=NO_LOGIN),
+    Row((HANDSHAKE, PRODUCE, LOGIN), (HANDSHAKE_TOLD,), why=NO_LOGIN),
+    Row((HANDSHAKE, HANDSHAKE), (HANDSHAKE_TOLD,), why=NO_LOGIN),
+    Row(
+        (HANDSHAKE, LOGIN, HANDSHAKE, LOGIN),
+        (HANDSHAKE_TOLD, LOGIN_TOLD, HANDSHAKE_AGAIN_TOLD, LOGIN_AGAIN_TOLD),
+        2,
+    ),
+    # a Produce that wants no answer
+    Row((HANDSHAKE, LOGIN, SILENT_PRODUCE, PRODUCE), (HANDSHAKE_TOLD, LOGIN_TOLD, PRODUCE_TOLD), 2),
+    # ApiVersions before the handshake, after it, and after the login
+    Row(
+        (VERSIONS, HANDSHAKE, VERSIONS, LOGIN, VERSIONS),
+        (VERSIONS_TOLD, HANDSHAKE_TOLD, VERSIONS_TOLD, LOGIN_TOLD, VERSIONS_TOLD),
+        1,
+    ),
+    Row(
+        (VERSIONS_IN_THREE, HANDSHAKE, VERSIONS_IN_THREE, LOGIN, VERSIONS_IN_THREE),
+        (VERSIONS_IN_THREE_TOLD, HANDSHAKE_TOLD, VERSIONS_IN_THREE_TOLD, LOGIN_TOLD, VERSIONS_IN_THREE_TOLD),
+    ),
+    Row(
+        (BARE_VERSIONS_IN_THREE, HANDSHAKE, BARE_VERSIONS_IN_THREE, LOGIN, BARE_VERSIONS_IN_THREE),
+        (VERSIONS_IN_THREE_TOLD, HANDSHAKE_TOLD, VERSIONS_IN_THREE_TOLD, LOGIN_TOLD, VERSIONS_IN_THREE_TOLD),
+    ),
+)
+
+LOG_ANN_IN = (b"\0ann\0pw", b"ann\0ann\0pw")
+LOG_NOBODY_IN = (
+    b"bob\0ann\0pw",
+    b"ann\0bob\0pw",
+    b"\0ann\0other",
+    b"\0ann\0p",
+    b"\0ann\0pww",
+    b"\0ann\0",
+    b"\0zed\0pw",
+    b"\0\0pw",
+    b"\0ann\0pw\0",
+    b"\0ann",
+    b"annpw",
+    b"",
+)
+
+
+class SessionBroker(Kbroker):
+    """A broker that lines steer, from its first connection on."""
+
+    def __init__(self, trail_limit):
+        super().__init__(settings(trail_limit), more=())
+
+    def answers(self, asks):
+        """What is answered over a connection of its own to all that is asked at once, up to its end."""
+        with connect(self.address, 30) as it:
+            it.sendall(asks)
+            it.shutdown(socket.SHUT_WR)
+            pieces = iter(lambda: it.recv(1 << 16), b"")
+            return b"".join(pieces)
+
+    def ended(self):
+        """What it did, and why each session ended that didn't end between two requests."""
+        settled, lines = self.settled("end\n")
+        whys = (line.split(": ", 2) for line in lines)
+        return settled, {int(who.split(" ")[1]): why for _, who, why in whys}
+
+
+class Sessions(unittest.TestCase):
+    def test_rows(self):
+        with SessionBroker(1_000) as broker:
+            events = 0
+            for number, row in enumerate(ROWS):
+                with self.subTest(row=number):
+                    found = broker.answers(bytes.fromhex("".join(row.asks))).hex()
+                    before, events = events, broker.state().events
+                    self.assertEqual(found, "".join(row.answers))
+                    self.assertEqual(events - before, row.events)
+            settled, whys = broker.ended()
+        self.assertEqual(settled, (len(ROWS), sum(it.events for it in ROWS), 0))
+        self.assertEqual(whys, {number: row.why for number, row in enumerate(ROWS) if row.why})
+
+    def test_a_full_trail(self):
+        """The trail takes three events; the session ends at the fourth."""
+        with SessionBroker(3) as broker:
+            found = broker.answers(bytes.fromhex(HANDSHAKE + LOGIN + 4 * METADATA)).hex()
+            self.assertEqual(found, HANDSHAKE_TOLD + LOGIN_TOLD + 3 * METADATA_TOLD)
+            self.assertEqual(broker.ended(), ((1, 3, 0), {0: FULL}))
+
+    def whom_it_logs_in(self, broker, message):
+        """Whom a message logs in, as an audit line tells it of somebody who asks for the topic `a`, or None."""
+        login = struct.pack(">hhihi", 36, 0, 2, -1, len(message)) + message
+        metadata = struct.pack(">hhihih", 3, 1, 3, -1, 1, 1) + b"a"
+        frames = (struct.pack(">i", len(it)) + it for it in (login, metadata))
+        found = broker.answers(bytes.fromhex(HANDSHAKE) + b"".join(frames)).hex()
+        self.assertTrue(found.startswith(HANDSHAKE_TOLD), found)
+        refused, told = broker.audit(), found[len(HANDSHAKE_TOLD) :]
+        if told == WRONG_TOLD and not refused:
+            return None
+        self.assertTrue(told.startswith(LOGIN_TOLD), told)
+        [line] = refused
+        front, after = "unmatched DESCRIBE Topic a ", " 127.0.0.1"
+        self.assertTrue(line.startswith(front) and line.endswith(after), line)
+        return line[len(front) : -len(after)]
+
+    def test_messages_that_log_in(self):
+        """Ann is logged in by her name and her password alone, and for herself."""
+        with SessionBroker(1_000) as broker:
+            for messages, whom in ((LOG_ANN_IN, "User:ann"), (LOG_NOBODY_IN, None)):
+                for message in messages:
+                    with self.subTest(message=message):
+                        self.assertEqual(self.whom_it_logs_in(broker, message), whom)
+            settled, whys = broker.ended()
+        self.assertEqual(settled, (len(LOG_ANN_IN + LOG_NOBODY_IN), len(LOG_ANN_IN), len(LOG_ANN_IN)))
+        self.assertEqual(whys, {len(LOG_ANN_IN) + at: NO_LOGIN for at in range(len(LOG_NOBODY_IN))})

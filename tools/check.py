@@ -1,0 +1,114 @@
+#!/usr/bin/env python3
+"""What a developer runs in minutes: `make check`, or `make check SINCE=COMMIT`.
+
+It lays out the crates that changed since a commit, in the working tree too, checks each of them, compiles the program without
+a proof, and runs the tests that take seconds over what was compiled. All failures are told, and the status is 1 where there are
+any. What was compiled is out/unproved/kbroker, which has the checks of `rt try`: it is slower than the program that is proved.
+"""
+
+import argparse
+import os
+import shutil
+import subprocess
+import sys
+import time
+
+from program import NAME, ROOT, crates_list
+
+SETTINGS = ROOT / "examples/server.toml"
+UNPROVED = ROOT / "out/unproved" / NAME
+COMPILED = "program"  # the name of what `rt try` runs
+# What takes seconds: the others refuse memory, wait for times, or keep all processors busy.
+QUICK = ("tests.package", "tests.golden", "tests.models", "tests.fuzzing", "tests.server.test_steered", "tests.server.test_sessions")
+
+
+def say(text):
+    """Tells how far it is."""
+    print(f"check: {text}", file=sys.stderr, flush=True)
+
+
+def git(*words):
+    """The lines that git prints."""
+    ran = subprocess.run(["git", *words], cwd=ROOT, capture_output=True, text=True)
+    if ran.returncode:
+        sys.exit(f"check: git {' '.join(words)}: {ran.stderr.strip()}")
+    return ran.stdout.splitlines()
+
+
+def changed_crates(since):
+    """The crates of which a file changed since a commit, lowest first."""
+    files = git("diff", "--name-only", since, "--", "crates") + git("ls-files", "--others", "--exclude-standard", "--", "crates")
+    names = {it.split("/")[1] for it in files}
+    return [it for it in crates_list() if it in names]
+
+
+def is_well(words, folder, **more):
+    """Whether a command ends well."""
+    say(f"{' '.join(map(str, words))} in {folder.relative_to(ROOT)}")
+    return subprocess.run(words, cwd=folder, stdin=subprocess.DEVNULL, **more).returncode == 0
+
+
+def below(top):
+    """The processes below one."""
+    parents = {}
+    for it in filter(str.isdigit, os.listdir("/proc")):
+        try:
+            with open(f"/proc/{it}/stat", encoding="utf-8", errors="replace") as stat:
+                parents.setdefault(int(stat.read().rpartition(")")[2].split()[1]), []).append(int(it))
+        except OSError:
+            continue  # it has ended
+    found, left = [], [top]
+    while left:
+        more = parents.get(left.pop(), [])
+        found, left = [*found, *more], [*left, *more]
+    return found
+
+
+def keep_compiled(process):
+    """Keeps what a `rt try` has compiled, once that runs. Gives whether it does."""
+    while process.poll() is None:
+        for it in below(process.pid):
+            try:
+                if os.path.basename(os.readlink(f"/proc/{it}/exe")) == COMPILED:
+                    shutil.copy(f"/proc/{it}/exe", UNPROVED)
+                    return True
+            except OSError:
+                continue  # it has ended
+        time.sleep(0.1)
+    return False
+
+
+def compiles():
+    """Whether the program compiles without a proof, which is kept."""
+    say("rt try in crates/kbroker, which takes minutes")
+    UNPROVED.parent.mkdir(parents=True, exist_ok=True)
+    UNPROVED.unlink(missing_ok=True)
+    with SETTINGS.open("rb") as given:
+        words = ["rt", "try", "--", "serve", "--listen", "127.0.0.1:0"]
+        process = subprocess.Popen(words, cwd=ROOT / "crates" / NAME, stdin=given)
+    try:
+        return keep_compiled(process)
+    finally:
+        process.terminate()
+        process.wait()
+
+
+def main():
+    parser = argparse.ArgumentParser(description="Checks what changed, compiles the program, and runs the quick tests.")
+    parser.add_argument("since", nargs="?", default="HEAD", metavar="COMMIT", help="since which crates changed; HEAD, if none is named")
+    crates = changed_crates(parser.parse_args().since)
+    failed = [f"{name} isn't laid out" for name in crates if not is_well(["rt", "fmt"], ROOT / "crates" / name)]
+    failed += [f"{name} isn't proved" for name in crates if not is_well(["rt", "check"], ROOT / "crates" / name)]
+    if compiles():
+        words, where = [sys.executable, "-m", "tests.harness", *QUICK], {**os.environ, "KBROKER": str(UNPROVED)}
+        failed += [] if is_well(words, ROOT, env=where) else ["a quick test fails"]
+    else:
+        failed.append("the program doesn't compile, and no test is run")
+    for it in failed:
+        say(f"FAILED: {it}")
+    say(f"{len(crates)} crates changed; {'FAILED' if failed else 'passed'}")
+    sys.exit(1 if failed else 0)
+
+
+if __name__ == "__main__":
+    main()
