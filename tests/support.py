@@ -7,7 +7,6 @@ from pathlib import Path
 
 from kbroker_testing.broker import free_port
 from kbroker_testing.protocol import in_partition
-from program import ROOT
 
 PROGRAM = Path(os.environ["KBROKER"])
 

@@ -19,7 +19,7 @@ SETTINGS = ROOT / "examples/server.toml"
 UNPROVED = ROOT / "out/unproved" / NAME
 COMPILED = "program"  # the name of what `rt try` runs
 # What takes seconds: the others refuse memory, wait for times, or keep all processors busy.
-QUICK = ("tests.package", "tests.golden", "tests.models", "tests.fuzzing", "tests.server.test_steered", "tests.server.test_sessions")
+QUICK = "tests.package", "tests.golden", "tests.models", "tests.server.test_steered", "tests.server.test_sessions"
 
 
 def say(text):
@@ -94,8 +94,8 @@ def compiles():
 
 
 def main():
-    parser = argparse.ArgumentParser(description="Checks what changed, compiles the program, and runs the quick tests.")
-    parser.add_argument("since", nargs="?", default="HEAD", metavar="COMMIT", help="since which crates changed; HEAD, if none is named")
+    parser = argparse.ArgumentParser(description="Checks what changed since a commit, compiles the program, and runs the quick tests.")
+    parser.add_argument("since", nargs="?", default="HEAD", metavar="COMMIT", help="HEAD, if none is named")
     crates = changed_crates(parser.parse_args().since)
     failed = [f"{name} isn't laid out" for name in crates if not is_well(["rt", "fmt"], ROOT / "crates" / name)]
     failed += [f"{name} isn't proved" for name in crates if not is_well(["rt", "check"], ROOT / "crates" / name)]

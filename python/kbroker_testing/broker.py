@@ -266,7 +266,8 @@ class BrokerProcess:
 
 
 class ClockedKbroker(BrokerProcess):
-    """A broker that keeps its time itself, until it has served so many connections (None: that isn't said), or more words end it."""
+    """A broker that keeps its time itself, until it has served so many connections (None: that isn't said), or more words
+    end it."""
 
     def __init__(self, settings, program=None, connections=1, **options):
         super().__init__(settings, program, **options)

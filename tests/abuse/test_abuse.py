@@ -17,12 +17,13 @@ from tests.support import TOP, acl, topic, user
 PARTITIONS = range(1_000)
 ROUNDS = 3  # of each request
 LIMIT = 1.0  # seconds that the other user may wait
+KINDS = "Topic", "Group", "TransactionalId"
 SETTINGS = (
     TOP
     + user("shop", "s")
     + user("nobody", "n")
     + topic("shop-orders")
-    + "".join(acl(kind, "shop-orders", "User:shop", operation="ALL", pattern="PREFIXED") for kind in ("Topic", "Group", "TransactionalId"))
+    + "".join(acl(it, "shop-orders", "User:shop", operation="ALL", pattern="PREFIXED") for it in KINDS)
 )
 
 
@@ -44,7 +45,11 @@ def committed(**more):
 
 # What is asked, and whether the answer refuses each part.
 REQUESTS = {
-    "Metadata of 20 topics": ("Metadata", {"topics": [LONGEST[2:] + f"{it:02}" for it in range(20)]}, of_topics(Code.TOPIC_AUTHORIZATION_FAILED)),
+    "Metadata of 20 topics": (
+        "Metadata",
+        {"topics": [LONGEST[2:] + f"{it:02}" for it in range(20)]},
+        of_topics(Code.TOPIC_AUTHORIZATION_FAILED),
+    ),
     "OffsetCommit to a group, 1,000 partitions": (
         "OffsetCommit",
         {"group": LONGEST, "topics": committed()},

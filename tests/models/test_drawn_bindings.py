@@ -44,10 +44,11 @@ NO_FILTER = (*({it: 0} for it in ("kind", "pattern", "operation", "permission"))
 
 # What asks for an operation on a resource of a kind, and the code where it is allowed: nothing that is asked for is
 # there, and this is no filter.
+UNKNOWN_TOPIC = Code.UNKNOWN_TOPIC_OR_PARTITION
 FAULTY = dict.fromkeys(("kind", "pattern", "operation", "permission"), 0)
 QUESTIONS = (
-    (Operation.DESCRIBE, Kind.Topic, "Metadata", lambda name: {"topics": [name]}, Code.UNKNOWN_TOPIC_OR_PARTITION),
-    (Operation.READ, Kind.Topic, "Fetch", lambda name: {"topics": in_partition((name, 0), offset=0)}, Code.UNKNOWN_TOPIC_OR_PARTITION),
+    (Operation.DESCRIBE, Kind.Topic, "Metadata", lambda name: {"topics": [name]}, UNKNOWN_TOPIC),
+    (Operation.READ, Kind.Topic, "Fetch", lambda name: {"topics": in_partition((name, 0), offset=0)}, UNKNOWN_TOPIC),
     (Operation.DESCRIBE, Kind.Group, "FindCoordinator", lambda name: {"key": name}, Code.NONE),
     (Operation.READ, Kind.Group, "Heartbeat", lambda name: {"group": name}, Code.UNKNOWN_MEMBER_ID),
     (Operation.DESCRIBE, Kind.Cluster, "DescribeAcls", lambda _: FAULTY, Code.INVALID_REQUEST),

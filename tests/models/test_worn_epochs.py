@@ -53,7 +53,7 @@ class WornEpochs(unittest.TestCase):
         return [it.answer for it in replay(SETTINGS + script)]
 
     def assert_marker(self, fetched, outcome):
-        """A control batch of 78 bytes stands at the end: its attributes, its producer's id and epoch, and the kind of its record."""
+        """A control batch of 78 bytes stands at the end: its attributes, its producer's pair, and the kind of its record."""
         marker = fields_of("Fetch", fetched)["topics"][0]["partitions"][0]["records"][-78:]
         self.assertEqual(struct.unpack(">h20xqh", marker[21:53]), (48, 0, EPOCHS), marker.hex())
         self.assertEqual(marker[66:70], struct.pack(">hh", 0, OUTCOMES[outcome]), marker.hex())

@@ -1,4 +1,4 @@
-"""The package's client: bytes as the protocol's guide lays them out, sums that others computed, and what its command line says."""
+"""The package's client: bytes as the protocol's guide lays them out, sums that others computed, and its command line."""
 
 import json
 import subprocess

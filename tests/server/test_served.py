@@ -271,7 +271,7 @@ class Peers(ServedCase):
     """Peers that vanish, say nothing, or more than they may."""
 
     def test_peers_that_vanish(self):
-        """A peer that says nothing, one that ends inside a frame, and one that resets the connection cost nobody else anything."""
+        """One that says nothing, one that ends inside a frame, and one that resets the connection cost nobody else anything."""
         with ClockedKbroker(SETTINGS, workers=4, connections=4) as server:
             silent = self.enterContext(connect(server.address))
             with connect(server.address) as cut:
@@ -358,7 +358,7 @@ class Operators(ServedCase):
                 self.assertEqual(stranger.recv(1), b"", number)
 
     def test_unread_lines_hold_up_nobody(self):
-        """Lines that nobody reads hold up no session and no marker. Those that find no room are left out, and their number is told."""
+        """Lines that nobody reads hold up no session and no marker. Those without room are left out, and their number is told."""
         strangers, refused = 3_000, 100
         words = {"workers": 3, "connections": strangers + 2, "more": ("--audit", "-"), "errors": subprocess.PIPE}
         with ClockedKbroker(SETTINGS, **words) as server:

@@ -12,6 +12,7 @@ import time
 import unittest
 
 from kbroker_testing.broker import ClockedKbroker
+from kbroker_testing.codes import Code
 from kbroker_testing.protocol import Connection, logged_in
 from tests.support import OF_ROOT, connect, topic, wait_until
 
@@ -54,7 +55,7 @@ class Strangers(unittest.TestCase):
             wait_until(server.told, "it isn't told that no connection can be accepted")
             time.sleep(0.3)  # thirty more of them fail
             resource.prlimit(process, resource.RLIMIT_NOFILE, limits)
-            self.assertEqual(broker.login("root", "toor"), 0)
+            self.assertEqual(broker.login("root", "toor"), Code.NONE)
             self.assert_served(broker)
         [line] = server.told()
         self.assertTrue(line.startswith(FAILED), line)

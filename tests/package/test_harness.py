@@ -1,0 +1,93 @@
+"""The harness itself: what it counts, and that it can't pass where cases are missing."""
+
+import json
+import subprocess
+import sys
+import tempfile
+import unittest
+from pathlib import Path
+
+from tests import ROOT
+from tests.harness import Count, Worker, discover, files, judged, total
+
+CASES = ["m.C.test_a", "m.C.test_b", "m.C.test_c"]
+
+
+def came(ran=tuple(CASES), failed=(), skipped=()):
+    """What a module's process tells."""
+    return {"ran": [*ran], "failed": [*failed], "skipped": dict.fromkeys(skipped, "not here"), "text": "FAILED (failures=1)"}
+
+
+class Judged(unittest.TestCase):
+    def test_what_is_counted(self):
+        rows = (
+            (came(), Count(3, 0, 0)),
+            (came(failed=CASES[:1]), Count(2, 1, 0)),
+            (came(skipped=CASES[1:]), Count(1, 0, 2)),
+            (came(failed=CASES[:1], skipped=CASES[1:2]), Count(1, 1, 1)),
+            # a class that can't be set up, and its cases
+            (came(ran=CASES[:1], failed=["setUpClass (m.D)"]), Count(1, 3, 0)),
+            (came(ran=()), Count(0, 3, 0)),
+            (came(ran=[*CASES, "m.C.test_d"]), Count(3, 1, 0)),
+        )
+        for told, count in rows:
+            with self.subTest(told=told):
+                self.assertEqual(judged(CASES, told)[0], count)
+
+    def test_what_is_told(self):
+        self.assertEqual(judged(CASES, came())[1], [])
+        self.assertEqual(judged(CASES, came(failed=CASES[:1]))[1], ["\nFAILED (failures=1)"])
+        self.assertEqual(judged(CASES, came(skipped=CASES[:1]))[1], ["m.C.test_a is skipped: not here"])
+        self.assertEqual(judged(CASES, came(ran=CASES[1:]))[1], ["m.C.test_a did not run"])
+
+    def test_sums(self):
+        self.assertEqual(total([]), Count(0, 0, 0))
+        self.assertEqual(total([Count(1, 2, 3), Count(4, 0, 1)]), Count(5, 2, 4))
+
+
+class Processes(unittest.TestCase):
+    def test_a_module_that_is_not_there(self):
+        """Its process tells no case of it."""
+        worker = Worker("tests.none", ["tests.none.C.test_a"])
+        self.addCleanup(worker.stop)
+        while not worker.has_ended():
+            pass
+        self.assertEqual(judged(worker.cases, json.loads(worker.report.read()))[0].passed, 0)
+
+    def test_a_process_that_tells_nothing(self):
+        worker = Worker("tests.none", CASES)
+        worker.stop()
+        self.addCleanup(worker.said.close)
+        with tempfile.NamedTemporaryFile() as empty:
+            worker.report = empty
+            self.assertEqual(worker.count(), Count(0, len(CASES), 0))
+
+    def run_harness(self, *words):
+        ran = subprocess.run([sys.executable, "-m", "tests.harness", *words], cwd=ROOT, capture_output=True, text=True, timeout=60)
+        return ran.returncode, ran.stdout + ran.stderr
+
+    def test_a_name_that_no_case_has(self):
+        status, said = self.run_harness("-k", "no case has this name")
+        self.assertEqual((status, said), (1, "tests: no case has no case has this name in its name\n"))
+
+    def test_a_folder_that_is_not_there(self):
+        self.assertEqual(self.run_harness("tests.none"), (1, "0 passed, 0 failed, 0 skipped\n"))
+
+    def test_a_case_by_its_name(self):
+        status, said = self.run_harness("-k", "test_words_are_escaped")
+        self.assertEqual(status, 0, said)
+        self.assertRegex(said, r"Ran 1 test in")
+
+
+class Discovery(unittest.TestCase):
+    def test_each_file_is_found(self):
+        """And has a case."""
+        found = discover()
+        self.assertEqual(found.faults, [])
+        self.assertEqual({*found.modules}, {*files()})
+        self.assertIn("tests.package.test_harness", files())
+        self.assertIn(self.id(), found.modules["tests.package.test_harness"])
+
+    def test_each_folder_has_a_case(self):
+        folders = {it.parent.name for it in Path(ROOT / "tests").glob("*/__init__.py")}
+        self.assertEqual(folders, {it.split(".")[1] for it in discover().modules})
