@@ -13,7 +13,7 @@ from kbroker_testing.apis import APIS
 from kbroker_testing.broker import ClockedKbroker
 from kbroker_testing.codes import Code
 from kbroker_testing.protocol import Connection, batch, committed, logged_in, partition_of, request_frame
-from tests.server.told import CUT, FULL, NO_LOGIN, READ_FAILED, of_nobody
+from tests.server.told import CUT, FULL, NO_LOGIN, READ_FAILED, of_nobody, of_user
 from tests.support import COLLIDING, LONGEST_FRAME, OF_SUPER, PROGRAM, TooLate, acl, connect, of_b, topic, user, wait_until
 
 USERS = user("root", "toor") + user("ann", "pw")
@@ -386,7 +386,7 @@ class Operators(ServedCase):
                 self.assert_closed(broker)
             settled, told = server.settled()
         self.assertEqual((settled.sessions, settled.events), (1, 5))
-        self.assertEqual(told, [STOPS.format(FULL), of_nobody(0, FULL)])
+        self.assertEqual(told, [STOPS.format(FULL), of_user(0, "root", FULL)])
 
 
 class Ends(ServedCase):

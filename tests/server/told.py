@@ -17,3 +17,8 @@ READ_FAILED = "a read failed"
 def of_nobody(number, why):
     """The line of a session in which nobody logged in."""
     return OF_SESSION.format(number, NOBODY, why)
+
+
+def of_user(number, name, why):
+    """The line of a session whose user had logged in."""
+    return OF_SESSION.format(number, f"User:{name}", why)
