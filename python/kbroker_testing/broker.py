@@ -23,6 +23,7 @@ from typing import NamedTuple
 from urllib.parse import unquote
 
 ATTEMPTS = 5
+PORT_TAKEN = "listen failed\n"  # by somebody else, since it was found free
 LISTENING = re.compile(r"listening on (\S+)\n")
 LAST = re.compile(r"sessions (\d+) events (\d+) refusals (\d+)\n")
 # What is told where as many connections were taken as are served.
@@ -171,8 +172,10 @@ class BrokerProcess:
                 if found := LISTENING.fullmatch(first):
                     self.address = found[1]
                     return self
-                told = self.told()
+                told = self.lines_of(self.wait()[2])
                 self.kill()
+                if first != PORT_TAKEN:
+                    break
             raise BrokerFailed(f"the broker says {first!r}, and {told}")
         except BaseException:
             self.close()
