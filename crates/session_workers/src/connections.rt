@@ -21,7 +21,7 @@ use wire_types::Shared;
 /// How a listener's connections are served.
 #[derive(Clone, Copy, Debug, PartialEq, Eq)]
 pub struct ConnectionOptions {
-    /// So many connections are served at once. Two more wait for a worker, and the others in the listener's queue.
+    /// So many connections are served at once. 257 more wait for a worker, and the others in the listener's queue.
     pub workers: usize,
     /// So many are served in all, unless that is endless.
     pub connections: u64,
@@ -44,8 +44,9 @@ pub struct ConnectionOptions {
     pub patience: Option<Duration>,
 }
 
-/// How many connections wait for a worker in the channel, where one more waits for its turn.
-const WAITING: usize = 1;
+/// How many connections wait for a worker in the channel, where one more waits for its turn. Each has two descriptors, of which a
+/// process mostly has 1,024.
+const WAITING: usize = 256;
 
 /// As `serve_connections`, with what the threads share lent at one lifetime.
 fn serve_lent<
