@@ -16,7 +16,7 @@ ROOT = Path(__file__).resolve().parent.parent.parent
 sys.path += [str(ROOT), str(ROOT / "bench")]
 
 import latency  # noqa: E402
-from tests.abuse.beside import LONGEST  # noqa: E402
+from tests.abuse.beside import LONGEST, ask_whole  # noqa: E402
 from tests.support import COLLIDING, LONGEST_FRAME, OF_ROOT, connect, of_b, topic  # noqa: E402
 
 from kbroker_testing.broker import ClockedKbroker  # noqa: E402
@@ -59,13 +59,14 @@ def waits_for_each_megabyte():
 
 
 def kept_for_each(api, count, fields):
-    """How many bytes the broker keeps for each of so many things that a request names, beside the frame's own bytes."""
+    """How many bytes the broker keeps for each of so many things that a request names, beside the frame's own bytes. The first of
+    these requests isn't counted: the room for its response stays with the process, and serves the next ones."""
     with ClockedKbroker(latency.SETTINGS) as running, logged_in(running.address, "root", "r", timeout=600) as broker:
         frame = request_frame(api, 1, fields)
+        ask_whole(broker, frame)
         before = running.memory()
         for _ in range(3):
-            broker.socket.sendall(frame)
-            broker.input.read(struct.unpack(">i", broker.input.read(4))[0])
+            ask_whole(broker, frame)
         return ((running.memory() - before) / 3 - len(frame)) / count
 
 
