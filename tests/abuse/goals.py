@@ -5,6 +5,7 @@ The figures stand in bench/README.md. A line that misses its goal says so, and t
 minutes; what of it is short stands in the gate as test_abuse.py beside this file and tests/server.
 """
 
+import os
 import struct
 import sys
 import threading
@@ -29,6 +30,9 @@ PAUSE = 1.0  # seconds between two bytes of a dripping one
 # Milliseconds for each thousand things that a request names: what docs/OPERATING.md tells, and half as much again for noise.
 TOLD = 1.5
 EACH_MEGABYTE = 150  # milliseconds
+ROUNDS = 6  # of a request that is measured
+# What ./kbroker sets: large blocks go back to the system.
+os.environ |= {"MALLOC_MMAP_THRESHOLD_": "8388608", "MALLOC_TRIM_THRESHOLD_": "16777216"}
 REFUSED = {
     64_000: ("OffsetCommit", {"group": LONGEST, "topics": latency.commits("t", range(2_230))}),
     MILLION: ("OffsetCommit", {"group": LONGEST, "topics": latency.commits("t", range(69_000))}),
@@ -60,14 +64,14 @@ def waits_for_each_megabyte():
 
 def kept_for_each(api, count, fields):
     """How many bytes the broker keeps for each of so many things that a request names, beside the frame's own bytes. The first of
-    these requests isn't counted: the room for its response stays with the process, and serves the next ones."""
+    these requests isn't counted: the room that it takes for a while may stay with the process, and serves the next ones."""
     with ClockedKbroker(latency.SETTINGS) as running, logged_in(running.address, "root", "r", timeout=600) as broker:
         frame = request_frame(api, 1, fields)
         ask_whole(broker, frame)
         before = running.memory()
-        for _ in range(3):
+        for _ in range(ROUNDS):
             ask_whole(broker, frame)
-        return ((running.memory() - before) / 3 - len(frame)) / count
+        return ((running.memory() - before) / ROUNDS - len(frame)) / count
 
 
 def kept_for_each_thing():
