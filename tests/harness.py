@@ -146,6 +146,8 @@ class Worker:
         """Ends it before it is done."""
         self.process.kill()
         self.process.wait()
+        self.said.close()
+        self.report.close()
 
     def wait(self):
         """Waits for its end, and gives what came of it."""
@@ -155,9 +157,10 @@ class Worker:
 
     def count(self):
         """What came of it, which is shown."""
-        self.said.seek(0)
-        print(self.said.read().decode(errors="replace"), end="")
-        text = self.report.read().decode()
+        with self.said, self.report:
+            self.said.seek(0)
+            print(self.said.read().decode(errors="replace"), end="")
+            text = self.report.read().decode()
         if not text:
             print(f"tests: {self.name} FAILED: it ended with status {self.process.returncode} and told nothing", flush=True)
             return Count(0, len(self.cases), 0)

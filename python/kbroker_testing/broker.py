@@ -208,15 +208,15 @@ class BrokerProcess:
 
     def kill(self):
         """Ends it at once, whatever it does."""
-        if self.process is None:
-            return
-        if self.process.poll() is None:
-            self.process.kill()
-        self.process.wait()
-        for it in (self.process.stdin, self.process.stdout, self.process.stderr, self.file):
+        streams = [self.file]
+        if self.process is not None:
+            if self.process.poll() is None:
+                self.process.kill()
+            self.process.wait()
+            streams += [self.process.stdin, self.process.stdout, self.process.stderr]
+        for it in filter(None, streams):
             with contextlib.suppress(OSError):
-                if it:
-                    it.close()
+                it.close()
 
     def close(self):
         """Leaves nothing of it."""

@@ -226,10 +226,13 @@ class Connection:
 def logged_in(address, user="root", password="toor", **options):
     """A connection over which a user has logged in."""
     connection = Connection(address, **options)
-    code = connection.login(user, password)
-    if code != Code.NONE:
+    try:
+        code = connection.login(user, password)
+        if code != Code.NONE:
+            raise LoginRefused(f"the login of {user} is answered {named(code)}")
+    except BaseException:
         connection.close()
-        raise LoginRefused(f"the login of {user} is answered {named(code)}")
+        raise
     return connection
 
 

@@ -1,9 +1,10 @@
 """The harness itself: what it counts, and that it can't pass where cases are missing."""
 
+import contextlib
+import io
 import json
 import subprocess
 import sys
-import tempfile
 import unittest
 from pathlib import Path
 
@@ -46,21 +47,25 @@ class Judged(unittest.TestCase):
 
 
 class Processes(unittest.TestCase):
+    def started(self, cases):
+        """The process of a module that is not there."""
+        worker = Worker("tests.none", cases)
+        self.addCleanup(worker.stop)
+        return worker
+
     def test_a_module_that_is_not_there(self):
         """Its process tells no case of it."""
-        worker = Worker("tests.none", ["tests.none.C.test_a"])
-        self.addCleanup(worker.stop)
-        while not worker.has_ended():
-            pass
+        worker = self.started(["tests.none.C.test_a"])
+        worker.process.wait()
         self.assertEqual(judged(worker.cases, json.loads(worker.report.read()))[0].passed, 0)
 
     def test_a_process_that_tells_nothing(self):
-        worker = Worker("tests.none", CASES)
-        worker.stop()
-        self.addCleanup(worker.said.close)
-        with tempfile.NamedTemporaryFile() as empty:
-            worker.report = empty
+        worker = self.started(CASES)
+        worker.process.kill()
+        worker.process.wait()
+        with contextlib.redirect_stdout(io.StringIO()) as said:
             self.assertEqual(worker.count(), Count(0, len(CASES), 0))
+        self.assertEqual(said.getvalue(), "tests: tests.none FAILED: it ended with status -9 and told nothing\n")
 
     def run_harness(self, *words):
         ran = subprocess.run([sys.executable, "-m", "tests.harness", *words], cwd=ROOT, capture_output=True, text=True, timeout=60)
