@@ -1,14 +1,20 @@
 #!/usr/bin/env bash
-# Measures `kbroker serve` beside the mock broker of librdkafka, in one run, as a table for bench/README.md: records of 100
-# bytes produced and fetched in a second, five requests in flight, and round trips of a small request; each the best of three
-# runs. It needs the proved program (`make prove`), a Rust and a C compiler, and librdkafka (Debian's librdkafka-dev).
+# Measures `kbroker serve` beside the mock broker of librdkafka and beside `bench/floor.rs`, which does the work of a Produce
+# without Kafka's rules, in one run, as a table for bench/README.md: records of 100 bytes produced and fetched in a second, five
+# requests in flight on each connection, and round trips of a small request; each the best of three runs, with the peak of the
+# broker's memory in the last. With a path it measures that program of kbroker too, as the state before. It needs the proved
+# program (`make prove`), a Rust and a C compiler, and librdkafka (Debian's librdkafka-dev).
+#
+#     bench/serve.sh [PROGRAM]
 set -euo pipefail
 cd "$(dirname "$0")/.."
+before=${1:-}
 
 made=$(mktemp -d)
 started=
 trap 'kill $started 2>/dev/null || true; rm -rf "$made"' EXIT
 rustc -O --edition 2021 bench/serve/client.rs -o "$made/client"
+rustc -O --edition 2021 bench/floor.rs -o "$made/floor"
 cc -O2 bench/serve/mock.c -o "$made/mock" -lrdkafka
 
 cat > "$made/settings" <<'SETTINGS'
@@ -20,27 +26,35 @@ trail_limit = 1073741824
 [[user]]
 name = "root"
 password = "toor"
-[[topic]]
-name = "b"
-partitions = 1
 SETTINGS
+for topic in b b0 b1 b2 b3; do
+    printf '[[topic]]\nname = "%s"\npartitions = 1\n' "$topic" >> "$made/settings"
+done
 
-# Starts one of the two brokers, and waits until it says where it listens.
+# Starts one of the brokers, and waits until it says where it listens.
 start() {
-    if [ "$1" = mock ]; then
+    case "$1" in
+    mock)
         mkfifo "$made/input"
         "$made/mock" < "$made/input" > "$made/said" &
         started=$!
         exec 9> "$made/input"
-    else
-        ./kbroker serve --listen 127.0.0.1:0 --workers 4 < "$made/settings" > "$made/said" &
+        ;;
+    floor)
+        "$made/floor" > "$made/said" &
         started=$!
-    fi
+        ;;
+    *)
+        "$1" serve --listen 127.0.0.1:0 --workers 4 < "$made/settings" > "$made/said" &
+        started=$!
+        ;;
+    esac
     until grep -q "^listening on " "$made/said" 2>/dev/null; do sleep 0.05; done
     address=$(sed -n 's/^listening on //p' "$made/said")
 }
 
 stop() {
+    memory=$(sed -n 's/^VmHWM: *\([0-9]*\) kB/\1/p' "/proc/$started/status")
     exec 9>&- || true
     kill "$started" 2>/dev/null || true
     wait "$started" 2>/dev/null || true
@@ -48,35 +62,52 @@ stop() {
     rm -f "$made/input" "$made/said"
 }
 
-# Measures one thing at a broker of its own, once: the broker, and the client's words.
-once() {
-    start "$1"
-    if [ "$1" = mock ]; then who=(- -); else who=(root toor); fi
-    shift
-    "$made/client" "$address" "${who[@]}" "$@"
-    stop
-}
-
-# The best of three.
+# The best of three runs, each at a broker of its own, in `best`; and in `memory` the peak of the last one's memory, in kB.
 measure() {
-    for _ in 1 2 3; do once "$@"; done | sort -n | tail -1
-}
-
-row() {
-    local name=$1
+    local broker=$1 who=(root toor) told
     shift
-    ours=$(measure kbroker "$@")
-    mock=$(measure mock "$@")
-    echo "| $name | $ours | $mock | $(awk "BEGIN { printf \"%.2f\", $ours / $mock }") |"
+    case "$broker" in mock | floor) who=(- -) ;; esac
+    best=0
+    for _ in 1 2 3; do
+        start "$broker"
+        told=$("$made/client" "$address" "${who[@]}" "$@")
+        stop
+        if [ "$told" -gt "$best" ]; then best=$told; fi
+    done
 }
 
-echo "| records or round trips a second | kbroker | librdkafka's mock | ratio |"
-echo "|---|--:|--:|--:|"
+# One line of the table: whether the floor knows the work, its name, and the client's words.
+row() {
+    local floor=$1 name=$2 ours kept mock least='' old=''
+    shift 2
+    measure ./kbroker "$@"
+    ours=$best kept=$memory
+    measure mock "$@"
+    mock=$best
+    if [ "$floor" = yes ]; then
+        measure floor "$@"
+        least=$(ratio "$ours" "$best")
+    fi
+    if [ -n "$before" ]; then
+        measure "$before" "$@"
+        old=$(ratio "$best" "$mock")
+    fi
+    echo "| $name | $ours | $mock | $old | $(ratio "$ours" "$mock") | $least | $((kept / 1000)) MB |"
+}
+
+ratio() {
+    awk "BEGIN { printf \"%.2f\", $1 / $2 }"
+}
+
+echo "| records or round trips a second | kbroker | librdkafka's mock | ratio before | ratio | of the floor | memory |"
+echo "|---|--:|--:|--:|--:|--:|--:|"
 for size in 1000000 16384; do
-    for kind in plain idempotent transactional; do
-        row "Produce, $kind, batches of $size bytes" produce "$kind" "$size" 400000000
+    row yes "Produce, plain, batches of $size bytes" produce plain "$size" 400000000
+    for kind in idempotent transactional; do
+        row no "Produce, $kind, batches of $size bytes" produce "$kind" "$size" 400000000
     done
-    row "Fetch, batches of $size bytes" fetch "$size" 1000000000
+    row yes "Produce, four connections to four topics, batches of $size bytes" produces 4 "$size" 200000000
+    row no "Fetch, batches of $size bytes" fetch "$size" 1000000000
 done
-row "round trips on one connection" trips 1 200000
-row "round trips on four connections" trips 4 100000
+row no "round trips on one connection" trips 1 200000
+row no "round trips on four connections" trips 4 100000

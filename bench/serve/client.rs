@@ -1,10 +1,12 @@
 //! Measures a broker over TCP: records produced and fetched in a second, and round trips of a small request.
 //!
 //!     client ADDRESS USER PASSWORD produce plain|idempotent|transactional BATCH_BYTES TOTAL_BYTES
+//!     client ADDRESS USER PASSWORD produces CONNECTIONS BATCH_BYTES TOTAL_BYTES
 //!     client ADDRESS USER PASSWORD fetch BATCH_BYTES TOTAL_BYTES
 //!     client ADDRESS USER PASSWORD trips CONNECTIONS TRIPS
 //!
-//! It speaks to partition 0 of the topic `b`. With `-` for the user there is no login. It prints one number.
+//! It speaks to partition 0 of the topic `b`, and `produces` over its nth connection to that of `bn`, from `b0` on, so many
+//! bytes over each, in plain batches. With `-` for the user there is no login. It prints one number.
 
 use std::env;
 use std::io::{BufReader, Read, Result, Write};
@@ -15,6 +17,8 @@ use std::time::{Duration, Instant};
 const RECORD: usize = 100; // bytes of a value
 const IN_FLIGHT: usize = 5; // requests
 const OF_A_TRANSACTION: u64 = 10_000; // records
+
+const TOPIC: &str = "b";
 
 const PRODUCE: (i16, i16) = (0, 3);
 const FETCH: (i16, i16) = (1, 4);
@@ -56,9 +60,12 @@ impl Out {
         self.0.extend(it);
         self
     }
-    /// The one partition of the one topic, in arrays of one.
+    /// The one partition of a topic, in arrays of one.
+    fn partition_of(self, topic: &str) -> Out {
+        self.i32(1).text(topic).i32(1).i32(0)
+    }
     fn partition(self) -> Out {
-        self.i32(1).text("b").i32(1).i32(0)
+        self.partition_of(TOPIC)
     }
 }
 
@@ -252,13 +259,13 @@ impl IntoOut for Vec<u8> {
     }
 }
 
-/// Records a second.
-fn produce(connection: &mut Connection, kind: &str, size: usize, total: usize) -> Result<f64> {
+/// Records a second over one connection to a topic.
+fn produce(connection: &mut Connection, topic: &str, kind: &str, size: usize, total: usize) -> Result<f64> {
     let producer = connection.producer(kind)?;
     let (mut batch, count) = batch(size, producer);
     let name = Out::default();
     let name = if producer.transactional { name.text("t") } else { name.i16(-1) };
-    let head = name.i16(-1).i32(30_000).partition().0;
+    let head = name.i16(-1).i32(30_000).partition_of(topic).0;
     let requests = (total / batch.len()).max(IN_FLIGHT);
     let (mut sequence, mut waits, mut open) = (0i32, 0usize, 0u64);
     let start = Instant::now();
@@ -295,14 +302,39 @@ fn produce(connection: &mut Connection, kind: &str, size: usize, total: usize) -
 
 fn produced(connection: &mut Connection) -> Result<()> {
     connection.receive()?;
-    let code = connection.i16(4 + 4 + 3 + 4 + 4);
+    // the correlation id, one topic, its name, one partition, its index
+    let name = connection.i16(4 + 4) as usize;
+    let code = connection.i16(4 + 4 + 2 + name + 4 + 4);
     assert_eq!(code, 0, "Produce is refused");
     Ok(())
 }
 
+/// Records a second over so many connections at once, each to a topic of its own.
+fn produces(address: &str, user: &str, password: &str, connections: usize, size: usize, total: usize) -> Result<f64> {
+    let mut all = Vec::new();
+    for _ in 0..connections {
+        all.push(Connection::open(address, user, password)?);
+    }
+    let plain = Producer { id: -1, epoch: -1, transactional: false };
+    let (whole, count) = batch(size, plain);
+    let start = Instant::now();
+    let threads: Vec<_> = all
+        .into_iter()
+        .enumerate()
+        .map(|(nth, mut connection)| {
+            thread::spawn(move || produce(&mut connection, &format!("{TOPIC}{nth}"), "plain", size, total))
+        })
+        .collect();
+    for it in threads {
+        it.join().unwrap()?;
+    }
+    let requests = (total / whole.len()).max(IN_FLIGHT) * connections;
+    Ok(requests as f64 * f64::from(count) / start.elapsed().as_secs_f64())
+}
+
 /// Records a second, of four megabytes that are fetched again and again.
 fn fetch(connection: &mut Connection, size: usize, total: usize) -> Result<f64> {
-    produce(connection, "plain", size, 4 << 20)?;
+    produce(connection, TOPIC, "plain", size, 4 << 20)?;
     let (mut records, mut bytes, mut offset) = (0u64, 0usize, 0i64);
     let start = Instant::now();
     while bytes < total {
@@ -363,7 +395,11 @@ fn main() -> Result<()> {
     let number = |word: &str| word.parse::<usize>().expect("a number");
     let told = match words[..] {
         [address, user, password, "produce", kind, size, total] => {
-            produce(&mut Connection::open(address, user, password)?, kind, number(size), number(total))?
+            let connection = &mut Connection::open(address, user, password)?;
+            produce(connection, TOPIC, kind, number(size), number(total))?
+        }
+        [address, user, password, "produces", connections, size, total] => {
+            produces(address, user, password, number(connections), number(size), number(total))?
         }
         [address, user, password, "fetch", size, total] => {
             fetch(&mut Connection::open(address, user, password)?, number(size), number(total))?

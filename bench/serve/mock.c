@@ -3,6 +3,8 @@
 #include <librdkafka/rdkafka_mock.h>
 #include <stdio.h>
 
+static const char *topics[] = {"b", "b0", "b1", "b2", "b3", NULL};
+
 int main(void) {
     char error[512];
     rd_kafka_t *handle = rd_kafka_new(RD_KAFKA_PRODUCER, rd_kafka_conf_new(), error, sizeof error);
@@ -11,7 +13,10 @@ int main(void) {
         return 1;
     }
     rd_kafka_mock_cluster_t *cluster = rd_kafka_mock_cluster_new(handle, 1);
-    if (!cluster || rd_kafka_mock_topic_create(cluster, "b", 1, 1)) {
+    int failed = !cluster;
+    for (const char **topic = topics; *topic && !failed; topic++)
+        failed = rd_kafka_mock_topic_create(cluster, *topic, 1, 1) != RD_KAFKA_RESP_ERR_NO_ERROR;
+    if (failed) {
         fprintf(stderr, "mock: no cluster\n");
         return 1;
     }
