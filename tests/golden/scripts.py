@@ -1,23 +1,42 @@
-"""The golden scripts: each `NAME.txt` of examples/ and below this folder, with what has to be printed for it in `NAME.out`."""
+"""The golden scripts: each `NAME.txt` of examples/ and of the folders beside this file, with what has to be printed for it in
+`NAME.out`."""
 
 from program import ROOT
 
 EXAMPLES = ROOT / "examples"
 GOLDEN = ROOT / "tests/golden"
+# Whose scripts are no golden ones, but those of `kbroker show`.
+SHOWN = GOLDEN / "show"
 
 
-def scripts_of(folder):
-    """The scripts of a folder and of those below it."""
-    return sorted(folder.rglob("*.txt"))
+def folders():
+    """The folders, each of which has to have scripts."""
+    return [EXAMPLES, *sorted(it for it in GOLDEN.iterdir() if it.is_dir() and it != SHOWN and it.name != "__pycache__")]
 
 
-def look_at_each(case, folder, look):
-    """Looks at each script of a folder, in a `subTest` of its own. There have to be some."""
-    scripts = scripts_of(folder)
-    case.assertTrue(scripts, f"{folder} has no scripts")
-    for script in scripts:
-        with case.subTest(script=str(script.relative_to(ROOT))):
-            look(script)
+def scripts():
+    """All scripts."""
+    return [it for folder in folders() for it in sorted(folder.rglob("*.txt"))]
+
+
+def a_case_for_each(cls):
+    """Gives a class of tests a case for each script, by the names of its folder and its file, that looks at it by `look_at`."""
+    for script in scripts():
+        name = f"test_{script.parent.name}_{script.stem}"
+        if hasattr(cls, name):
+            raise ValueError(f"two scripts have the case {name}")
+        setattr(cls, name, case_of(script))
+    return cls
+
+
+def case_of(script):
+    """A case for a script."""
+
+    def case(self):
+        with self.subTest(script=str(script.relative_to(ROOT))):
+            self.look_at(script)
+
+    return case
 
 
 def assert_lines(case, printed, wanted):

@@ -7,19 +7,27 @@ Each is answered to its end. What a script shows stands on its first lines, as a
 import subprocess
 import unittest
 
-from tests.golden.scripts import EXAMPLES, GOLDEN, assert_lines, look_at_each
+from tests.golden.scripts import a_case_for_each, assert_lines, folders
 from tests.support import PROGRAM
 
 
+@a_case_for_each
 class Answers(unittest.TestCase):
-    def assert_answered(self, script):
+    def look_at(self, script):
         ran = subprocess.run([PROGRAM, "replay"], input=script.read_bytes(), capture_output=True, timeout=60)
         self.assertEqual((ran.returncode, ran.stderr), (0, b""))
         wanted = script.with_suffix(".out").read_bytes()
         assert_lines(self, ran.stdout.splitlines(keepends=True), wanted.splitlines(keepends=True))
 
-    def test_examples(self):
-        look_at_each(self, EXAMPLES, self.assert_answered)
 
-    def test_golden_scripts(self):
-        look_at_each(self, GOLDEN, self.assert_answered)
+class Folders(unittest.TestCase):
+    def test_each_folder_has_scripts(self):
+        for folder in folders():
+            with self.subTest(folder=folder.name):
+                self.assertTrue([*folder.rglob("*.txt")])
+
+    def test_each_output_has_a_script(self):
+        for folder in folders():
+            for output in folder.rglob("*.out"):
+                with self.subTest(output=output.name):
+                    self.assertTrue(output.with_suffix(".txt").exists())

@@ -12,7 +12,7 @@ import unittest
 from kbroker_testing.apis import APIS, SCHEMAS
 from kbroker_testing.codes import Code
 from kbroker_testing.protocol import Reader, response_frame
-from tests.golden.scripts import EXAMPLES, GOLDEN, assert_lines, look_at_each
+from tests.golden.scripts import a_case_for_each, assert_lines
 from tests.models import frames
 from tests.models.plain_apis import Request
 from tests.models.plain_broker import World
@@ -57,13 +57,8 @@ def printed(script):
     return told
 
 
+@a_case_for_each
 class PlainAnswers(unittest.TestCase):
-    def assert_worked_out(self, script):
+    def look_at(self, script):
         told = [f"{line}\n" for line in printed(script.read_text())]
         assert_lines(self, told, script.with_suffix(".out").read_text().splitlines(keepends=True))
-
-    def test_examples(self):
-        look_at_each(self, EXAMPLES, self.assert_worked_out)
-
-    def test_golden_scripts(self):
-        look_at_each(self, GOLDEN, self.assert_worked_out)

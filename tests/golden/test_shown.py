@@ -17,7 +17,7 @@ from typing import NamedTuple
 from kbroker_testing.apis import APIS, SCHEMAS
 from kbroker_testing.protocol import Reader, response_of
 from program import ROOT
-from tests.golden.scripts import EXAMPLES, GOLDEN, assert_lines, look_at_each
+from tests.golden.scripts import EXAMPLES, SHOWN, a_case_for_each, assert_lines
 from tests.models.frames import SERVED
 from tests.support import PROGRAM
 
@@ -30,7 +30,6 @@ ESCAPE = re.compile(r"\\(u\{([0-9a-f]+)\}|.)")
 ESCAPED = {"n": "\n", "r": "\r", "t": "\t", "0": "\0"}
 NUMBER = re.compile(r"-?\d+")
 READABLE = EXAMPLES / "fencing.txt"
-BY_HAND = GOLDEN / "show"
 EACH_API = "each_api.script"
 # Of these bytes the text tells something else: batches, and how long a password is.
 OTHERWISE = "records", "auth_bytes"
@@ -185,7 +184,9 @@ def ended(*words, **streams):
     return ran.returncode, (ran.stdout or b"").decode(), ran.stderr.decode()
 
 
-class Shown(unittest.TestCase):
+class ShownCase(unittest.TestCase):
+    """Has the program show scripts."""
+
     def shown(self, text, *words):
         """What a script is shown as."""
         ran = subprocess.run([PROGRAM, "show", *words], input=text, capture_output=True, timeout=60)
@@ -199,7 +200,10 @@ class Shown(unittest.TestCase):
         for number, (block, line, out) in enumerate(zip(blocks, lines, outs), 1):
             self.assertTrue(is_as_told(block, line, out), f"line {number}, {line} answered {out}, is shown as {block}")
 
-    def assert_shown(self, script):
+
+@a_case_for_each
+class Shown(ShownCase):
+    def look_at(self, script):
         text = script.read_bytes()
         _, _, lines = text.decode().partition("\n---\n")
         lines = lines.splitlines()
@@ -213,16 +217,12 @@ class Shown(unittest.TestCase):
         self.assertEqual([it[:2] for it in alone], [it[:2] for it in blocks], "without its settings")
         self.assertFalse(any(it[2] for it in alone), "an answer is shown without settings")
 
-    def test_examples(self):
-        look_at_each(self, EXAMPLES, self.assert_shown)
-
-    def test_golden_scripts(self):
-        look_at_each(self, GOLDEN, self.assert_shown)
-
     def test_fencing_is_shown_as_beside_it(self):
         text, wanted = self.shown(READABLE.read_bytes()), READABLE.with_suffix(".show").read_text()
         assert_lines(self, text.splitlines(keepends=True), wanted.splitlines(keepends=True))
 
+
+class ByHand(ShownCase):
     def assert_as_written(self, script):
         """Whether a script is shown as written by hand beside it."""
         answers, errors = script.with_suffix(".answers"), script.with_suffix(".errors")
@@ -236,8 +236,8 @@ class Shown(unittest.TestCase):
         assert_lines(self, text.splitlines(keepends=True), script.with_suffix(".show").read_text().splitlines(keepends=True))
 
     def test_scripts_that_were_written_by_hand(self):
-        scripts = sorted(BY_HAND.glob("*.script"))
-        self.assertIn(BY_HAND / EACH_API, scripts)
+        scripts = sorted(SHOWN.glob("*.script"))
+        self.assertIn(SHOWN / EACH_API, scripts)
         for script in scripts:
             with self.subTest(script=script.name):
                 self.assert_as_written(script)
