@@ -39,7 +39,7 @@ SIDE_BY_SIDE = (
 )
 # What needs no program, and keeps processors busy for long.
 ON_SOURCES = "tests.sources.test_failing_tests"
-LIMIT = 1_800  # seconds of a module
+LIMIT = 7_200  # seconds of a module; the tests of the sources take long beside proofs
 
 
 class Count(NamedTuple):
