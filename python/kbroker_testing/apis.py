@@ -9,7 +9,7 @@ OF_PRODUCER = "transactional_id s, producer i64, epoch i16"
 ENDING = OF_PRODUCER + ", committed bool"
 ENDED = "throttle i32, error i16"
 
-# Each api, EndTxn in each of its versions (with its number behind the name from 1 on): key and version, whether it is
+# Each api, EndTxn in each of its versions (with its number after the name from 1 on): key and version, whether it is
 # flexible, and what is asked and answered. `s` is a text, `b` bytes, `i8` to `i64` numbers, `bool` a truth, `[..]` a list;
 # with `?` it may be null. https://kafka.apache.org/protocol.html
 APIS = {

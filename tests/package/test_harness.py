@@ -68,7 +68,8 @@ class Processes(unittest.TestCase):
         self.assertEqual(said.getvalue(), "tests: tests.none FAILED: it ended with status -9 and told nothing\n")
 
     def run_harness(self, *words):
-        ran = subprocess.run([sys.executable, "-m", "tests.harness", *words], cwd=ROOT, capture_output=True, text=True, timeout=60)
+        words = [sys.executable, "-m", "tests.harness", *words]
+        ran = subprocess.run(words, cwd=ROOT, capture_output=True, text=True, timeout=60)
         return ran.returncode, ran.stdout + ran.stderr
 
     def test_a_name_that_no_case_has(self):
