@@ -16,6 +16,7 @@ The program is the one that is named, or the one of the environment's KBROKER, o
 import contextlib
 import os
 import re
+import select
 import socket
 import subprocess
 import tempfile
@@ -24,6 +25,7 @@ from urllib.parse import unquote
 
 ATTEMPTS = 5
 PORT_TAKEN = "listen failed\n"  # by somebody else, since it was found free
+STARTS_WITHIN = 60  # seconds, until it says its first line
 LISTENING = re.compile(r"listening on (\S+)\n")
 LAST = re.compile(r"sessions (\d+) events (\d+) refusals (\d+)\n")
 # What is told where as many connections were taken as are served.
@@ -204,6 +206,8 @@ class BrokerProcess:
             pipes = {"stdin": stdin, "stdout": subprocess.PIPE, "stderr": self.errors or self.file}
             coded = {"encoding": "utf-8", "errors": "surrogateescape"}
             self.process = subprocess.Popen([self.program, *words], **pipes, **coded)
+        if not select.select([self.process.stdout], [], [], STARTS_WITHIN)[0]:
+            raise BrokerFailed(f"the broker says nothing within {STARTS_WITHIN} seconds")
         return self.process.stdout.readline()
 
     def kill(self):

@@ -1,7 +1,11 @@
 """The package's brokers: what their lines tell, how they start and end, and what is told of those that fail."""
 
+import tempfile
 import unittest
+from pathlib import Path
+from unittest import mock
 
+from kbroker_testing import broker as broker_module
 from kbroker_testing.broker import (
     BrokerFailed,
     ClockedKbroker,
@@ -105,6 +109,16 @@ class Brokers(unittest.TestCase):
             with self.assertRaisesRegex(NotTaken, "stop 2"):
                 broker.tick(2)
             self.assertEqual(broker.end(), Settled(0, 1, 0))
+
+    def test_a_program_that_says_nothing(self):
+        folder = self.enterContext(tempfile.TemporaryDirectory())
+        silent = Path(folder, "silent")
+        silent.write_text("#!/bin/sh\nexec sleep 60\n")
+        silent.chmod(0o700)
+        self.enterContext(mock.patch.object(broker_module, "STARTS_WITHIN", 0.2))
+        with self.assertRaisesRegex(BrokerFailed, "says nothing"):
+            with ClockedKbroker(OF_ROOT, program=silent):
+                self.fail("it listens")
 
     def test_a_program_that_is_not_there(self):
         with self.assertRaises(FileNotFoundError):
