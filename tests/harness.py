@@ -17,6 +17,7 @@ import unittest
 from collections import Counter
 from typing import NamedTuple
 
+import prove
 from tests import ROOT
 
 # What runs the program alone and looks at no time: as many side by side as there are processors, the longest first.
@@ -252,6 +253,7 @@ def main():
     if given.run:
         run_module(given.run, given.report)
         return
+    prove.end_on_signals()
     sys.exit(0 if (run_named(given.k) if given.k else run_chosen(given.modules)) else 1)
 
 
