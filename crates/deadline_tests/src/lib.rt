@@ -1,5 +1,5 @@
 //! Tests of a reader that keeps times, with a clock and a peer that tests move: what no clause can say of a clock and of a
-//! stream's waits. Sockets are in the script `scripts/deadlines.py`.
+//! stream's waits. Sockets are in `tests/server/test_deadlines.py`.
 #![tactic(auto)]
 
 #[cfg(test)]

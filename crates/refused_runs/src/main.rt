@@ -1,5 +1,5 @@
 //! Hands the events of a script to a core, and asks once more for the one that was stopped; or serves a session. It is for
-//! `scripts/refused_runs.py` and `scripts/refused_sessions.py`, which refuse each of its allocations in turn.
+//! `tests/refused_memory/test_refused_runs.py` and `test_refused_sessions.py`, which refuse each of its allocations in turn.
 //!
 //! Standard input is settings, a line `---`, and a line for each event: `mark`, `tick N`, or `USER HOST FRAME`, the frame in
 //! hexadecimal digits and without its size field. The argument says whether the core is handed them as a list (`run`) or
