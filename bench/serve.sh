@@ -54,7 +54,7 @@ start() {
 }
 
 stop() {
-    memory=$(sed -n 's/^VmHWM: *\([0-9]*\) kB/\1/p' "/proc/$started/status")
+    memory=$(awk '/^VmHWM:/ { print $2 }' "/proc/$started/status")
     exec 9>&- || true
     kill "$started" 2>/dev/null || true
     wait "$started" 2>/dev/null || true
