@@ -100,7 +100,7 @@ def send_longest(address):
 def kept_before_a_login():
     """How many kB a peer that hasn't logged in makes the broker take at once."""
     patient = ("--frame-within", "300", "--login-within", "300")
-    with ClockedKbroker(OF_ROOT, workers=STRANGERS, connections=STRANGERS, more=patient) as broker:
+    with ClockedKbroker(OF_ROOT, workers=STRANGERS, connections=STRANGERS + 1, more=patient) as broker:
         before = broker.peak_memory()
         with ThreadPoolExecutor(STRANGERS) as pool:
             list(pool.map(send_longest, [broker.address] * STRANGERS))
