@@ -6,6 +6,10 @@
 //! It listens on a port of its own, which it prints, and serves each connection by a thread, until it is killed. It knows
 //! Produce, version 3, with one batch for one partition of a topic, and nothing else.
 
+#[path = "serve/crc32c.rs"]
+mod crc32c;
+
+use crc32c::crc32c;
 use std::collections::HashMap;
 use std::io::{BufReader, Error, ErrorKind, Read, Result, Write};
 use std::net::{TcpListener, TcpStream};
@@ -70,18 +74,6 @@ impl<'a> Cursor<'a> {
     }
 }
 
-#[target_feature(enable = "sse4.2")]
-unsafe fn crc32c(data: &[u8]) -> u32 {
-    use std::arch::x86_64::{_mm_crc32_u64, _mm_crc32_u8};
-    let mut crc = u64::from(u32::MAX);
-    let words = data.chunks_exact(8);
-    let rest = words.remainder();
-    for word in words {
-        crc = _mm_crc32_u64(crc, u64::from_le_bytes(word.try_into().unwrap()));
-    }
-    rest.iter().fold(crc as u32, |crc, byte| _mm_crc32_u8(crc, *byte)) ^ u32::MAX
-}
-
 /// One record, whose length says where it ends.
 fn check_record(cursor: &mut Cursor) -> Result<()> {
     let mut record = Cursor(cursor.varint_bytes()?);
@@ -101,7 +93,7 @@ fn check_record(cursor: &mut Cursor) -> Result<()> {
 fn check(batch: &[u8]) -> Result<i64> {
     let mut head = Cursor(batch);
     let sum = u32::from_be_bytes(head.take(COVERED)?[17..].try_into().unwrap());
-    if unsafe { crc32c(head.0) } != sum {
+    if crc32c(head.0) != sum {
         return Err(Error::new(ErrorKind::InvalidData, "another checksum"));
     }
     head.take(BATCH_HEAD - COVERED - 4)?;
