@@ -16,7 +16,7 @@ use Rattle.authorizer.specs.AnyTopic.{any_topic}
 use Rattle.authorizer.specs.Asking.{Rules, refusal_by, first_of, part_refusal, question_refusal}
 use Rattle.msg_txn.specs.declared.init_producer_id.InitProducerIdRequest.{InitProducerIdRequest}
 use Rattle.msg_admin.specs.declared.reply.Reply.TheVariants as replies
-use Rattle.transactions.specs.declared.turn.Turn.{Turn}
+use Rattle.transactions.specs.Turn.{Turn}
 use Rattle.transactions.specs.Coordinator.{CoordinatorValue, owner, given_by, given_free, fresh, turn_answer}
 use Rattle.transactions.specs.InitProducerId.{init}
 use Rattle.broker_world.specs.declared.node.Node.{Node}

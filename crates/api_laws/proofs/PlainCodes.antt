@@ -45,7 +45,7 @@ use Rattle.transactions.specs.declared.target.TopicPartition.{TopicPartition}
 use Rattle.transactions.specs.declared.transaction.Phase.{Phase}
 use Rattle.transactions.specs.declared.transaction.Phase.TheVariants.{Empty, Ongoing, PrepareCommit, PrepareAbort, CompleteCommit, CompleteAbort}
 use Rattle.transactions.specs.declared.transaction.Transaction.{Transaction}
-use Rattle.transactions.specs.declared.turn.Turn.TheVariants as calls
+use Rattle.transactions.specs.Turn as calls
 use Rattle.transactions.specs.Words.{is_empty, last_epoch, is_ongoing, has_target}
 use Rattle.transactions.specs.Coordinator.{CoordinatorValue, recorded, fresh, owner, given_by, turn_code}
 use Rattle.transactions.specs.Holding.{is_usable, holds_found}

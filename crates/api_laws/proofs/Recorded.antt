@@ -14,8 +14,7 @@ use Rattle.transactions.specs.declared.target.TopicPartition.{TopicPartition}
 use Rattle.transactions.specs.declared.transaction.Transaction.{Transaction}
 use Rattle.record_batch.specs.declared.outcome.Outcome.{Outcome}
 use Rattle.transactions.specs.declared.ending.EndForm.{EndForm}
-use Rattle.transactions.specs.declared.turn.Turn.{Turn}
-use Rattle.transactions.specs.declared.turn.Turn.TheVariants.{Stays, Puts}
+use Rattle.transactions.specs.Turn.{Turn, Stays, Puts}
 use Rattle.transactions.specs.Words.{is_empty}
 use Rattle.transactions.specs.Coordinator.{CoordinatorValue, has_id, recorded, put, owner, given_by, fresh, turn_answer, pair_answer}
 use Rattle.transactions.specs.InitProducerId.{timeout_within, init_for, init}

@@ -23,7 +23,7 @@ use Rattle.walk.proofs.Weaving.{woven}
 use Rattle.transactions.specs.declared.pair.Pair.{Pair}
 use Rattle.transactions.specs.declared.target.Target.TheVariants as targets
 use Rattle.transactions.specs.declared.transaction.Transaction.{Transaction}
-use Rattle.transactions.specs.declared.turn.Turn.{Turn as CoordinatorTurn}
+use Rattle.transactions.specs.Turn.{Turn as CoordinatorTurn}
 use Rattle.transactions.specs.Coordinator.{turn_code}
 use Rattle.transactions.specs.Holding.{holds_found}
 use Rattle.offset_tables.specs.declared.event.PartitionOffset.{PartitionOffset}

@@ -32,8 +32,7 @@ use Rattle.record_batch.specs.declared.outcome.Outcome.{Outcome as Ending}
 use Rattle.record_batch.specs.declared.outcome.Outcome.TheVariants.{Commit, Abort}
 use Rattle.transactions.specs.declared.ending.EndForm.{EndForm}
 use Rattle.transactions.specs.declared.ending.EndForm.TheVariants.{Plain, Fencing, Raising}
-use Rattle.transactions.specs.declared.turn.Turn.{Turn}
-use Rattle.transactions.specs.declared.turn.Turn.TheVariants.{Stays, Puts}
+use Rattle.transactions.specs.Turn.{Turn, Stays, Puts}
 use Rattle.transactions.specs.Words.{is_empty}
 use Rattle.transactions.specs.Preparing.{pair_refusal}
 use Rattle.transactions.specs.Coordinator.{CoordinatorValue, recorded, fresh, turned, turn_code, turn_answer}

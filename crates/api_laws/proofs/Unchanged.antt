@@ -50,8 +50,7 @@ use Rattle.transactions.specs.declared.pair.Pair.{Pair}
 use Rattle.transactions.specs.declared.transaction.Phase.{Phase}
 use Rattle.transactions.specs.declared.transaction.Phase.TheVariants.{Empty, Ongoing, PrepareCommit, PrepareAbort, CompleteCommit, CompleteAbort}
 use Rattle.transactions.specs.declared.transaction.Transaction.{Transaction}
-use Rattle.transactions.specs.declared.turn.Turn.{Turn}
-use Rattle.transactions.specs.declared.turn.Turn.TheVariants.{Stays, Puts}
+use Rattle.transactions.specs.Turn.{Turn, Stays, Puts}
 use Rattle.transactions.specs.Words.{is_empty}
 use Rattle.transactions.specs.Coordinator.{CoordinatorValue, recorded, fresh, turned, turn_code, turn_answer}
 use Rattle.transactions.specs.Preparing.{pair_refusal}

@@ -15,7 +15,7 @@ use Rattle.transactions.specs.declared.transaction.Transaction.{Transaction}
 use Rattle.record_batch.specs.declared.outcome.Outcome.{Outcome as Ending}
 use Rattle.transactions.specs.declared.ending.EndForm.{EndForm}
 use Rattle.transactions.specs.declared.ending.EndForm.TheVariants.{Plain, Fencing, Raising}
-use Rattle.transactions.specs.declared.turn.Turn.TheVariants.{Stays}
+use Rattle.transactions.specs.Turn.{Stays}
 use Rattle.transactions.specs.Words.{last_epoch, is_empty, raised}
 use Rattle.transactions.specs.Preparing.{pair_refusal}
 use Rattle.transactions.specs.Coordinator.{CoordinatorValue, recorded, owner, given_by, fresh, turn_code}

@@ -29,8 +29,7 @@ use Rattle.record_batch.specs.declared.outcome.Outcome.TheVariants.{Commit, Abor
 use Rattle.transactions.specs.declared.marker.OwedMarker.{OwedMarker}
 use Rattle.transactions.specs.declared.ending.EndForm.{EndForm}
 use Rattle.transactions.specs.declared.ending.EndForm.TheVariants.{Plain, Fencing, Raising}
-use Rattle.transactions.specs.declared.turn.Turn.{Turn}
-use Rattle.transactions.specs.declared.turn.Turn.TheVariants.{Stays, Puts}
+use Rattle.transactions.specs.Turn.{Turn, Stays, Puts}
 use Rattle.transactions.specs.Words.{is_empty, raised, pair_after, given_after, prepared, targets}
 use Rattle.transactions.specs.Coordinator.{CoordinatorValue, has_id, recorded, put, fresh, turned}
 use Rattle.transactions.specs.Preparing.{marker_for, markers, fenced, fence_markers, pair_refusal}

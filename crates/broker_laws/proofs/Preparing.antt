@@ -30,8 +30,7 @@ use Rattle.record_batch.specs.declared.outcome.Outcome.{Outcome as Ending}
 use Rattle.record_batch.specs.declared.outcome.Outcome.TheVariants.{Commit, Abort}
 use Rattle.transactions.specs.declared.ending.EndForm.{EndForm}
 use Rattle.transactions.specs.declared.ending.EndForm.TheVariants.{Plain, Fencing, Raising}
-use Rattle.transactions.specs.declared.turn.Turn.{Turn}
-use Rattle.transactions.specs.declared.turn.Turn.TheVariants.{Stays, Puts}
+use Rattle.transactions.specs.Turn.{Turn, Stays, Puts}
 use Rattle.transactions.specs.Words.{last_epoch, is_empty, raised, is_exhausted, pair_after, given_after, prepared}
 use Rattle.transactions.specs.Coordinator.{CoordinatorValue, recorded, put, owner, fresh, turned, turn_code}
 use Rattle.transactions.specs.Preparing.{markers, pair_refusal, fenced, fencing}

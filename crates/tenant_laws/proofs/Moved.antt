@@ -38,8 +38,7 @@ use Rattle.transactions.specs.declared.marker.OwedMarker.{OwedMarker}
 use Rattle.transactions.specs.declared.pair.PairAnswer.{PairAnswer}
 use Rattle.transactions.specs.declared.target.Target.{Target}
 use Rattle.transactions.specs.declared.target.TopicPartition.{TopicPartition}
-use Rattle.transactions.specs.declared.turn.Turn.{Turn}
-use Rattle.transactions.specs.declared.turn.Turn.TheVariants.{Stays, Puts}
+use Rattle.transactions.specs.Turn.{Turn, Stays, Puts}
 use Rattle.transactions.specs.declared.transaction.Transaction.{Transaction}
 use Rattle.transactions.specs.declared.transaction.Phase.{Phase}
 use Rattle.transactions.specs.declared.transaction.Phase.TheVariants.{Empty, Ongoing, PrepareCommit, PrepareAbort, CompleteCommit, CompleteAbort}

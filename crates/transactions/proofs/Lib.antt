@@ -4,3 +4,4 @@ pub mod Rows
 pub mod Kept
 pub mod Counting
 pub mod Opening
+pub mod Keeping

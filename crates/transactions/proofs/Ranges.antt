@@ -1,5 +1,5 @@
 -- Each call keeps producer ids and epochs in their ranges.
-use Rattle.std.proofs.Common.{◌≡◌, ℕ, ℤ, pos, ◌+◌, List, [], ◌∷◌, ◌++◌, length, map, Option, Some, None, Result, Ok, Err, Bool, true, false, cond, refl, sym, subst, ap, ◌∙◌, arith}
+use Rattle.std.proofs.Common.{◌≡◌, ℕ, ℤ, pos, ◌+◌, List, [], ◌∷◌, ◌++◌, length, map, Option, Some, None, Result, Ok, Err, Bool, true, false, cond, refl, sym, subst, arith}
 use Rattle.std.specs.Prelude.{◌&&◌, ◌<ℤ◌, int_le, int_lt, IfOk, OnOk, OnErr}
 use Rattle.std.specs.Ordering.{int_eq}
 use Rattle.std.proofs.lemmas.Int.{ints}
@@ -17,10 +17,9 @@ use Rattle.record_batch.specs.declared.outcome.Outcome.TheVariants.{Commit, Abor
 use Rattle.transactions.specs.declared.marker.OwedMarker.{OwedMarker}
 use Rattle.transactions.specs.declared.ending.EndForm.{EndForm}
 use Rattle.transactions.specs.declared.ending.EndForm.TheVariants as forms
-use Rattle.transactions.specs.declared.turn.Turn.{Turn}
-use Rattle.transactions.specs.declared.turn.Turn.TheVariants.{Stays, Puts}
+use Rattle.transactions.specs.Turn.{Turn, Stays, Puts}
 use Rattle.transactions.specs.Words.{last_epoch, is_empty, raised, is_exhausted, pair_after, given_after, is_ongoing, prepared, complete}
-use Rattle.transactions.specs.Coordinator.{CoordinatorValue, has_id, recorded, put, records_after, turned}
+use Rattle.transactions.specs.Coordinator.{CoordinatorValue, has_id, recorded, put, records_after, given_for, turned}
 use Rattle.transactions.specs.Preparing.{markers, fenced, pair_refusal}
 use Rattle.transactions.specs.InitProducerId.{timeout_within, begun, init_in, init_for, init}
 use Rattle.transactions.specs.Adding.{with_partitions, with_group, open_in, open_by, open_found, open_transaction, grown, add_partitions, add_group}
@@ -70,13 +69,19 @@ taken c (Puts code t more owed) s h =
     subst (λ (n : ℕ). AreInRange n (put c.transactions t)) (sym (length-append c.given more))
     (range_put (length c.given + length more) c.transactions t (ranges_more (length c.given) (length more) c.transactions s) h)
 
--- a record is put, and more producer ids are given out
-pub taken_parts : (given more new : List (Option (List ℕ))) (ts us : List Transaction) (t : Transaction) → new ≡ given ++ more → us ≡ put ts t → AreInRange (length given) ts → IsInRange (length given + length more) t → AreInRange (length new) us
-taken_parts given more new ts us t new_is us_is s h =
-    subst (λ (all : List (Option (List ℕ))). AreInRange (length all) us) (sym new_is)
-    (subst (AreInRange (length (given ++ more))) (sym us_is)
-    (subst (λ (n : ℕ). AreInRange n (put ts t)) (sym (length-append given more))
-    (range_put (length given + length more) ts t (ranges_more (length given) (length more) ts s) h)))
+-- the same of the records and the producer ids given out alone, also where the call failed
+turn_taken : (given : List (Option (List ℕ))) (ts : List Transaction) (turn : Turn) → AreInRange (length given) ts → IsTurnInRange (length given) turn → AreInRange (length (given ++ given_for turn)) (records_after ts turn)
+turn_taken given ts (Stays code) s h = given_range given [] ts s
+turn_taken given ts (Puts code t more owed) s h =
+    subst (λ (n : ℕ). AreInRange n (put ts t)) (sym (length-append given more))
+    (range_put (length given + length more) ts t (ranges_more (length given) (length more) ts s) h)
+
+pub called_range : {T E : Type 0} (r : Result T E) (given after : List (Option (List ℕ))) (ts us : List Transaction) (turn : Turn) → AreInRange (length given) ts → IsTurnInRange (length given) turn
+    → OnOk r (us ≡ records_after ts turn) → OnOk r (after ≡ given ++ given_for turn) → OnErr r (us ≡ ts) → OnErr r (after ≡ given) → AreInRange (length after) us
+called_range (Ok x) given after ts us turn s h us_is after_is _ _ =
+    subst (λ (l : List (Option (List ℕ))). AreInRange (length l) us) (sym after_is) (subst (AreInRange (length (given ++ given_for turn))) (sym us_is) (turn_taken given ts turn s h))
+called_range (Err e) given after ts us turn s h _ _ us_is after_is =
+    subst (λ (l : List (Option (List ℕ))). AreInRange (length l) us) (sym after_is) (subst (AreInRange (length given)) (sym us_is) s)
 
 -- ---- pairs
 
@@ -127,12 +132,7 @@ init_in_range Ongoing n t timeout s e = range_more n 0 (fenced t) (fenced_range 
 init_in_range PrepareCommit n t timeout s e = tt
 init_in_range PrepareAbort n t timeout s e = tt
 
--- the same for a result, with the next producer id in another spelling
-pub inited_kept : {E : Type 0} (n : ℕ) (t : Transaction) (timeout : ℕ) {k : ℤ} (r : Result Turn E) → IfOk r (λ turn. turn ≡ init_in t.phase t k timeout) → k ≡ pos n → IsInRange n t → IfOk r (IsTurnInRange n)
-inited_kept n t timeout (Ok turn) e same s = subst (IsTurnInRange n) (sym (e ∙ ap (λ (next : ℤ). init_in t.phase t next timeout) same)) (init_in_range t.phase n t timeout s refl)
-inited_kept n t timeout (Err error) e same s = tt
-
-init_for_range : (o : Option ℕ) (f : Option Transaction) (n : ℕ) (ts : List Transaction) (id : List ℕ) → AreInRange n ts → recorded ts id ≡ f → IsTurnInRange n (init_for o f id (pos n))
+pub init_for_range : (o : Option ℕ) (f : Option Transaction) (n : ℕ) (ts : List Transaction) (id : List ℕ) → AreInRange n ts → recorded ts id ≡ f → IsTurnInRange n (init_for o f id (pos n))
 init_for_range None f n ts id s e = tt
 init_for_range (Some timeout) None n ts id s e = record {
   pair = record { from_zero = omega (arith, ints); given_out = omega (arith, ints); epoch_from_zero = omega (arith, ints); epoch_to_last = omega (arith, ints) };
@@ -240,14 +240,9 @@ ended_range form n t p o s = or_stays n (is_again form t p) (end_again t.phase o
   by_code None = end_in_range t.phase form n t o s
   by_code (Some code) = tt
 
-end_found_range : (f : Option Transaction) (form : EndForm) (n : ℕ) (ts : List Transaction) (id : List ℕ) (p : Pair) (o : Outcome) → AreInRange n ts → recorded ts id ≡ f → IsTurnInRange n (end_found f form (pos n) p o)
+pub end_found_range : (f : Option Transaction) (form : EndForm) (n : ℕ) (ts : List Transaction) (id : List ℕ) (p : Pair) (o : Outcome) → AreInRange n ts → recorded ts id ≡ f → IsTurnInRange n (end_found f form (pos n) p o)
 end_found_range None form n ts id p o s e = tt
 end_found_range (Some t) form n ts id p o s e = ended_range form n t p o (range_found n ts id t s e)
-
--- the same for a result, with the next producer id in another spelling
-pub ended_kept : {E : Type 0} (n : ℕ) (t : Transaction) (form : EndForm) (p : Pair) (o : Outcome) {k : ℤ} (r : Result Turn E) → IfOk r (λ turn. turn ≡ end_found (Some t) form k p o) → k ≡ pos n → IsInRange n t → IfOk r (IsTurnInRange n)
-ended_kept n t form p o (Ok turn) e same s = subst (IsTurnInRange n) (sym (e ∙ ap (λ (next : ℤ). end_found (Some t) form next p o) same)) (ended_range form n t p o s)
-ended_kept n t form p o (Err error) e same s = tt
 
 pub end_range : (c : CoordinatorValue) (form : EndForm) (id : List ℕ) (p : Pair) (o : Outcome) → IsCoordinator c → IsTurnInRange (length c.given) (end c form id p o)
 end_range c form id p o s = or_stays (length c.given) (is_empty id) codes.InvalidRequest _ (end_found_range (recorded c.transactions id) form (length c.given) c.transactions id p o s refl)

@@ -14,7 +14,7 @@ use Rattle.record_batch.specs.declared.outcome.Outcome.TheVariants.{Commit, Abor
 use Rattle.transactions.specs.declared.marker.OwedMarker.{OwedMarker}
 use Rattle.transactions.specs.declared.ending.EndForm.{EndForm}
 use Rattle.transactions.specs.declared.ending.EndForm.TheVariants as forms
-use Rattle.transactions.specs.declared.turn.Turn.{Turn}
+use Rattle.transactions.specs.Turn.{Turn}
 use Rattle.transactions.specs.Words.{no_pair}
 use Rattle.transactions.specs.Coordinator.{CoordinatorValue, no_transactions, owner, given_by, given_free, turned, turn_code, turn_answer}
 use Rattle.transactions.specs.InitProducerId.{init}

@@ -1,6 +1,6 @@
 -- The records as a table keeps them: what is looked up, put and changed there.
 use Rattle.std.proofs.Common.{◌≡◌, ℕ, zero, suc, ◌+◌, ◌<◌, List, [], ◌∷◌, drop, slice_get, get_or, length, add-one, Option, Some, None, Bool, true, false, cond, refl, sym, subst, ap, ◌∙◌, arith}
-use Rattle.std.specs.Prelude.{Result, Ok, Err, IsOk, OnOk, OnErr}
+use Rattle.std.specs.Prelude.{Result, Ok, Err, IfOk, OnOk, OnErr}
 use Rattle.std.proofs.lemmas.List.{length-map}
 use Rattle.std.proofs.lemmas.Option.{slice_get_within, get_or_from_slice_get}
 use Rattle.std.proofs.lemmas.Slice.Eq.{bytes_eq-Decides}
@@ -13,9 +13,10 @@ use Rattle.indexmap.specs.IndexMap.{insert_entry, set_value_at}
 use Rattle.keyed_tables.proofs.Tables.{is_under, same_test, looked_up as looked_up_by, found_key, keyed_set, keyed_changed}
 use Rattle.transactions.specs.declared.transaction.Transaction.{Transaction}
 use Rattle.record_batch.specs.declared.outcome.Outcome.{Outcome}
-use Rattle.transactions.specs.Coordinator.{has_id, recorded, put, records_after}
-use Rattle.transactions.specs.declared.turn.Turn.{Turn}
-use Rattle.transactions.specs.declared.turn.Turn.TheVariants.{Stays, Puts}
+use Rattle.wire_types.specs.declared.error_code.ErrorCode.TheVariants as codes
+use Rattle.transactions.specs.declared.pair.PairAnswer.{PairAnswer}
+use Rattle.transactions.specs.Coordinator.{has_id, recorded, put, records_after, turn_code, pair_answer}
+use Rattle.transactions.specs.Turn.{Turn, Stays, Puts}
 use Rattle.transactions.specs.Adding.{after}
 use Rattle.transactions.specs.Preparing.{fenced}
 use Rattle.transactions.specs.Bounds.{CanRaise, AllCanRaise}
@@ -162,6 +163,59 @@ raise_next es place t new at h =
 
 -- ---- a call that can't fail
 
-pub on_ok : {T E : Type 0} (r : Result T E) (P : Type 0) → IsOk r → OnOk r P → P
-on_ok (Ok x) P ok h = h
-on_ok (Err e) P ok h = absurd (let clash : false ≡ true = ok in cc)
+pub when_ok : {T E : Type 0} (r : Result T E) (P : Type 0) → P → OnOk r P
+when_ok (Ok x) P p = p
+when_ok (Err e) P p = tt
+
+-- ---- what is recorded after a call
+
+recorded_put : (ts : List Transaction) (t : Transaction) → recorded (put ts t) t.id ≡ Some t
+recorded_put ts t = by_list ts where
+  own : has_id t.id t ≡ true
+  own = (bytes_eq-Decides t.id t.id).1 refl
+
+  at_front : (b : Bool) → b ≡ true → (rest : Option Transaction) → cond b (Some t) rest ≡ Some t
+  at_front true e rest = refl
+  at_front false e rest = absurd (let clash : false ≡ true = e in cc)
+
+  by_list : (ts : List Transaction) → recorded (put ts t) t.id ≡ Some t
+  by_list [] = at_front (has_id t.id t) own None
+  by_list (x ∷ xs) = by_test (has_id t.id x) refl (by_list xs) where
+    by_test : (b : Bool) → has_id t.id x ≡ b → recorded (put xs t) t.id ≡ Some t → recorded (cond b (t ∷ xs) (x ∷ put xs t)) t.id ≡ Some t
+    by_test true e more = at_front (has_id t.id t) own (recorded xs t.id)
+    by_test false e more = ap (λ (b : Bool). cond b (Some x) (recorded (put xs t) t.id)) e ∙ more
+
+recorded_after : (ts : List Transaction) (id : List ℕ) (t : Transaction) (turn : Turn) → (after turn t).id ≡ t.id → recorded ts id ≡ Some t → recorded (records_after ts turn) id ≡ Some (after turn t)
+recorded_after ts id t (Stays code) keeps found = found
+recorded_after ts id t (Puts code u given owed) keeps found =
+    ap (recorded (put ts u)) (sym (keeps ∙ recorded_id ts id t found)) ∙ recorded_put ts u
+
+pub created_answer : (ts : List Transaction) (id : List ℕ) (t : Transaction) → t.id ≡ id → pair_answer codes.None (Some t) ≡ pair_answer codes.None (recorded (put ts t) id)
+created_answer ts id t named = ap (pair_answer codes.None) (sym (recorded_put ts t) ∙ ap (recorded (put ts t)) named)
+
+answer_then : {E : Type 0} (r : Result PairAnswer E) (P : Type 0) (x y : PairAnswer) → (P → x ≡ y) → OnOk r P → IfOk r (λ a. a ≡ x) → IfOk r (λ a. a ≡ y)
+answer_then (Ok a) P x y f p e = e ∙ f p
+answer_then (Err error) P x y f p e = tt
+
+-- what a call is answered is told of the record as it then is
+pub called_answer : {E : Type 0} (es now : List Entry) (ts : List Transaction) (id : List ℕ) (t new : Transaction) (r : Result PairAnswer E) (turn : Option Transaction → Turn)
+    → AreIds es → lookup (is_under id) es ≡ Some t → values_of es ≡ ts → now ≡ set_value (is_under id) es new → (after (turn (Some t)) t).id ≡ t.id
+    → OnOk r (new ≡ after (turn (Some t)) t) → IfOk r (λ a. a ≡ pair_answer (turn_code (turn (Some t))) (Some new))
+    → IfOk r (λ a. a ≡ pair_answer (turn_code (turn (recorded ts id))) (recorded (values_of now) id))
+called_answer es now ts id t new r turn h found ts_is written keeps ok answer =
+    let there : Some t ≡ recorded ts id = is_recorded es ts id (Some t) found h ts_is in
+    let told : (new ≡ after (turn (Some t)) t) → pair_answer (turn_code (turn (Some t))) (Some new) ≡ pair_answer (turn_code (turn (recorded ts id))) (recorded (values_of now) id) = λ e.
+    let now_is : values_of now ≡ records_after ts (turn (Some t)) =
+    ap values_of written ∙ ap (λ (x : Transaction). values_of (set_value (is_under id) es x)) e ∙ turned_in es id t (turn (Some t)) keeps h found ∙ ap (λ (l : List Transaction). records_after l (turn (Some t))) ts_is in
+    let recorded_is : recorded (values_of now) id ≡ Some new =
+    ap (λ (l : List Transaction). recorded l id) now_is ∙ recorded_after ts id t (turn (Some t)) keeps (sym there) ∙ ap Some (sym e) in
+    ap (λ (x : Option Transaction). pair_answer (turn_code (turn (Some t))) x) (sym recorded_is) ∙ ap (λ (x : Option Transaction). pair_answer (turn_code (turn x)) (recorded (values_of now) id)) there in
+    answer_then r _ _ _ told ok answer
+
+-- of each record that is found the epoch can be raised where it has to be
+pub raise_found : (ts : List Transaction) (id : List ℕ) (t : Transaction) → AllCanRaise ts → recorded ts id ≡ Some t → CanRaise t
+raise_found [] id t h found = absurd (let clash : None ≡ Some t = found in cc)
+raise_found (x ∷ xs) id t h found = by_same (raise_found xs id t h.1) (has_id id x) found where
+  by_same : (recorded xs id ≡ Some t → CanRaise t) → (b : Bool) → cond b (Some x) (recorded xs id) ≡ Some t → CanRaise t
+  by_same rest true found = let e : x ≡ t = cc in subst CanRaise e h.0
+  by_same rest false found = rest found

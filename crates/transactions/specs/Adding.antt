@@ -7,8 +7,7 @@ use Rattle.transactions.specs.declared.target.TopicPartition.{TopicPartition}
 use Rattle.transactions.specs.declared.transaction.Phase.{Phase}
 use Rattle.transactions.specs.declared.transaction.Phase.TheVariants.{Empty, Ongoing, PrepareCommit, PrepareAbort, CompleteCommit, CompleteAbort}
 use Rattle.transactions.specs.declared.transaction.Transaction.{Transaction}
-use Rattle.transactions.specs.declared.turn.Turn.{Turn}
-use Rattle.transactions.specs.declared.turn.Turn.TheVariants.{Stays, Puts}
+use Rattle.transactions.specs.Turn.{Turn, Stays, Puts}
 use Rattle.transactions.specs.Words.{is_empty, is_ongoing, has_partition, has_group}
 use Rattle.transactions.specs.Coordinator.{CoordinatorValue, recorded}
 use Rattle.transactions.specs.Preparing.{pair_refusal}

@@ -3,8 +3,7 @@ use Rattle.std.specs.Prelude.{◌≡◌, ℕ, pos, ◌≤ℤ◌, ◌<ℤ◌, ◌
 use Rattle.transactions.specs.declared.pair.Pair.{Pair}
 use Rattle.transactions.specs.declared.transaction.Phase.TheVariants.{Ongoing}
 use Rattle.transactions.specs.declared.transaction.Transaction.{Transaction}
-use Rattle.transactions.specs.declared.turn.Turn.{Turn}
-use Rattle.transactions.specs.declared.turn.Turn.TheVariants.{Stays, Puts}
+use Rattle.transactions.specs.Turn.{Turn, Stays, Puts}
 use Rattle.transactions.specs.Words.{last_epoch}
 use Rattle.transactions.specs.Coordinator.{CoordinatorValue}
 

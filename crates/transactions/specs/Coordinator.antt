@@ -10,8 +10,7 @@ use Rattle.transactions.specs.declared.pair.Given.{Given}
 use Rattle.transactions.specs.declared.pair.Given.TheVariants.{Never, Free, Owned}
 use Rattle.transactions.specs.declared.transaction.Transaction.{Transaction}
 use Rattle.transactions.specs.declared.marker.OwedMarker.{OwedMarker}
-use Rattle.transactions.specs.declared.turn.Turn.{Turn}
-use Rattle.transactions.specs.declared.turn.Turn.TheVariants.{Stays, Puts}
+use Rattle.transactions.specs.Turn.{Turn, Stays, Puts}
 use Rattle.transactions.specs.Words.{no_pair}
 
 pub record CoordinatorValue : Type 0 where
@@ -65,6 +64,16 @@ abbrev pub turn_code : Turn → ErrorCode
 turn_code (Stays code) = code
 turn_code (Puts code t given owed) = code
 
+-- the owners of the producer ids that are given out for it
+abbrev pub given_for : Turn → List (Option (List ℕ))
+given_for (Stays code) = []
+given_for (Puts code t given owed) = given
+
+-- the markers that are owed for it
+abbrev pub owed_for : Turn → List OwedMarker
+owed_for (Stays code) = []
+owed_for (Puts code t given owed) = owed
+
 abbrev pub records_after : List Transaction → Turn → List Transaction
 records_after ts (Stays code) = ts
 records_after ts (Puts code t given owed) = put ts t
@@ -77,6 +86,10 @@ turned c (Puts code t given owed) = record { transactions = put c.transactions t
 abbrev pub answered_pair : ErrorCode → Option Transaction → Pair
 answered_pair codes.None (Some t) = t.pair
 answered_pair code found = no_pair
+
+-- a call that is refused
+abbrev pub refused : ErrorCode → PairAnswer
+refused code = record { code = code; pair = no_pair }
 
 abbrev pub pair_answer : ErrorCode → Option Transaction → PairAnswer
 pair_answer code found = record { code = code; pair = answered_pair code found }

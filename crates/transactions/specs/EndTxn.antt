@@ -11,8 +11,7 @@ use Rattle.record_batch.specs.declared.outcome.Outcome.TheVariants.{Commit, Abor
 use Rattle.transactions.specs.declared.marker.OwedMarker.{OwedMarker}
 use Rattle.transactions.specs.declared.ending.EndForm.{EndForm}
 use Rattle.transactions.specs.declared.ending.EndForm.TheVariants.{Plain, Fencing, Raising}
-use Rattle.transactions.specs.declared.turn.Turn.{Turn}
-use Rattle.transactions.specs.declared.turn.Turn.TheVariants.{Stays, Puts}
+use Rattle.transactions.specs.Turn.{Turn, Stays, Puts}
 use Rattle.transactions.specs.Words.{is_empty, is_same_pair, raised, pair_after, given_after, prepared}
 use Rattle.transactions.specs.Coordinator.{CoordinatorValue, recorded, fresh}
 use Rattle.transactions.specs.Preparing.{markers, pair_refusal}

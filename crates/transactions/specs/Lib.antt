@@ -1,4 +1,6 @@
 pub mod Words
+pub mod Turn
+pub mod Changes
 pub mod Coordinator
 pub mod Preparing
 pub mod InitProducerId

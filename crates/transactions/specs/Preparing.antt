@@ -12,8 +12,7 @@ use Rattle.transactions.specs.declared.transaction.Transaction.{Transaction}
 use Rattle.record_batch.specs.declared.outcome.Outcome.{Outcome}
 use Rattle.record_batch.specs.declared.outcome.Outcome.TheVariants.{Abort}
 use Rattle.transactions.specs.declared.marker.OwedMarker.{OwedMarker}
-use Rattle.transactions.specs.declared.turn.Turn.{Turn}
-use Rattle.transactions.specs.declared.turn.Turn.TheVariants.{Puts}
+use Rattle.transactions.specs.Turn.{Turn, Puts}
 use Rattle.transactions.specs.Words.{last_epoch, raised, targets}
 
 -- the marker that the transaction owes to one target

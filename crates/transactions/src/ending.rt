@@ -1,16 +1,20 @@
 //! What EndTxn makes of a transaction.
 
-ghost use Rattle.std.specs.Prelude.{◌≡◌, ◌<ℤ◌, IfOk, Some};
+ghost use Rattle.std.specs.Prelude.{◌≡◌, ◌<ℤ◌, ◌++◌, pos, length, IfOk, OnOk, OnErr, Some};
 ghost use Rattle.transactions.specs.Words.{last_epoch};
+ghost use Rattle.transactions.specs.Coordinator.{turn_code, given_for, owed_for, pair_answer};
+ghost use Rattle.transactions.specs.Adding.{after};
+ghost use Rattle.transactions.specs.Changes.{turn_of};
 ghost use Rattle.transactions.specs.EndTxn.{other_epoch, renewed, prepared_plain, end_ongoing, end_closed, end_in, is_again, end_again, end_found};
 
+use crate::change::{Change, Standing};
 use crate::marker::OwedMarker;
-use crate::pair::Pair;
+use crate::owed::Owed;
+use crate::pair::{Pair, PairAnswer};
 use crate::transaction::{Phase, Transaction};
-use crate::turn::Turn;
 use record_batch::Outcome;
 use std::alloc::{AllocError, Global};
-use wire_types::{ErrorCode, Items, Shared};
+use wire_types::{ErrorCode, Items, Shared, Text};
 
 /// What the version of an EndTxn asks for.
 #[derive(Clone, Copy, Debug, PartialEq, Eq)]
@@ -38,44 +42,44 @@ impl EndForm {
 impl Transaction {
     /// The id gets the pair that follows its own, which it keeps.
     fn renewed(
-        self,
+        &self,
         alloc: Global,
         next: i64,
         phase: Phase,
         owed: Items<Shared<OwedMarker>>,
-    ) -> Result<Turn, AllocError>
-        ensures { IfOk result (λ turn. turn ≡ renewed self next phase owed) }
+    ) -> Result<Change, AllocError>
+        ensures { IfOk result (λ change. turn_of self.now change ≡ renewed self.now next phase owed) }
     {
         let given = self.pair.given_after(alloc, &self.id)?;
-        let renewed = Transaction {
+        let renewed = Standing {
             pair: self.pair.after(next),
             phase,
             kept: Some(self.pair),
-            ..self
+            ..self.standing()
         };
-        Ok(Turn::Puts(ErrorCode::None, renewed, given, owed))
+        Ok(Change::Moves(ErrorCode::None, renewed, given, owed))
     }
 
-    fn prepared_plain(self, alloc: Global, outcome: Outcome) -> Result<Turn, AllocError>
-        ensures { IfOk result (λ turn. turn ≡ prepared_plain self outcome) }
+    fn prepared_plain(&self, alloc: Global, outcome: Outcome) -> Result<Change, AllocError>
+        ensures { IfOk result (λ change. turn_of self.now change ≡ prepared_plain self.now outcome) }
     {
         let owed = self.markers(alloc, self.pair, outcome)?;
-        let prepared = Transaction {
+        let prepared = Standing {
             phase: Phase::prepared(outcome),
-            ..self
+            ..self.standing()
         };
-        Ok(Turn::Puts(ErrorCode::None, prepared, Items::new(alloc), owed))
+        Ok(Change::Moves(ErrorCode::None, prepared, Items::new(alloc), owed))
     }
 
     fn end_ongoing(
-        self,
+        &self,
         alloc: Global,
         form: EndForm,
         next: i64,
         outcome: Outcome,
-    ) -> Result<Turn, AllocError>
-        requires { self.pair.epoch <ℤ last_epoch }
-        ensures { IfOk result (λ turn. turn ≡ end_ongoing form self next outcome) }
+    ) -> Result<Change, AllocError>
+        requires { self.now.pair.epoch <ℤ last_epoch }
+        ensures { IfOk result (λ change. turn_of self.now change ≡ end_ongoing form self.now next outcome) }
     {
         match form {
             EndForm::Plain | EndForm::Fencing => self.prepared_plain(alloc, outcome),
@@ -87,62 +91,62 @@ impl Transaction {
     }
 
     fn end_closed(
-        self,
+        &self,
         alloc: Global,
         form: EndForm,
         next: i64,
         outcome: Outcome,
         code: ErrorCode,
-    ) -> Result<Turn, AllocError>
-        ensures { IfOk result (λ turn. turn ≡ end_closed form self next outcome code) }
+    ) -> Result<Change, AllocError>
+        ensures { IfOk result (λ change. turn_of self.now change ≡ end_closed form self.now next outcome code) }
     {
         match (form, outcome) {
-            (EndForm::Plain | EndForm::Fencing, _) => Ok(Turn::Stays(code)),
-            (EndForm::Raising, Outcome::Commit) => Ok(Turn::Stays(ErrorCode::InvalidTxnState)),
+            (EndForm::Plain | EndForm::Fencing, _) => Ok(Change::Stays(code)),
+            (EndForm::Raising, Outcome::Commit) => Ok(Change::Stays(ErrorCode::InvalidTxnState)),
             (EndForm::Raising, Outcome::Abort) => {
                 self.renewed(alloc, next, Phase::CompleteAbort, Items::new(alloc))
             }
         }
     }
 
-    /// EndTxn for an id that is there.
-    pub fn ended(
+    /// What EndTxn comes to for an id that is there.
+    fn ended(
         &self,
         alloc: Global,
         form: EndForm,
         next: i64,
         pair: Pair,
         outcome: Outcome,
-    ) -> Result<Turn, AllocError>
-        ensures { IfOk result (λ turn. turn ≡ end_found (Some self.now) form next pair outcome) }
+    ) -> Result<Change, AllocError>
+        ensures { IfOk result (λ change. turn_of self.now change ≡ end_found (Some self.now) form next pair outcome) }
     {
         if self.is_again(form, pair) {
-            return Ok(Turn::Stays(end_again(self.phase, outcome)));
+            return Ok(Change::Stays(end_again(self.phase, outcome)));
         }
         match self.pair_refusal(form.other_epoch(), pair) {
-            Some(code) => Ok(Turn::Stays(code)),
-            None => self.copied()?.end(alloc, form, next, outcome),
+            Some(code) => Ok(Change::Stays(code)),
+            None => self.end_own(alloc, form, next, outcome),
         }
     }
 
     /// An EndTxn that comes with the id's pair.
-    fn end(
-        self,
+    fn end_own(
+        &self,
         alloc: Global,
         form: EndForm,
         next: i64,
         outcome: Outcome,
-    ) -> Result<Turn, AllocError>
-        requires { self.pair.epoch <ℤ last_epoch }
-        ensures { IfOk result (λ turn. turn ≡ end_in self.phase form self next outcome) }
+    ) -> Result<Change, AllocError>
+        requires { self.now.pair.epoch <ℤ last_epoch }
+        ensures { IfOk result (λ change. turn_of self.now change ≡ end_in self.now.phase form self.now next outcome) }
     {
         match (self.phase, outcome) {
             (Phase::Ongoing, _) => self.end_ongoing(alloc, form, next, outcome),
             (Phase::PrepareCommit, Outcome::Commit) | (Phase::PrepareAbort, Outcome::Abort) => {
-                Ok(Turn::Stays(ErrorCode::ConcurrentTransactions))
+                Ok(Change::Stays(ErrorCode::ConcurrentTransactions))
             }
             (Phase::PrepareCommit, Outcome::Abort) | (Phase::PrepareAbort, Outcome::Commit) => {
-                Ok(Turn::Stays(ErrorCode::InvalidTxnState))
+                Ok(Change::Stays(ErrorCode::InvalidTxnState))
             }
             (Phase::CompleteCommit, Outcome::Commit) | (Phase::CompleteAbort, Outcome::Abort) => {
                 self.end_closed(alloc, form, next, outcome, ErrorCode::None)
@@ -153,6 +157,28 @@ impl Transaction {
                 self.end_closed(alloc, form, next, outcome, ErrorCode::InvalidTxnState)
             }
         }
+    }
+
+    /// EndTxn for an id that is there. After an error nothing is changed.
+    pub(crate) fn end(
+        &mut self,
+        alloc: Global,
+        given: &mut Vec<Option<Text>>,
+        owed: &mut Owed,
+        form: EndForm,
+        pair: Pair,
+        outcome: Outcome,
+    ) -> Result<PairAnswer, AllocError>
+        ensures ok { OnOk result (self.new ≡ after (end_found (Some self.old) form (pos (length given.old.items)) pair outcome) self.old) }
+        ensures given { OnOk result (given.new.items ≡ given.old.items ++ given_for (end_found (Some self.old) form (pos (length given.old.items)) pair outcome)) }
+        ensures owed { OnOk result (owed.new ≡ owed.old ++ owed_for (end_found (Some self.old) form (pos (length given.old.items)) pair outcome)) }
+        ensures answer { IfOk result (λ answer. answer ≡ pair_answer (turn_code (end_found (Some self.old) form (pos (length given.old.items)) pair outcome)) (Some self.new)) }
+        ensures err { OnErr result (self.new ≡ self.old) }
+        ensures given_err { OnErr result (given.new.items ≡ given.old.items) }
+        ensures owed_err { OnErr result (owed.new ≡ owed.old) }
+    {
+        let change = self.ended(alloc, form, given.len() as i64, pair, outcome)?;
+        self.take(given, owed, change)
     }
 
     /// Whether an EndTxn comes once more with the pair that one of version 5 came with.

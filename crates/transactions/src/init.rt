@@ -1,17 +1,19 @@
 //! What InitProducerId makes of a transactional id.
 
-ghost use Rattle.std.specs.Prelude.{◌≡◌, ◌<ℤ◌, ◌∷◌, [], IfOk, IfSome, Some, ◌≤◌, ◌^◌};
-ghost use Rattle.wire_types.specs.declared.error_code.ErrorCode.TheVariants as codes;
-ghost use Rattle.transactions.specs.declared.turn.Turn.TheVariants.{Puts};
+ghost use Rattle.std.specs.Prelude.{◌≡◌, ◌<ℤ◌, ◌++◌, pos, length, IfOk, OnOk, OnErr, Some};
 ghost use Rattle.transactions.specs.Words.{last_epoch};
 ghost use Rattle.transactions.specs.Preparing.{fencing};
 ghost use Rattle.transactions.specs.Bounds.{CanRaise};
+ghost use Rattle.transactions.specs.Coordinator.{turn_code, given_for, owed_for, pair_answer};
+ghost use Rattle.transactions.specs.Adding.{after};
+ghost use Rattle.transactions.specs.Changes.{turn_of};
 ghost use Rattle.transactions.specs.InitProducerId.{timeout_within, created, begun, init_in};
 
-use crate::pair::Pair;
+use crate::change::{Change, Standing};
+use crate::owed::Owed;
+use crate::pair::{Pair, PairAnswer};
 use crate::partitions::Partitions;
 use crate::transaction::{Phase, Transaction};
-use crate::turn::Turn;
 use record_batch::Outcome;
 use std::alloc::{AllocError, Global};
 use std::hash::RandomState;
@@ -28,19 +30,17 @@ pub fn timeout_within(timeout: i32, greatest: i32) -> Option<u32>
     }
 }
 
-/// A new id, with the producer id that is the next one to be given out. Its partitions are hashed by `hasher`.
-pub fn created(
+/// The record of a new id, with the producer id that is the next one to be given out. Its partitions are hashed by `hasher`.
+pub(crate) fn created(
     alloc: Global,
     hasher: RandomState,
     id: &Text,
     next: i64,
     timeout: u32,
-) -> Result<Turn, AllocError>
-    ensures { IfOk result (λ turn. turn ≡ Puts codes.None (created id.now next timeout) (Some id.now ∷ []) []) }
+) -> Result<Transaction, AllocError>
+    ensures { IfOk result (λ t. t ≡ created id.now next timeout) }
 {
-    let mut given = Items::new(alloc);
-    given.push(Some(id.clone()?))?;
-    let transaction = Transaction {
+    Ok(Transaction {
         id: id.clone()?,
         pair: Pair {
             producer: next,
@@ -52,52 +52,43 @@ pub fn created(
         partitions: Partitions::new(alloc, hasher),
         groups: Items::new(alloc),
         kept: None,
-    };
-    Ok(Turn::Puts(ErrorCode::None, transaction, given, Items::new(alloc)))
+    })
 }
 
 impl Transaction {
     /// To abort with the epoch raised.
-    fn fencing(self, alloc: Global, code: ErrorCode) -> Result<Turn, AllocError>
-        requires { self.pair.epoch <ℤ last_epoch }
-        ensures { IfOk result (λ turn. turn ≡ fencing code self) }
+    fn fencing(&self, alloc: Global, code: ErrorCode) -> Result<Change, AllocError>
+        requires { self.now.pair.epoch <ℤ last_epoch }
+        ensures { IfOk result (λ change. turn_of self.now change ≡ fencing code self.now) }
     {
         let pair = self.pair.raised();
         let owed = self.markers(alloc, pair, Outcome::Abort)?;
-        let fenced = Transaction {
+        let fenced = Standing {
             pair,
             phase: Phase::PrepareAbort,
-            ..self
+            ..self.standing()
         };
-        Ok(Turn::Puts(code, fenced, Items::new(alloc), owed))
+        Ok(Change::Moves(code, fenced, Items::new(alloc), owed))
     }
 
     /// The id gets the pair that follows its own.
-    fn begun(self, alloc: Global, next: i64, timeout: u32) -> Result<Turn, AllocError>
-        ensures { IfOk result (λ turn. turn ≡ begun self next timeout) }
+    fn begun(&self, alloc: Global, next: i64, timeout: u32) -> Result<Change, AllocError>
+        ensures { IfOk result (λ change. turn_of self.now change ≡ begun self.now next timeout) }
     {
         let given = self.pair.given_after(alloc, &self.id)?;
-        let begun = Transaction {
+        let begun = Standing {
             pair: self.pair.after(next),
             timeout,
             phase: Phase::Empty,
             kept: None,
-            ..self
         };
-        Ok(Turn::Puts(ErrorCode::None, begun, given, Items::new(alloc)))
+        Ok(Change::Moves(ErrorCode::None, begun, given, Items::new(alloc)))
     }
 
-    /// InitProducerId for an id that is there.
-    pub fn inited(&self, alloc: Global, next: i64, timeout: u32) -> Result<Turn, AllocError>
+    /// What InitProducerId comes to for an id that is there.
+    fn inited(&self, alloc: Global, next: i64, timeout: u32) -> Result<Change, AllocError>
         requires { CanRaise self.now }
-        ensures { IfOk result (λ turn. turn ≡ init_in self.now.phase self.now next timeout) }
-    {
-        self.copied()?.init(alloc, next, timeout)
-    }
-
-    fn init(self, alloc: Global, next: i64, timeout: u32) -> Result<Turn, AllocError>
-        requires { CanRaise self }
-        ensures { IfOk result (λ turn. turn ≡ init_in self.phase self next timeout) }
+        ensures { IfOk result (λ change. turn_of self.now change ≡ init_in self.now.phase self.now next timeout) }
     {
         match self.phase {
             Phase::Empty | Phase::CompleteCommit | Phase::CompleteAbort => {
@@ -105,8 +96,29 @@ impl Transaction {
             }
             Phase::Ongoing => self.fencing(alloc, ErrorCode::ConcurrentTransactions),
             Phase::PrepareCommit | Phase::PrepareAbort => {
-                Ok(Turn::Stays(ErrorCode::ConcurrentTransactions))
+                Ok(Change::Stays(ErrorCode::ConcurrentTransactions))
             }
         }
+    }
+
+    /// InitProducerId for an id that is there. After an error nothing is changed.
+    pub(crate) fn init(
+        &mut self,
+        alloc: Global,
+        given: &mut Vec<Option<Text>>,
+        owed: &mut Owed,
+        timeout: u32,
+    ) -> Result<PairAnswer, AllocError>
+        requires { CanRaise self.old }
+        ensures ok { OnOk result (self.new ≡ after (init_in self.old.phase self.old (pos (length given.old.items)) timeout) self.old) }
+        ensures given { OnOk result (given.new.items ≡ given.old.items ++ given_for (init_in self.old.phase self.old (pos (length given.old.items)) timeout)) }
+        ensures owed { OnOk result (owed.new ≡ owed.old ++ owed_for (init_in self.old.phase self.old (pos (length given.old.items)) timeout)) }
+        ensures answer { IfOk result (λ answer. answer ≡ pair_answer (turn_code (init_in self.old.phase self.old (pos (length given.old.items)) timeout)) (Some self.new)) }
+        ensures err { OnErr result (self.new ≡ self.old) }
+        ensures given_err { OnErr result (given.new.items ≡ given.old.items) }
+        ensures owed_err { OnErr result (owed.new ≡ owed.old) }
+    {
+        let change = self.inited(alloc, given.len() as i64, timeout)?;
+        self.take(given, owed, change)
     }
 }

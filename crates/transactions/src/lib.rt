@@ -5,6 +5,7 @@
 #![tactic(auto)]
 
 mod adding;
+mod change;
 mod counts;
 mod ending;
 mod expiry;
@@ -17,11 +18,10 @@ mod partitions;
 mod records;
 mod target;
 mod transaction;
-mod turn;
 
 pub use ending::EndForm;
 pub use expiry::expiry_markers;
-pub use init::{created, timeout_within};
+pub use init::timeout_within;
 pub use laws::calls_keep_ranges;
 pub use marker::OwedMarker;
 pub use owed::Owed;
@@ -30,4 +30,3 @@ pub use partitions::Partitions;
 pub use records::Records;
 pub use target::{Target, TopicPartition};
 pub use transaction::{LAST_EPOCH, Phase, Transaction};
-pub use turn::Turn;

@@ -1,6 +1,7 @@
 //! Producer ids with their epochs.
 
 ghost use Rattle.std.specs.Prelude.{◌≡◌, ◌<ℤ◌, pos, IfOk};
+ghost use Rattle.transactions.specs.Coordinator.{refused};
 ghost use Rattle.transactions.specs.Words.{no_pair, is_same_pair, raised, is_exhausted, pair_after, given_after, last_epoch};
 
 use std::alloc::{AllocError, Global};
@@ -22,6 +23,18 @@ pub struct Pair {
 pub struct PairAnswer {
     pub code: ErrorCode,
     pub pair: Pair,
+}
+
+impl PairAnswer {
+    /// What a call is answered that is refused, or that answers no pair.
+    pub fn refused(code: ErrorCode) -> PairAnswer
+        ensures { result ≡ refused code }
+    {
+        PairAnswer {
+            code,
+            pair: Pair::NONE,
+        }
+    }
 }
 
 /// To whom a producer id was given.

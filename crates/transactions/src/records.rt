@@ -1,15 +1,21 @@
 //! The records of transactional ids, in the order of their creation.
 
-ghost use Rattle.std.specs.Prelude.{◌≡◌, ◌<◌, [], OnOk, OnErr, IfOk, map, string_bytes};
+ghost use Rattle.std.specs.Prelude.{◌≡◌, ◌<◌, ◌++◌, ◌∷◌, [], pos, length, Some, None, OnOk, OnErr, IfOk, map, string_bytes};
 ghost use Rattle.std.specs.Option.{option_copied};
-ghost use Rattle.transactions.specs.Coordinator.{recorded, put, records_after, turn_code};
+ghost use Rattle.wire_types.specs.declared.error_code.ErrorCode.TheVariants as codes;
+ghost use Rattle.transactions.specs.Coordinator.{recorded, put, records_after, turn_code, given_for, owed_for, pair_answer};
+ghost use Rattle.transactions.specs.InitProducerId.{created, init_for};
 ghost use Rattle.transactions.specs.Adding.{with_partitions, with_group, open_found, grown};
+ghost use Rattle.transactions.specs.EndTxn.{end_found};
 ghost use Rattle.transactions.specs.Expiry.{expired};
 ghost use Rattle.transactions.specs.Bounds.{AllCanRaise};
 ghost use Rattle.transactions.specs.Warrants.{with_completed};
 
+use crate::ending::EndForm;
 use crate::expiry::expire_all;
-use crate::pair::Pair;
+use crate::init::created;
+use crate::owed::Owed;
+use crate::pair::{Pair, PairAnswer};
 use crate::target::TopicPartition;
 use crate::transaction::Transaction;
 use indexmap::IndexMap;
@@ -66,9 +72,58 @@ impl Records {
         self.table.get(id.as_str())
     }
 
-    /// How names are hashed in these records.
-    pub fn hasher(&self) -> RandomState {
-        *self.table.hasher()
+    /// InitProducerId for an id that isn't empty, with a timeout that is allowed, in milliseconds: the producer ids that are given
+    /// out for it come after the others in `given`, and the markers that are owed for it after the others in `owed`. After an
+    /// error nothing is changed.
+    pub fn init(
+        &mut self,
+        alloc: Global,
+        given: &mut Vec<Option<Text>>,
+        owed: &mut Owed,
+        id: &Text,
+        timeout: u32,
+    ) -> Result<PairAnswer, AllocError>
+        requires { AllCanRaise self.old.list }
+        ensures ok { OnOk result (self.new.list ≡ records_after self.old.list (init_for (Some timeout) (recorded self.old.list id.now) id.now (pos (length given.old.items)))) }
+        ensures given { OnOk result (given.new.items ≡ given.old.items ++ given_for (init_for (Some timeout) (recorded self.old.list id.now) id.now (pos (length given.old.items)))) }
+        ensures owed { OnOk result (owed.new ≡ owed.old ++ owed_for (init_for (Some timeout) (recorded self.old.list id.now) id.now (pos (length given.old.items)))) }
+        ensures answer { IfOk result (λ answer. answer ≡ pair_answer (turn_code (init_for (Some timeout) (recorded self.old.list id.now) id.now (pos (length given.old.items)))) (recorded self.new.list id.now)) }
+        ensures err { OnErr result (self.new.list ≡ self.old.list) }
+        ensures given_err { OnErr result (given.new.items ≡ given.old.items) }
+        ensures owed_err { OnErr result (owed.new ≡ owed.old) }
+    {
+        match self.table.get_mut(id.as_str()) {
+            Some(transaction) => transaction.init(alloc, given, owed, timeout),
+            None => self.create(alloc, given, id, timeout),
+        }
+    }
+
+    /// The record of an id that has none. After an error nothing is changed.
+    fn create(
+        &mut self,
+        alloc: Global,
+        given: &mut Vec<Option<Text>>,
+        id: &Text,
+        timeout: u32,
+    ) -> Result<PairAnswer, AllocError>
+        requires { recorded self.old.list id.now ≡ None }
+        ensures ok { OnOk result (self.new.list ≡ put self.old.list (created id.now (pos (length given.old.items)) timeout)) }
+        ensures given { OnOk result (given.new.items ≡ given.old.items ++ Some id.now ∷ []) }
+        ensures answer { IfOk result (λ answer. answer ≡ pair_answer codes.None (recorded self.new.list id.now)) }
+        ensures err { OnErr result (self.new.list ≡ self.old.list) }
+        ensures given_err { OnErr result (given.new.items ≡ given.old.items) }
+    {
+        let hasher = *self.table.hasher();
+        let transaction = created(alloc, hasher, id, given.len() as i64, timeout)?;
+        let pair = transaction.pair;
+        let (name, owner) = (id.to_owned(alloc)?, id.clone()?);
+        self.table.reserve(1)?;
+        given.push(Some(owner))?;
+        self.table.insert(name, transaction).unwrap();
+        Ok(PairAnswer {
+            code: ErrorCode::None,
+            pair,
+        })
     }
 
     /// Adds partitions to the transaction of an id, for a call with this pair at this moment. After an error the records are as they
@@ -108,22 +163,30 @@ impl Records {
         transaction.add_group(pair, moment, group)
     }
 
-    /// Makes room for one more record.
-    pub fn reserve(&mut self) -> Result<(), AllocError>
-        ensures room { OnOk result (0 < self.new.room) }
-        ensures same { self.new.list ≡ self.old.list }
+    /// EndTxn for an id: the producer ids that are given out for it come after the others in `given`, and the markers that are
+    /// owed for it after the others in `owed`. After an error nothing is changed.
+    pub fn end(
+        &mut self,
+        alloc: Global,
+        given: &mut Vec<Option<Text>>,
+        owed: &mut Owed,
+        form: EndForm,
+        id: &Text,
+        pair: Pair,
+        outcome: Outcome,
+    ) -> Result<PairAnswer, AllocError>
+        ensures ok { OnOk result (self.new.list ≡ records_after self.old.list (end_found (recorded self.old.list id.now) form (pos (length given.old.items)) pair outcome)) }
+        ensures given { OnOk result (given.new.items ≡ given.old.items ++ given_for (end_found (recorded self.old.list id.now) form (pos (length given.old.items)) pair outcome)) }
+        ensures owed { OnOk result (owed.new ≡ owed.old ++ owed_for (end_found (recorded self.old.list id.now) form (pos (length given.old.items)) pair outcome)) }
+        ensures answer { IfOk result (λ answer. answer ≡ pair_answer (turn_code (end_found (recorded self.old.list id.now) form (pos (length given.old.items)) pair outcome)) (recorded self.new.list id.now)) }
+        ensures err { OnErr result (self.new.list ≡ self.old.list) }
+        ensures given_err { OnErr result (given.new.items ≡ given.old.items) }
+        ensures owed_err { OnErr result (owed.new ≡ owed.old) }
     {
-        self.table.reserve(1)
-    }
-
-    /// Puts a record in place of that of the same id, or after the others under this copy of its id, where there must
-    /// be room. It takes no memory.
-    pub fn put(&mut self, id: String, transaction: Transaction)
-        requires room { 0 < self.old.room }
-        requires named { string_bytes id ≡ transaction.id }
-        ensures { self.new.list ≡ put self.old.list transaction }
-    {
-        self.table.insert(id, transaction).unwrap();
+        let Some(transaction) = self.table.get_mut(id.as_str()) else {
+            return Ok(PairAnswer::refused(ErrorCode::InvalidProducerIdMapping));
+        };
+        transaction.end(alloc, given, owed, form, pair, outcome)
     }
 
     /// The transaction of the id has its outcome. It takes no memory.

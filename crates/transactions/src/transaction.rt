@@ -76,7 +76,7 @@ impl Phase {
 }
 
 impl Transaction {
-    /// A record of its own, to be changed.
+    /// A record of its own.
     pub fn copied(&self) -> Result<Transaction, AllocError>
         ensures { IfOk result (λ copy. copy ≡ self.now) }
     {

@@ -2,14 +2,13 @@
 
 ghost use Rattle.std.specs.Prelude.{◌≡◌, ◌+◌, ◌<◌, ◌^◌, ◌++◌, ◌∷◌, [], IfOk, IfSome, OnOk, OnErr, Some, None, length};
 ghost use Rattle.std.specs.Option.{option_copied};
-ghost use Rattle.transactions.specs.Coordinator.{no_transactions, turned, turn_code, turn_answer, pair_answer, recorded, fresh, owner, given_by, given_free};
+ghost use Rattle.transactions.specs.Coordinator.{no_transactions, turned, turn_code, turn_answer, fresh, owner, given_by, given_free};
 ghost use Rattle.transactions.specs.InitProducerId.{init};
 ghost use Rattle.transactions.specs.Adding.{add_partitions, add_group};
 ghost use Rattle.transactions.specs.EndTxn.{end};
 ghost use Rattle.transactions.specs.Expiry.{expire};
 ghost use Rattle.transactions.specs.Holding.{holds, is_usable};
 ghost use Rattle.transactions.specs.Warrants.{next_warrant, written};
-ghost use Rattle.transactions.specs.Bounds.{IsTurnInRange};
 ghost use Rattle.txn_coordinator.specs.Permission.{MayWrite};
 
 use crate::warrant::Warrant;
@@ -20,7 +19,7 @@ use std::hash::RandomState;
 use std::marker::Model;
 use transactions::{
     EndForm, Given, LAST_EPOCH, Owed, OwedMarker, Pair, PairAnswer, Records, Target,
-    TopicPartition, Transaction, Turn, created, expiry_markers, timeout_within,
+    TopicPartition, Transaction, expiry_markers, timeout_within,
 };
 use wire_types::{ErrorCode, Text};
 
@@ -91,9 +90,14 @@ impl Coordinator {
         ensures answer { IfOk result (λ answer. answer ≡ turn_answer self.old id.now (init self.old id.now timeout greatest)) }
         ensures err { OnErr result (self.new ≡ self.old) }
     {
-        let turn = self.init_turn(alloc, id, timeout, greatest)?;
-        let code = self.take(turn)?;
-        Ok(self.answer(id, code))
+        if id.is_empty() {
+            return Ok(PairAnswer::refused(ErrorCode::InvalidRequest));
+        }
+        let Some(timeout) = timeout_within(timeout, greatest) else {
+            return Ok(PairAnswer::refused(ErrorCode::InvalidTransactionTimeout));
+        };
+        let (given, owed) = (&mut self.given, &mut self.owed);
+        self.records.init(alloc, given, owed, id, timeout)
     }
 
     /// AddPartitionsToTxn, at this moment in milliseconds.
@@ -325,63 +329,6 @@ impl Coordinator {
         self.given.len() as i64
     }
 
-    fn answer(&self, id: &Text, code: ErrorCode) -> PairAnswer
-        ensures { result ≡ pair_answer code (recorded self.now.transactions id.now) }
-    {
-        match (code, self.records.get(id)) {
-            (ErrorCode::None, Some(transaction)) => PairAnswer {
-                code,
-                pair: transaction.pair,
-            },
-            _ => PairAnswer {
-                code,
-                pair: Pair::NONE,
-            },
-        }
-    }
-
-    fn init_turn(
-        &self,
-        alloc: Global,
-        id: &Text,
-        timeout: i32,
-        greatest: i32,
-    ) -> Result<Turn, AllocError>
-        ensures turn { IfOk result (λ turn. turn ≡ init self.now id.now timeout greatest) }
-        ensures in_range { IfOk result (λ turn. IsTurnInRange (length self.now.given) turn) }
-    {
-        if id.is_empty() {
-            return Ok(Turn::Stays(ErrorCode::InvalidRequest));
-        }
-        let Some(timeout) = timeout_within(timeout, greatest) else {
-            return Ok(Turn::Stays(ErrorCode::InvalidTransactionTimeout));
-        };
-        match self.records.get(id) {
-            Some(transaction) => transaction.inited(alloc, self.next_id(), timeout),
-            None => created(alloc, self.records.hasher(), id, self.next_id(), timeout),
-        }
-    }
-
-    fn end_turn(
-        &self,
-        alloc: Global,
-        form: EndForm,
-        id: &Text,
-        pair: Pair,
-        outcome: Outcome,
-    ) -> Result<Turn, AllocError>
-        ensures turn { IfOk result (λ turn. turn ≡ end self.now form id.now pair outcome) }
-        ensures in_range { IfOk result (λ turn. IsTurnInRange (length self.now.given) turn) }
-    {
-        if id.is_empty() {
-            return Ok(Turn::Stays(ErrorCode::InvalidRequest));
-        }
-        match self.records.get(id) {
-            Some(transaction) => transaction.ended(alloc, form, self.next_id(), pair, outcome),
-            None => Ok(Turn::Stays(ErrorCode::InvalidProducerIdMapping)),
-        }
-    }
-
     fn take_end(
         &mut self,
         alloc: Global,
@@ -394,31 +341,12 @@ impl Coordinator {
         ensures answer { IfOk result (λ answer. answer ≡ turn_answer self.old id.now (end self.old form id.now pair outcome)) }
         ensures err { OnErr result (self.new ≡ self.old) }
     {
-        let turn = self.end_turn(alloc, form, id, pair, outcome)?;
-        let code = self.take(turn)?;
-        Ok(self.answer(id, code))
-    }
-
-    /// Does what a call comes to. All that needs memory comes first.
-    fn take(&mut self, turn: Turn) -> Result<ErrorCode, AllocError>
-        requires { IsTurnInRange (length self.old.given) turn }
-        ensures ok { OnOk result (self.new ≡ turned self.old turn) }
-        ensures code { IfOk result (λ code. code ≡ turn_code turn) }
-        ensures err { OnErr result (self.new ≡ self.old) }
-    {
-        match turn {
-            Turn::Stays(code) => Ok(code),
-            Turn::Puts(code, transaction, given, owed) => {
-                let mut given = Vec::from(given);
-                let id = transaction.id.to_owned(*given.allocator())?;
-                self.records.reserve()?;
-                self.given.reserve(given.len())?;
-                self.owed.append(owed)?;
-                self.given.append(&mut given).unwrap();
-                self.records.put(id, transaction);
-                Ok(code)
-            }
+        if id.is_empty() {
+            return Ok(PairAnswer::refused(ErrorCode::InvalidRequest));
         }
+        let (given, owed) = (&mut self.given, &mut self.owed);
+        self.records
+            .end(alloc, given, owed, form, id, pair, outcome)
     }
 }
 

@@ -6,7 +6,7 @@ use Rattle.wire_types.specs.declared.error_code.ErrorCode.{ErrorCode}
 use Rattle.msg_txn.specs.declared.add_offsets.AddOffsetsToTxnRequest.{AddOffsetsToTxnRequest}
 use Rattle.msg_txn.specs.declared.add_offsets.AddOffsetsToTxnReply.{AddOffsetsToTxnReply}
 use Rattle.msg_admin.specs.declared.reply.Reply.TheVariants as replies
-use Rattle.transactions.specs.declared.turn.Turn.{Turn}
+use Rattle.transactions.specs.Turn.{Turn}
 use Rattle.transactions.specs.Coordinator.{CoordinatorValue, turned, turn_code}
 use Rattle.transactions.specs.Adding.{add_group}
 use Rattle.broker_world.specs.World.{World}

@@ -20,7 +20,7 @@ use Rattle.walk.specs.Rule.{PartRule}
 use Rattle.walk.specs.Walk.{plain_topics, answers, refusals, asked_in}
 use Rattle.walk.specs.Woven.{has_any}
 use Rattle.transactions.specs.declared.target.TopicPartition.{TopicPartition}
-use Rattle.transactions.specs.declared.turn.Turn.{Turn}
+use Rattle.transactions.specs.Turn.{Turn}
 use Rattle.transactions.specs.Coordinator.{CoordinatorValue, turned, turn_code}
 use Rattle.transactions.specs.Adding.{add_partitions}
 use Rattle.broker_world.specs.World.{World, TopicValue, LogValue, rules_of}

@@ -15,7 +15,7 @@ use Rattle.transactions.specs.declared.ending.EndForm.{EndForm}
 use Rattle.transactions.specs.declared.ending.EndForm.TheVariants.{Plain, Fencing, Raising}
 use Rattle.transactions.specs.declared.pair.Pair.{Pair}
 use Rattle.transactions.specs.declared.pair.PairAnswer.{PairAnswer}
-use Rattle.transactions.specs.declared.turn.Turn.{Turn}
+use Rattle.transactions.specs.Turn.{Turn}
 use Rattle.transactions.specs.Words.{no_pair}
 use Rattle.transactions.specs.Coordinator.{CoordinatorValue, turned, turn_answer}
 use Rattle.transactions.specs.EndTxn.{end}

@@ -15,8 +15,7 @@ use Rattle.record_batch.specs.declared.outcome.Outcome.TheVariants.{Commit, Abor
 use Rattle.transactions.specs.declared.marker.OwedMarker.{OwedMarker}
 use Rattle.transactions.specs.declared.ending.EndForm.{EndForm}
 use Rattle.transactions.specs.declared.ending.EndForm.TheVariants as forms
-use Rattle.transactions.specs.declared.turn.Turn.{Turn}
-use Rattle.transactions.specs.declared.turn.Turn.TheVariants.{Stays}
+use Rattle.transactions.specs.Turn.{Turn, Stays}
 use Rattle.transactions.specs.Words.{is_empty, raised, is_exhausted, is_ongoing, prepared, targets}
 use Rattle.transactions.specs.Coordinator.{CoordinatorValue, recorded, fresh}
 use Rattle.transactions.specs.Preparing.{markers, fenced, fencing, pair_refusal}

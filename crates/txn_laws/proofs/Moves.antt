@@ -13,8 +13,7 @@ use Rattle.transactions.specs.declared.transaction.Transaction.{Transaction}
 use Rattle.transactions.specs.declared.transaction.Phase.TheVariants.{Ongoing}
 use Rattle.record_batch.specs.declared.outcome.Outcome.{Outcome}
 use Rattle.transactions.specs.declared.marker.OwedMarker.{OwedMarker}
-use Rattle.transactions.specs.declared.turn.Turn.{Turn}
-use Rattle.transactions.specs.declared.turn.Turn.TheVariants.{Stays, Puts}
+use Rattle.transactions.specs.Turn.{Turn, Stays, Puts}
 use Rattle.transactions.specs.Words.{is_ongoing, has_target, complete, prepared}
 use Rattle.transactions.specs.Coordinator.{CoordinatorValue, recorded, put, owner, given_free, turned}
 use Rattle.transactions.specs.InitProducerId.{init}

@@ -7,8 +7,7 @@ use Rattle.transactions.specs.declared.transaction.Transaction.{Transaction}
 use Rattle.transactions.specs.declared.transaction.Phase.TheVariants.{Ongoing}
 use Rattle.record_batch.specs.declared.outcome.Outcome.{Outcome}
 use Rattle.transactions.specs.declared.marker.OwedMarker.{OwedMarker}
-use Rattle.transactions.specs.declared.turn.Turn.{Turn}
-use Rattle.transactions.specs.declared.turn.Turn.TheVariants.{Stays, Puts}
+use Rattle.transactions.specs.Turn.{Turn, Stays, Puts}
 use Rattle.transactions.specs.Words.{prepared, targets}
 use Rattle.transactions.specs.Coordinator.{CoordinatorValue, has_id, recorded, put, owner, turned}
 use Rattle.transactions.specs.Preparing.{marker_for, markers}

@@ -16,8 +16,7 @@ use Rattle.transactions.specs.declared.pair.Pair.{Pair}
 use Rattle.transactions.specs.declared.marker.OwedMarker.{OwedMarker}
 use Rattle.transactions.specs.declared.target.TopicPartition.{TopicPartition}
 use Rattle.transactions.specs.declared.target.Target.TheVariants.{Partition, Group}
-use Rattle.transactions.specs.declared.turn.Turn.{Turn}
-use Rattle.transactions.specs.declared.turn.Turn.TheVariants.{Stays, Puts}
+use Rattle.transactions.specs.Turn.{Turn, Stays, Puts}
 use Rattle.transactions.specs.declared.transaction.Transaction.{Transaction}
 use Rattle.transactions.specs.declared.transaction.Phase.{Phase}
 use Rattle.transactions.specs.declared.transaction.Phase.TheVariants.{Empty, Ongoing, PrepareCommit, PrepareAbort, CompleteCommit, CompleteAbort}

@@ -5,7 +5,7 @@ use Rattle.std.specs.List.{flat_map}
 use Rattle.wire_types.specs.declared.error_code.ErrorCode.TheVariants as codes
 use Rattle.transactions.specs.declared.transaction.Transaction.{Transaction}
 use Rattle.transactions.specs.declared.marker.OwedMarker.{OwedMarker}
-use Rattle.transactions.specs.declared.turn.Turn.TheVariants.{Stays}
+use Rattle.transactions.specs.Turn.{Stays}
 use Rattle.transactions.specs.Coordinator.{has_id, recorded, put, turned}
 use Rattle.record_batch.specs.declared.outcome.Outcome.TheVariants.{Abort}
 use Rattle.transactions.specs.Words.{raised, targets}

@@ -11,8 +11,7 @@ use Rattle.transactions.specs.declared.transaction.Transaction.{Transaction}
 use Rattle.record_batch.specs.declared.outcome.Outcome.{Outcome}
 use Rattle.transactions.specs.declared.marker.OwedMarker.{OwedMarker}
 use Rattle.transactions.specs.declared.ending.EndForm.{EndForm}
-use Rattle.transactions.specs.declared.turn.Turn.{Turn}
-use Rattle.transactions.specs.declared.turn.Turn.TheVariants.{Stays}
+use Rattle.transactions.specs.Turn.{Turn, Stays}
 use Rattle.transactions.specs.Words.{is_same_partition}
 use Rattle.transactions.specs.Coordinator.{CoordinatorValue, no_transactions, recorded, owner, given_free, turned}
 use Rattle.transactions.specs.Preparing.{fencing}

@@ -14,7 +14,7 @@ use Rattle.transactions.specs.Coordinator.{CoordinatorValue, recorded, turn_code
 use Rattle.transactions.specs.EndTxn.{end}
 use Rattle.transactions.specs.InitProducerId.{init}
 use Rattle.transactions.specs.declared.target.TopicPartition.{TopicPartition}
-use Rattle.transactions.specs.declared.turn.Turn.{Turn}
+use Rattle.transactions.specs.Turn.{Turn}
 use Rattle.transactions.specs.Adding.{add_partitions, add_group}
 use Rattle.txn_laws.specs.Sound.{IsAmong}
 

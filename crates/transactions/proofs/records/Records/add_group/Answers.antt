@@ -3,9 +3,9 @@ use Rattle.std.specs.Prelude.{IfOk}
 use Rattle.std.specs.Map.{lookup, set_value, values_of}
 use Rattle.std.specs.Option.{option_copied_mut}
 use Rattle.transactions.specs.declared.transaction.Transaction.{Transaction}
-use Rattle.transactions.specs.declared.turn.Turn.{Turn}
+use Rattle.transactions.specs.Turn.{Turn}
 use Rattle.transactions.specs.Coordinator.{turn_code, records_after}
-use Rattle.transactions.specs.Adding.{with_group, open_found, grown, after}
+use Rattle.transactions.specs.Adding.{with_group, open_found, grown}
 use Rattle.transactions.specs.Kept.{RecordsValue, AreIds}
 use Rattle.keyed_tables.proofs.Tables.{is_under}
 use Rattle.transactions.proofs.Table.{is_recorded, called_ids, called_ok, called_err}
