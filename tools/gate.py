@@ -36,6 +36,7 @@ CORE = "request_handlers"
 SERVER = "broker_server"
 BESIDE = "script_lines", "session_logins"
 SEEN_EVERY = 2  # seconds
+NICE = 19  # of what runs beside the proofs: it takes only what they leave
 TICKS = os.sysconf("SC_CLK_TCK")
 PAGE = os.sysconf("SC_PAGE_SIZE")
 TOTALS = re.compile(r"^(\d+) passed, (\d+) failed$", re.M)
@@ -153,7 +154,7 @@ def run_checks(cases):
         with LOG.open("wb") as log:
             for names in stages():
                 if not names and cases:
-                    beside = harness.Worker(harness.ON_SOURCES, cases, prove.MOST_NICE)
+                    beside = harness.Worker(harness.ON_SOURCES, cases, NICE)
                 last = log.tell()
                 status = run_rt(names, log, sampler)
         write_times(sampler, time.monotonic() - started)

@@ -1,13 +1,9 @@
 #!/usr/bin/env python3
-"""Proves and builds the program and the crates that it stands on: `make prove`.
+"""Proves and builds the program: `make prove`. With names, as in `tools/prove.py walk`, it proves those crates and what they stand on.
 
-Each library is proved from nothing, unless the last proof of the same sources still holds, as many side by side as
-there are processors and memory for: `rt ci` proves them the same way, and the tests and the other crates as well. A
-line on standard error tells how far it is. Each crate's log is crates/NAME/out/prove.log. With names, as in
-`tools/prove.py walk`, it is those crates and what they stand on.
-
-What the most work waits for comes first, and work is measured: tools/prove_seconds.txt has the processor seconds of each
-crate. What a run took is kept in crates/NAME/out/prove.seconds, and `tools/prove_seconds.py` prints a new table of it.
+It calls `rt ci` over a copy of these crates that has no wrong bodies for it to try. `rt ci` proves each crate from nothing, unless a
+run of it on this machine has passed the same files over the same libraries; it proves as many side by side as there are processors and
+memory for, and keeps what it passed, for the gate too. Each crate's log is crates/NAME/out/prove.log.
 """
 
 import argparse
@@ -18,317 +14,97 @@ import shutil
 import signal
 import subprocess
 import sys
+import tempfile
 import time
 from pathlib import Path
 
-import toolchain
-from program import NAME, PROGRAM, ROOT, crates_of
+from program import NAME, PROGRAM, ROOT, crates_of, what_lacks
 
-FUNCTIONS = re.compile(r"^logic=proved functions=(\d+)", re.M)
-UNUSABLE = re.compile(r"^rattle: error\[unusable-built-library\]: the rlib of `(\w+)`", re.M)
-SHARE_OF_MEMORY = 0.85
-SHARE_OF_NEED = 0.6  # of what rt expects, which is twice what was seen
-MOST_JOBS = 4  # of what the most work waits for
-SECONDS = ROOT / "tools/prove_seconds.txt"
-SECONDS_OF_CRATE, SECONDS_OF_LINE = 50, 0.25  # of one that the table doesn't have
-FIRST = 60  # seconds: with so few less waiting for it, it still counts as that
-PRESSING = 300  # with so few less it takes a processor that is idle
-SECONDS_OF_NICE, MOST_NICE = 30, 19
-NEED_OF_JOB = 0.6  # of another job in the same crate
-TOLD_EVERY = 10  # seconds
+BEGINS = re.compile(r"^== (\w+)$")
+ENDS = re.compile(r"^rt: (\w+) (proved|NOT PROVED|is kept)\b")
+TOLD = 20  # lines of the log of a crate that isn't proved
+LEFT_OUT = shutil.ignore_patterns("out", "must-fail")
 
 
-class Stale(Exception):
-    """What is kept of these crates no longer fits what is kept of others."""
+class NotProved(Exception):
+    """What isn't proved or built, and where to read why."""
 
 
-class Progress:
-    """The line that tells how far a run over many crates is."""
-
-    def __init__(self, crates, things):
-        self.crates, self.done, self.things, self.seen = crates, 0, things, 0
-        self.started, self.told = time.monotonic(), 0.0
-
-    def minutes(self):
-        """The time since it was made."""
-        return (time.monotonic() - self.started) / 60
-
-    def add(self, seen):
-        """Counts a crate that is done, with so many things."""
-        self.done += 1
-        self.seen += seen
-
-    def tell(self, running, now=False):
-        """Writes the line over the one before on a terminal, and elsewhere a new one now and then."""
-        is_terminal = sys.stderr.isatty()
-        if not (now or is_terminal or time.monotonic() - self.told >= TOLD_EVERY):
-            return
-        self.told = time.monotonic()
-        line = f"kbroker: {self.done} of {self.crates} crates, {self.seen} {self.things}, "
-        line += f"{self.minutes():.1f} minutes{': ' if running else ''}{', '.join(running)}"
-        if is_terminal:
-            line = "\r\033[K" + line[: shutil.get_terminal_size().columns - 1]
-        print(line, end="" if is_terminal else "\n", file=sys.stderr, flush=True)
-
-    def end_line(self):
-        """Ends the line on a terminal, so that what comes next has one of its own."""
-        if sys.stderr.isatty():
-            print(file=sys.stderr)
+def copy_crates(names, room):
+    """Copies these crates and those that they stand on, as `rt ci` takes them, into a folder, and gives the names of all."""
+    crates = crates_of(names)
+    lines = (ROOT / "crates.txt").read_text().splitlines(keepends=True)
+    (room / "crates.txt").write_text("".join(it for it in lines if {*it.partition(":")[0].split()[:1]} & {*crates}))
+    shutil.copy(ROOT / "HANDLES", room)
+    for name in crates:
+        shutil.copytree(ROOT / "crates" / name, room / "crates" / name, ignore=LEFT_OUT, dirs_exist_ok=True)
+    (room / ".git").mkdir(exist_ok=True)  # it is a repository of its own, wherever it lies
+    return crates
 
 
-class Step:
-    """A library that is being proved, or the program that is being built."""
-
-    def __init__(self, rt, crate, need, jobs, nice, lock):
-        self.rt, self.crate, self.jobs, self.lock = rt, crate, jobs, lock
-        self.log = log_of(crate)
-        self.need = need * (1 + NEED_OF_JOB * (jobs - 1))
-        self.stamp = stamp_now(rt, crate)
-        self.log.parent.mkdir(exist_ok=True)
-        with self.log.open("w") as log:
-            words = self.of_program(jobs, log) if crate.is_program else self.of_library(jobs, log)
-            self.process = subprocess.Popen(
-                [*rt.rtlib.guarded(), *words],
-                cwd=crate.folder,
-                stdin=subprocess.DEVNULL,
-                stdout=log,
-                stderr=subprocess.STDOUT,
-                preexec_fn=lambda: os.nice(nice),
-            )
-
-    def of_program(self, jobs, log):
-        """The command that proves the program and compiles what was proved."""
-        PROGRAM.unlink(missing_ok=True)
-        self.crate.out = log
-        words = self.crate.words(["--jobs", str(jobs)], keeps=False)
-        words += ["--toolchain", f"{self.rt.KIT}/toolchain", "--backend", "llvm"]
-        return [self.rt.rtlib.RATTLE, "build", *words, "-o", f"{PROGRAM}.o"]
-
-    def link_program(self):
-        """Links what was compiled, and says whether all is well: what it may call of the system is held to HANDLES."""
-        program = str(PROGRAM.relative_to(self.crate.folder))
-        with self.log.open("a") as log:
-            self.crate.out, self.crate.allowed = log, self.rt.handles_of(str(ROOT))
-            return not self.crate.link(f"{program}.o", program)
-
-    def of_library(self, jobs, log):
-        """The command that proves a library and writes its statements, and what was there is removed."""
-        crate = self.crate
-        shutil.rmtree(os.path.dirname(crate.rlib), ignore_errors=True)
-        os.makedirs(os.path.dirname(crate.rlib))
-        crate.out = log
-        words = crate.words(["--jobs", str(jobs)], keeps=False)
-        return [self.rt.rtlib.RATTLE, "build", *words, "--statements", "-o", crate.rlib]
-
-    def has_ended(self):
-        """Whether its command has ended. Then its processor seconds are known."""
-        process, status, used = os.wait4(self.process.pid, os.WNOHANG)
-        if not process:
-            return False
-        self.process.returncode = os.waitstatus_to_exitcode(status)
-        self.seconds = used.ru_utime + used.ru_stime
-        return True
-
-    def end(self):
-        """Keeps what a proof has given, or says why there is none."""
-        text = self.log.read_text(errors="replace")
-        is_well = self.process.returncode == 0
-        if is_well and self.crate.is_program:
-            is_well = self.link_program()
-        if not is_well:
-            stale = {*self.rt.rtlib.STALE.findall(text), *UNUSABLE.findall(text)}
-            if stale:
-                raise Stale(stale)
-            sys.stderr.writelines(text.splitlines(keepends=True)[-20:])
-            killed = ", most likely for memory" * (self.process.returncode == -signal.SIGKILL)
-            sys.exit(f"kbroker: {self.crate.name} is not proved{killed}: see {self.log.relative_to(ROOT)}")
-        if self.stamp != stamp_now(self.rt, self.crate):
-            sys.exit(f"kbroker: a source of {self.crate.name} or below it changed meanwhile")
-        seconds_of(self.crate.name).write_text(f"{self.seconds:.0f}\n")
-        stamp_of(self.crate).write_text(self.stamp)
-        os.close(self.lock)
-
-    def stop(self):
-        """Ends it before it is done. What it wrote has no stamp, and so is made anew."""
-        self.process.kill()
-        self.process.wait()
+def log_of(name):
+    """The log of a crate's last proof."""
+    return ROOT / "crates" / name / "out/prove.log"
 
 
-def seconds_of(name):
-    """The file with the processor seconds that the last proof of a crate took."""
-    return ROOT / "crates" / name / "out/prove.seconds"
+def write_log(name, lines):
+    """Writes the log of a crate's proof."""
+    log_of(name).parent.mkdir(exist_ok=True)
+    log_of(name).write_text("".join(lines))
 
 
-def lock_of(crate):
-    """What keeps every other rt out of the crate's folder until it is closed, or None where one works there."""
-    lock = os.open(crate.folder, os.O_RDONLY)
+def follow(lines, crates):
+    """Writes each crate's log, and shows all else that `rt ci` says. Gives the crates that have a log and are not proved."""
+    started, ended, refused, name, log = time.monotonic(), 0, [], None, []
+    for line in lines:
+        begins, ends = BEGINS.match(line), ENDS.match(line)
+        if begins:
+            name, log = begins[1], []
+        elif ends:
+            ended += 1
+            minutes = (time.monotonic() - started) / 60
+            print(f"kbroker: {ended} of {len(crates)} crates, {minutes:.1f} minutes: {ends[1]} {ends[2]}", file=sys.stderr)
+            if name:
+                write_log(name, log)
+            if name and ends[2] == "NOT PROVED":
+                sys.stderr.writelines(log[-TOLD:])
+                refused.append(name)
+            name = None
+        elif name:
+            log.append(line)
+        else:
+            print(line, end="", file=sys.stderr)
+    return refused
+
+
+def prove(names, room, *flags):
+    """Proves these crates and those that they stand on in an empty folder, where what they made is left in crates/NAME/out/."""
+    if shutil.which("rt") is None:
+        raise NotProved("the toolchain's command rt is not on the PATH")
+    crates = copy_crates(names, room)
+    said = {"stdin": subprocess.DEVNULL, "stdout": subprocess.PIPE, "stderr": subprocess.STDOUT}
+    process = subprocess.Popen(["rt", "ci", *flags], cwd=room, text=True, errors="replace", **said)
     try:
-        fcntl.flock(lock, fcntl.LOCK_EX | fcntl.LOCK_NB)
-    except BlockingIOError:
-        os.close(lock)
-        return None
-    return lock
-
-
-def log_of(crate):
-    return Path(crate.folder) / "out/prove.log"
-
-
-def functions_in(log):
-    """How many functions a log says are proved, or 0 where there is none."""
-    text = log.read_text(errors="replace") if log.is_file() else ""
-    return sum(map(int, FUNCTIONS.findall(text)[-1:]))
-
-
-def stamp_now(rt, crate):
-    """The sum of the sources that the crate's library, or the program, is made from, as they stand now."""
-    with toolchain.stamps(rt):
-        return crate.stamp()
-
-
-def stamp_of(crate):
-    """The file with the sum of the sources that the crate's library was made from, or the program."""
-    return Path(crate.folder) / ("out/stamp" if crate.is_program else "out/rlib/stamp")
-
-
-def is_made(crate):
-    """Whether what is kept of the crate was made from its sources as they stand."""
-    if not crate.is_program:
-        return crate.makes_rlib() and crate.is_built()
-    stamp = stamp_of(crate)
-    return PROGRAM.is_file() and stamp.is_file() and stamp.read_text() == crate.stamp()
-
-
-def lacking(crates):
-    """Those of these crates, lowest first, whose library, or program, is to be made. Statements fit only the libraries that they
-    were proved over, so what stands on a library that is newer is made anew too."""
-    found = []
-    for crate in crates:
-        is_kept = is_made(crate) and not {*found} & {*crate.below()}
-        made = stamp_of(crate).stat().st_mtime_ns if is_kept else 0
-        if not is_kept or any(stamp_of(it).stat().st_mtime_ns > made for it in crate.below()):
-            found.append(crate)
-    return found
-
-
-def seconds_table():
-    """The processor seconds of each crate's proof, as the table of the repository has them."""
-    rows = [it.split() for it in SECONDS.read_text().splitlines() if not it.startswith("#")]
-    return {name: float(seconds) for name, seconds in rows}
-
-
-def work_of(crates):
-    """The processor seconds that each of these crates' proofs takes, by that table, or by its lines where it has no row."""
-    known = seconds_table()
-    return {it: known.get(it.name, SECONDS_OF_CRATE + SECONDS_OF_LINE * it.count(rb"\n")) for it in crates}
-
-
-def work_behind(crates, below):
-    """The work of the longest chain of crates that waits for each one, its own among it, in processor seconds."""
-    own, behind = work_of(crates), {}
-    for crate in reversed(crates):
-        behind[crate] = own[crate] + max((behind[it] for it in behind if crate in below[it]), default=0)
-    return behind
-
-
-def start_next(rt, left, running, memory, needs, below, behind):
-    """Starts what is ready and finds a processor and memory, what the most work waits for first. What runs with less work
-    behind it takes none from a crate: it is nicer, and runs on what is left. So there is one more than processors where
-    there are several, as few crates use theirs all the time. What the most work waits for, or nearly so, has more jobs where
-    else only what can wait would run: two jobs take a quarter more of the processors than one."""
-    unmade = {*left, *(it.crate for it in running)}
-    ready = [it for it in left if not unmade & below[it]]
-    slacks = slacks_of([*ready, *(it.crate for it in running)], behind)
-    lanes, pressing = processors(rt), sum(it < PRESSING for it in slacks.values())
-    for crate in ready:
-        slack = slacks[crate]
-        used = sum(it.jobs for it in running if behind[it.crate] >= behind[crate])
-        idle = lanes + (lanes > 1) - used
-        room, need = memory - sum(it.need for it in running), needs[crate]
-        if idle < 1 or running and need > room:
-            continue
-        jobs = lanes + 1 - pressing if slack < FIRST else 1
-        jobs = max(1, min(jobs, MOST_JOBS, lanes, idle, 1 + int((room / need - 1) / NEED_OF_JOB)))
-        lock = lock_of(crate)
-        if lock is not None:
-            left.remove(crate)
-            running.append(Step(rt, crate, need, jobs, min(int(slack // SECONDS_OF_NICE), MOST_NICE), lock))
-
-
-def slacks_of(crates, behind):
-    """How much less work waits for each of these crates than for that for which the most does."""
-    most = max((behind[it] for it in crates), default=0)
-    return {it: most - behind[it] for it in crates}
-
-
-def processors(rt):
-    """How many processors to use: as for rt, the environment may say so."""
-    number = os.environ.get("RT_JOBS", "")
-    return int(number) if number.isdigit() and int(number) else rt.processors()
-
-
-def prove_side_by_side(rt, left, progress):
-    """Proves these crates, each when those below it are, and those with the most work behind them first."""
-    memory, running = SHARE_OF_MEMORY * rt.free(), []
-    needs = {it: SHARE_OF_NEED * rt.need(it) for it in left}
-    below = {it: {*it.below()} for it in left}  # which takes a while to find
-    behind = work_behind(left, below)
-    left = sorted(left, key=lambda it: -behind[it])
-    try:
-        while left or running:
-            start_next(rt, left, running, memory, needs, below, behind)
-            progress.tell([it.crate.name for it in running] or ["waiting for another rt to end"])
-            time.sleep(0.5)
-            for step in [it for it in running if it.has_ended()]:
-                running.remove(step)
-                step.end()
-                progress.add(functions_in(step.log))
+        refused = follow((it.replace(str(room), str(ROOT)) for it in process.stdout), crates)
     finally:
-        for step in running:
-            step.stop()
-        progress.end_line()
+        process.terminate()  # with all that it has started, where it hasn't ended
+        status = process.wait()
+    if refused:
+        logs = ", ".join(str(log_of(it).relative_to(ROOT)) for it in refused)
+        raise NotProved(f"{', '.join(refused)} {'is' if len(refused) == 1 else 'are'} not proved: see {logs}")
+    if status:
+        raise NotProved(f"rt ci ended with status {status}: see its last lines above")
 
 
-def load_crates(rt, names):
-    """The toolchain's view of these crates and what they stand on, lowest first."""
-    known = {}
-    for name in crates_of(names):
-        folder = str(ROOT / "crates" / name)
-        known[folder] = (rt.Crate if name == NAME else rt.rtlib.Crate)(folder, str(ROOT), known)
-    return [*known.values()]
-
-
-def prove(rt, names):
-    """Proves and builds these crates and what they stand on, and returns the progress at the end."""
-    rt.rtlib.guarded()  # the guard starts here, with the first process that it is to end
-    crates = load_crates(rt, names)
-    check_layout(rt, crates)
-    removed = set()
-    while True:
-        with toolchain.stamps(rt):
-            progress, left = Progress(len(crates), "functions"), lacking(crates)
-        for crate in crates:
-            if crate not in left:
-                progress.add(functions_in(log_of(crate)))
-        try:
-            prove_side_by_side(rt, left, progress)
-            return progress
-        except Stale as error:
-            stale = error.args[0] - removed
-            if not stale:
-                sys.exit(f"kbroker: {error}: remove the folders out/ of these crates")
-            removed |= stale
-            for name in stale:
-                print(f"kbroker: what is kept of {name} is made anew", file=sys.stderr)
-                shutil.rmtree(ROOT / "crates" / name / "out", ignore_errors=True)
-
-
-def check_layout(rt, crates):
-    """Ends where a crate isn't in the layout: `rt ci`, and so the gate, proves none that isn't."""
-    files = [it for crate in crates for it in rt.rtlib.files_of(crate.folder) if it.endswith((".rt", ".antt"))]
-    ran = subprocess.run([rt.rtlib.RATTLE, "fmt", "--check", *files], stdout=subprocess.DEVNULL, stderr=subprocess.PIPE)
-    if ran.returncode:
-        sys.exit(f"{ran.stderr.decode()}kbroker: run rt fmt in these crates' folders")
+def take_program(room, began):
+    """Puts the program that was proved in its place. It is as old as the reading of its sources."""
+    made = PROGRAM.with_suffix(".new")
+    made.parent.mkdir(exist_ok=True)
+    shutil.copy(room / PROGRAM.relative_to(ROOT), made)
+    os.utime(made, ns=(began, began))
+    made.replace(PROGRAM)
+    if what_lacks():
+        raise NotProved("a source changed meanwhile: run this again")
 
 
 def hold_alone():
@@ -350,14 +126,23 @@ def end_on_signals():
 def main():
     parser = argparse.ArgumentParser(description="Proves and builds the program, or other crates, and what they stand on.")
     parser.add_argument("crates", nargs="*", metavar="CRATE", help="in place of the program")
-    names = parser.parse_args().crates or [NAME]
+    parser.add_argument("--anew", action="store_true", help="from nothing, whatever runs on this machine have passed")
+    given = parser.parse_args()
+    names, flags = given.crates or [NAME], ["--anew"] * given.anew
+    if names == [NAME] and not flags and not what_lacks():
+        print("kbroker: the program is newer than its sources: nothing is proved (--anew proves it all the same)", file=sys.stderr)
+        return
     end_on_signals()
     hold_alone()
-    progress = prove(toolchain.load(), names)
-    progress.tell([], now=True)
-    progress.end_line()
+    with tempfile.TemporaryDirectory(prefix="kbroker-prove-") as room:
+        began = time.time_ns()
+        try:
+            prove(names, Path(room), *flags)
+            if NAME in names:
+                take_program(Path(room), began)
+        except NotProved as error:
+            sys.exit(f"kbroker: {error}")
     if NAME in names:
-        PROGRAM.touch()  # newer than each source, as its stamp says
         print(f"kbroker: proved and built: {PROGRAM.relative_to(ROOT)}", file=sys.stderr)
 
 

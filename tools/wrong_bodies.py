@@ -6,12 +6,13 @@
 are tried as `rt must-fail` tries them, over a copy of the repository, where a crate's shelf stands in the place of
 must-fail/; but those of different functions in one check, where that shows each of them refused (tools/turned.py), and
 with `--alone` each in a check of its own. What is printed is each edit that the prover didn't refuse, or refused for no
-more than a name in a proof file.
+more than a name in a proof file. What the crates stand on is proved first, as by `make prove`.
 """
 
 import argparse
 import json
 import os
+import re
 import shutil
 import subprocess
 import sys
@@ -19,14 +20,13 @@ import tempfile
 import time
 from pathlib import Path
 
-import prove
-import toolchain
-from program import PARTS, ROOT, crates_list, crates_of
+from program import ROOT, crates_list, crates_of
+from prove import NotProved, copy_crates, end_on_signals, hold_alone, prove
 
 WITHOUT_NAME = "only because a proof file names what the edit took away"
 SHELVES = ("wrong-bodies", "must-fail")
 TURNED = ROOT / "tools/turned.py"
-SECONDS_OF_EDIT = 12  # in which those of different functions are tried in one check
+MEMORY_OF_CRATE = 4e9  # bytes; four crates at a time were seen to take 10.7 GB (docs/BUILD.md)
 
 
 def shelved(name, shelves):
@@ -40,45 +40,36 @@ def shelved(name, shelves):
     return found
 
 
-def link_or_copy(file, to):
-    """Copies a file of a library, which is only read, and replaced where it is made anew."""
-    try:
-        os.link(file, to)
-    except OSError:
-        shutil.copy2(file, to)
-
-
-def copy_repository(room, edits):
-    """Copies what `rt must-fail` reads of these crates and those below, with their libraries and these edits."""
-    names = crates_of(edits)
-    lines = (ROOT / "crates.txt").read_text().splitlines(keepends=True)
-    kept = [it for it in lines if {*it.partition(":")[0].split()[:1]} & {*names}]
-    (room / "crates").mkdir(parents=True)
-    (room / "crates.txt").write_text("".join(kept))
-    for name in names:
-        crate, copy = ROOT / "crates" / name, room / "crates" / name
-        for part in PARTS:
-            if (crate / part).is_dir():
-                shutil.copytree(crate / part, copy / part)
-        if (crate / "out/rlib/stamp").is_file():
-            library = copy / "out/rlib"
-            shutil.copytree(crate / "out/rlib", library, copy_function=link_or_copy)
-        shelf = copy / "must-fail"
+def lay_out(copy, edits):
+    """Makes a copy of these crates and of those below, with the libraries of what they stand on and with these edits."""
+    copy.mkdir()
+    below = {it for name in edits for it in crates_of([name])[:-1]}
+    if below:
+        prove(sorted(below), copy)
+    copy_crates(edits, copy)
+    for name, found in edits.items():
+        shelf = copy / "crates" / name / "must-fail"
         shelf.mkdir()
-        for edit in edits.get(name, {}).values():
+        for edit in found.values():
             shutil.copy(edit, shelf)
+
+
+def at_once():
+    """How many crates to try at a time, as processors and memory allow."""
+    free = 1024 * int(re.search(r"^MemAvailable:\s+(\d+)", Path("/proc/meminfo").read_text(), re.M)[1])
+    return max(1, min(len(os.sched_getaffinity(0)), int(free / MEMORY_OF_CRATE)))
 
 
 class Trial:
     """A crate whose edits are being tried."""
 
-    def __init__(self, crate, room, edits, options):
-        self.crate, self.name, self.edits = crate, crate.name, edits
-        self.log = room / f"{crate.name}.log"
+    def __init__(self, name, room, edits, options):
+        self.name, self.edits = name, edits
+        self.log = room / f"{name}.log"
         with self.log.open("w") as log:
             # what a check leaves in its temporary folders when it is ended goes with the room
             self.process = subprocess.Popen(
-                [sys.executable, TURNED, room / "copy", crate.name, *options],
+                [sys.executable, TURNED, room / "copy", name, *options],
                 env={**os.environ, "TMPDIR": str(room / "tmp")},
                 stdin=subprocess.DEVNULL,
                 stdout=log,
@@ -108,34 +99,26 @@ class Trial:
         return failed
 
 
-def try_side_by_side(rt, crates, edits, room, options):
-    """Tries each crate's edits, as many crates at a time as processors and memory allow, and returns what failed."""
-    work = {it: seconds + SECONDS_OF_EDIT * len(edits[it.name]) for it, seconds in prove.work_of(crates).items()}
-    left, running, failed = sorted(crates, key=lambda it: -work[it]), [], 0
-    needs = {it: prove.SHARE_OF_NEED * rt.need(it) for it in crates}
-    memory, lanes = prove.SHARE_OF_MEMORY * rt.free(), prove.processors(rt)
-    progress = prove.Progress(len(crates), "edits")
+def try_side_by_side(edits, room, options):
+    """Tries each crate's edits, some crates at a time and first those with most edits, and returns what failed."""
+    left, lanes, running = sorted(edits, key=lambda it: -len(edits[it])), at_once(), []
+    started, done, seen, failed = time.monotonic(), 0, 0, 0
     try:
         while left or running:
-            for crate in [*left]:
-                free = memory - sum(needs[it.crate] for it in running)
-                if not running or len(running) < lanes and needs[crate] <= free:
-                    left.remove(crate)
-                    running.append(Trial(crate, room, edits[crate.name], options))
-            progress.tell([it.name for it in running])
+            while left and len(running) < lanes:
+                name = left.pop(0)
+                running.append(Trial(name, room, edits[name], options))
             time.sleep(0.5)
             for trial in [it for it in running if it.process.poll() is not None]:
                 running.remove(trial)
                 failed += trial.judge()
-                progress.add(len(trial.edits))
+                done, seen = done + 1, seen + len(trial.edits)
+                print(f"wrong bodies: {done} of {len(edits)} crates, {seen} edits", file=sys.stderr)
     finally:
         for trial in running:
             trial.stop()
-        progress.end_line()
-    print(
-        f"wrong bodies: {progress.seen} edits of {len(crates)} crates were tried in"
-        f" {progress.minutes():.1f} minutes, and {failed} were not refused"
-    )
+    minutes = (time.monotonic() - started) / 60
+    print(f"wrong bodies: {seen} edits of {done} crates were tried in {minutes:.1f} minutes, and {failed} were not refused")
     return failed
 
 
@@ -158,19 +141,17 @@ def main():
     edits = {name: found for name, found in edits.items() if found}
     if not edits:
         sys.exit("wrong bodies: these crates have none")
-    prove.end_on_signals()
-    held = prove.hold_alone()
-    rt = toolchain.load()
-    crates = [it for it in prove.load_crates(rt, edits) if it.name in edits]
-    below = [it.name for crate in crates for it in crate.below()]
-    if below:
-        prove.prove(rt, below)
+    end_on_signals()
+    held = hold_alone()
     with tempfile.TemporaryDirectory(prefix="wrong-bodies-") as folder:
         room = Path(folder)
-        copy_repository(room / "copy", edits)
+        try:
+            lay_out(room / "copy", edits)
+        except NotProved as error:
+            sys.exit(f"wrong bodies: {error}")
         (room / "tmp").mkdir()
         os.close(held)
-        sys.exit(1 if try_side_by_side(rt, crates, edits, room, options) else 0)
+        sys.exit(1 if try_side_by_side(edits, room, options) else 0)
 
 
 if __name__ == "__main__":

@@ -2,34 +2,33 @@
 
 `rt ci` tries wrong bodies, which reach the prover. These are of another kind: uses that types alone rule out, as that of a
 state which a call has used up. The first line of an edit, `says: CODE`, is the code of the error that is due. Each is
-applied to a copy of its crate; the libraries below have to be proved, as `make test` and `make prove` leave them.
+applied to a copy of its crate, and `rt check` there refuses it before it proves anything.
 """
 
 import os
 import re
 import subprocess
-import sys
 import tempfile
 import unittest
 from pathlib import Path
 
 import edits
-import toolchain
 from program import ROOT, crates_list
-from wrong_bodies import copy_repository
+from prove import copy_crates
 
 SAID = re.compile(r"^\S+: error\[([\w-]+)\]", re.M)
+CHECK = "setpriv", "--pdeathsig", "KILL", "rt", "check"  # which ends when this process does, however that ends
 
 
-def started(rt, edit, folder):
+def started(edit, folder):
     """The check of a copy that has the edit."""
     name, room = edit.parent.parent.name, folder / edit.stem
-    copy_repository(room, {name: {}})
+    room.mkdir()
+    copy_crates([name], room)
     edits.apply(edit, "says", room / "crates" / name)
-    command = [*rt.rtlib.guarded(), sys.executable, rt.__file__, "check"]
     told = {"stdout": subprocess.PIPE, "stderr": subprocess.STDOUT, "stdin": subprocess.DEVNULL}
     environment = {**os.environ, "TMPDIR": str(folder)}
-    return subprocess.Popen(command, cwd=room / "crates" / name, text=True, env=environment, **told)
+    return subprocess.Popen(CHECK, cwd=room / "crates" / name, text=True, env=environment, **told)
 
 
 class MustNotCompile(unittest.TestCase):
@@ -37,10 +36,10 @@ class MustNotCompile(unittest.TestCase):
         """All are checked side by side."""
         found = [it for name in crates_list() for it in sorted((ROOT / "crates" / name / "must-not-compile").glob("*.edit"))]
         self.assertTrue(found, "there are no edits")
-        rt, folder = toolchain.load(), Path(self.enterContext(tempfile.TemporaryDirectory(prefix="must-not-compile-")))
+        folder = Path(self.enterContext(tempfile.TemporaryDirectory(prefix="must-not-compile-")))
         checks = []
         for edit in found:
-            checks.append((edit, started(rt, edit, folder)))
+            checks.append((edit, started(edit, folder)))
             self.addCleanup(checks[-1][1].kill)
         for edit, check in checks:
             with self.subTest(edit=str(edit.relative_to(ROOT))):
