@@ -14,7 +14,7 @@ import unittest
 
 from kbroker_testing.broker import ClockedKbroker
 from kbroker_testing.protocol import logged_in, request_frame
-from tests.server.told import NOBODY, OF_SESSION
+from tests.server.told import NOBODY, OF_SESSION, WAITED, WAITING
 from tests.support import OF_ROOT, connect
 
 TOOK_TOO_LONG = "{} took longer than 1 second"
@@ -22,6 +22,7 @@ SECOND = 1.0  # the time of a login, and of a frame
 EARLY, LATE = 0.05, 2.0  # seconds before and after its end in which a connection may be closed
 DRIP = 0.2  # seconds between two bytes
 BOUND = 5  # seconds that any wait may take
+MAYBE_TOLD = WAITING.format(1), WAITED.format(1), WAITED.format(2)
 
 
 def metadata(correlation=1):
@@ -181,4 +182,5 @@ class Deadlines(unittest.TestCase):
                 dripping.join()
             _, told = broker.settled()
         self.assertLess(took, SECOND + LATE, "so long the client waited")
-        self.assertEqual(told, [told_of(0, NOBODY, "a frame")])
+        # (whether the client has waited for a whole second when it is told of the peer is a matter of milliseconds)
+        self.assertEqual([it for it in told if it not in MAYBE_TOLD], [told_of(0, NOBODY, "a frame")])

@@ -13,7 +13,7 @@ from kbroker_testing.apis import APIS
 from kbroker_testing.broker import ClockedKbroker
 from kbroker_testing.codes import Code
 from kbroker_testing.protocol import Connection, batch, committed, logged_in, partition_of, request_frame
-from tests.server.told import CUT, FULL, NO_LOGIN, READ_FAILED, of_nobody, of_user
+from tests.server.told import CUT, FULL, NEARLY_FULL, NO_LOGIN, READ_FAILED, WAITED, WAITING, of_nobody, of_user
 from tests.support import COLLIDING, LONGEST_FRAME, OF_SUPER, PROGRAM, TooLate, acl, connect, of_b, topic, user, wait_until
 
 USERS = user("root", "toor") + user("ann", "pw")
@@ -45,6 +45,10 @@ MISUSED = (
     LISTEN + ("--frame-within", "1000001"),
     LISTEN + ("--per-host", "0"),
     LISTEN + ("--per-host", "1000001"),
+    LISTEN + ("--rate", "0"),
+    LISTEN + ("--rate", "1000000001"),
+    LISTEN + ("--rate-bytes", "0"),
+    LISTEN + ("--rate-bytes", "1000000000001"),
     LISTEN + ("--endless", "--connections", "1"),
     LISTEN + ("--audit", "refusals.txt"),
     LISTEN + ("--audit",),
@@ -380,13 +384,48 @@ class Operators(ServedCase):
     def test_a_full_trail_is_told(self):
         """Where the trail is full the operator is told once that the clock stops, and each session ends at its next request."""
         with ClockedKbroker(OF_SUPER + "trail_limit = 5\n" + USERS + TOPIC) as server:
-            wait_until(lambda: server.told() == [STOPS.format(FULL)], "it is not told that the trail is full")
+            nearly = NEARLY_FULL.format(5, 5)
+            wait_until(lambda: server.told() == [nearly, STOPS.format(FULL)], "it is not told that the trail is full")
             with logged_in(server.address) as broker:
                 broker.send("Metadata", topics=None)
                 self.assert_closed(broker)
             settled, told = server.settled()
         self.assertEqual((settled.sessions, settled.events), (1, 5))
-        self.assertEqual(told, [STOPS.format(FULL), of_user(0, "root", FULL)])
+        self.assertEqual(told, [nearly, STOPS.format(FULL), of_user(0, "root", FULL)])
+
+    def test_a_trail_that_fills_up(self):
+        """The operator is told once that nine tenths of the trail's room are taken, and not before."""
+        with ClockedKbroker(OF_SUPER + "trail_limit = 30\n" + USERS + TOPIC) as server:
+            wait_until(server.told, "it is not told that the trail is nearly full")
+            self.assertEqual(server.told()[0], NEARLY_FULL.format(27, 30))
+            wait_until(lambda: len(server.told()) > 1, "it is not told that the trail is full")
+            logged_in(server.address).close()
+            _, told = server.settled()
+        self.assertEqual(told, [NEARLY_FULL.format(27, 30), STOPS.format(FULL)])
+
+    def test_connections_that_wait(self):
+        """Where all workers are taken for a second the operator is told, once, and again when the one that waited is served."""
+        with ClockedKbroker(SETTINGS, workers=2, connections=3) as server:
+            with logged_in(server.address), logged_in(server.address) as last:
+                with connect(server.address) as waits:
+                    wait_until(server.told, "it is not told that a connection waits")
+                    time.sleep(1)
+                    self.assertEqual(server.told(), [WAITING.format(2)])
+                    last.close()
+                    wait_until(lambda: len(server.told()) > 1, "it is not told that it is served")
+                    waits.shutdown(socket.SHUT_WR)
+                    self.assertEqual(waits.recv(1), b"")
+            settled, told = server.settled()
+        self.assertEqual(settled.sessions, 3)
+        self.assertIn(told, [[WAITING.format(2), WAITED.format(seconds)] for seconds in (1, 2, 3)])
+
+    def test_no_connection_waits(self):
+        """Many that come and go are served at once, and nothing is told."""
+        with ClockedKbroker(SETTINGS, workers=2, connections=1000, more=("--for", "3")) as server:
+            for _ in range(300):
+                logged_in(server.address).close()
+            settled, told = server.settled()
+        self.assertEqual((settled.sessions, told), (300, []))
 
 
 class Ends(ServedCase):

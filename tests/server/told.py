@@ -4,6 +4,13 @@
 OF_SESSION = "kbroker: session {} of {} from 127.0.0.1: {}"
 NOBODY = "nobody"
 
+# That connections wait for one of so many workers, and how many seconds the one had waited that is served then.
+WAITING = "kbroker: connections wait for a worker, since all {} are taken; see --workers"
+WAITED = "kbroker: a connection from 127.0.0.1 has waited {} s for a worker, and is served now"
+NEARLY_FULL = (
+    "kbroker: the trail has {} of at most {} events; once it is full, each session is closed at its next request"
+)
+
 CUT = "the connection was closed inside a request"
 BAD_FRAME = "a frame is shorter than a request can be, or longer than the limit"
 MALFORMED = "a frame is no request that is served"

@@ -18,7 +18,7 @@ looked : (es : List (String Global × ℕ)) (host : List ℕ) → lookup (bytes_
 looked [] host = refl
 looked (e ∷ es) host = ap (λ (o : Option ℕ). cond (bytes_eq host (string_bytes e.0)) (Some e.1) o) (looked es host)
 
-abbrev Table : Type 0 → Type 0
+abbrev pub Table : Type 0 → Type 0
 Table S = HashMap (String Global) ℕ S
 
 -- what contracts see of a table
@@ -69,10 +69,10 @@ module _ {S : Type 0} where
       some_at true o h = some
       some_at false o h = h
 
-  here_after : (m n : Table S) (host : List ℕ) (w : Option ℕ) → Puts m n host w → connections_in n host ≡ unwrap_or w 0
+  pub here_after : (m n : Table S) (host : List ℕ) (w : Option ℕ) → Puts m n host w → connections_in n host ≡ unwrap_or w 0
   here_after m n host w puts = ap (λ (o : Option ℕ). unwrap_or o 0) (puts host ∙ ap (λ (b : Bool). cond b w (get_by_text m host)) ((bytes_eq-Decides host host).1 refl))
 
-  other_after : (m n : Table S) (host : List ℕ) (w : Option ℕ) → Puts m n host w → (other : List ℕ) → other ≢ host → connections_in n other ≡ connections_in m other
+  pub other_after : (m n : Table S) (host : List ℕ) (w : Option ℕ) → Puts m n host w → (other : List ℕ) → other ≢ host → connections_in n other ≡ connections_in m other
   other_after m n host w puts other apart =
       ap (λ (o : Option ℕ). unwrap_or o 0) (puts other ∙ ap (λ (b : Bool). cond b w (get_by_text m other)) (false_from_ne_true (bytes_eq host other) (λ same. apart (sym ((bytes_eq-Decides host other).0 same)))))
 

@@ -1,9 +1,11 @@
-//! Which connections are let in: how many each host has, with a most that none goes beyond. And who is told of those that aren't
-//! let in.
+//! Which connections are let in: how many each host has, with a most that none goes beyond; who is told of those that wait or
+//! aren't let in; and how fast each user may ask.
 #![tactic(auto)]
 
 mod doorman;
 mod hosts;
+mod pace;
 
 pub use doorman::Doorman;
 pub use hosts::Hosts;
+pub use pace::{Pace, Rate};

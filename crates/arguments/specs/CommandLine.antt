@@ -43,6 +43,10 @@ with_serve_deadlines a = with_two_rules a (option_rule (codes "login-within") fa
 abbrev pub with_serve_shares : App → App
 with_serve_shares a = with_two_rules a (flag_rule (codes "endless")) (option_rule (codes "per-host") false)
 
+-- those of how fast each user may ask
+abbrev pub with_serve_rates : App → App
+with_serve_rates a = with_two_rules a (option_rule (codes "rate") false) (option_rule (codes "rate-bytes") false)
+
 -- those of a broker that is steered
 abbrev pub with_serve_steering : App → App
 with_serve_steering a = with_two_rules a (option_rule (codes "settings") false) (flag_rule (codes "control"))
@@ -53,7 +57,7 @@ with_serve_clients a = with_rule a (flag_rule (codes "librdkafka"))
 
 -- the options of `serve`
 abbrev pub with_serve_options : App → App
-with_serve_options a = with_serve_clients (with_serve_steering (with_serve_shares (with_serve_deadlines (with_serve_switches (with_serve_numbers a)))))
+with_serve_options a = with_serve_clients (with_serve_steering (with_serve_rates (with_serve_shares (with_serve_deadlines (with_serve_switches (with_serve_numbers a))))))
 
 abbrev pub serve_shape : Shape
 serve_shape = (with_serve_options (new_app (codes "serve"))).top

@@ -11,7 +11,8 @@ IsIn most number = (1 ≤ number) × (number ≤ most)
 abbrev pub MaySteer : Bool → Bool → Type 0
 MaySteer has_file audit = (has_file ≡ true) × (audit ≡ false)
 
--- at most 64 connections at once, 1,000,000 in all and of one host, and times of at most 1,000,000 seconds
+-- at most 64 connections at once, 1,000,000 in all and of one host, times of at most 1,000,000 seconds, and of each user in a second
+-- at most 1,000,000,000 requests and 1,000,000,000,000 bytes
 pub record IsWithin (s : Serving) : Type 0 where
   pub workers : IsIn 64 s.workers
   pub connections : IsIn 1000000 s.connections
@@ -20,6 +21,8 @@ pub record IsWithin (s : Serving) : Type 0 where
   pub idle_seconds : IfSome s.idle_seconds (IsIn 1000000)
   pub login_seconds : IsIn 1000000 s.login_seconds
   pub frame_seconds : IsIn 1000000 s.frame_seconds
+  pub rate : IfSome s.rate (IsIn 1000000000)
+  pub rate_bytes : IfSome s.rate_bytes (IsIn 1000000000000)
   pub steered : s.control ≡ true → MaySteer (is_some s.settings) s.audit
 
 -- a text writes a number in decimal digits, a plus before them or not
@@ -62,6 +65,8 @@ pub record IsServedBy (value_of : List ℕ → Option (List ℕ)) (s : Serving) 
   pub idle_seconds : TellsIfGiven (value_of (codes "idle")) s.idle_seconds
   pub login_seconds : Tells (value_of (codes "login-within")) 10 s.login_seconds
   pub frame_seconds : Tells (value_of (codes "frame-within")) 30 s.frame_seconds
+  pub rate : TellsIfGiven (value_of (codes "rate")) s.rate
+  pub rate_bytes : TellsIfGiven (value_of (codes "rate-bytes")) s.rate_bytes
   pub audit : TellsAudit (value_of (codes "audit")) s.audit
   pub settings : option_map (λ file. file.now) s.settings ≡ value_of (codes "settings")
   pub control : s.control ≡ is_given (value_of (codes "control"))

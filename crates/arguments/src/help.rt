@@ -128,6 +128,12 @@ pub(crate) const ENDLESS: &str =
 pub(crate) const PER_HOST: &str =
     "How many connections of one host are served at once at most, 1 to 1,000,000; any number if it isn't given";
 
+pub(crate) const RATE: &str =
+    "How many requests each user may send in a second, 1 to 1,000,000,000; above that its sessions wait before they read on; any number if it isn't given";
+
+pub(crate) const RATE_BYTES: &str =
+    "How many bytes of requests each user may send in a second, 1 to 1,000,000,000,000; above that its sessions wait before they read on; any number if it isn't given";
+
 pub(crate) const FOR: &str =
     "For how many seconds connections are taken, 1 to 1,000,000; those that are open then are served to their end";
 

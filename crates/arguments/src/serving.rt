@@ -5,12 +5,12 @@ ghost use Rattle.clap.specs.Simple.{app_of};
 ghost use Rattle.clap.specs.Matches.{first_value, found_of};
 ghost use Rattle.clap.specs.Walk.{rule_of};
 ghost use Rattle.clap.specs.declared.builder.command.Command.TheViews.{out-Command as fields_of};
-ghost use Rattle.arguments.specs.CommandLine.{flag_rule, option_rule, with_rules, with_two_rules, with_serve_clients, with_serve_deadlines, with_serve_numbers, with_serve_options, with_serve_shares, with_serve_steering, with_serve_switches};
+ghost use Rattle.arguments.specs.CommandLine.{flag_rule, option_rule, with_rules, with_two_rules, with_serve_clients, with_serve_deadlines, with_serve_numbers, with_serve_options, with_serve_rates, with_serve_shares, with_serve_steering, with_serve_switches};
 ghost use Rattle.arguments.specs.Serving.{GoesUncounted, IsIn, IsServedBy, IsWithin, MaySteer, NoneServes, Tells, TellsAudit, TellsIfGiven, Writes, is_given};
 
 use crate::help::{
     AUDIT, CONNECTIONS, CONTROL, ENDLESS, FOR, FRAME_WITHIN, IDLE, LIBRDKAFKA, LISTEN,
-    LOGIN_WITHIN, PER_HOST, SETTINGS, WORKERS,
+    LOGIN_WITHIN, PER_HOST, RATE, RATE_BYTES, SETTINGS, WORKERS,
 };
 use clap::{Arg, ArgAction, ArgMatches, Command};
 use std::alloc::{AllocError, Global};
@@ -36,6 +36,10 @@ pub struct Serving<'a> {
     pub login_seconds: u64,
     /// Within how many seconds a frame comes, from its first byte to its last, 1 to 1,000,000.
     pub frame_seconds: u64,
+    /// How many requests each user may send in a second, 1 to 1,000,000,000, if there is a limit to it.
+    pub rate: Option<u64>,
+    /// How many bytes of them, 1 to 1,000,000,000,000, if there is a limit to it.
+    pub rate_bytes: Option<u64>,
     /// Whether each refusal is told on standard error.
     pub audit: bool,
     /// The file that holds the settings, if standard input doesn't.
@@ -51,6 +55,10 @@ const MOST_WORKERS: u64 = 64;
 const MOST_CONNECTIONS: u64 = 1_000_000;
 
 const MOST_PER_HOST: u64 = 1_000_000;
+
+const MOST_RATE: u64 = 1_000_000_000;
+
+const MOST_RATE_BYTES: u64 = 1_000_000_000_000;
 
 const MOST_SECONDS: u64 = 1_000_000;
 
@@ -72,6 +80,8 @@ pub(crate) enum Misused {
     Idle,
     LoginWithin,
     FrameWithin,
+    Rate,
+    RateBytes,
     Audit,
     Control,
 }
@@ -91,6 +101,8 @@ impl Misused {
             Misused::Idle => "--idle takes a number of seconds from 1 to 1000000",
             Misused::LoginWithin => { "--login-within takes a number of seconds from 1 to 1000000" }
             Misused::FrameWithin => { "--frame-within takes a number of seconds from 1 to 1000000" }
+            Misused::Rate => "--rate takes a number of requests from 1 to 1000000000",
+            Misused::RateBytes => "--rate-bytes takes a number of bytes from 1 to 1000000000000",
             Misused::Audit => "--audit takes - alone, which is standard error",
             Misused::Control => {
                 "--control takes standard input, so --settings names the settings' file; --audit doesn't go with it"
@@ -200,6 +212,16 @@ fn with_shares<'a>(alloc: Global, command: Command<'a>) -> Result<Command<'a>, A
     with_two(command, endless, per_host)
 }
 
+/// The command with the options of how fast each user may ask.
+fn with_rates<'a>(alloc: Global, command: Command<'a>) -> Result<Command<'a>, AllocError>
+    ensures app { IfOk result (λ made. app_of made ≡ with_serve_rates (app_of command.entry)) }
+    ensures local { IfOk result (λ made. (fields_of made).has_globals ≡ (fields_of command.entry).has_globals) }
+{
+    let rate = option(alloc, "rate", "REQUESTS", RATE, false);
+    let rate_bytes = option(alloc, "rate-bytes", "BYTES", RATE_BYTES, false);
+    with_two(command, rate, rate_bytes)
+}
+
 /// The command with the options of a broker that is steered.
 fn with_steering<'a>(alloc: Global, command: Command<'a>) -> Result<Command<'a>, AllocError>
     ensures app { IfOk result (λ made. app_of made ≡ with_serve_steering (app_of command.entry)) }
@@ -230,6 +252,7 @@ pub(crate) fn with_options<'a>(
     let command = with_switches(alloc, command)?;
     let command = with_deadlines(alloc, command)?;
     let command = with_shares(alloc, command)?;
+    let command = with_rates(alloc, command)?;
     let command = with_steering(alloc, command)?;
     with_clients(alloc, command)
 }
@@ -363,6 +386,9 @@ pub(crate) fn serving_by<'a>(options: &ArgMatches<'a>) -> Result<Serving<'a>, Mi
     let login_seconds = seconds_or(login, USUAL_LOGIN_SECONDS, Misused::LoginWithin)?;
     let frame = options.get_str("frame-within");
     let frame_seconds = seconds_or(frame, USUAL_FRAME_SECONDS, Misused::FrameWithin)?;
+    let rate = number_if_given(options.get_str("rate"), MOST_RATE, Misused::Rate)?;
+    let rate_bytes = options.get_str("rate-bytes");
+    let rate_bytes = number_if_given(rate_bytes, MOST_RATE_BYTES, Misused::RateBytes)?;
     let audit = audit_of(options.get_str("audit"))?;
     let settings = options.get_str("settings");
     let control = control_of(options.get_str("control"), settings, audit)?;
@@ -377,6 +403,8 @@ pub(crate) fn serving_by<'a>(options: &ArgMatches<'a>) -> Result<Serving<'a>, Mi
         idle_seconds,
         login_seconds,
         frame_seconds,
+        rate,
+        rate_bytes,
         audit,
         settings,
         control,

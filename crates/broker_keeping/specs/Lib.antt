@@ -1,3 +1,4 @@
 pub mod LeftOut
 pub mod News
 pub mod Said
+pub mod NearlyFull

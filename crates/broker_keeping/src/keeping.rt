@@ -11,7 +11,7 @@ use std::sync::Wait;
 use std::time;
 
 /// Tells the keeper its steps by the clock. After each it tells an operator what is new in the trail, and where the step wasn't
-/// taken that the clock stops. It waits for nobody who reads that: what finds no room in the queue is left out.
+/// taken that the clock stops; and at ticks that connections wait for a worker. It waits for nobody who reads that: what finds no room in the queue is left out.
 #[derive(Drop)]
 pub struct Timekeeper<'d, 'r, L: DeskLedger, R: Wait + time::Clock> {
     clock: Clocked<Ticks<'d, 'r, L, R>>,
@@ -39,7 +39,11 @@ impl<'d, 'r, L: DeskLedger, R: Wait + time::Clock> Steps for Timekeeper<'d, 'r, 
         if done {
             self.watch.look();
         }
-        self.clock.next(done)
+        let step = self.clock.next(done);
+        if let Some(Step::Tick(_)) = step {
+            self.watch.count_waiting();
+        }
+        step
     }
 
     fn before(&mut self, _core: &Core) {}

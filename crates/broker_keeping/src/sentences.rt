@@ -14,13 +14,17 @@ use std::io;
 use std::io::Write;
 use std::sync::Wait;
 use std::sync::atomic::{AtomicU64, Ordering};
+use std::time::Duration;
 use wire_types::Text;
 
 /// So many sayings wait for the teller at most.
 const WAITING: usize = 1_024;
 
+/// After so long a wait for a worker it is told that a connection is served, in seconds.
+const LONG: u64 = 1;
+
 /// Says what an operator is told. Of each session that ends by other than Closed that is a line of its own, and what becomes of
-/// connections that aren't served is told too. What is said waits in a queue for a `Teller`, so nobody waits for whoever reads it:
+/// connections that wait or aren't served is told too. What is said waits in a queue for a `Teller`, so nobody waits for whoever reads it:
 /// where the queue is full, lines are left out, and how many is told before what is said next. If something can't be said, nothing
 /// else fails.
 #[derive(Drop)]
@@ -32,6 +36,12 @@ pub struct Sentences<'r, R: Wait> {
     left_out: AtomicU64,
     /// How many sessions found no seat.
     unseated: AtomicU64,
+    /// How many connections were taken.
+    taken: AtomicU64,
+    /// For how many of them a worker was found.
+    begun: AtomicU64,
+    /// How many workers there are, once a connection was taken.
+    workers: AtomicU64,
 }
 
 /// How many lines a text has.
@@ -58,6 +68,9 @@ impl<'r, R: Wait> Sentences<'r, R> {
             to,
             left_out: AtomicU64::new(0),
             unseated: AtomicU64::new(0),
+            taken: AtomicU64::new(0),
+            begun: AtomicU64::new(0),
+            workers: AtomicU64::new(0),
         };
         Ok((sentences, Teller::new(alloc, from, errors)))
     }
@@ -87,6 +100,19 @@ impl<'r, R: Wait> Sentences<'r, R> {
         let lines = lines.map_or(0, |lines| lines_in(lines.as_str()));
         self.left_out.fetch_add(left_out, Ordering::SeqCst);
         self.left_out.fetch_add(lines, Ordering::SeqCst);
+    }
+
+    /// Whether some connection was taken for which no worker is found yet.
+    pub(crate) fn has_waiting(&self) -> bool {
+        self.begun.load(Ordering::SeqCst) != self.taken.load(Ordering::SeqCst)
+    }
+
+    /// Says that connections wait for a worker.
+    pub(crate) fn say_waiting(&self) {
+        let workers = self.workers.load(Ordering::SeqCst);
+        self.say_line(format!(in self.alloc;
+            "kbroker: connections wait for a worker, since all {workers} are taken; see --workers\n"
+        ));
     }
 
     /// How many lines were left out that the teller doesn't know of yet.
@@ -160,5 +186,28 @@ impl<'r, R: Wait> Doorman for Sentences<'r, R> {
                 "kbroker: no seat is left for further sessions, since {seats} have asked\n"
             ));
         }
+    }
+
+    fn taken(&self, workers: usize) {
+        self.workers.store(workers as u64, Ordering::SeqCst);
+        self.taken.fetch_add(1, Ordering::SeqCst);
+    }
+
+    /// Says so of one that has waited for a second.
+    fn begun(&self, host: &Text, waited: Duration) {
+        self.begun.fetch_add(1, Ordering::SeqCst);
+        let seconds = waited.as_secs();
+        if LONG <= seconds {
+            let host = host.as_str();
+            self.say_line(format!(in self.alloc;
+                "kbroker: a connection from {host} has waited {seconds} s for a worker, and is served now\n"
+            ));
+        }
+    }
+
+    fn fewer_workers(&self, started: usize, asked: usize) {
+        self.say_line(format!(in self.alloc;
+            "kbroker: only {started} of {asked} workers could be started\n"
+        ));
     }
 }

@@ -6,12 +6,13 @@ use std::io::ErrorKind;
 use std::time::{Duration, Instant};
 use std::{io, time};
 
-/// What is noted of a session's times: that its user is known, by whoever serves it, and which time was over, by what reads and
-/// writes it.
+/// What is noted of a session: that its user is known, by whoever serves it; and which time was over, and how many bytes were read,
+/// by what reads and writes it.
 #[derive(Drop)]
 pub struct Notes {
     known: Cell<bool>,
     over: Cell<Option<Limit>>,
+    read: Cell<u64>,
 }
 
 impl Notes {
@@ -20,12 +21,20 @@ impl Notes {
         Notes {
             known: Cell::new(false),
             over: Cell::new(None),
+            read: Cell::new(0),
         }
     }
 
     /// The user is known.
     pub fn log_in(&self) {
         self.known.set(true);
+    }
+
+    /// How many bytes were read since this was asked last.
+    pub fn take_read(&self) -> u64 {
+        let read = self.read.get();
+        self.read.set(0);
+        read
     }
 
     /// Which time was over, if one was.
@@ -76,6 +85,12 @@ impl<'x, R: time::Clock> Course<'x, R> {
             }
         }
         Ok(bound)
+    }
+
+    /// Notes that so many bytes were read.
+    pub(crate) fn count(&self, bytes: usize) {
+        let read = self.notes.read.get();
+        self.notes.read.set(read.saturating_add(bytes as u64));
     }
 
     /// Notes that a time is over, if a call ended for its wait.

@@ -1,12 +1,13 @@
 //! The broker's program.
 #![tactic(auto)]
 
+use admission::Rate;
 use arguments::{Job, Serving, arguments};
 use broker_keeping::Steering;
 use broker_server::{ServeOptions, serve};
 use commands::{Opened, check_and_explain, open_and_explain, replay_and_explain};
 use session_logins::ListedVersions;
-use session_workers::ConnectionOptions;
+use session_workers::{ConnectionOptions, SessionOptions};
 use show::{explain, show_and_explain};
 use std::alloc::{AllocError, Global};
 use std::hash::RandomState;
@@ -54,7 +55,13 @@ fn options_of(serving: Serving<'_>) -> ServeOptions {
             idle: serving.idle_seconds.map(Duration::from_secs),
             login_within: Duration::from_secs(serving.login_seconds),
             frame_within: Duration::from_secs(serving.frame_seconds),
-            listed,
+            sessions: SessionOptions {
+                listed,
+                rate: Rate {
+                    requests: serving.rate,
+                    bytes: serving.rate_bytes,
+                },
+            },
             patience,
         },
         audit: serving.audit,

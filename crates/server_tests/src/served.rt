@@ -6,12 +6,13 @@ ghost use Rattle.request_handlers.specs.Seats.{most_seats};
 
 use crate::clients::{HANDSHAKE_TOLD, LOGIN_TOLD, bytes_of};
 use crate::talk::{HANDSHAKE, LOGIN, METADATA, core, event_of, users};
+use admission::Rate;
 use broker_keeping::Steering;
 use broker_server::{ServeOptions, serve};
 use request_handlers::{Core, MOST_SEATS};
 use session_logins::{ListedVersions, Users};
 use session_pool::{Desk, DeskLedger, LockedDesk};
-use session_workers::ConnectionOptions;
+use session_workers::{ConnectionOptions, SessionOptions};
 use settings_text::{Document, document_of_text};
 use std::alloc::Global;
 use std::io::{Cursor, ErrorKind, Read, Write};
@@ -71,7 +72,10 @@ fn serve_two<
             idle: patience,
             login_within: Duration::from_secs(PATIENCE),
             frame_within: Duration::from_secs(PATIENCE),
-            listed: ListedVersions::AsServed,
+            sessions: SessionOptions {
+                listed: ListedVersions::AsServed,
+                rate: Rate::ANY,
+            },
             patience: None,
         },
         audit: false,

@@ -108,7 +108,7 @@ struct Told {
     turned_away: Option<Instant>,
 }
 
-/// What connections are let in by, and who is told of those that aren't.
+/// What connections are let in by, and who is told of those that wait or aren't.
 #[derive(Drop)]
 pub(crate) struct Door<'x, R, D> {
     pub(crate) rt: &'x R,
@@ -227,6 +227,7 @@ impl<'x, R: Wait + time::Clock, D: Doorman> Door<'x, R, D> {
             self.tell(&taken, &mut told);
             match taken {
                 Ok(Taken::Session(job)) => {
+                    self.doorman.taken(self.options.workers);
                     if jobs.send(self.rt, job).is_err() {
                         break;
                     }

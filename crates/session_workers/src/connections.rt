@@ -6,9 +6,9 @@ ghost use Rattle.session_workers.specs.Ends.{AreEnds};
 use crate::accept::Door;
 use crate::patience::Patient;
 use crate::sessions::Ended;
-use crate::workers::{PoolFault, serve_all_stepped};
+use crate::workers::{PoolFault, SessionOptions, serve_all_stepped};
 use admission::{Doorman, Hosts};
-use session_logins::{ListedVersions, Users};
+use session_logins::Users;
 use session_pool::{Closing, DeskLedger, Gate, LockedDesk, Steps};
 use std::alloc::Global;
 use std::net::{Net, TcpListener, TcpStream};
@@ -37,8 +37,7 @@ pub struct ConnectionOptions {
     pub login_within: Duration,
     /// Within so long a frame comes, from its first byte to its last, or its session ends.
     pub frame_within: Duration,
-    /// How the versions that are served are listed before a login.
-    pub listed: ListedVersions,
+    pub sessions: SessionOptions,
     /// For how long at most the answer to a Fetch is held back that brings no record, within what the request would wait; if it
     /// ever is.
     pub patience: Option<Duration>,
@@ -93,7 +92,7 @@ fn serve_lent<
             let ended = serve_all_stepped(
                 rt,
                 alloc,
-                options.listed,
+                options.sessions,
                 desk,
                 from,
                 options.workers,

@@ -3,6 +3,7 @@
 ghost use Rattle.std.specs.Prelude.{◌≤◌};
 ghost use Rattle.msg_admin.specs.declared.request.TheConstants.{FRAME_LIMIT as LIMIT};
 
+use crate::pacing::Pacing;
 use crate::sessions::{Done, Unused};
 use crate::times::{Noting, tell_end};
 use deadlines::{Notes, Timed, TimedWriter, Times};
@@ -33,7 +34,7 @@ pub struct Job<Rd, Wr> {
 }
 
 /// For how long a job has waited, as far as that can be told.
-fn waited<T: time::Clock>(rt: &T, taken: Option<Instant>) -> Duration {
+pub(crate) fn waited<T: time::Clock>(rt: &T, taken: Option<Instant>) -> Duration {
     let Some(taken) = taken else {
         return Duration::ZERO;
     };
@@ -47,7 +48,7 @@ pub(crate) fn serve_job<
     Rd: Read + OpenStream + Drop,
     Wr: Write + OpenStream + Drop,
     G: Gate,
-    T: time::Clock,
+    T: Wait + time::Clock,
 >(
     rt: &T,
     alloc: Global,
@@ -56,6 +57,7 @@ pub(crate) fn serve_job<
     seat: Unused<L>,
     job: Job<Rd, Wr>,
     gate: &G,
+    pacing: &Pacing<'_, T>,
 ) -> Done<L> {
     let Unused { seat } = seat;
     let Job {
@@ -72,7 +74,7 @@ pub(crate) fn serve_job<
     let notes = Notes::new();
     let reader = Timed::new(rt, reader, times, &notes);
     let mut writer = TimedWriter::new(rt, writer, times, &notes);
-    let noting = Noting::new(gate, &notes);
+    let noting = Noting::new(gate, &notes, pacing);
     let end = serve_session_listing(
         alloc,
         session,

@@ -1,27 +1,37 @@
-//! A session's times: who is told that its user is known, and that its peer took too long.
+//! A session's times: who is told that its user is known, and that its peer took too long, and who waits.
 
+use crate::pacing::Pacing;
 use deadlines::{Limit, Notes, Times};
 use request_handlers::Receipt;
 use session_pool::{Gate, SessionEnd, Why};
 use std::alloc::Global;
 use std::cell::OnceCell;
+use std::sync::Wait;
+use std::time;
 use std::time::Duration;
 use wire_types::Text;
 
-/// The gate of one session: notes that its user is known and who that is, and leaves all else to the gate of all sessions.
+/// The gate of one session: notes that its user is known and who that is, has it wait after a frame where that user asks faster
+/// than it may, and leaves all else to the gate of all sessions.
 #[derive(Drop)]
-pub(crate) struct Noting<'x, G> {
+pub(crate) struct Noting<'x, 'r, G, R> {
     gate: &'x G,
     notes: &'x Notes,
+    pacing: &'x Pacing<'r, R>,
     who: OnceCell<Text>,
 }
 
-impl<'x, G> Noting<'x, G> {
+impl<'x, 'r, G, R> Noting<'x, 'r, G, R> {
     /// Nobody is known.
-    pub(crate) fn new(gate: &'x G, notes: &'x Notes) -> Noting<'x, G> {
+    pub(crate) fn new(
+        gate: &'x G,
+        notes: &'x Notes,
+        pacing: &'x Pacing<'r, R>,
+    ) -> Noting<'x, 'r, G, R> {
         Noting {
             gate,
             notes,
+            pacing,
             who: OnceCell::new(),
         }
     }
@@ -32,7 +42,7 @@ impl<'x, G> Noting<'x, G> {
     }
 }
 
-impl<'x, G: Gate> Gate for Noting<'x, G> {
+impl<'x, 'r, G: Gate, R: Wait + time::Clock> Gate for Noting<'x, 'r, G, R> {
     fn before(&self, session: u64, frame: u64) {
         self.gate.before(session, frame);
     }
@@ -51,6 +61,10 @@ impl<'x, G: Gate> Gate for Noting<'x, G> {
 
     fn after(&self, session: u64, frame: u64) {
         self.gate.after(session, frame);
+        let bytes = self.notes.take_read();
+        if let Some(who) = self.who() {
+            self.pacing.pause(who, bytes);
+        }
     }
 
     fn ended(&self, session: u64, host: &Text, who: Option<&Text>, why: Why) {

@@ -5,10 +5,11 @@ ghost use Rattle.request_handlers.specs.Seats.{fresh_seat};
 ghost use Rattle.session_workers.specs.Ends.{AreEnds};
 ghost use Rattle.session_workers.specs.Faults.{fault_name};
 
-use crate::job::{Job, serve_job};
+use crate::job::{Job, serve_job, waited};
 use crate::keeper::keep;
+use crate::pacing::Pacing;
 use crate::sessions::{Ended, Sessions, Unused};
-use admission::Doorman;
+use admission::{Doorman, Rate};
 use crossbeam_channel::Receiver;
 use request_handlers::Seat;
 use session_logins::ListedVersions;
@@ -49,6 +50,15 @@ impl PoolFault {
     }
 }
 
+/// How sessions are served, whatever their connections.
+#[derive(Clone, Copy, Debug, PartialEq, Eq)]
+pub struct SessionOptions {
+    /// How the versions that are served are listed before a login.
+    pub listed: ListedVersions,
+    /// How fast each user may ask.
+    pub rate: Rate,
+}
+
 /// What serves jobs, and hands back what is left of its sessions.
 type Worker<L> = JoinHandle<Result<Sessions<L>, AllocError>>;
 
@@ -81,6 +91,7 @@ fn work<
     jobs: &Receiver<Job<Rd, Wr>>,
     gate: &G,
     doorman: &D,
+    pacing: &Pacing<'_, T>,
 ) -> Result<Sessions<L>, AllocError> {
     let mut sessions = Sessions::new(alloc);
     let mut back = None;
@@ -88,9 +99,10 @@ fn work<
         let Ok(job) = jobs.recv(rt) else {
             break;
         };
+        doorman.begun(&job.host, waited(rt, job.taken));
         match seat_of(desk, back) {
             Some(seat) => {
-                let done = serve_job(rt, alloc, listed, desk, seat, job, gate);
+                let done = serve_job(rt, alloc, listed, desk, seat, job, gate, pacing);
                 (sessions, back) = sessions.add(done)?;
             }
             None => {
@@ -144,6 +156,7 @@ fn keep_and_join<L: DeskLedger, R: Wait, K: Steps + Drop, T: Threads + Wait>(
 /// As `serve_all_stepped`, with what the threads share lent at one lifetime.
 fn serve_lent<
     'x,
+    'r,
     L: DeskLedger + Send + Sync,
     R: Wait + Sync,
     Rd: Read + OpenStream + Drop + Send,
@@ -163,6 +176,7 @@ fn serve_lent<
     steps: K,
     gate: &'x G,
     doorman: &'x D,
+    pacing: &'x Pacing<'r, T>,
 ) -> Result<Ended<L>, PoolFault>
     ensures { IfOk result (λ ended. AreEnds (K.owed steps) ended.ends.items) }
 {
@@ -181,7 +195,7 @@ fn serve_lent<
             for _ in 0..workers {
                 running.fetch_add(1, Ordering::SeqCst);
                 let worker = scope.spawn(move || {
-                    let sessions = work(rt, alloc, listed, desk, jobs, gate, doorman);
+                    let sessions = work(rt, alloc, listed, desk, jobs, gate, doorman, pacing);
                     running.fetch_sub(1, Ordering::SeqCst);
                     sessions
                 });
@@ -195,6 +209,9 @@ fn serve_lent<
             }
             if handles.is_empty() {
                 return Err(PoolFault::NoThread);
+            }
+            if handles.len() < workers {
+                doorman.fewer_workers(handles.len(), workers);
             }
             keep_and_join(rt, alloc, desk, seat, steps, running, handles)
         },
@@ -216,7 +233,7 @@ pub fn serve_all_stepped<
 >(
     rt: &T,
     alloc: Global,
-    listed: ListedVersions,
+    options: SessionOptions,
     desk: &LockedDesk<L, R>,
     jobs: Receiver<Job<Rd, Wr>>,
     workers: usize,
@@ -226,9 +243,11 @@ pub fn serve_all_stepped<
 ) -> Result<Ended<L>, PoolFault>
     ensures { IfOk result (λ ended. AreEnds (K.owed steps) ended.ends.items) }
 {
+    let SessionOptions { listed, rate } = options;
     let running = AtomicU64::new(0);
+    let pacing = Pacing::new(rt, alloc, rate);
     serve_lent(
-        rt, alloc, listed, desk, &jobs, &running, workers, steps, gate, doorman,
+        rt, alloc, listed, desk, &jobs, &running, workers, steps, gate, doorman, &pacing,
     )
 }
 
@@ -253,7 +272,10 @@ pub fn serve_all<
 ) -> Result<Ended<L>, PoolFault>
     ensures { IfOk result (λ ended. AreEnds (Some 0) ended.ends.items) }
 {
-    let listed = ListedVersions::AsServed;
+    let options = SessionOptions {
+        listed: ListedVersions::AsServed,
+        rate: Rate::ANY,
+    };
     let steps = Clocked::new(clock);
-    serve_all_stepped(rt, alloc, listed, desk, jobs, workers, steps, gate, &())
+    serve_all_stepped(rt, alloc, options, desk, jobs, workers, steps, gate, &())
 }

@@ -1,0 +1,131 @@
+//! How fast users ask.
+
+ghost use Rattle.std.specs.Prelude.{◌≡◌, ℕ, List, IfOk, OnOk, OnErr};
+ghost use Rattle.admission.specs.Pace.{HasPaid, cost, paid_after, paid_until, price, wait};
+
+use indexmap::IndexMap;
+use std::alloc::{AllocError, Global};
+use std::marker::Model;
+use wire_types::Text;
+
+/// So many requests, and so many bytes of them, each user may send in a second; any number where there is none. A rate of 0 is one
+/// of 1.
+#[derive(Clone, Copy, Debug, PartialEq, Eq)]
+pub struct Rate {
+    pub requests: Option<u64>,
+    pub bytes: Option<u64>,
+}
+
+/// The nanoseconds of a second.
+const SECOND: u64 = 1_000_000_000;
+
+/// What so many things cost, in nanoseconds.
+fn cost(rate: Option<u64>, things: u64) -> u64
+    ensures { result ≡ cost rate things }
+{
+    let Some(rate) = rate else {
+        return 0;
+    };
+    let nanoseconds = u128::from(things) * u128::from(SECOND) / u128::from(rate.max(1));
+    u64::try_from(nanoseconds).unwrap_or(u64::MAX)
+}
+
+/// For how many nanoseconds a user waits at a moment that has paid until another one.
+fn wait(paid: u64, now: u64) -> u64
+    ensures { result ≡ wait paid now }
+{
+    paid.saturating_sub(now.saturating_add(SECOND))
+}
+
+impl Rate {
+    /// Any number of requests, of any number of bytes.
+    pub const ANY: Rate = Rate {
+        requests: None,
+        bytes: None,
+    };
+
+    /// Whether there is a number for one of them.
+    pub fn is_any(&self) -> bool {
+        self.requests.is_none() && self.bytes.is_none()
+    }
+
+    /// What a request of so many bytes costs, in nanoseconds.
+    fn price(&self, bytes: u64) -> u64
+        ensures { result ≡ price self.now bytes }
+    {
+        cost(self.requests, 1).max(cost(self.bytes, bytes))
+    }
+
+    /// Until when a user has paid that asks with so many bytes at a moment, and had paid until another one.
+    fn paid_after(&self, paid: u64, now: u64, bytes: u64) -> u64
+        ensures { result ≡ paid_after self.now paid now bytes }
+    {
+        paid.max(now).saturating_add(self.price(bytes))
+    }
+}
+
+/// Until when each user has paid for what it asked; one that hasn't asked has paid until moment 0.
+pub struct Pace {
+    rate: Rate,
+    table: IndexMap<String, u64>,
+}
+
+impl Model for Pace {
+    ghost use Rattle.admission.specs.Pace.{PaceValue};
+    ghost use Rattle.admission.specs.Hosts.{counts_of};
+
+    ghost Value = { PaceValue };
+
+    ghost view = { λ p. record { rate = p.rate; paid = counts_of p.table.entries } };
+}
+
+/// Written out, so that a proof above has one call where it is let go, and not the drops of a table.
+impl Drop for Pace {
+    fn drop(self) {
+        let Pace {
+            rate: _rate,
+            table: _table,
+        } = self;
+    }
+}
+
+impl Pace {
+    /// Nobody has asked. It takes no memory.
+    pub fn new(alloc: Global, rate: Rate) -> Pace
+        ensures rate { result.rate ≡ rate }
+        ensures none { (user : List ℕ) → paid_until result user ≡ 0 }
+    {
+        Pace {
+            rate,
+            table: IndexMap::new(alloc),
+        }
+    }
+
+    /// Until when a user has paid.
+    fn paid(&self, user: &Text) -> u64
+        ensures { result ≡ paid_until self.now user.now }
+    {
+        match self.table.get(user.as_str()) {
+            Some(paid) => *paid,
+            None => 0,
+        }
+    }
+
+    /// A user has sent a request of so many bytes, at a moment in nanoseconds: for how many nanoseconds it is to wait before the
+    /// next one. After an error everything is as it was.
+    pub fn charge(
+        &mut self,
+        alloc: Global,
+        user: &Text,
+        now: u64,
+        bytes: u64,
+    ) -> Result<u64, AllocError>
+        ensures wait { IfOk result (λ nanoseconds. nanoseconds ≡ wait (paid_after self.old.rate (paid_until self.old user.now) now bytes) now) }
+        ensures paid { OnOk result (HasPaid self.old self.new user.now (paid_after self.old.rate (paid_until self.old user.now) now bytes)) }
+        ensures err { OnErr result (self.new ≡ self.old) }
+    {
+        let paid = self.rate.paid_after(self.paid(user), now, bytes);
+        self.table.insert(user.to_owned(alloc)?, paid)?;
+        Ok(wait(paid, now))
+    }
+}

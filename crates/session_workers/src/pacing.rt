@@ -1,0 +1,54 @@
+//! Users that ask faster than they may.
+
+use admission::{Pace, Rate};
+use std::alloc::Global;
+use std::sync::{Mutex, Wait};
+use std::time::{Duration, Instant};
+use std::{thread, time};
+use wire_types::Text;
+
+/// Has users wait that ask faster than they may, in all their sessions together.
+#[derive(Drop)]
+pub(crate) struct Pacing<'r, R> {
+    rt: &'r R,
+    alloc: Global,
+    pace: Mutex<Pace>,
+    /// From when on moments are counted. None where that can't be told, or where users may ask as fast as they like: then nobody
+    /// waits.
+    start: Option<Instant>,
+}
+
+impl<'r, R: Wait + time::Clock> Pacing<'r, R> {
+    /// Nobody has asked.
+    pub(crate) fn new(rt: &'r R, alloc: Global, rate: Rate) -> Pacing<'r, R> {
+        let start = if rate.is_any() {
+            None
+        } else {
+            Instant::now(rt).ok()
+        };
+        Pacing {
+            rt,
+            alloc,
+            pace: Mutex::new(Pace::new(alloc, rate)),
+            start,
+        }
+    }
+
+    /// The moment, in nanoseconds.
+    fn now(&self) -> Option<u64> {
+        let passed = self.start?.elapsed(self.rt).ok()?;
+        u64::try_from(passed.as_nanos()).ok()
+    }
+
+    /// A user has asked by so many bytes: returns once it may ask again. Where memory is refused for a user that is new, it may at
+    /// once.
+    pub(crate) fn pause(&self, user: &Text, bytes: u64) {
+        let Some(now) = self.now() else {
+            return;
+        };
+        let wait = self.pace.lock(self.rt).charge(self.alloc, user, now, bytes);
+        if let Ok(wait) = wait {
+            thread::sleep(self.rt, Duration::from_nanos(wait));
+        }
+    }
+}
