@@ -17,6 +17,8 @@ fn serve_with_an_address_alone(rt: HostRuntime) -> Result<(), Fail> {
         idle_seconds: None,
         login_seconds: 10,
         frame_seconds: 30,
+        rate: None,
+        rate_bytes: None,
         audit: false,
         settings: None,
         control: false,
@@ -89,6 +91,14 @@ fn numbers_at_their_limits(rt: HostRuntime) {
         ("--frame-within", "1000000", true),
         ("--frame-within", "0", false),
         ("--frame-within", "1000001", false),
+        ("--rate", "1", true),
+        ("--rate", "1000000000", true),
+        ("--rate", "0", false),
+        ("--rate", "1000000001", false),
+        ("--rate-bytes", "1", true),
+        ("--rate-bytes", "1000000000000", true),
+        ("--rate-bytes", "0", false),
+        ("--rate-bytes", "1000000000001", false),
     ] {
         let words = [
             "kbroker",
