@@ -1,0 +1,336 @@
+//! A server to which strangers come: it goes on, keeps nothing of those that ask nothing, and lets in as many of a host as may be.
+
+ghost use Rattle.std.specs.Prelude.{◌≡◌, ◌+◌, []};
+ghost use Rattle.request_handlers.specs.Seats.{most_seats};
+
+use crate::clients::{HANDSHAKE_TOLD, LOGIN_TOLD, bytes_of};
+use crate::served::{METADATA_TOLD, PATIENCE};
+use crate::talk::{HANDSHAKE, LOGIN, METADATA, core, users};
+use crate::together::Ticks;
+use admission::{Doorman, Rate};
+use request_handlers::{Core, MOST_SEATS};
+use session_logins::{ListedVersions, Users};
+use session_pool::{Clocked, Closing, DeskLedger, Gate, LockedDesk};
+use session_workers::{ConnectionOptions, SessionOptions, serve_connections};
+use std::alloc::Global;
+use std::io::{Read, Write};
+use std::marker::Brand;
+use std::net::{Net, Shutdown, SocketAddr, TcpListener, TcpStream};
+use std::sync::Wait;
+use std::sync::atomic::{AtomicU64, Ordering};
+use std::sync::ledger::Blank;
+use std::test::Fail;
+use std::thread::Threads;
+use std::time::Duration;
+use std::{io, thread, time};
+use wire_types::{Shared, Text};
+
+/// Counts what it is told.
+#[derive(Drop)]
+struct Counting {
+    turned_away: AtomicU64,
+    unseated: AtomicU64,
+}
+
+impl Gate for Counting {
+    fn before(&self, _session: u64, _frame: u64) {}
+
+    fn logged_in(&self, _session: u64, _who: &Text) {}
+
+    fn after(&self, _session: u64, _frame: u64) {}
+}
+
+impl Doorman for Counting {
+    fn turned_away(&self, _host: &Text) {
+        self.turned_away.fetch_add(1, Ordering::SeqCst);
+    }
+
+    fn unseated(&self) {
+        self.unseated.fetch_add(1, Ordering::SeqCst);
+    }
+}
+
+/// What is left of the sessions of a server, and what was told.
+#[derive(Clone, Copy, Debug, PartialEq, Eq)]
+struct Left {
+    /// So many ends are kept, the keeper's among them.
+    ends: usize,
+    /// So many sessions more ended.
+    others: u64,
+    turned_away: u64,
+    unseated: u64,
+}
+
+/// Where a server listens, and for whom, until it is closed.
+#[derive(Drop)]
+struct Site {
+    users: Shared<Users>,
+    listener: TcpListener,
+    address: SocketAddr,
+    closing: Closing,
+}
+
+impl Site {
+    fn open<R: Net<Listener = TcpListener, Stream = TcpStream>>(
+        rt: &R,
+        alloc: Global,
+    ) -> Result<Site, Fail> {
+        let users = Shared::new(alloc, users(alloc)?).ok().ok_or("users")?;
+        let listener = TcpListener::bind(rt, "127.0.0.1:0")?;
+        let address = listener.local_addr()?;
+        Ok(Site {
+            users,
+            listener,
+            address,
+            closing: Closing::new(),
+        })
+    }
+
+    /// Closes it after its clients, and hands on what they make of it.
+    fn close_after(&self, said: Result<bool, Fail>) -> Result<bool, Fail> {
+        self.closing.close();
+        said
+    }
+}
+
+/// Serves the connections of a site without an end until it is closed, by two workers, at a desk that has given so many seats.
+fn serve_at<
+    L: DeskLedger + Send + Sync,
+    R: Net<Listener = TcpListener, Stream = TcpStream> + Threads + Wait + time::Clock + Copy + Sync,
+>(
+    rt: &R,
+    alloc: Global,
+    core: Core,
+    blank: Blank,
+    given: u64,
+    per_host: Option<u64>,
+    site: &Site,
+) -> Option<Left>
+    requires settings { core.settings ≡ L.settings }
+    requires empty { core.trail ≡ [] }
+    requires ledger { (blank.name ≡ L.name) × (blank.parts ≡ L.parts) × (blank.parts ≡ most_seats + 1) }
+{
+    let desk: LockedDesk<L, &R> = LockedDesk::new(core, blank, rt);
+    for _ in 0..given {
+        desk.seat()?;
+    }
+    let options = ConnectionOptions {
+        workers: 2,
+        connections: 0,
+        endless: true,
+        per_host,
+        open: None,
+        idle: Some(Duration::from_secs(PATIENCE)),
+        login_within: Duration::from_secs(PATIENCE),
+        frame_within: Duration::from_secs(PATIENCE),
+        sessions: SessionOptions {
+            listed: ListedVersions::AsServed,
+            rate: Rate::ANY,
+        },
+        patience: None,
+    };
+    let told = Counting {
+        turned_away: AtomicU64::new(0),
+        unseated: AtomicU64::new(0),
+    };
+    let steps = Clocked::new(Ticks { rt: *rt, moment: 0 });
+    let closing = Some(&site.closing);
+    let ended = serve_connections(
+        rt,
+        alloc,
+        &desk,
+        &site.users,
+        &site.listener,
+        options,
+        closing,
+        steps,
+        &told,
+    )
+    .ok()?;
+    Some(Left {
+        ends: ended.ends.len(),
+        others: ended.others,
+        turned_away: told.turned_away.load(Ordering::SeqCst),
+        unseated: told.unseated.load(Ordering::SeqCst),
+    })
+}
+
+/// The same with a ledger of its own.
+fn serve_site<
+    R: Net<Listener = TcpListener, Stream = TcpStream> + Threads + Wait + time::Clock + Copy + Sync,
+>(rt: &R, alloc: Global, core: Core, given: u64, per_host: Option<u64>, site: &Site) -> Option<Left>
+    requires { core.trail ≡ [] }
+{
+    let blank = Blank::new(MOST_SEATS + 1);
+    serve_at::<Brand, R>(rt, alloc, core, blank, given, per_host, site)
+}
+
+/// All that is told over a connection, over which this is said, and where it is something, no more.
+fn told(alloc: Global, mut stream: TcpStream, said: &[u8]) -> io::Result<Vec<u8>> {
+    stream.set_read_timeout(Some(Duration::from_secs(PATIENCE)))?;
+    stream.write_all(said)?;
+    if !said.is_empty() {
+        stream.shutdown(Shutdown::Write)?;
+    }
+    let mut bytes = Vec::new(alloc);
+    stream.read_to_end(&mut bytes)?;
+    Ok(bytes)
+}
+
+/// Whether a connection is closed that says nothing.
+fn is_closed(alloc: Global, stream: TcpStream) -> bool {
+    told(alloc, stream, b"").is_ok_and(|bytes| bytes.is_empty())
+}
+
+/// Whether a client is told what is due.
+fn is_answered(alloc: Global, client: TcpStream) -> Result<bool, Fail> {
+    let said = bytes_of(alloc, &[HANDSHAKE, LOGIN, METADATA])?;
+    let due = bytes_of(alloc, &[HANDSHAKE_TOLD, LOGIN_TOLD, METADATA_TOLD])?;
+    Ok(told(alloc, client, said.as_slice()).is_ok_and(|bytes| bytes == due))
+}
+
+/// So many connections that close at once, and then a client that is answered.
+fn after_strangers<R: Net<Stream = TcpStream>>(
+    rt: &R,
+    alloc: Global,
+    address: SocketAddr,
+    strangers: u64,
+) -> Result<bool, Fail> {
+    for _ in 0..strangers {
+        TcpStream::connect(rt, address)?;
+    }
+    is_answered(alloc, TcpStream::connect(rt, address)?)
+}
+
+#[test]
+fn strangers_leave_a_number(rt: HostRuntime) -> Result<(), Fail> {
+    let alloc = rt.alloc();
+    let site = Site::open(&rt, alloc)?;
+    let core = core(alloc).ok_or("core")?;
+    let (handle, place) = (&rt, &site);
+    let (left, said) = thread::join(
+        handle,
+        move ||
+            requires { core.trail ≡ [] }
+        { serve_site(handle, alloc, core, 0, None, place) },
+        move || place.close_after(after_strangers(handle, alloc, place.address, 300)),
+    );
+    let said = said?;
+    let left = left.ok_or("left")?;
+    assert!(rt; said);
+    assert!(rt; left.ends == 2 && left.others == 300, "{left:?}");
+    Ok(())
+}
+
+/// The desk has a seat for each worker beside the keeper's. They go from stranger to stranger, and one then to the client.
+#[test]
+fn strangers_use_up_no_seats(rt: HostRuntime) -> Result<(), Fail> {
+    let alloc = rt.alloc();
+    let site = Site::open(&rt, alloc)?;
+    let core = core(alloc).ok_or("core")?;
+    let (handle, place) = (&rt, &site);
+    let (left, said) = thread::join(
+        handle,
+        move ||
+            requires { core.trail ≡ [] }
+        { serve_site(handle, alloc, core, MOST_SEATS - 3, None, place) },
+        move || place.close_after(after_strangers(handle, alloc, place.address, 300)),
+    );
+    let said = said?;
+    let left = left.ok_or("left")?;
+    assert!(rt; said);
+    assert!(rt;
+        left.ends == 2 && left.others == 300 && left.unseated == 0,
+        "{left:?}"
+    );
+    Ok(())
+}
+
+/// Whether each of two connections is closed that say nothing.
+fn two_are_closed<R: Net<Stream = TcpStream>>(
+    rt: &R,
+    alloc: Global,
+    address: SocketAddr,
+) -> Result<bool, Fail> {
+    let first = is_closed(alloc, TcpStream::connect(rt, address)?);
+    let second = is_closed(alloc, TcpStream::connect(rt, address)?);
+    Ok(first && second)
+}
+
+/// Where no seat is left, a connection is closed, and so is the next one.
+#[test]
+fn where_no_seat_is_left(rt: HostRuntime) -> Result<(), Fail> {
+    let alloc = rt.alloc();
+    let site = Site::open(&rt, alloc)?;
+    let core = core(alloc).ok_or("core")?;
+    let (handle, place) = (&rt, &site);
+    let (left, said) = thread::join(
+        handle,
+        move ||
+            requires { core.trail ≡ [] }
+        { serve_site(handle, alloc, core, MOST_SEATS - 1, None, place) },
+        move || place.close_after(two_are_closed(handle, alloc, place.address)),
+    );
+    let said = said?;
+    let left = left.ok_or("left")?;
+    assert!(rt; said);
+    assert!(rt;
+        left.ends == 1 && left.others == 0 && left.unseated == 2,
+        "{left:?}"
+    );
+    Ok(())
+}
+
+/// A connection that isn't closed at once.
+fn let_in<R: Net<Stream = TcpStream> + time::Clock>(
+    rt: &R,
+    address: SocketAddr,
+) -> Result<Option<TcpStream>, Fail> {
+    for _ in 0..1_000 {
+        let mut client = TcpStream::connect(rt, address)?;
+        client.set_read_timeout(Some(Duration::from_millis(100)))?;
+        if client.read(&mut [0]).is_err() {
+            return Ok(Some(client));
+        }
+        thread::sleep(rt, Duration::from_millis(10));
+    }
+    Ok(None)
+}
+
+/// One connection of a host may be open. While one is, another is closed at once; once it has ended, the next is served.
+fn one_at_a_time<R: Net<Stream = TcpStream> + time::Clock>(
+    rt: &R,
+    alloc: Global,
+    address: SocketAddr,
+) -> Result<bool, Fail> {
+    let open = TcpStream::connect(rt, address)?;
+    let other_closed = is_closed(alloc, TcpStream::connect(rt, address)?);
+    drop(open);
+    match let_in(rt, address)? {
+        Some(client) => Ok(other_closed && is_answered(alloc, client)?),
+        None => Ok(false),
+    }
+}
+
+#[test]
+fn one_connection_of_a_host(rt: HostRuntime) -> Result<(), Fail> {
+    let alloc = rt.alloc();
+    let site = Site::open(&rt, alloc)?;
+    let core = core(alloc).ok_or("core")?;
+    let (handle, place) = (&rt, &site);
+    let (left, said) = thread::join(
+        handle,
+        move ||
+            requires { core.trail ≡ [] }
+        { serve_site(handle, alloc, core, 0, Some(1), place) },
+        move || place.close_after(one_at_a_time(handle, alloc, place.address)),
+    );
+    let said = said?;
+    let left = left.ok_or("left")?;
+    assert!(rt; said);
+    assert!(rt;
+        left.ends == 2 && left.others == 1 && left.turned_away > 0,
+        "{left:?}"
+    );
+    Ok(())
+}
