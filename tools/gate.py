@@ -1,9 +1,10 @@
 #!/usr/bin/env python3
 """The gate, `make test`: `rt ci`, and then the tests of tests/ over the program that it has built.
 
-It proves every crate and its tests from nothing, and runs all that there is to run. The last line is 'N passed, M
-failed', with a crate, an edit and a case of tests/ for one each. What rt said is kept in out/gate.log, and what each crate
-took, as seen every two seconds, in out/gate.json: tools/gate_times.py makes a table of it.
+It proves every crate and its tests from nothing, and runs all that there is to run. The last line is 'N passed, M failed',
+with a crate, an edit and a case of tests/ for one each, and in brackets how many there were of each kind. What rt said is
+kept in out/gate.log, and what each crate took, as seen every two seconds, in out/gate.json: tools/gate_times.py makes a
+table of it.
 """
 
 import json
@@ -202,12 +203,10 @@ def main():
     edits = len({*re.findall(r"^rt: must-fail (\S+): refused", text, re.M)})
     tests = sum(map(int, re.findall(r"^test result: ok\. (\d+) passed", last, re.M)))
     minutes = (time.monotonic() - started) / 60
-    print(
-        f"gate: {crates} crates proved, {edits} edits refused, {tests} tests of crates and {count.passed} of tests/ passed,"
-        f" {count.skipped} skipped, in {minutes:.1f} minutes; see {LOG.relative_to(ROOT)}"
-    )
+    what = f"{crates} crates proved, {edits} edits refused, {tests} tests of crates and {count.passed} of tests/ passed"
     passed, failed = passed + count.passed, failed + count.failed
-    print(f"{passed} passed, {failed} failed", flush=True)
+    print(f"gate: what was said is in {LOG.relative_to(ROOT)}")
+    print(f"{passed} passed, {failed} failed ({what}, {count.skipped} skipped, in {minutes:.1f} minutes)", flush=True)
     sys.exit(1 if failed else 0)
 
 
