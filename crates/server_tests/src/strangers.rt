@@ -161,8 +161,15 @@ fn serve_site<
 >(rt: &R, alloc: Global, core: Core, given: u64, per_host: Option<u64>, site: &Site) -> Option<Left>
     requires { core.trail ≡ [] }
 {
-    let blank = Blank::new(MOST_SEATS + 1);
-    serve_at::<Brand, R>(rt, alloc, core, blank, given, per_host, site)
+    serve_at::<Brand, R>(
+        rt,
+        alloc,
+        core,
+        Blank::new(MOST_SEATS + 1),
+        given,
+        per_host,
+        site,
+    )
 }
 
 /// All that is told over a connection, over which this is said, and where it is something, no more.
