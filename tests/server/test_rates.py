@@ -71,6 +71,9 @@ class Rates(unittest.TestCase):
                 self.assertLess(time.monotonic() - began, QUICK, "another user waits")
                 self.assert_refused(broker)
                 took = time.monotonic() - began
+                began = time.monotonic()
+                self.assert_refused(broker)
+                self.assertLess(time.monotonic() - began, QUICK, "the request is paid twice")
             server.settled()
         self.assertGreater(took, 1.5)
         self.assertLess(took, 2.0 + QUICK)

@@ -421,11 +421,11 @@ class Operators(ServedCase):
 
     def test_no_connection_waits(self):
         """Many that come and go are served at once, and nothing is told."""
-        with ClockedKbroker(SETTINGS, workers=2, connections=1000, more=("--for", "3")) as server:
-            for _ in range(300):
+        with ClockedKbroker(SETTINGS, workers=2, connections=200) as server:
+            for _ in range(200):
                 logged_in(server.address).close()
             settled, told = server.settled()
-        self.assertEqual((settled.sessions, told), (300, []))
+        self.assertEqual((settled.sessions, told), (200, []))
 
 
 class Ends(ServedCase):
