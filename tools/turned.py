@@ -12,18 +12,17 @@ are tried alone, as `rt must-fail` tries them; and so are all where rt gives no 
 what a check has proved.
 
 No command of rt tries edits so, and one check for each takes a multiple of the time (docs/DECISIONS.md, 205). So rt, which is a
-Python program, is imported as a module, here and nowhere else.
+Python program, is imported as a module, as in tools/prove_fast.py.
 """
 
-import importlib.machinery
-import importlib.util
 import json
-import os
 import re
 import shutil
 import sys
 import tempfile
 from pathlib import Path
+
+from prove_fast import load_rt
 
 FUNCTION = re.compile(r"( *)(?:pub(?:\([a-z]+\))? )?(?:const )?fn (\w+)")
 PLACE = re.compile(r"(?:note: )?(?:\./)?(\S+?):(\d+):\d+: (.*)")
@@ -31,18 +30,6 @@ IS_FAULT = re.compile(r"^error|it is not proved that")
 LACKS_NAME = re.compile(r"has no field|is not in scope|has no `|was not admitted")
 MOST = 16  # functions that are turned in one check
 FLAGS = ["--jobs", "1"]
-
-
-def load_rt():
-    """The toolchain's command `rt` as a module."""
-    command = shutil.which("rt")
-    if command is None:
-        sys.exit("wrong bodies: the toolchain's command rt is not on the PATH")
-    sys.dont_write_bytecode = True  # nothing is left beside the command
-    loader = importlib.machinery.SourceFileLoader("rt", os.path.realpath(command))
-    module = importlib.util.module_from_spec(importlib.util.spec_from_loader("rt", loader))
-    loader.exec_module(module)
-    return module
 
 
 class Span:

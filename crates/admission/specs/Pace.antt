@@ -1,8 +1,12 @@
 -- How fast a user may ask: each request costs a part of a second, and is paid by time that passes.
-use Rattle.std.specs.Prelude.{◌≡◌, ◌≢◌, ℕ, ◌+◌, ◌-◌, ◌*◌, ◌/◌, min, max, List, Option, Some, None, unwrap_or}
+use Rattle.std.specs.Prelude.{◌≡◌, ◌≢◌, ℕ, ◌+◌, ◌-◌, ◌*◌, ◌/◌, ◌&&◌, min, max, Bool, is_none, List, Option, Some, None, unwrap_or}
 use Rattle.std.specs.Map.{lookup}
 use Rattle.std.specs.Str.{bytes_eq}
 use Rattle.admission.specs.declared.pace.Rate.{Rate}
+
+-- nobody is held to a rate without a number
+abbrev pub is_any : Rate → Bool
+is_any rate = is_none rate.requests && is_none rate.bytes
 
 -- moments and costs are nanoseconds, of which 64 bits are kept: these last for 584 years
 abbrev pub second : ℕ

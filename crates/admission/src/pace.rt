@@ -1,7 +1,7 @@
 //! How fast users ask.
 
 ghost use Rattle.std.specs.Prelude.{◌≡◌, ℕ, List, IfOk, OnOk, OnErr};
-ghost use Rattle.admission.specs.Pace.{HasPaid, cost, paid_after, paid_until, price, wait};
+ghost use Rattle.admission.specs.Pace.{HasPaid, cost, is_any, paid_after, paid_until, price, wait};
 
 use indexmap::IndexMap;
 use std::alloc::{AllocError, Global};
@@ -44,8 +44,10 @@ impl Rate {
         bytes: None,
     };
 
-    /// Whether there is a number for one of them.
-    pub fn is_any(&self) -> bool {
+    /// Whether any number of requests may be sent, of any number of bytes.
+    pub fn is_any(&self) -> bool
+        ensures { result ≡ is_any self.now }
+    {
         self.requests.is_none() && self.bytes.is_none()
     }
 
