@@ -1,5 +1,5 @@
 -- What stands at the front stays there, whatever is put after it.
-use Rattle.std.proofs.Common.{◌≡◌, ℕ, List, ◌++◌, length, take, take_all, le_refl, refl, sym, subst}
+use Rattle.std.proofs.Common.{◌≡◌, ℕ, List, ◌++◌, length, take_all, le_refl, refl, sym, subst}
 use Rattle.std.specs.Io.{StartsWith}
 use Rattle.std.proofs.Transfers.{starts_with_trans, starts_with_of_append}
 use Rattle.wire_types.specs.Grammar.{Grammar}

@@ -1,5 +1,5 @@
 -- Bytes that are read as a value spell no other.
-use Rattle.std.proofs.Common.{◌≡◌, ℕ, List, [], ◌++◌, Ok, ap, sym, ◌∙◌}
+use Rattle.std.proofs.Common.{ℕ, List, [], ap, sym, ◌∙◌}
 use Rattle.wire_types.specs.Grammar.{Grammar}
 use Rattle.wire_types.specs.Laws.{OneValue}
 use Rattle.wire_types.specs.NumberLaws.{ok_is}

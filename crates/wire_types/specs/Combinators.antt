@@ -1,20 +1,15 @@
 -- How the grammars of structs, lists and messages are made of those of their parts.
-use Rattle.std.specs.Prelude.{◌≡◌, ◌<◌, if◌then◌else◌, ℕ, ℤ, List, [], ◌∷◌, ◌++◌, length, Bool, true, ◌&&◌, ◌^◌, Option, Some, None, IfSome, IsSomeAnd, refl}
-use Rattle.std.specs.Int.{Width, w8, w16, w32, w64, byte_len, to_be_bytes, cast_unsigned}
-use Rattle.std.specs.Int.RustNames.{FitsSigned}
-use Rattle.std.proofs.Common.{ap, sym, lit<, Ok, arith}
+use Rattle.std.specs.Prelude.{◌≡◌, ℕ, List, [], ◌++◌, length, Bool, true, ◌&&◌, Option, Some, IfSome, IsSomeAnd, refl}
+use Rattle.std.proofs.Common.{ap, sym, Ok}
 use Rattle.std.proofs.lemmas.List.{append-nil}
 use Rattle.std.specs.Str.{IsUtf8}
 use Rattle.std.specs.List.{AllByRecursion}
-use Rattle.wire_types.specs.Reading.{nat_at, int_at, bool_at, front_at, utf8_at, items_at, varint_at, varint_limit, null_count_at, compact_null_count_at, required_at, behind_at, null_behind_at}
-use Rattle.wire_types.specs.Grammar.{Grammar, Content, Body, IsBytes, IsNat, IsInt, IsBool, IsVarint, AreBoth, AreMany, IsNullCount, IsCompactNullCount, IsBehind, IsNullBehind}
-use Rattle.wire_types.specs.NumberLaws.{IsWide, wide8, wide16, wide32, wide64, nat-sound, nat-complete, nat-canonical, nat-shortest, nat-some, nat-lefts, int-sound, int-complete, int-canonical, int-shortest, int-some, int-lefts, bool-sound, bool-complete, bool-canonical, bool-shortest, bool-some, bool-lefts}
-use Rattle.wire_types.specs.Spelling.{int_written, bool_written, varint_written, count_number, null_count_fits, compact_null_count_written, compact_null_count_fits, many_written, many_fit, many_left, behind_written, behind_fits, null_behind_written, null_behind_put, null_behind_fits, null_behind_left, room_left, then_left}
-use Rattle.wire_types.specs.VarintLaws.{varint-sound, varint-complete, varint-canonical, varint-shortest, varint-some}
-use Rattle.wire_types.specs.CountLaws.{TellsCounts, null_count-sound, null_count-complete, null_count-puts, null_count-canonical, null_count-shortest, null_count-some, null_count-lefts, compact_count-sound, compact_count-complete, compact_count-canonical, compact_count-shortest, compact_count-some, required-sound, required-complete}
+use Rattle.wire_types.specs.Reading.{front_at, utf8_at, items_at, required_at, behind_at, null_behind_at}
+use Rattle.wire_types.specs.Grammar.{Grammar, Content, Body, AreBoth, AreMany, IsBehind, IsNullBehind}
+use Rattle.wire_types.specs.Spelling.{many_written, many_fit, many_left, behind_written, behind_fits, null_behind_written, null_behind_put, null_behind_fits, null_behind_left, room_left, then_left}
+use Rattle.wire_types.specs.CountLaws.{required-sound, required-complete}
 use Rattle.wire_types.specs.BehindLaws.{front-sound, front-complete, utf8-sound, utf8-complete, items-sound, items-complete, items-lefts, behind-sound, behind-complete, behind-puts, behind-lefts, behind-canonical, behind-shortest, behind-some, null_behind-sound, null_behind-complete, null_behind-puts, null_behind-lefts, NullInType, null_behind-canonical, null_behind-shortest, null_behind-some}
-use Rattle.wire_types.specs.RoomLaws.{room_of_parts, room_whole}
-use Rattle.wire_types.specs.Zigzag.{unzigzag, zigzag, zigzag-unzigzag, unzigzag-zigzag}
+use Rattle.wire_types.specs.RoomLaws.{room_of_parts}
 use Rattle.wire_types.specs.ListLaws.{both_at, via_at, both-puts, both-sound, both-complete, both-canonical, both-shortest, both-some, via-sound, via-complete, many-canonical, many-shortest, part_written, part_put, part_fits, part_left, part-lefts, part-puts, arm-sound, arm-complete, part-canonical, part-shortest, part-some, skip-sound, skip-complete, IsLeast, value-sound, value-complete, value-fits, value-short, raw-shortest}
 
 -- ---- parts one after the other

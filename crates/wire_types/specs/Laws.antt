@@ -1,5 +1,5 @@
 -- What holds between bytes and values, for whatever has a grammar.
-use Rattle.std.specs.Prelude.{◌≡◌, ◌≤◌, ◌-◌, ◌^◌, ℕ, List, ◌++◌, length, true, ◌&&◌, nat_lt, Option, Some, None, if◌then◌else◌, Ok}
+use Rattle.std.specs.Prelude.{◌≡◌, ◌≤◌, ◌^◌, ℕ, List, ◌++◌, length, true, ◌&&◌, nat_lt, Option, Some, None, if◌then◌else◌, Ok}
 use Rattle.wire_types.specs.Grammar.{Grammar, IsBytes}
 
 -- what is found at the front of bytes is spelled there, by just the bytes that are taken

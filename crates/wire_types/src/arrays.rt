@@ -19,7 +19,8 @@ use crate::room::room_behind;
 use crate::wire::Wire;
 use std::alloc::Global;
 
-/// So many values one after the other.
+/// So many values one after the other. Their room is taken at once, and is for no more than the bytes that are left can spell:
+/// each value has a byte at least.
 fn read_many<T: Wire>(
     alloc: Global,
     cursor: &mut Cursor<'_>,
@@ -27,7 +28,8 @@ fn read_many<T: Wire>(
 ) -> Result<Items<T>, ReadFault>
     ensures { Reads (many_at T.grammar.reading count cursor.old) result cursor.new }
 {
-    let mut items = Items::new(alloc);
+    let most = cursor.len().min(count as usize);
+    let mut items = Items::with_room(alloc, most)?;
     for _ in 0..count {
         items.push(T::read(alloc, cursor)?)?;
     }

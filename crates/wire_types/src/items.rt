@@ -1,6 +1,6 @@
 //! A list of values, which contracts see as the list.
 
-ghost use Rattle.std.specs.Prelude.{◌≡◌, ◌↔◌, [], ◌∷◌, ◌++◌, length, IsTrue, OnOk, OnErr, slice_get};
+ghost use Rattle.std.specs.Prelude.{◌≡◌, ◌↔◌, [], ◌∷◌, ◌++◌, length, IfOk, IsTrue, OnOk, OnErr, slice_get};
 ghost use Rattle.std.specs.Option.{option_copied, option_to_list};
 ghost use Rattle.std.specs.Slice.Iter.{iter_rest};
 
@@ -29,6 +29,15 @@ impl<T> Items<T> {
         Items {
             vec: Vec::new(alloc),
         }
+    }
+
+    /// No values, and room for so many.
+    pub fn with_room(alloc: Global, count: usize) -> Result<Items<T>, AllocError>
+        ensures { IfOk result (λ items. items ≡ []) }
+    {
+        Ok(Items {
+            vec: Vec::with_capacity(alloc, count)?,
+        })
     }
 
     pub fn len(&self) -> usize
@@ -61,14 +70,15 @@ impl<T> Items<T> {
         self.vec.as_slice()
     }
 
-    /// Puts a value after the others. Room for the first one is for it alone: most lists of a message hold one value.
+    /// Puts a value after the others. Where no room was taken before, that for the first one is for it alone: most lists of a
+    /// message hold one value.
     pub fn push(&mut self, item: T) -> Result<(), AllocError>
     where
         T: Drop,
         ensures ok { OnOk result (self.new ≡ self.old ++ item ∷ []) }
         ensures err { OnErr result (self.new ≡ self.old) }
     {
-        if self.vec.is_empty() {
+        if self.vec.is_empty() && self.vec.capacity() == 0 {
             self.vec = Vec::with_capacity(*self.vec.allocator(), 1)?;
         }
         self.vec.push(item)?;

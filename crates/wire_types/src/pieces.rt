@@ -114,13 +114,13 @@ impl Piece {
         rest
     }
 
-    /// The bytes, as two runs.
-    fn runs(&self) -> (&[u8], &[u8])
+    /// The bytes, as two runs: the piece's own, which are few, and those that it shares.
+    pub fn runs(&self) -> (&[u8], &[u8])
         ensures { result.0.now ++ result.1.now ≡ self.now }
     {
         match &self.own {
             Some(own) => (own, self.shared.as_slice()),
-            None => (self.shared.as_slice(), &[]),
+            None => (&[], self.shared.as_slice()),
         }
     }
 }
@@ -226,6 +226,13 @@ impl Pieces {
             }
         }
         Ok(())
+    }
+
+    /// The pieces, in order.
+    pub fn as_slice(&self) -> &[Piece]
+        ensures { concat result.now ≡ self.now }
+    {
+        self.pieces.as_slice()
     }
 
     /// A copy of all the bytes, in one part.

@@ -1,4 +1,4 @@
-use Rattle.std.proofs.Common.{◌≡◌, ◌∙◌}
+use Rattle.std.proofs.Common.{◌∙◌}
 use Rattle.wire_types.proofs.Rooms.{room_goes_on, room_ends, room_done}
 use Rattle.wire_types.proofs.arrays.many_room.Goals as goal
 
