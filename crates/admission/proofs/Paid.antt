@@ -1,5 +1,5 @@
 -- Until when users have paid, as a table keeps it.
-use Rattle.std.proofs.Common.{◌≡◌, ◌≢◌, ℕ, List, Some, refl, sym, ◌∙◌}
+use Rattle.std.proofs.Common.{ℕ, List, Some, refl, sym, ◌∙◌}
 use Rattle.admission.specs.declared.pace.Rate.{Rate}
 use Rattle.admission.specs.Hosts.{counts_of}
 use Rattle.admission.specs.Pace.{PaceValue, HasPaid}

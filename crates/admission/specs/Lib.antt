@@ -1,3 +1,4 @@
 pub mod Hosts
 pub mod Kept
 pub mod Pace
+pub mod PaceLaws

@@ -4,8 +4,8 @@ use std::io;
 use std::time::Duration;
 use wire_types::Text;
 
-/// Is told of connections that wait, and of those that aren't served, from any thread, while no core is locked. Whoever tells it doesn't go on before it
-/// returns.
+/// Is told of connections that wait, and of those that aren't served, from any thread, while no core is locked. Whoever tells it
+/// doesn't go on before it returns.
 pub trait Doorman {
     /// A connection couldn't be accepted, and the one before it could, if there was one.
     fn failed(&self, _error: &io::Error) {}

@@ -4,8 +4,10 @@
 
 mod doorman;
 mod hosts;
+mod laws;
 mod pace;
 
 pub use doorman::Doorman;
 pub use hosts::Hosts;
+pub use laws::rate_is_kept;
 pub use pace::{Pace, Rate};

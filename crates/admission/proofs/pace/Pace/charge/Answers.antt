@@ -1,4 +1,4 @@
-use Rattle.std.proofs.Common.{◌≡◌, ℕ, Some, subst, rules}
+use Rattle.std.proofs.Common.{◌≡◌, ℕ, subst, rules}
 use Rattle.admission.specs.Pace.{PaceValue, HasPaid, paid_after, paid_until}
 use Rattle.admission.proofs.Counts.{put_in}
 use Rattle.admission.proofs.Paid.{kept, has_paid}
