@@ -2,6 +2,9 @@ pub mod Bytes
 pub mod Fronts
 pub mod Lengths
 pub mod Own
+pub mod Responses
 pub mod Sessions
 pub mod Stays
+pub mod Streaming
 pub mod Unread
+pub mod Wrote

@@ -19,7 +19,7 @@ use Rattle.msg_admin.specs.Request.{request_at}
 use Rattle.session_pool.specs.declared.frame.Came.{Came}
 use Rattle.session_pool.specs.Asks.{Setting, Step, Tells, Submits, Refuses, Garbles, readable, step_of, asked, told, ended, asks_of, text_of, end_of, asks, text, ends, events_held, fresh}
 use Rattle.session_pool.specs.Reads.{Took, TookLast}
-use Rattle.session_pool.specs.Turns.{Comes, Lacks, IsOf, Arrives, most_kept, CameOf, Says, Meant, Sends, Finishes, why_of}
+use Rattle.session_pool.specs.Turns.{Comes, Lacks, IsOf, Arrives, most_kept, CameOf, Says, Meant, Sends, SendsParts, Finishes, why_of}
 use Rattle.session_pool.specs.Sessions.{is_cause, is_broken, HasCause, Served, Stands, Ended, Goes, Turned, TurnsOn, SessionOf}
 
 -- what the session has by itself leaves the receipts
@@ -240,11 +240,11 @@ no_frame g n limit s why.TooLong p rest h = absurd h
 
 -- one that went on, or broke off as it wrote
 sent : (g : Setting) (limit : ℕ) (s : State) (p rest : List ℕ) (held held' : Option (List ℕ)) (old new added : List ReceiptValue) (b : List ℕ) (t : State) (r : Result State Why)
-    → new ≡ old ++ added → ((tail : List ℕ) → Goes g limit s (p ++ tail) added b t tail) → Sends held held' b (Ok t) r → TurnsOn g limit s held held' old new r p rest
+    → new ≡ old ++ added → ((tail : List ℕ) → Goes g limit s (p ++ tail) added b t tail) → SendsParts held held' b (Ok t) r → TurnsOn g limit s held held' old new r p rest
 sent g limit s p rest held held' old new added b t r grown goes (done, over, split, grew, inl (is, none)) =
     let whole : b ≡ done = split ∙ ap (λ x. done ++ x) none ∙ append-nil done in
     (added, done, grown, grew, subst (Turned g limit s p rest added done) (sym is) (λ tail. subst (λ x. Goes g limit s (p ++ tail) added x t tail) whole (goes tail)))
-sent g limit s p rest held held' old new added b t r grown goes (done, over, split, grew, inr is) = (
+sent g limit s p rest held held' old new added b t r grown goes (done, over, split, grew, inr (inl is)) = (
   added,
   done,
   grown,
@@ -252,6 +252,19 @@ sent g limit s p rest held held' old new added b t r grown goes (done, over, spl
   subst (Turned g limit s p rest added done) (sym is)
       (λ n. ended_of g (suc n) limit s p rest added done why.WriteFault (λ tail. broken_off g n limit s (p ++ tail) added b done over t tail why.WriteFault (goes tail) split tt refl)),
 )
+sent g limit s p rest held held' old new added b t r grown goes (done, over, split, grew, inr (inr is)) = (
+  added,
+  done,
+  grown,
+  grew,
+  subst (Turned g limit s p rest added done) (sym is)
+      (λ n. ended_of g (suc n) limit s p rest added done why.NoMemory (λ tail. broken_off g n limit s (p ++ tail) added b done over t tail why.NoMemory (goes tail) split tt refl)),
+)
+
+-- what was made as a whole
+as_parts : (held held' : Option (List ℕ)) (b : List ℕ) (next r : Result State Why) → Sends held held' b next r → SendsParts held held' b next r
+as_parts held held' b next r (done, over, split, grew, inl h) = (done, over, split, grew, inl h)
+as_parts held held' b next r (done, over, split, grew, inr h) = (done, over, split, grew, inr (inl h))
 
 -- one that ends and wrote nothing
 silent : (g : Setting) (limit : ℕ) (s : State) (p rest : List ℕ) (held held' : Option (List ℕ)) (old new added : List ReceiptValue) (w : Why) (r : Result State Why)
@@ -262,7 +275,7 @@ silent g limit s p rest held held' old new added w r same is grown served =
 turned : (g : Setting) (limit : ℕ) (s : State) (frame p rest : List ℕ) (held held' : Option (List ℕ)) (old new : List ReceiptValue) (o : Outcome) (r : Result State Why)
     → Comes limit frame p rest → Meant g.may_stop (step_of g s frame) old new o → Finishes held held' o r → TurnsOn g limit s held held' old new r p rest
 turned g limit s frame p rest held held' old new (outcome.Tells b t) r e meant fin =
-    sent g limit s p rest held held' old new [] b t r (meant.1 ∙ sym (append-nil old)) (λ tail. tells_on g limit s (p ++ tail) frame tail b t (e tail) meant.0) fin
+    sent g limit s p rest held held' old new [] b t r (meant.1 ∙ sym (append-nil old)) (λ tail. tells_on g limit s (p ++ tail) frame tail b t (e tail) meant.0) (as_parts held held' b (Ok t) r fin)
 turned g limit s frame p rest held held' old new (outcome.Answers b k) r e (c, x, is, spelled, grown) fin =
     sent g limit s p rest held held' old new (x ∷ []) b (Known k) r grown
     (λ tail. subst (λ y. Goes g limit s (p ++ tail) (x ∷ []) y (Known k) tail) (sym spelled) (submits_on g limit s (p ++ tail) frame tail c x (Known k) (e tail) is)) fin

@@ -1,5 +1,5 @@
 -- A step leaves the settings of a core.
-use Rattle.std.proofs.Common.{◌≡◌, Bool, true, false, Result, Ok, Err, IfErr, OnOk, refl, ap, sym, ◌∙◌}
+use Rattle.std.proofs.Common.{◌≡◌, Bool, true, false, Result, Ok, Err, IfErr, OnOk, refl, ap}
 use Rattle.audit_trail.specs.declared.event.Event.{Event}
 use Rattle.api_dispatch.specs.Step.{is_reading}
 use Rattle.request_handlers.specs.declared.stop.Stop.{Stop}

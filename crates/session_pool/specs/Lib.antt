@@ -4,7 +4,9 @@ pub mod Frames
 pub mod Logins
 pub mod Own
 pub mod Reads
+pub mod Responses
 pub mod Sessions
 pub mod Steps
+pub mod Streaming
 pub mod Turns
 pub mod Unread

@@ -94,10 +94,14 @@ why_of faults.TooLong = why.TooLong
 abbrev pub Sends : Option (List ℕ) → Option (List ℕ) → List ℕ → Result State Why → Result State Why → Type 0
 Sends held held' bytes next r = (done left : List ℕ) × (bytes ≡ done ++ left) × Appends held held' done × (((r ≡ next) × (left ≡ [])) ⊎ (r ≡ Err why.WriteFault))
 
+-- The same of a response that is made part after part: memory may be refused for a part.
+abbrev pub SendsParts : Option (List ℕ) → Option (List ℕ) → List ℕ → Result State Why → Result State Why → Type 0
+SendsParts held held' bytes next r = (done left : List ℕ) × (bytes ≡ done ++ left) × Appends held held' done × (((r ≡ next) × (left ≡ [])) ⊎ ((r ≡ Err why.WriteFault) ⊎ (r ≡ Err why.NoMemory)))
+
 -- what an outcome writes, and what comes of it
 abbrev pub Finishes : Option (List ℕ) → Option (List ℕ) → Outcome → Result State Why → Type 0
 Finishes held held' (outcome.Tells b t) r = Sends held held' b (Ok t) r
-Finishes held held' (outcome.Answers b k) r = Sends held held' b (Ok (Known k)) r
+Finishes held held' (outcome.Answers b k) r = SendsParts held held' b (Ok (Known k)) r
 Finishes held held' (outcome.Refuses b) r = Sends held held' b (Err why.Login) r
 Finishes held held' outcome.Garbled r = (held' ≡ held) × (r ≡ Err why.Malformed)
 Finishes held held' outcome.Fails r = (held' ≡ held) × (r ≡ Err why.NoMemory)

@@ -18,6 +18,9 @@ pub trait Gate {
     /// Comes once it was answered or the session was ended on it.
     fn after(&self, session: u64, frame: u64);
 
+    /// Comes once a frame was read that is no request that is served, with what is kept of it: all, or its first eight bytes.
+    fn garbled(&self, _session: u64, _kept: &[u8]) {}
+
     /// Comes once the session has ended, from whoever serves it: with the host that it came from, the principal that had logged
     /// in, if one had, and why it ended.
     fn ended(&self, _session: u64, _host: &Text, _who: Option<&Text>, _why: Why) {}

@@ -16,8 +16,10 @@ mod laws;
 mod locked;
 mod login;
 mod respond;
+mod response;
 mod session;
 mod steps;
+mod streamed;
 mod why;
 
 pub use closing::Closing;

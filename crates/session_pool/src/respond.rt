@@ -15,10 +15,9 @@ use crate::begin::{Begun, begin};
 use crate::desk::Desk;
 use crate::frame::Came;
 use crate::login::{Closed, Fresh, Known, LoginFault, Offered, State};
+use crate::response::Response;
 use audit_trail::Event;
-use msg_admin::{
-    FRAME_LIMIT, Header, Request, read_request, write_reply, write_unsupported_versions,
-};
+use msg_admin::{FRAME_LIMIT, Header, Request, read_request, write_unsupported_versions};
 use request_handlers::{Receipt, Stop};
 use session_logins::{ListedVersions, Users, write_handshake, write_login, write_versions};
 use std::alloc::{AllocError, Global};
@@ -30,7 +29,7 @@ pub(crate) enum Outcome {
     /// An answer of the session's own.
     Tells(Bytes, State),
     /// The reply of a receipt.
-    Answers(Bytes, Known),
+    Answers(Response, Known),
     /// A last answer, or no bytes, for want of a login.
     Refuses(Bytes),
     /// No request that is served.
@@ -166,10 +165,10 @@ fn submit<S, D: Desk<S>>(
     let (seat, answer) = desk.submit(seat, event);
     match answer {
         Ok(receipt) => {
-            let answer = write_reply(alloc, correlation, receipt.reply());
+            let answer = Response::of(alloc, correlation, &receipt);
             receipts.push_reserved(receipt);
             match answer {
-                Ok(bytes) => (seat, Outcome::Answers(bytes, known)),
+                Ok(response) => (seat, Outcome::Answers(response, known)),
                 Err(fault) => (seat, Outcome::Unsent(fault)),
             }
         }

@@ -5,13 +5,15 @@ ghost use Rattle.msg_admin.specs.declared.request.TheConstants.{FRAME_LIMIT as L
 ghost use Rattle.session_logins.specs.declared.listed.ListedVersions.TheVariants.{AsServed};
 ghost use Rattle.session_pool.specs.Reads.{Took, TookLast};
 ghost use Rattle.session_pool.specs.Sessions.{TurnsOn, SessionOf};
-ghost use Rattle.session_pool.specs.Turns.{most_kept, Sends, Finishes, why_of};
+ghost use Rattle.session_pool.specs.Turns.{most_kept, Sends, SendsParts, Finishes, why_of};
 
 use crate::desk::Desk;
-use crate::frame::read_frame;
+use crate::frame::{Came, read_frame};
 use crate::gate::Gate;
 use crate::login::{Fresh, State};
 use crate::respond::{Outcome, respond};
+use crate::response::Response;
+use crate::streamed::SendFault;
 use crate::why::Why;
 use msg_admin::FRAME_LIMIT;
 use request_handlers::Receipt;
@@ -67,13 +69,31 @@ fn send<W: Write>(writer: &mut W, bytes: &Bytes, next: Result<State, Why>) -> Re
     }
 }
 
+/// Writes a response, and gives what comes after it.
+fn send_response<W: Write>(
+    alloc: Global,
+    writer: &mut W,
+    response: &Response,
+    next: Result<State, Why>,
+) -> Result<State, Why>
+    ensures { SendsParts (W.contents writer.old) (W.contents writer.new) response.now next result }
+{
+    match response.send(alloc, writer) {
+        Ok(()) => next,
+        Err(SendFault::NoMemory) => Err(Why::NoMemory),
+        Err(SendFault::Write) => Err(Why::WriteFault),
+    }
+}
+
 /// Writes what an outcome has to write.
-fn finish<W: Write>(writer: &mut W, outcome: Outcome) -> Result<State, Why>
+fn finish<W: Write>(alloc: Global, writer: &mut W, outcome: Outcome) -> Result<State, Why>
     ensures { Finishes (W.contents writer.old) (W.contents writer.new) outcome result }
 {
     match outcome {
         Outcome::Tells(bytes, state) => send(writer, &bytes, Ok(state)),
-        Outcome::Answers(bytes, known) => send(writer, &bytes, Ok(State::Known(known))),
+        Outcome::Answers(response, known) => {
+            send_response(alloc, writer, &response, Ok(State::Known(known)))
+        }
         Outcome::Refuses(bytes) => send(writer, &bytes, Err(Why::Login)),
         Outcome::Garbled => Err(Why::Malformed),
         Outcome::Fails => Err(Why::NoMemory),
@@ -102,6 +122,13 @@ fn most_kept(users: &Users, state: &State, limit: u32) -> u32
 fn tell_receipt<G: Gate>(gate: &G, receipts: &[Receipt], place: usize) {
     if let Some(receipt) = receipts.get(place) {
         gate.answered(receipt);
+    }
+}
+
+/// Tells the gate of a frame that is no request that is served.
+fn tell_garbled<G: Gate>(gate: &G, session: u64, outcome: &Outcome, came: &Came) {
+    if let Outcome::Garbled = outcome {
+        gate.garbled(session, came.kept.as_slice());
     }
 }
 
@@ -147,7 +174,8 @@ fn turn<S, Rd: Read, Wr: Write, D: Desk<S>, G: Gate>(
         alloc, host, users, listed, desk, state, &came, seat, receipts,
     );
     tell_receipt(gate, receipts.as_slice(), place);
-    let next = finish(writer, outcome);
+    tell_garbled(gate, session, &outcome, &came);
+    let next = finish(alloc, writer, outcome);
     tell_login(gate, session, was_known, &next);
     (seat, next)
 }
@@ -213,7 +241,7 @@ fn serve<S, Rd: Read, Wr: Write, D: Desk<S>, G: Gate>(
 }
 
 /// Serves a session until its input ends, it is closed, or so many frames were served. The reader is read through a buffer of
-/// 8,192 bytes and given up with it; each answer is one write, where the writer takes it. The session's number is the gate's.
+/// 8,192 bytes and given up with it; each answer of up to 65,536 bytes is one write, where the writer takes it. The session's number is the gate's.
 pub fn serve_session<S, Rd: Read + Drop, Wr: Write, D: Desk<S>, G: Gate>(
     alloc: Global,
     session: u64,

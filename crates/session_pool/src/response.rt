@@ -1,0 +1,194 @@
+//! The response to a request. A long one is written part after part from its reply, so that its bytes are never all in memory: a
+//! Metadata of 15 KB asks for 130 MB, and what a Fetch answers stands in the log.
+
+ghost use Rattle.std.specs.Prelude.{◌≡◌, Err, IfOk, IfSome};
+ghost use Rattle.wire_types.specs.declared.fault.WriteFault.TheVariants as faults;
+ghost use Rattle.wire_types.specs.Writing.{Puts};
+ghost use Rattle.wire_types.specs.Device.{Wrote};
+ghost use Rattle.msg_admin.specs.declared.reply.Reply.TheVariants as replies;
+ghost use Rattle.msg_admin.specs.Response.{GivesReply, IsTooLong};
+ghost use Rattle.session_pool.specs.Responses.{IsFront, IsSize, metadata_front, metadata_front_of, fetch_front, fetch_front_of, topics_of};
+ghost use Rattle.session_pool.specs.Streaming.{Streams};
+
+use crate::streamed::{GATHERED, SendFault, spill, stream_all};
+use msg_admin::{Reply, write_reply};
+use msg_data::{FetchReply, MetadataReply};
+use request_handlers::Receipt;
+use std::alloc::{AllocError, Global};
+use std::io::Write;
+use std::marker::Model;
+use wire_types::{
+    Bytes, Shared, Wire, WriteFault, size, write_array, write_count, write_i32, write_whole,
+};
+
+/// A response above so many bytes is written part after part.
+const LONGEST_WHOLE: i32 = 65_536;
+
+/// The bytes that are sent for a reply.
+pub(crate) struct Response {
+    front: Bytes,
+    /// The reply whose topics follow.
+    rest: Option<Shared<Reply>>,
+}
+
+impl Model for Response {
+    ghost use Rattle.std.specs.Prelude.{List, ℕ, ◌++◌};
+    ghost use Rattle.session_pool.specs.Responses.{rest_of};
+
+    ghost Value = { List ℕ };
+
+    ghost view = { λ r. r.front ++ rest_of r.rest };
+}
+
+/// Written out, so that a proof above has one call where a response is let go.
+impl Drop for Response {
+    fn drop(self) {
+        let Response {
+            front: _front,
+            rest: _rest,
+        } = self;
+    }
+}
+
+impl Response {
+    /// The response that a receipt's reply is sent as, under this correlation id.
+    pub(crate) fn of(
+        alloc: Global,
+        correlation: i32,
+        receipt: &Receipt,
+    ) -> Result<Response, WriteFault>
+        ensures decided { GivesReply correlation receipt.now.reply result }
+        ensures too_long { result ≡ Err faults.TooLong → IsTooLong correlation receipt.now.reply }
+    {
+        if let Some(front) = front_of(alloc, correlation, receipt.reply())? {
+            return Ok(Response {
+                front,
+                rest: Some(receipt.share_reply()?),
+            });
+        }
+        Ok(Response {
+            front: write_reply(alloc, correlation, receipt.reply())?,
+            rest: None,
+        })
+    }
+
+    /// Writes the bytes. Where that fails, some of them stand written, from the front.
+    pub(crate) fn send<W: Write>(&self, alloc: Global, writer: &mut W) -> Result<(), SendFault>
+        ensures { Wrote (W.contents writer.old) (W.contents writer.new) self.now result }
+    {
+        write_whole(writer, self.front.as_slice())?;
+        match &self.rest {
+            None => Ok(()),
+            Some(reply) => send_topics(alloc, writer, reply.value()),
+        }
+    }
+}
+
+/// Writes the topics of a reply.
+fn send_topics<W: Write>(alloc: Global, writer: &mut W, reply: &Reply) -> Result<(), SendFault>
+    ensures { Wrote (W.contents writer.old) (W.contents writer.new) (topics_of reply.now) result }
+{
+    let mut gathered = Vec::with_capacity(alloc, GATHERED)?;
+    stream_topics(&mut gathered, writer, reply)?;
+    spill(&mut gathered, writer)
+}
+
+fn stream_topics<W: Write>(
+    gathered: &mut Vec<u8>,
+    writer: &mut W,
+    reply: &Reply,
+) -> Result<(), SendFault>
+    ensures { Streams (W.contents writer.old) (W.contents writer.new) gathered.old.items (topics_of reply.now) gathered.new.items result }
+{
+    match reply {
+        Reply::Metadata(answer) => stream_all(gathered, writer, answer.topics.as_slice()),
+        Reply::Fetch(answer) => stream_all(gathered, writer, answer.topics.as_slice()),
+        _ => Ok(()),
+    }
+}
+
+/// What stands before the topics of a long answer; nothing for what is written as a whole.
+fn front_of(alloc: Global, correlation: i32, reply: &Reply) -> Result<Option<Bytes>, AllocError>
+    ensures { IfOk result (λ front. IfSome front (IsFront correlation reply.now)) }
+{
+    match reply {
+        Reply::Metadata(answer) => metadata_front(alloc, correlation, answer),
+        Reply::Fetch(answer) => fetch_front(alloc, correlation, answer),
+        _ => Ok(None),
+    }
+}
+
+/// The size of a long answer and of its correlation id, as its size field tells it.
+fn long_size<B: Wire>(answer: &B) -> Option<i32>
+    ensures { IfSome result (IsSize B.grammar answer.now) }
+{
+    let size = i32::try_from(size(answer)?.checked_add(4)?).ok()?;
+    if size > LONGEST_WHOLE {
+        Some(size)
+    } else {
+        None
+    }
+}
+
+fn metadata_front(
+    alloc: Global,
+    correlation: i32,
+    answer: &MetadataReply,
+) -> Result<Option<Bytes>, AllocError>
+    ensures { IfOk result (λ front. IfSome front (IsFront correlation (replies.Metadata answer.now))) }
+{
+    let Some(size) = long_size(answer) else {
+        return Ok(None);
+    };
+    let mut out = Vec::new(alloc);
+    match put_metadata_front(&mut out, size, correlation, answer) {
+        Ok(()) => Ok(Some(Bytes::from_vec(out)?)),
+        Err(_) => Err(AllocError),
+    }
+}
+
+fn put_metadata_front(
+    out: &mut Vec<u8>,
+    size: i32,
+    correlation: i32,
+    answer: &MetadataReply,
+) -> Result<(), WriteFault>
+    ensures { Puts metadata_front (metadata_front_of size correlation answer.now) out.old.items result out.new.items }
+{
+    write_i32(out, size)?;
+    write_i32(out, correlation)?;
+    write_array(out, &answer.brokers)?;
+    write_i32(out, answer.controller)?;
+    write_count(out, answer.topics.len())
+}
+
+fn fetch_front(
+    alloc: Global,
+    correlation: i32,
+    answer: &FetchReply,
+) -> Result<Option<Bytes>, AllocError>
+    ensures { IfOk result (λ front. IfSome front (IsFront correlation (replies.Fetch answer.now))) }
+{
+    let Some(size) = long_size(answer) else {
+        return Ok(None);
+    };
+    let mut out = Vec::new(alloc);
+    match put_fetch_front(&mut out, size, correlation, answer) {
+        Ok(()) => Ok(Some(Bytes::from_vec(out)?)),
+        Err(_) => Err(AllocError),
+    }
+}
+
+fn put_fetch_front(
+    out: &mut Vec<u8>,
+    size: i32,
+    correlation: i32,
+    answer: &FetchReply,
+) -> Result<(), WriteFault>
+    ensures { Puts fetch_front (fetch_front_of size correlation answer.now) out.old.items result out.new.items }
+{
+    write_i32(out, size)?;
+    write_i32(out, correlation)?;
+    write_i32(out, answer.throttle)?;
+    write_count(out, answer.topics.len())
+}

@@ -1,0 +1,187 @@
+//! Values that are written part after part: what they spell is gathered, and goes to a writer whenever there is enough of it.
+
+ghost use Rattle.std.specs.Prelude.{◌≡◌, List, ℕ, [], length, OnOk};
+ghost use Rattle.wire_types.specs.Spelling.{many_written};
+ghost use Rattle.wire_types.specs.Writing.{Puts};
+ghost use Rattle.wire_types.specs.Device.{Wrote};
+ghost use Rattle.session_pool.specs.Streaming.{Streams, records_head, records_head_of, topic_head};
+
+use msg_data::{FetchedRecords, TopicInfo};
+use std::alloc::AllocError;
+use std::io;
+use std::io::Write;
+use wire_types::{
+    Piece, Topic, Wire, WriteFault, write_count, write_i32, write_i64, write_nullable_array,
+    write_string, write_whole,
+};
+
+/// So many bytes are written once they are gathered.
+pub(crate) const GATHERED: usize = 65_536;
+
+/// So many bytes in a row aren't gathered: they are written from where they stand.
+const UNCOPIED: usize = 32_768;
+
+/// Why not all was written.
+#[derive(Clone, Copy, Debug, PartialEq, Eq)]
+pub(crate) enum SendFault {
+    /// Memory was refused.
+    NoMemory,
+    /// A write failed.
+    Write,
+}
+
+impl From<AllocError> for SendFault {
+    ghost use Rattle.session_pool.specs.declared.streamed.SendFault.TheVariants as faults;
+
+    ghost from_gives = { λ _ fault. fault ≡ faults.NoMemory };
+
+    fn from(_: AllocError) -> SendFault {
+        SendFault::NoMemory
+    }
+}
+
+/// What is streamed has a size, so no length in it is too long for its field.
+impl From<WriteFault> for SendFault {
+    ghost use Rattle.session_pool.specs.declared.streamed.SendFault.TheVariants as faults;
+
+    ghost from_gives = { λ _ fault. fault ≡ faults.NoMemory };
+
+    fn from(_: WriteFault) -> SendFault {
+        SendFault::NoMemory
+    }
+}
+
+impl From<io::Error> for SendFault {
+    ghost use Rattle.session_pool.specs.declared.streamed.SendFault.TheVariants as faults;
+
+    ghost from_gives = { λ _ fault. fault ≡ faults.Write };
+
+    fn from(_: io::Error) -> SendFault {
+        SendFault::Write
+    }
+}
+
+/// Writes what was gathered.
+pub(crate) fn spill<W: Write>(gathered: &mut Vec<u8>, writer: &mut W) -> Result<(), SendFault>
+    ensures streams { Streams (W.contents writer.old) (W.contents writer.new) gathered.old.items [] gathered.new.items result }
+    ensures empty { OnOk result (gathered.new.items ≡ []) }
+{
+    write_whole(writer, gathered.as_slice())?;
+    gathered.clear();
+    Ok(())
+}
+
+/// Writes what was gathered once it is enough.
+fn spill_enough<W: Write>(gathered: &mut Vec<u8>, writer: &mut W) -> Result<(), SendFault>
+    ensures { Streams (W.contents writer.old) (W.contents writer.new) gathered.old.items [] gathered.new.items result }
+{
+    if gathered.len() < GATHERED {
+        return Ok(());
+    }
+    spill(gathered, writer)
+}
+
+/// Bytes after those that were gathered.
+fn stream_bytes<W: Write>(
+    gathered: &mut Vec<u8>,
+    writer: &mut W,
+    bytes: &[u8],
+) -> Result<(), SendFault>
+    ensures { Streams (W.contents writer.old) (W.contents writer.new) gathered.old.items bytes.now gathered.new.items result }
+{
+    if bytes.len() >= UNCOPIED {
+        spill(gathered, writer)?;
+        write_whole(writer, bytes)?;
+        return Ok(());
+    }
+    gathered.extend_from_slice(bytes)?;
+    spill_enough(gathered, writer)
+}
+
+/// A value of which no more is gathered at once than a part.
+pub(crate) trait Streamed {
+    /// The bytes that spell it.
+    ghost text: { Self → List ℕ };
+
+    /// Gathers its bytes after those that were gathered, and writes them whenever there are enough.
+    fn stream<W: Write>(&self, gathered: &mut Vec<u8>, writer: &mut W) -> Result<(), SendFault>
+        ensures { Streams (W.contents writer.old) (W.contents writer.new) gathered.old.items (text self.now) gathered.new.items result };
+}
+
+/// One value after the other.
+pub(crate) fn stream_all<T: Streamed, W: Write>(
+    gathered: &mut Vec<u8>,
+    writer: &mut W,
+    values: &[T],
+) -> Result<(), SendFault>
+    ensures { Streams (W.contents writer.old) (W.contents writer.new) gathered.old.items (many_written T.text values.now) gathered.new.items result }
+{
+    for value in values {
+        value.stream(gathered, writer)?;
+    }
+    Ok(())
+}
+
+impl Streamed for TopicInfo {
+    ghost use Rattle.msg_data.specs.Metadata.{topic};
+
+    ghost text = { topic.written };
+
+    fn stream<W: Write>(&self, gathered: &mut Vec<u8>, writer: &mut W) -> Result<(), SendFault> {
+        self.put(gathered)?;
+        spill_enough(gathered, writer)
+    }
+}
+
+impl Streamed for Piece {
+    ghost text = { λ piece. piece };
+
+    fn stream<W: Write>(&self, gathered: &mut Vec<u8>, writer: &mut W) -> Result<(), SendFault> {
+        let (own, shared) = self.runs();
+        stream_bytes(gathered, writer, own)?;
+        stream_bytes(gathered, writer, shared)
+    }
+}
+
+/// What stands before the records of a partition.
+fn put_records_head(out: &mut Vec<u8>, records: &FetchedRecords) -> Result<(), WriteFault>
+    ensures { Puts records_head (records_head_of records.now) out.old.items result out.new.items }
+{
+    write_i32(out, records.index)?;
+    records.error.write(out)?;
+    write_i64(out, records.high_watermark)?;
+    write_i64(out, records.last_stable_offset)?;
+    write_nullable_array(out, &records.aborted)?;
+    write_count(out, records.records.len())
+}
+
+impl Streamed for FetchedRecords {
+    ghost use Rattle.msg_data.specs.Fetch.{fetched_records};
+
+    ghost text = { fetched_records.written };
+
+    fn stream<W: Write>(&self, gathered: &mut Vec<u8>, writer: &mut W) -> Result<(), SendFault> {
+        put_records_head(gathered, self)?;
+        stream_all(gathered, writer, self.records.as_slice())
+    }
+}
+
+/// What stands before the partitions of a topic.
+fn put_topic_head(out: &mut Vec<u8>, topic: &Topic<FetchedRecords>) -> Result<(), WriteFault>
+    ensures { Puts topic_head (topic.now.name, length topic.now.partitions) out.old.items result out.new.items }
+{
+    write_string(out, &topic.name)?;
+    write_count(out, topic.partitions.len())
+}
+
+impl Streamed for Topic<FetchedRecords> {
+    ghost use Rattle.wire_types.specs.Topic.{topic_of};
+    ghost use Rattle.msg_data.specs.Fetch.{fetched_records};
+
+    ghost text = { (topic_of fetched_records).written };
+
+    fn stream<W: Write>(&self, gathered: &mut Vec<u8>, writer: &mut W) -> Result<(), SendFault> {
+        put_topic_head(gathered, self)?;
+        stream_all(gathered, writer, self.partitions.as_slice())
+    }
+}
