@@ -50,6 +50,9 @@ MISUSED = (
     LISTEN + ("--rate-bytes", "0"),
     LISTEN + ("--rate-bytes", "1000000000001"),
     LISTEN + ("--endless", "--connections", "1"),
+    LISTEN + ("--grace", "1000001"),
+    LISTEN + ("--grace", "-1"),
+    LISTEN + ("--stop-with-input",),
     LISTEN + ("--audit", "refusals.txt"),
     LISTEN + ("--audit",),
     LISTEN + ("--replay",),
@@ -426,26 +429,6 @@ class Operators(ServedCase):
                 logged_in(server.address).close()
             settled, told = server.settled()
         self.assertEqual((settled.sessions, told), (200, []))
-
-
-class Ends(ServedCase):
-    """When the server ends."""
-
-    def test_time_is_over(self):
-        """After its time no connection is taken any more, and the one that is open is served to its end."""
-        with ClockedKbroker(SETTINGS, connections=1000, more=("--for", "1")) as server:
-            with logged_in(server.address) as broker:
-                time.sleep(1.5)
-                with connect(server.address) as late:
-                    self.assertTrue(broker.ask("Metadata", topics=None)["topics"])
-                    late.settimeout(0.2)
-                    late.sendall(request_frame("SaslHandshake", 1, {"mechanism": "PLAIN"}))
-                    try:
-                        self.assertEqual(late.recv(1), b"", "a connection was taken late")
-                    except TimeoutError:
-                        pass
-            settled, told = server.settled()
-        self.assertEqual((settled.sessions, settled.refusals, told), (1, 0, []))
 
 
 class Names(ServedCase):

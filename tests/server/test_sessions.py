@@ -44,7 +44,10 @@ from tests.server.session_bytes import (
 from tests.server.told import BAD_FRAME, CUT, FULL, MALFORMED, NO_LOGIN
 from tests.support import connect
 
-
+# SaslHandshake in version 0, EndTxn in version 6, and an api that there isn't, each with a header alone.
+HANDSHAKE_IN_ZERO = "0000000a" + "00110000" + "00000001" + "ffff"
+END_IN_SIX = "0000000b" + "001a0006" + "00000003" + "ffff00"
+NO_API = "0000000a" + "03e70000" + "00000003" + "ffff"
 
 class Row(NamedTuple):
     """What is sent, what is answered, how many events it was, and why the session ended, where its input didn't end."""
@@ -157,10 +160,11 @@ class SessionBroker(Kbroker):
             return b"".join(pieces)
 
     def ended(self):
-        """What it did, and why each session ended that didn't end between two requests."""
+        """What it did, why each session ended that didn't end between two requests, and what is told of a frame that is none."""
         settled, lines = self.settled("end\n")
-        whys = (line.split(": ", 2) for line in lines)
-        return settled, {int(who.split(" ")[1]): why for _, who, why in whys}
+        unserved = {int(line.split(" ")[2]): line.split(" ", 3)[3] for line in lines if " asks " in line}
+        whys = (line.split(": ", 2) for line in lines if " asks " not in line)
+        return settled, {int(who.split(" ")[1]): why for _, who, why in whys}, unserved
 
 
 class Sessions(unittest.TestCase):
@@ -173,16 +177,31 @@ class Sessions(unittest.TestCase):
                     before, events = events, broker.state().events
                     self.assertEqual(found, "".join(row.answers))
                     self.assertEqual(events - before, row.events)
-            settled, whys = broker.ended()
+            settled, whys, unserved = broker.ended()
         self.assertEqual(settled, (len(ROWS), sum(it.events for it in ROWS), 0))
         self.assertEqual(whys, {number: row.why for number, row in enumerate(ROWS) if row.why})
+        self.assertEqual({*unserved}, {number for number, why in whys.items() if why == MALFORMED})
+
+    def test_an_operator_is_told_what_is_not_served(self):
+        rows = (
+            (HANDSHAKE_IN_ZERO, "asks SaslHandshake in version 0, which isn't served: 1 is"),
+            (HANDSHAKE + LOGIN + END_IN_SIX, "asks EndTxn in version 6, which isn't served: 0 to 5 are"),
+            (HANDSHAKE + LOGIN + NO_API, "asks api 999, which isn't served"),
+            ("0000000b0012000000000001ffff00", "asks ApiVersions in version 0, and the rest of its frame is no such request"),
+        )
+        with SessionBroker(1_000) as broker:
+            for asks, _ in rows:
+                broker.answers(bytes.fromhex(asks))
+            _, whys, unserved = broker.ended()
+        self.assertEqual(unserved, {number: told for number, (_, told) in enumerate(rows)})
+        self.assertEqual(whys, {number: MALFORMED for number in range(len(rows))})
 
     def test_a_full_trail(self):
         """The trail takes three events; the session ends at the fourth."""
         with SessionBroker(3) as broker:
             found = broker.answers(bytes.fromhex(HANDSHAKE + LOGIN + 4 * METADATA)).hex()
             self.assertEqual(found, HANDSHAKE_TOLD + LOGIN_TOLD + 3 * METADATA_TOLD)
-            self.assertEqual(broker.ended(), ((1, 3, 0), {0: FULL}))
+            self.assertEqual(broker.ended(), ((1, 3, 0), {0: FULL}, {}))
 
     def whom_it_logs_in(self, broker, message):
         """Whom a message logs in, as an audit line tells it of somebody who asks for the topic `a`, or None."""
@@ -207,6 +226,6 @@ class Sessions(unittest.TestCase):
                 for message in messages:
                     with self.subTest(message=message):
                         self.assertEqual(self.whom_it_logs_in(broker, message), whom)
-            settled, whys = broker.ended()
+            settled, whys, _ = broker.ended()
         self.assertEqual(settled, (len(LOG_ANN_IN + LOG_NOBODY_IN), len(LOG_ANN_IN), len(LOG_ANN_IN)))
         self.assertEqual(whys, {len(LOG_ANN_IN) + at: NO_LOGIN for at in range(len(LOG_NOBODY_IN))})

@@ -19,6 +19,7 @@ FULL = "the trail holds as many events as `trail_limit` allows"
 ALLOCATION_FAILED = "there is not enough memory"
 DOWN = "an earlier event put the broker down"
 READ_FAILED = "a read failed"
+WRITE_FAILED = "a write failed"
 
 
 def of_nobody(number, why):

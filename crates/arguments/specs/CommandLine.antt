@@ -51,13 +51,17 @@ with_serve_rates a = with_two_rules a (option_rule (codes "rate") false) (option
 abbrev pub with_serve_steering : App → App
 with_serve_steering a = with_two_rules a (option_rule (codes "settings") false) (flag_rule (codes "control"))
 
+-- those of how a server stops
+abbrev pub with_serve_ending : App → App
+with_serve_ending a = with_two_rules a (option_rule (codes "grace") false) (flag_rule (codes "stop-with-input"))
+
 -- those for clients that look for other versions
 abbrev pub with_serve_clients : App → App
 with_serve_clients a = with_rule a (flag_rule (codes "librdkafka"))
 
 -- the options of `serve`
 abbrev pub with_serve_options : App → App
-with_serve_options a = with_serve_clients (with_serve_steering (with_serve_rates (with_serve_shares (with_serve_deadlines (with_serve_switches (with_serve_numbers a))))))
+with_serve_options a = with_serve_clients (with_serve_ending (with_serve_steering (with_serve_rates (with_serve_shares (with_serve_deadlines (with_serve_switches (with_serve_numbers a)))))))
 
 abbrev pub serve_shape : Shape
 serve_shape = (with_serve_options (new_app (codes "serve"))).top

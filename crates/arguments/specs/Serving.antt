@@ -2,6 +2,7 @@
 use Rattle.std.specs.Prelude.{◌≡◌, ◌≤◌, ℕ, Bool, false, true, List, Option, Some, None, IfSome, codes, is_some, option_map}
 use Rattle.std.specs.Str.{bytes_eq}
 use Rattle.std.specs.Str.Parse.{IsNumeral, digits_value, without_leading_plus}
+use Rattle.arguments.specs.declared.serving.Ending.{Ending}
 use Rattle.arguments.specs.declared.serving.Serving.{Serving}
 
 abbrev pub IsIn : ℕ → ℕ → Type 0
@@ -10,6 +11,10 @@ IsIn most number = (1 ≤ number) × (number ≤ most)
 -- lines of standard input may steer a broker whose settings come from a file, and which tells refusals where it is asked
 abbrev pub MaySteer : Bool → Bool → Type 0
 MaySteer has_file audit = (has_file ≡ true) × (audit ≡ false)
+
+-- the end of standard input may stop a broker whose settings come from a file, and which no lines steer
+abbrev pub MayStop : Bool → Bool → Type 0
+MayStop has_file control = (has_file ≡ true) × (control ≡ false)
 
 -- at most 64 connections at once, 1,000,000 in all and of one host, times of at most 1,000,000 seconds, and of each user in a second
 -- at most 1,000,000,000 requests and 1,000,000,000,000 bytes
@@ -24,6 +29,8 @@ pub record IsWithin (s : Serving) : Type 0 where
   pub rate : IfSome s.rate (IsIn 1000000000)
   pub rate_bytes : IfSome s.rate_bytes (IsIn 1000000000000)
   pub steered : s.control ≡ true → MaySteer (is_some s.settings) s.audit
+  pub grace_seconds : IfSome s.ending.grace_seconds (λ seconds. seconds ≤ 1000000)
+  pub stopped : s.ending.with_input ≡ true → MayStop (is_some s.settings) s.control
 
 -- a text writes a number in decimal digits, a plus before them or not
 abbrev pub Writes : List ℕ → ℕ → Type 0
@@ -53,6 +60,11 @@ abbrev pub is_given : Option (List ℕ) → Bool
 is_given None = false
 is_given (Some value) = bytes_eq value (codes "true")
 
+-- how a server stops, as the values of the options have it
+pub record EndsBy (value_of : List ℕ → Option (List ℕ)) (ending : Ending) : Type 0 where
+  pub grace_seconds : TellsIfGiven (value_of (codes "grace")) ending.grace_seconds
+  pub with_input : ending.with_input ≡ is_given (value_of (codes "stop-with-input"))
+
 -- how the values of the options have it
 pub record IsServedBy (value_of : List ℕ → Option (List ℕ)) (s : Serving) : Type 0 where
   pub listen : value_of (codes "listen") ≡ Some s.listen.now
@@ -70,6 +82,7 @@ pub record IsServedBy (value_of : List ℕ → Option (List ℕ)) (s : Serving) 
   pub audit : TellsAudit (value_of (codes "audit")) s.audit
   pub settings : option_map (λ file. file.now) s.settings ≡ value_of (codes "settings")
   pub control : s.control ≡ is_given (value_of (codes "control"))
+  pub ending : EndsBy value_of s.ending
   pub librdkafka : s.librdkafka ≡ is_given (value_of (codes "librdkafka"))
 
 -- these values say of no way within the limits how connections are served

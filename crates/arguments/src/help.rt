@@ -97,6 +97,12 @@ standard output once it is done:
 Another line is answered `unreadable`, and a step that is not taken `stop N`. The end of standard
 input is `end`.
 
+With `--stop-with-input` the broker keeps its own time. `audit` and `state` are answered as above, and
+every other line but `end` is answered `unreadable`. `end` and the end of standard input stop the
+broker, as the end of the time of `--for` does: no more connections are taken, no further request is
+read, answers that are due are written, and so are markers that are owed. Connections that are still
+open after the seconds of `--grace` are closed.
+
 With `--librdkafka` ApiVersions lists, before a login, SaslHandshake and FindCoordinator from version
 0 on: librdkafka, on which kcat and confluent-kafka stand, logs in only where it sees them so, and
 then asks them in version 1. Version 0 of the two is not served. And since such a client asks again
@@ -134,8 +140,7 @@ pub(crate) const RATE: &str =
 pub(crate) const RATE_BYTES: &str =
     "How many bytes of requests each user may send in a second, 1 to 1,000,000,000,000; above that its sessions wait before they read on; any number if it isn't given";
 
-pub(crate) const FOR: &str =
-    "For how many seconds connections are taken, 1 to 1,000,000; those that are open then are served to their end";
+pub(crate) const FOR: &str = "After how many seconds the broker stops, 1 to 1,000,000; see --grace";
 
 pub(crate) const IDLE: &str =
     "After how many seconds of waiting for its peer a connection is closed, 1 to 1,000,000; never if it isn't given";
@@ -154,6 +159,12 @@ pub(crate) const SETTINGS: &str =
 
 pub(crate) const CONTROL: &str =
     "Lines of standard input steer the broker, in place of the clock; with --settings, and without --audit";
+
+pub(crate) const GRACE: &str =
+    "How many seconds after a stop the connections that are still open are closed, 0 to 1,000,000; 5 if it isn't given, and with --control never";
+
+pub(crate) const STOP_WITH_INPUT: &str =
+    "The end of standard input stops the broker, and so does a line `end`; with --settings, and without --control";
 
 pub(crate) const LIBRDKAFKA: &str =
     "ApiVersions lists before a login what librdkafka looks for: SaslHandshake and FindCoordinator from version 0";

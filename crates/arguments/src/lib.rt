@@ -6,4 +6,4 @@ mod job;
 mod serving;
 
 pub use job::{Job, arguments};
-pub use serving::Serving;
+pub use serving::{Ending, Serving};

@@ -5,15 +5,24 @@ ghost use Rattle.clap.specs.Simple.{app_of};
 ghost use Rattle.clap.specs.Matches.{first_value, found_of};
 ghost use Rattle.clap.specs.Walk.{rule_of};
 ghost use Rattle.clap.specs.declared.builder.command.Command.TheViews.{out-Command as fields_of};
-ghost use Rattle.arguments.specs.CommandLine.{flag_rule, option_rule, with_rules, with_two_rules, with_serve_clients, with_serve_deadlines, with_serve_numbers, with_serve_options, with_serve_rates, with_serve_shares, with_serve_steering, with_serve_switches};
-ghost use Rattle.arguments.specs.Serving.{GoesUncounted, IsIn, IsServedBy, IsWithin, MaySteer, NoneServes, Tells, TellsAudit, TellsIfGiven, Writes, is_given};
+ghost use Rattle.arguments.specs.CommandLine.{flag_rule, option_rule, with_rules, with_two_rules, with_serve_clients, with_serve_deadlines, with_serve_ending, with_serve_numbers, with_serve_options, with_serve_rates, with_serve_shares, with_serve_steering, with_serve_switches};
+ghost use Rattle.arguments.specs.Serving.{EndsBy, GoesUncounted, IsIn, IsServedBy, IsWithin, MayStop, MaySteer, NoneServes, Tells, TellsAudit, TellsIfGiven, Writes, is_given};
 
 use crate::help::{
-    AUDIT, CONNECTIONS, CONTROL, ENDLESS, FOR, FRAME_WITHIN, IDLE, LIBRDKAFKA, LISTEN,
-    LOGIN_WITHIN, PER_HOST, RATE, RATE_BYTES, SETTINGS, WORKERS,
+    AUDIT, CONNECTIONS, CONTROL, ENDLESS, FOR, FRAME_WITHIN, GRACE, IDLE, LIBRDKAFKA, LISTEN,
+    LOGIN_WITHIN, PER_HOST, RATE, RATE_BYTES, SETTINGS, STOP_WITH_INPUT, WORKERS,
 };
 use clap::{Arg, ArgAction, ArgMatches, Command};
 use std::alloc::{AllocError, Global};
+
+/// How a server stops.
+#[derive(Clone, Copy, Debug, PartialEq, Eq)]
+pub struct Ending {
+    /// How many seconds after it open connections are closed, 0 to 1,000,000, if that is given.
+    pub grace_seconds: Option<u64>,
+    /// Whether the end of standard input stops it.
+    pub with_input: bool,
+}
 
 /// How a listener's connections are served.
 #[derive(Clone, Copy, Debug, PartialEq, Eq)]
@@ -46,6 +55,8 @@ pub struct Serving<'a> {
     pub settings: Option<&'a str>,
     /// Whether lines of standard input steer the broker, in place of the clock.
     pub control: bool,
+    /// How it stops.
+    pub ending: Ending,
     /// Whether ApiVersions lists before a login what librdkafka looks for.
     pub librdkafka: bool,
 }
@@ -84,6 +95,8 @@ pub(crate) enum Misused {
     RateBytes,
     Audit,
     Control,
+    Grace,
+    StopWithInput,
 }
 
 impl Misused {
@@ -106,6 +119,10 @@ impl Misused {
             Misused::Audit => "--audit takes - alone, which is standard error",
             Misused::Control => {
                 "--control takes standard input, so --settings names the settings' file; --audit doesn't go with it"
+            }
+            Misused::Grace => "--grace takes a number of seconds from 0 to 1000000",
+            Misused::StopWithInput => {
+                "--stop-with-input takes standard input, so --settings names the settings' file; --control doesn't go with it"
             }
         }
     }
@@ -232,6 +249,16 @@ fn with_steering<'a>(alloc: Global, command: Command<'a>) -> Result<Command<'a>,
     with_two(command, settings, control)
 }
 
+/// The command with the options of how a server stops.
+fn with_ending<'a>(alloc: Global, command: Command<'a>) -> Result<Command<'a>, AllocError>
+    ensures app { IfOk result (λ made. app_of made ≡ with_serve_ending (app_of command.entry)) }
+    ensures local { IfOk result (λ made. (fields_of made).has_globals ≡ (fields_of command.entry).has_globals) }
+{
+    let grace = option(alloc, "grace", "SECONDS", GRACE, false);
+    let with_input = flag(alloc, "stop-with-input", STOP_WITH_INPUT);
+    with_two(command, grace, with_input)
+}
+
 /// The command with the options for clients that look for other versions.
 fn with_clients<'a>(alloc: Global, command: Command<'a>) -> Result<Command<'a>, AllocError>
     ensures app { IfOk result (λ made. app_of made ≡ with_serve_clients (app_of command.entry)) }
@@ -254,6 +281,7 @@ pub(crate) fn with_options<'a>(
     let command = with_shares(alloc, command)?;
     let command = with_rates(alloc, command)?;
     let command = with_steering(alloc, command)?;
+    let command = with_ending(alloc, command)?;
     with_clients(alloc, command)
 }
 
@@ -367,6 +395,65 @@ fn control_of(text: Option<&str>, settings: Option<&str>, audit: bool) -> Result
     Ok(true)
 }
 
+/// The seconds that a text writes, if they are few enough. There may be none.
+fn grace_in(text: &str) -> Option<u64>
+    ensures some { IfSome result (λ seconds. seconds ≤ 1000000 × Writes text.now seconds) }
+    ensures none { IfNone result ((seconds : _) → seconds ≤ 1000000 → Writes text.now seconds → ⊥) }
+{
+    match text.parse::<u64>() {
+        Ok(seconds) if seconds <= MOST_SECONDS => Some(seconds),
+        _ => None,
+    }
+}
+
+/// The seconds of grace, if they are given.
+fn grace_of(text: Option<&str>) -> Result<Option<u64>, Misused>
+    ensures within { IfOk result (λ told. IfSome told (λ seconds. seconds ≤ 1000000)) }
+    ensures told { IfOk result (TellsIfGiven (option_map (λ t. t.now) text.entry)) }
+    ensures none { IfErr result (λ _. (told : _) → IfSome told (λ seconds. seconds ≤ 1000000) → TellsIfGiven (option_map (λ t. t.now) text.entry) told → ⊥) }
+{
+    let Some(text) = text else {
+        return Ok(None);
+    };
+    match grace_in(text) {
+        Some(seconds) => Ok(Some(seconds)),
+        None => Err(Misused::Grace),
+    }
+}
+
+/// Whether the end of standard input stops a server, whose settings then come from a file, and which no lines steer.
+fn with_input_of(text: Option<&str>, settings: Option<&str>, control: bool) -> Result<bool, Misused>
+    ensures told { IfOk result (λ told. told ≡ is_given (option_map (λ t. t.now) text.entry)) }
+    ensures stopped { IfOk result (λ told. told ≡ true → MayStop (is_some settings.entry) control) }
+    ensures none { IfErr result (λ _. (is_given (option_map (λ t. t.now) text.entry) ≡ true) × (MayStop (is_some settings.entry) control → ⊥)) }
+{
+    if !is_given(text) {
+        return Ok(false);
+    }
+    if settings.is_none() || control {
+        return Err(Misused::StopWithInput);
+    }
+    Ok(true)
+}
+
+/// How a server stops, by these options.
+fn ending_by(
+    options: &ArgMatches<'_>,
+    settings: Option<&str>,
+    control: bool,
+) -> Result<Ending, Misused>
+    ensures within { IfOk result (λ ending. IfSome ending.grace_seconds (λ seconds. seconds ≤ 1000000)) }
+    ensures stopped { IfOk result (λ ending. ending.with_input ≡ true → MayStop (is_some settings.entry) control) }
+    ensures told { IfOk result (EndsBy (first_value (found_of options.now))) }
+    ensures none { IfErr result (λ _. (ending : Ending) → EndsBy (first_value (found_of options.now)) ending
+        → IfSome ending.grace_seconds (λ seconds. seconds ≤ 1000000) → (ending.with_input ≡ true → MayStop (is_some settings.entry) control) → ⊥) }
+{
+    Ok(Ending {
+        grace_seconds: grace_of(options.get_str("grace"))?,
+        with_input: with_input_of(options.get_str("stop-with-input"), settings, control)?,
+    })
+}
+
 /// How connections are served, by these options.
 pub(crate) fn serving_by<'a>(options: &ArgMatches<'a>) -> Result<Serving<'a>, Misused>
     ensures within { IfOk result IsWithin }
@@ -392,6 +479,7 @@ pub(crate) fn serving_by<'a>(options: &ArgMatches<'a>) -> Result<Serving<'a>, Mi
     let audit = audit_of(options.get_str("audit"))?;
     let settings = options.get_str("settings");
     let control = control_of(options.get_str("control"), settings, audit)?;
+    let ending = ending_by(options, settings, control)?;
     let librdkafka = is_given(options.get_str("librdkafka"));
     Ok(Serving {
         listen,
@@ -408,6 +496,7 @@ pub(crate) fn serving_by<'a>(options: &ArgMatches<'a>) -> Result<Serving<'a>, Mi
         audit,
         settings,
         control,
+        ending,
         librdkafka,
     })
 }

@@ -2,25 +2,16 @@
 
 ghost use Rattle.std.specs.Prelude.{None};
 
-use crate::news::{lines_of, refusals_since};
-use crate::said::{Said, parse_said};
-use crate::standing::{Moment, front_of, moment_of, open_ones, standing_of};
-use crate::state_text::{front_text, moment_text, state_text};
-use authorizer::Refusal;
+use crate::asking::{Asking, Steering};
+use crate::said::Said;
+use crate::standing::{Moment, front_of, moment_of, open_ones};
+use crate::state_text::{front_text, moment_text};
 use request_handlers::{Core, Stop};
-use session_pool::{Closing, DeskLedger, LockedDesk, Step, Steps, Why};
+use session_pool::{DeskLedger, LockedDesk, Step, Steps, Why};
 use std::alloc::{AllocError, Global};
 use std::io::{BufRead, Write};
 use std::sync::Wait;
 use transactions::OwedMarker;
-use wire_types::write_whole;
-
-/// Lines that steer a broker, and where each is answered.
-#[derive(Drop)]
-pub struct Steering<I, O> {
-    pub lines: I,
-    pub answers: O,
-}
 
 /// What the keeper does for the last line.
 #[derive(Clone, Copy, Debug, PartialEq, Eq)]
@@ -60,40 +51,12 @@ enum Turn {
 pub struct Control<'d, 'r, L: DeskLedger, R: Wait, I: BufRead, O: Write> {
     rt: &'r R,
     alloc: Global,
-    desk: &'d LockedDesk<L, &'r R>,
-    closing: &'d Closing,
-    steering: Steering<I, O>,
+    asking: Asking<'d, 'r, L, R, I, O>,
     doing: Doing,
     /// How many markers are owed.
     left: u64,
     /// What is to be told of the step.
     seen: Seen,
-    /// How many entries of the trail were told of.
-    told: usize,
-}
-
-/// The refusals since the last time, and how many entries the trail has.
-#[derive(Drop)]
-struct Refused {
-    refusals: Vec<Refusal>,
-    len: usize,
-}
-
-/// The refusals of the entries from a place on.
-fn refused_since(alloc: Global, core: &Core, since: usize) -> Result<Refused, AllocError> {
-    let trail = core.trail();
-    Ok(Refused {
-        refusals: refusals_since(alloc, trail, since)?,
-        len: trail.len(),
-    })
-}
-
-/// A line for each refusal, and at last `refusals N`: how many they are.
-fn refused_text(alloc: Global, refusals: &[Refusal]) -> Result<String, AllocError> {
-    let count = refusals.len();
-    let mut text = lines_of(alloc, refusals)?;
-    text.push_str(format!(in alloc; "refusals {count}\n")?.as_str())?;
-    Ok(text)
 }
 
 /// What is told of a step that was taken: the marker that was written, or the moment and what it aborted.
@@ -128,82 +91,33 @@ impl<'d, 'r, L: DeskLedger, R: Wait, I: BufRead, O: Write> Control<'d, 'r, L, R,
         rt: &'r R,
         alloc: Global,
         desk: &'d LockedDesk<L, &'r R>,
-        closing: &'d Closing,
-        steering: Steering<I, O>,
+        steering: Steering<'d, I, O>,
     ) -> Control<'d, 'r, L, R, I, O> {
         Control {
             rt,
             alloc,
-            desk,
-            closing,
-            steering,
+            asking: Asking::new(alloc, desk, steering),
             doing: Doing::Nothing,
             left: 0,
             seen: Seen::Nothing,
-            told: 0,
         }
-    }
-
-    /// Answers with whole lines. Whoever doesn't read them misses them.
-    fn say(&mut self, lines: &str) {
-        let _ = write_whole(&mut self.steering.answers, lines.as_bytes());
-    }
-
-    /// Answers with lines, or tells that memory was refused for them.
-    fn say_or_stop(&mut self, lines: Result<String, AllocError>) {
-        match lines {
-            Ok(lines) => self.say(lines.as_str()),
-            Err(_) => self.say(Stop::NoMemory.line()),
-        }
-    }
-
-    /// What the next line asks for; none where it can't be read. The end of the lines is `end`.
-    fn read(&mut self) -> Option<Said> {
-        let mut line = Vec::new(self.alloc);
-        match self.steering.lines.read_until(b'\n', &mut line) {
-            Ok(count) if count > 0 => {}
-            _ => return Some(Said::End),
-        }
-        match line.as_slice().split_last() {
-            Some((last, front)) if *last == b'\n' => parse_said(front),
-            _ => parse_said(line.as_slice()),
-        }
-    }
-
-    fn tell_state(&mut self) {
-        let alloc = self.alloc;
-        let lines = match self.desk.look(|core| standing_of(alloc, core)) {
-            Ok(standing) => state_text(alloc, &standing),
-            Err(error) => Err(error),
-        };
-        self.say_or_stop(lines);
-    }
-
-    fn tell_refusals(&mut self) {
-        let (alloc, told) = (self.alloc, self.told);
-        let lines = match self.desk.look(|core| refused_since(alloc, core, told)) {
-            Ok(Refused { refusals, len }) => {
-                let text = refused_text(alloc, refusals.as_slice());
-                if text.is_ok() {
-                    self.told = len;
-                }
-                text
-            }
-            Err(error) => Err(error),
-        };
-        self.say_or_stop(lines);
     }
 
     /// `markers N` after the last of them.
     fn tell_markers(&mut self, count: u64) {
         self.doing = Doing::Nothing;
         let line = format!(in self.alloc; "markers {count}\n");
-        self.say_or_stop(line);
+        self.asking.say_or_stop(line);
     }
 
     /// The first mark, if one is owed.
     fn first_of_marks(&mut self) -> Turn {
-        if self.desk.look(|core| core.world().coordinator.owed()) > 0 {
+        if self
+            .asking
+            .desk
+            .look(|core| core.world().coordinator.owed())
+            > 0
+        {
             return Turn::Steps(Doing::Marks(0), Step::Mark);
         }
         self.tell_markers(0);
@@ -215,8 +129,8 @@ impl<'d, 'r, L: DeskLedger, R: Wait, I: BufRead, O: Write> Control<'d, 'r, L, R,
             Said::Tick(moment) => return Turn::Steps(Doing::Tick, Step::Tick(moment)),
             Said::Mark => return Turn::Steps(Doing::Mark, Step::Mark),
             Said::Marks => return self.first_of_marks(),
-            Said::Audit => self.tell_refusals(),
-            Said::State => self.tell_state(),
+            Said::Audit => self.asking.tell_refusals(),
+            Said::State => self.asking.tell_state(),
             Said::End => return Turn::Ends,
         }
         Turn::Told
@@ -231,7 +145,7 @@ impl<'d, 'r, L: DeskLedger, R: Wait, I: BufRead, O: Write> Control<'d, 'r, L, R,
             Err(error) => Err(error),
         };
         self.seen = Seen::Nothing;
-        self.say_or_stop(line);
+        self.asking.say_or_stop(line);
         self.doing = match self.doing {
             Doing::Marks(count) => Doing::Marks(count.saturating_add(1)),
             _ => Doing::Nothing,
@@ -267,8 +181,8 @@ impl<'d, 'r, L: DeskLedger, R: Wait, I: BufRead, O: Write> Steps for Control<'d,
         }
         let rt = self.rt;
         for _ in rt.forever() {
-            let Some(said) = self.read() else {
-                self.say("unreadable\n");
+            let Some(said) = self.asking.read() else {
+                self.asking.say_unreadable();
                 continue;
             };
             match self.turn(said) {
@@ -280,7 +194,7 @@ impl<'d, 'r, L: DeskLedger, R: Wait, I: BufRead, O: Write> Steps for Control<'d,
                 Turn::Ends => break,
             }
         }
-        self.closing.close();
+        self.asking.close();
         None
     }
 
@@ -289,7 +203,7 @@ impl<'d, 'r, L: DeskLedger, R: Wait, I: BufRead, O: Write> Steps for Control<'d,
             Ok(left) => self.tell_step(left),
             Err(why) => {
                 self.doing = Doing::Nothing;
-                self.say(stop_line(why));
+                self.asking.say(stop_line(why));
             }
         }
         true

@@ -30,12 +30,13 @@ impl<'d, 'r, L: DeskLedger, R: Wait + time::Clock> Timekeeper<'d, 'r, L, R> {
 impl<'d, 'r, L: DeskLedger, R: Wait + time::Clock> Steps for Timekeeper<'d, 'r, L, R> {
     ghost owed = { λ keeper. Some keeper.clock.left };
 
-    /// Until all workers have ended there is a next step.
+    /// Until all workers have ended there is a next step, and where they left markers owed, there is one afterwards too.
     fn next(&mut self, done: bool) -> Option<Step>
         ensures step { IfSome result (λ step. IsDue (Some self.old.clock.left) (step_event step)) }
         ensures owed { self.new.clock.left ≡ self.old.clock.left }
         ensures goes_on { done ≡ false → IsSome result }
     {
+        let done = done && !self.watch.owes_markers();
         if done {
             self.watch.look();
         }

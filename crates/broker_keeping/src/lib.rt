@@ -1,6 +1,7 @@
 //! What tells the keeper of a served broker its steps, by the clock or by lines that steer it, and what is said to an operator.
 #![tactic(auto)]
 
+mod asking;
 mod control;
 mod keeping;
 mod news;
@@ -10,9 +11,11 @@ mod standing;
 mod state_text;
 mod teller;
 mod ticks;
+mod unserved;
 mod watch;
 
-pub use control::{Control, Steering};
+pub use asking::{Attendant, Steering};
+pub use control::Control;
 pub use keeping::Timekeeper;
 pub use sentences::Sentences;
 pub use teller::Teller;

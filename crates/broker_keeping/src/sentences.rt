@@ -4,6 +4,7 @@ ghost use Rattle.std.specs.Prelude.{◌≡◌, ◌==◌};
 ghost use Rattle.std.specs.List.{count_by};
 
 use crate::teller::{Saying, Teller};
+use crate::unserved::unserved_line;
 use admission::Doorman;
 use crossbeam_channel::Sender;
 use request_handlers::MOST_SEATS;
@@ -146,6 +147,13 @@ impl<'r, R: Wait> Gate for Sentences<'r, R> {
     fn logged_in(&self, _session: u64, _who: &Text) {}
 
     fn after(&self, _session: u64, _frame: u64) {}
+
+    /// Says which api it asks, and what of it is served.
+    fn garbled(&self, session: u64, kept: &[u8]) {
+        if let Some(line) = unserved_line(self.alloc, session, kept) {
+            self.say(line);
+        }
+    }
 
     fn ended(&self, session: u64, host: &Text, who: Option<&Text>, why: Why) {
         if why != Why::Closed {

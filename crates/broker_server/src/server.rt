@@ -9,7 +9,7 @@ ghost use Rattle.request_handlers.specs.Seats.{most_seats};
 ghost use Rattle.session_workers.specs.Ends.{AreEnds};
 
 use crate::lines::{Failure, Unbegun, failure_line, listening_line, settled_line};
-use broker_keeping::{Control, Sentences, Steering, Teller, Ticks, Timekeeper, Watch};
+use broker_keeping::{Attendant, Control, Sentences, Steering, Teller, Ticks, Timekeeper, Watch};
 use request_handlers::{Core, MOST_SEATS, Receipt, Seat};
 use session_logins::Users;
 use session_pool::{Closing, DeskLedger, LockedDesk, SessionEnd};
@@ -83,15 +83,12 @@ fn settle_ends<L: DeskLedger, R: Wait + Drop>(
     }
 }
 
-/// Serves a listener's connections while the keeper does its steps: those of the lines where they steer the broker, and else
-/// those of the clock.
-fn serve_steps<
+/// Serves a listener's connections while the keeper does the steps of the clock.
+fn serve_clocked<
     'x,
     'r,
     L: DeskLedger + Send + Sync,
     R: Net<Listener = TcpListener, Stream = TcpStream> + Threads + Wait + time::Clock + Sync,
-    I: BufRead + Drop,
-    O: Write + Drop,
 >(
     rt: &'r R,
     alloc: Global,
@@ -99,47 +96,122 @@ fn serve_steps<
     users: &'x Shared<Users>,
     listener: &'x TcpListener,
     options: ServeOptions,
-    steering: Option<Steering<I, O>>,
-    closing: &'x Closing,
+    closing: Option<&'x Closing>,
     sentences: &'x Sentences<'r, R>,
 ) -> Result<Ended<L>, PoolFault>
     ensures { IfOk result (λ ended. (owed : Option ℕ) × AreEnds owed ended.ends.items) }
 {
     let ServeOptions { connections, audit } = options;
     let here: &'x R = rt;
-    match steering {
-        None => {
-            let watch = Watch::new(alloc, desk, sentences, audit);
-            let ticks = Ticks::new(rt, desk);
-            let keeper = Timekeeper::new(ticks, watch);
-            serve_connections(
-                here,
+    let watch = Watch::new(alloc, desk, sentences, audit);
+    let ticks = Ticks::new(rt, desk);
+    let keeper = Timekeeper::new(ticks, watch);
+    serve_connections(
+        here,
+        alloc,
+        desk,
+        users,
+        listener,
+        connections,
+        closing,
+        keeper,
+        sentences,
+    )
+}
+
+/// The same, while an attendant in a thread of its own reads lines; where none can be made for it, nothing is served. Once all is
+/// served, it is closed.
+fn serve_attended<
+    'x,
+    'r,
+    L: DeskLedger + Send + Sync,
+    R: Net<Listener = TcpListener, Stream = TcpStream> + Threads + Wait + time::Clock + Sync,
+    I: BufRead + Drop + Send,
+    O: Write + Drop + Send,
+>(
+    rt: &'r R,
+    alloc: Global,
+    desk: &'x LockedDesk<L, &'r R>,
+    users: &'x Shared<Users>,
+    listener: &'x TcpListener,
+    options: ServeOptions,
+    steering: Steering<'x, I, O>,
+    sentences: &'x Sentences<'r, R>,
+) -> Result<Ended<L>, PoolFault>
+    ensures { IfOk result (λ ended. (owed : Option ℕ) × AreEnds owed ended.ends.items) }
+{
+    let here: &'x R = rt;
+    let closing = steering.closing;
+    let attendant = Attendant::new(rt, alloc, desk, steering);
+    thread::scope(
+        thread::scope_env(),
+        here,
+        move |scope| -> Result<Ended<L>, PoolFault>
+            ensures { IfOk result (λ ended. (owed : Option ℕ) × AreEnds owed ended.ends.items) }
+        {
+            let attending = scope.spawn(move || attendant.attend());
+            if attending.is_err() {
+                return Err(PoolFault::NoThread);
+            }
+            let ended = serve_clocked(
+                rt,
                 alloc,
                 desk,
                 users,
                 listener,
-                connections,
-                None,
-                keeper,
+                options,
+                Some(closing),
                 sentences,
-            )
-        }
-        Some(steering) => {
-            let keeper = Control::new(rt, alloc, desk, closing, steering);
-            let closing = Some(closing);
-            serve_connections(
-                here,
-                alloc,
-                desk,
-                users,
-                listener,
-                connections,
-                closing,
-                keeper,
-                sentences,
-            )
-        }
+            );
+            closing.close();
+            ended
+        },
+    )
+}
+
+/// Serves a listener's connections while the keeper does its steps: those of the lines where they steer the broker in place of the
+/// clock, and else those of the clock.
+fn serve_steps<
+    'x,
+    'r,
+    L: DeskLedger + Send + Sync,
+    R: Net<Listener = TcpListener, Stream = TcpStream> + Threads + Wait + time::Clock + Sync,
+    I: BufRead + Drop + Send,
+    O: Write + Drop + Send,
+>(
+    rt: &'r R,
+    alloc: Global,
+    desk: &'x LockedDesk<L, &'r R>,
+    users: &'x Shared<Users>,
+    listener: &'x TcpListener,
+    options: ServeOptions,
+    steering: Option<Steering<'x, I, O>>,
+    sentences: &'x Sentences<'r, R>,
+) -> Result<Ended<L>, PoolFault>
+    ensures { IfOk result (λ ended. (owed : Option ℕ) × AreEnds owed ended.ends.items) }
+{
+    let Some(steering) = steering else {
+        return serve_clocked(rt, alloc, desk, users, listener, options, None, sentences);
+    };
+    if !steering.without_clock {
+        return serve_attended(
+            rt, alloc, desk, users, listener, options, steering, sentences,
+        );
     }
+    let here: &'x R = rt;
+    let closing = Some(steering.closing);
+    let keeper = Control::new(rt, alloc, desk, steering);
+    serve_connections(
+        here,
+        alloc,
+        desk,
+        users,
+        listener,
+        options.connections,
+        closing,
+        keeper,
+        sentences,
+    )
 }
 
 /// The same, while a teller in a thread of its own writes what is said to an operator; where none can be made for it, nothing is
@@ -150,8 +222,8 @@ fn serve_kept<
     L: DeskLedger + Send + Sync,
     R: Net<Listener = TcpListener, Stream = TcpStream> + Threads + Wait + time::Clock + Sync,
     E: Write + Drop + Send,
-    I: BufRead + Drop,
-    O: Write + Drop,
+    I: BufRead + Drop + Send,
+    O: Write + Drop + Send,
 >(
     rt: &'r R,
     alloc: Global,
@@ -159,8 +231,7 @@ fn serve_kept<
     users: &'x Shared<Users>,
     listener: &'x TcpListener,
     options: ServeOptions,
-    steering: Option<Steering<I, O>>,
-    closing: &'x Closing,
+    steering: Option<Steering<'x, I, O>>,
     sentences: &'x Sentences<'r, R>,
     teller: Teller<E>,
 ) -> Result<Ended<L>, PoolFault>
@@ -178,7 +249,7 @@ fn serve_kept<
                 return Err(PoolFault::NoThread);
             }
             let ended = serve_steps(
-                rt, alloc, desk, users, listener, options, steering, closing, sentences,
+                rt, alloc, desk, users, listener, options, steering, sentences,
             );
             sentences.end();
             ended
@@ -192,8 +263,8 @@ fn serve_at<
     L: DeskLedger + Send + Sync,
     R: Net<Listener = TcpListener, Stream = TcpStream> + Threads + Wait + time::Clock + Sync,
     E: Write + Drop + Send,
-    I: BufRead + Drop,
-    O: Write + Drop,
+    I: BufRead + Drop + Send,
+    O: Write + Drop + Send,
 >(
     rt: &'r R,
     alloc: Global,
@@ -202,7 +273,7 @@ fn serve_at<
     users: &Shared<Users>,
     listener: &TcpListener,
     options: ServeOptions,
-    steering: Option<Steering<I, O>>,
+    steering: Option<Steering<'_, I, O>>,
     sentences: &Sentences<'r, R>,
     teller: Teller<E>,
 ) -> Result<(u64, Settled), Failure>
@@ -212,9 +283,8 @@ fn serve_at<
     ensures { IfOk result (λ told. IsCounted L.settings told.0 told.1) }
 {
     let desk: LockedDesk<L, &'r R> = LockedDesk::new(core, blank, rt);
-    let closing = Closing::new();
     match serve_kept(
-        rt, alloc, &desk, users, listener, options, steering, &closing, sentences, teller,
+        rt, alloc, &desk, users, listener, options, steering, sentences, teller,
     ) {
         Ok(ended) => settle_ends(alloc, desk, ended),
         Err(fault) => Err(Failure::Pool(fault)),
@@ -226,8 +296,8 @@ fn serve_booked<
     'r,
     R: Net<Listener = TcpListener, Stream = TcpStream> + Threads + Wait + time::Clock + Sync,
     E: Write + Drop + Send,
-    I: BufRead + Drop,
-    O: Write + Drop,
+    I: BufRead + Drop + Send,
+    O: Write + Drop + Send,
 >(
     rt: &'r R,
     alloc: Global,
@@ -235,7 +305,7 @@ fn serve_booked<
     users: &Shared<Users>,
     listener: &TcpListener,
     options: ServeOptions,
-    steering: Option<Steering<I, O>>,
+    steering: Option<Steering<'_, I, O>>,
     sentences: &Sentences<'r, R>,
     teller: Teller<E>,
 ) -> Result<(u64, Settled), Failure>
@@ -260,8 +330,8 @@ fn serve_booked<
 fn serve_told<
     R: Net<Listener = TcpListener, Stream = TcpStream> + Threads + Wait + time::Clock + Sync,
     E: Write + Drop + Send,
-    I: BufRead + Drop,
-    O: Write + Drop,
+    I: BufRead + Drop + Send,
+    O: Write + Drop + Send,
 >(
     rt: &R,
     alloc: Global,
@@ -269,7 +339,7 @@ fn serve_told<
     users: &Shared<Users>,
     listener: &TcpListener,
     options: ServeOptions,
-    steering: Option<Steering<I, O>>,
+    steering: Option<Steering<'_, I, O>>,
     errors: E,
 ) -> Result<(u64, Settled), Failure>
     requires { core.trail ≡ [] }
@@ -315,14 +385,15 @@ fn last_line(alloc: Global, outcome: Result<(u64, Settled), Failure>) -> Option<
 /// two requests, that the clock stops, where the core takes no more of its steps, and what becomes of connections that aren't served;
 /// and the line of each refusal, where that is asked for. A thread of its own waits for `errors`, and nobody else does: 1,024 sayings wait for it at most, and further lines are
 /// left out and counted. Only the last line comes after all that was said is written, or can't be. Where lines steer the server,
-/// there is no clock: a tick or a marker step comes only by a line, and connections are taken until the lines end or have it end.
+/// connections are taken until the lines end or have it end, or all is served. Where they do so without a clock, a tick or a marker
+/// step comes only by a line.
 #[tactic(auto, using(crate::proofs::Served::unbegun_said))]
 pub fn serve<
     R: Net<Listener = TcpListener, Stream = TcpStream> + Threads + Wait + time::Clock + Sync,
     W: Write,
     E: Write + Drop + Send,
-    I: BufRead + Drop,
-    O: Write + Drop,
+    I: BufRead + Drop + Send,
+    O: Write + Drop + Send,
 >(
     rt: &R,
     alloc: Global,
@@ -330,7 +401,7 @@ pub fn serve<
     users: &Shared<Users>,
     listener: &TcpListener,
     options: ServeOptions,
-    steering: Option<Steering<I, O>>,
+    steering: Option<Steering<'_, I, O>>,
     writer: &mut W,
     errors: E,
 ) -> u8

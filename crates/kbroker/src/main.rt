@@ -1,17 +1,21 @@
 //! The broker's program.
 #![tactic(auto)]
 
+mod awaited;
+
+use crate::awaited::Awaited;
 use admission::Rate;
-use arguments::{Job, Serving, arguments};
+use arguments::{Ending, Job, Serving, arguments};
 use broker_keeping::Steering;
 use broker_server::{ServeOptions, serve};
 use commands::{Opened, check_and_explain, open_and_explain, replay_and_explain};
 use session_logins::ListedVersions;
+use session_pool::Closing;
 use session_workers::{ConnectionOptions, SessionOptions};
 use show::{explain, show_and_explain};
 use std::alloc::{AllocError, Global};
 use std::hash::RandomState;
-use std::io::{BufRead, Input, Print, Read, Write};
+use std::io::{BufRead, BufReader, Input, Print, Read, Write};
 use std::net::{Net, TcpListener, TcpStream};
 use std::process::ExitCode;
 use std::random::RandomSource;
@@ -30,9 +34,25 @@ const FAILED: u8 = 1;
 /// For so many milliseconds at most the answer to a Fetch without a record is held back from clients that stand on librdkafka.
 const PATIENCE: u64 = 100;
 
+/// How many seconds after a stop connections are closed that are still open, unless that is given.
+const GRACE: u64 = 5;
+
+/// Why lines of standard input can't be read.
+const NO_MEMORY: &str = "there is not enough memory for its lines";
+
 /// The words of the command line as texts.
 fn texts<'a>(alloc: Global, words: &'a [String]) -> Result<Vec<&'a str>, AllocError> {
     words.iter().map(|word| word.as_str()).collect(alloc)
+}
+
+/// How long open connections are served after a stop. Where lines steer the broker and nothing is said of it, to their end.
+fn grace_of(serving: Serving<'_>) -> Option<Duration> {
+    let Ending { grace_seconds, .. } = serving.ending;
+    match grace_seconds {
+        Some(seconds) => Some(Duration::from_secs(seconds)),
+        None if serving.control => None,
+        None => Some(Duration::from_secs(GRACE)),
+    }
 }
 
 /// How connections are served, with times in place of numbers.
@@ -52,6 +72,7 @@ fn options_of(serving: Serving<'_>) -> ServeOptions {
             endless: serving.endless,
             per_host: serving.per_host,
             open: serving.open_seconds.map(Duration::from_secs),
+            grace: grace_of(serving),
             idle: serving.idle_seconds.map(Duration::from_secs),
             login_within: Duration::from_secs(serving.login_seconds),
             frame_within: Duration::from_secs(serving.frame_seconds),
@@ -99,6 +120,18 @@ fn fail_by<W: Write, E: Write>(
     }
 }
 
+/// Says that the settings' file can't be opened, and gives the exit status.
+fn fail_to_open<W: Write, E: Write>(
+    alloc: Global,
+    writer: &mut W,
+    errors: &mut E,
+    path: &str,
+    error: &io::Error,
+) -> u8 {
+    let why = "the settings' file can't be opened";
+    fail_by(alloc, writer, errors, "open failed\n", path, why, error)
+}
+
 /// Serves the connections of a listener by the settings that are read, by the clock or as lines steer it.
 fn serve_connections<
     T: Net<Listener = TcpListener, Stream = TcpStream>
@@ -108,8 +141,8 @@ fn serve_connections<
         + RandomSource
         + Sync,
     R: Read,
-    I: BufRead + Drop,
-    O: Write + Drop,
+    I: BufRead + Drop + Send,
+    O: Write + Drop + Send,
     W: Write,
     E: Write + Drop + Send,
 >(
@@ -117,7 +150,7 @@ fn serve_connections<
     alloc: Global,
     serving: Serving<'_>,
     reader: &mut R,
-    steering: Option<Steering<I, O>>,
+    steering: Option<Steering<'_, I, O>>,
     writer: &mut W,
     mut errors: E,
 ) -> u8 {
@@ -174,11 +207,20 @@ fn serve_by<
         + Files,
     W: Write,
     E: Write + Drop + Send,
->(rt: &T, alloc: Global, serving: Serving<'_>, writer: &mut W, mut errors: E) -> u8 {
-    let steering = if serving.control {
+>(rt: &T, alloc: Global, serving: Serving<'_>, writer: &mut W, mut errors: E) -> u8
+where
+    T::Reader: Send,
+{
+    let closing = Closing::new();
+    let steering = if serving.control || serving.ending.with_input {
+        let Ok(lines) = BufReader::new(alloc, Awaited::new(rt, rt.reader(), &closing)) else {
+            return fail(alloc, writer, &mut errors, "", "standard input", NO_MEMORY);
+        };
         Some(Steering {
-            lines: rt.reader(),
+            lines,
             answers: io::writer(rt),
+            closing: &closing,
+            without_clock: serving.control,
         })
     } else {
         None
@@ -196,17 +238,7 @@ fn serve_by<
     };
     let mut file = match fs::open(rt, path) {
         Ok(file) => file,
-        Err(error) => {
-            return fail_by(
-                alloc,
-                writer,
-                &mut errors,
-                "open failed\n",
-                path,
-                "the settings' file can't be opened",
-                &error,
-            );
-        }
+        Err(error) => return fail_to_open(alloc, writer, &mut errors, path, &error),
     };
     serve_connections(rt, alloc, serving, &mut file, steering, writer, errors)
 }

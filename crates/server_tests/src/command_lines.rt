@@ -1,6 +1,6 @@
 //! What the words of the command line ask for, where the numbers aren't given or are out of their range.
 
-use arguments::{Job, Serving, arguments};
+use arguments::{Ending, Job, Serving, arguments};
 use std::test::Fail;
 
 /// `serve` with an address alone: four workers, a million connections, ten seconds for a login and thirty for a frame, and nothing
@@ -22,6 +22,10 @@ fn serve_with_an_address_alone(rt: HostRuntime) -> Result<(), Fail> {
         audit: false,
         settings: None,
         control: false,
+        ending: Ending {
+            grace_seconds: None,
+            with_input: false,
+        },
         librdkafka: false,
     };
     let words = ["kbroker", "serve", "--listen", "127.0.0.1:0"];

@@ -69,6 +69,7 @@ fn serve_two<
             endless: false,
             per_host: None,
             open: patience,
+            grace: None,
             idle: patience,
             login_within: Duration::from_secs(PATIENCE),
             frame_within: Duration::from_secs(PATIENCE),
@@ -80,7 +81,7 @@ fn serve_two<
         },
         audit: false,
     };
-    let steering: Option<Steering<Cursor<Vec<u8>>, Vec<u8>>> = None;
+    let steering: Option<Steering<'_, Cursor<Vec<u8>>, Vec<u8>>> = None;
     let mut printed = Vec::new(alloc);
     let status = serve(
         rt,

@@ -120,6 +120,7 @@ fn serve_at<
         endless: true,
         per_host,
         open: None,
+        grace: None,
         idle: Some(Duration::from_secs(PATIENCE)),
         login_within: Duration::from_secs(PATIENCE),
         frame_within: Duration::from_secs(PATIENCE),

@@ -1,56 +1,55 @@
 //! Connections that become jobs.
 
 use crate::connections::ConnectionOptions;
-use crate::guest::{Counted, Guest};
+use crate::guest::{Counted, Entered, Guest, OpenConnections, Requests};
 use crate::job::Job;
 use admission::{Doorman, Hosts};
 use crossbeam_channel::Sender;
 use deadlines::Times;
 use session_logins::Users;
 use session_pool::{Closing, Limits};
-use std::alloc::Global;
+use std::alloc::{AllocError, Global};
 use std::io::ErrorKind;
-use std::net::{SocketAddr, TcpListener, TcpStream};
+use std::net::{Shutdown, SocketAddr, TcpListener, TcpStream};
 use std::sync::{Mutex, Wait};
 use std::time::{Duration, Instant};
 use std::{io, thread, time};
 use wire_types::{Shared, Text};
 
 /// A session over a connection.
-pub(crate) type Connection<'x, R> = Job<TcpStream, Guest<'x, R>>;
+pub(crate) type Connection<'x, R> = Job<Requests<'x>, Guest<'x, R>>;
 
-/// How long it takes until a listener is asked again that had no connection to give, or couldn't give it, in milliseconds.
+/// How long it takes until a listener is asked again that had no connection to give, or couldn't give it, and until it is looked
+/// again whether there is room for a job, or a connection is open, in milliseconds.
 const TURN: u64 = 10;
 
 /// For how long it isn't told again that connections are turned away, in seconds.
 const QUIET: u64 = 1;
 
-/// Connections are taken for so long, from a moment on, if there is an end to it, and until the broker is told to take no more.
+/// Lasts for so long, from a moment on, if there is an end to it, and until someone closes, where someone may.
 #[derive(Clone, Copy)]
-struct Opening<'x> {
+struct Term<'x> {
     since: Instant,
     time: Option<Duration>,
     closing: Option<&'x Closing>,
 }
 
-impl<'x> Opening<'x> {
-    /// Begins now. From here on the listener doesn't wait for a connection.
+impl<'x> Term<'x> {
+    /// Begins now.
     fn begin<R: time::Clock>(
         rt: &R,
-        listener: &TcpListener,
         time: Option<Duration>,
         closing: Option<&'x Closing>,
-    ) -> io::Result<Opening<'x>> {
-        listener.set_nonblocking(true)?;
+    ) -> io::Result<Term<'x>> {
         let since = Instant::now(rt)?;
-        Ok(Opening {
+        Ok(Term {
             since,
             time,
             closing,
         })
     }
 
-    /// Whether no more are taken. The time of a clock which can't be read has passed.
+    /// Whether it is over. The time of a clock which can't be read has passed.
     fn is_over<R: time::Clock>(&self, rt: &R) -> bool {
         if let Some(closing) = self.closing {
             if closing.is_closed() {
@@ -73,7 +72,7 @@ fn rest<R: time::Clock>(rt: &R) {
 fn next_connection<R: Wait + time::Clock>(
     rt: &R,
     listener: &TcpListener,
-    opening: Option<Opening<'_>>,
+    opening: Option<Term<'_>>,
 ) -> Option<io::Result<(TcpStream, SocketAddr)>> {
     let Some(opening) = opening else {
         return Some(listener.accept());
@@ -117,6 +116,9 @@ pub(crate) struct Door<'x, R, D> {
     pub(crate) options: ConnectionOptions,
     /// The hosts of the connections that are served or wait. Where a host may have any number, they aren't counted.
     pub(crate) hosts: &'x Mutex<Hosts>,
+    pub(crate) open: &'x OpenConnections,
+    /// Is closed once no further request is read.
+    pub(crate) reading: &'x Closing,
     pub(crate) doorman: &'x D,
 }
 
@@ -130,11 +132,19 @@ impl<'x, R: Wait + time::Clock, D: Doorman> Door<'x, R, D> {
         counted: Option<Counted<'x, R>>,
     ) -> io::Result<Connection<'x, R>> {
         stream.set_nodelay(true)?;
-        let reader = stream.try_clone()?;
+        let stream = Shared::new(self.alloc, stream).map_err(|_| AllocError)?;
+        let entered = Entered::enter(self.rt, self.open, session, &stream)?;
         Ok(Job {
             session,
-            reader,
-            writer: Guest { stream, counted },
+            reader: Requests {
+                stream: stream.share()?,
+                reading: self.reading,
+            },
+            writer: Guest {
+                stream,
+                entered,
+                counted,
+            },
             host,
             users: self.users.share()?,
             limits: Limits::default(),
@@ -202,12 +212,41 @@ impl<'x, R: Wait + time::Clock, D: Doorman> Door<'x, R, D> {
         told.failed = taken.is_err();
     }
 
+    /// Whether those that wait for a worker aren't waited for any longer.
+    fn is_over(&self, opening: Option<Term<'_>>) -> bool {
+        match (self.options.grace, opening) {
+            (Some(_), Some(opening)) => opening.is_over(self.rt),
+            _ => false,
+        }
+    }
+
+    /// Hands a job to the workers, once there is room for it. Gives whether it did: not where there are no workers, or the open
+    /// connections are to be seen out.
+    fn hand_in(
+        &self,
+        opening: Option<Term<'_>>,
+        jobs: &Sender<Connection<'x, R>>,
+        job: Connection<'x, R>,
+    ) -> bool {
+        let mut job = job;
+        for _ in self.rt.forever() {
+            let Err(refused) = jobs.send_timeout(self.rt, job, Duration::from_millis(TURN)) else {
+                return true;
+            };
+            if !refused.is_timeout() || self.is_over(opening) {
+                return false;
+            }
+            job = refused.into_inner();
+        }
+        unreachable!()
+    }
+
     /// Makes a job of each connection that is taken, as long as there are workers. One that can't be accepted uses one up, and one
     /// that is turned away uses none up.
     fn accept_until(
         &self,
         listener: &TcpListener,
-        opening: Option<Opening<'_>>,
+        opening: Option<Term<'_>>,
         jobs: Sender<Connection<'x, R>>,
     ) {
         let mut session: u64 = 0;
@@ -228,7 +267,7 @@ impl<'x, R: Wait + time::Clock, D: Doorman> Door<'x, R, D> {
             match taken {
                 Ok(Taken::Session(job)) => {
                     self.doorman.taken(self.options.workers);
-                    if jobs.send(self.rt, job).is_err() {
+                    if !self.hand_in(opening, &jobs, job) {
                         break;
                     }
                 }
@@ -239,21 +278,51 @@ impl<'x, R: Wait + time::Clock, D: Doorman> Door<'x, R, D> {
         }
     }
 
+    /// Waits until no connection is open any more, or a time is over.
+    fn wait_out(&self, term: Term<'_>) {
+        for _ in self.rt.forever() {
+            if self.open.is_empty(self.rt) || term.is_over(self.rt) {
+                break;
+            }
+            rest(self.rt);
+        }
+    }
+
+    /// Sees the open connections out. Where they were counted and are used up, they are served until the time has passed for which
+    /// they are, or the broker is told to take no more. From then on no further request is read, and those that are still open after
+    /// the grace are closed.
+    fn see_out(&self, opening: Term<'_>, grace: Duration) {
+        self.wait_out(opening);
+        self.reading.close();
+        self.open.shut_down(self.rt, Shutdown::Read);
+        if let Ok(term) = Term::begin(self.rt, Some(grace), None) {
+            self.wait_out(term);
+        }
+        self.open.shut_down(self.rt, Shutdown::Both);
+    }
+
     /// Makes jobs of a listener's connections, until so many were made, the time has passed for which they are taken, or the broker
-    /// is told to take no more.
+    /// is told to take no more. Then those that are open are seen out, where there is a grace, or else served to their end.
     pub(crate) fn accept_all(
         &self,
         listener: &TcpListener,
         closing: Option<&Closing>,
         jobs: Sender<Connection<'x, R>>,
     ) {
-        let opening = match (self.options.open, closing) {
-            (None, None) => None,
-            (time, closing) => match Opening::begin(self.rt, listener, time, closing) {
-                Ok(opening) => Some(opening),
-                Err(_) => return,
-            },
+        let open = self.options.open;
+        if open.is_none() && closing.is_none() {
+            return self.accept_until(listener, None, jobs);
+        }
+        // From here on the listener doesn't wait for a connection.
+        if listener.set_nonblocking(true).is_err() {
+            return;
+        }
+        let Ok(opening) = Term::begin(self.rt, open, closing) else {
+            return;
         };
-        self.accept_until(listener, opening, jobs);
+        self.accept_until(listener, Some(opening), jobs);
+        if let Some(grace) = self.options.grace {
+            self.see_out(opening, grace);
+        }
     }
 }

@@ -4,6 +4,7 @@ ghost use Rattle.std.specs.Prelude.{IfOk};
 ghost use Rattle.session_workers.specs.Ends.{AreEnds};
 
 use crate::accept::Door;
+use crate::guest::OpenConnections;
 use crate::patience::Patient;
 use crate::sessions::Ended;
 use crate::workers::{PoolFault, SessionOptions, serve_all_stepped};
@@ -31,6 +32,9 @@ pub struct ConnectionOptions {
     pub per_host: Option<u64>,
     /// For so long connections are taken, if there is an end to it.
     pub open: Option<Duration>,
+    /// Once that has passed, or no more are to be taken, no further request is read, and each connection that is still open after so
+    /// long is closed. Where there is none, they are served to their end.
+    pub grace: Option<Duration>,
     /// After so long a wait for its peer a session ends, if it ever does. It is above zero.
     pub idle: Option<Duration>,
     /// Within so long from its beginning a session's user is known, or it ends.
@@ -43,7 +47,7 @@ pub struct ConnectionOptions {
     pub patience: Option<Duration>,
 }
 
-/// How many connections wait for a worker in the channel, where one more waits for its turn. Each has two descriptors, of which a
+/// How many connections wait for a worker in the channel, where one more waits for its turn. Each has a descriptor, of which a
 /// process mostly has 1,024.
 const WAITING: usize = 256;
 
@@ -59,25 +63,15 @@ fn serve_lent<
     rt: &'x R,
     alloc: Global,
     desk: &'x LockedDesk<L, &'r R>,
-    users: &'x Shared<Users>,
     listener: &'x TcpListener,
-    options: ConnectionOptions,
     closing: Option<&'x Closing>,
-    hosts: &'x Mutex<Hosts>,
+    door: Door<'x, R, G>,
     steps: K,
-    gate: &'x G,
 ) -> Result<Ended<L>, PoolFault>
     ensures { IfOk result (λ ended. AreEnds (K.owed steps) ended.ends.items) }
 {
     let (to, from) = crossbeam_channel::bounded(alloc, WAITING).map_err(|_| PoolFault::NoMemory)?;
-    let door = Door {
-        rt,
-        alloc,
-        users,
-        options,
-        hosts,
-        doorman: gate,
-    };
+    let (options, reading, gate) = (door.options, door.reading, door.doorman);
     thread::scope(
         thread::scope_env(),
         rt,
@@ -96,6 +90,7 @@ fn serve_lent<
                 desk,
                 from,
                 options.workers,
+                reading,
                 steps,
                 &patient,
                 gate,
@@ -110,7 +105,8 @@ fn serve_lent<
 }
 
 /// Serves the connections of a listener at a desk, while the keeper does its steps on the calling thread. They are accepted in a
-/// thread of their own; where none can be made for it, none is accepted. The keeper's end is the last.
+/// thread of their own, which also sees them out once no more are taken; where none can be made for it, none is accepted. Where
+/// someone may close, it is closed once all is served. The keeper's end is the last.
 pub fn serve_connections<
     'x,
     'r,
@@ -132,7 +128,17 @@ pub fn serve_connections<
     ensures { IfOk result (λ ended. AreEnds (K.owed steps) ended.ends.items) }
 {
     let hosts = Mutex::new(Hosts::new(alloc, options.per_host.unwrap_or(0)));
-    serve_lent(
-        rt, alloc, desk, users, listener, options, closing, &hosts, steps, gate,
-    )
+    let open = OpenConnections::new(alloc);
+    let reading = Closing::new();
+    let door = Door {
+        rt,
+        alloc,
+        users,
+        options,
+        hosts: &hosts,
+        open: &open,
+        reading: &reading,
+        doorman: gate,
+    };
+    serve_lent(rt, alloc, desk, listener, closing, door, steps)
 }

@@ -1,13 +1,14 @@
-//! Connections that are counted as long as they are open.
+//! Connections that are counted, and that can be ended, as long as they are open.
 
 use admission::Hosts;
+use session_pool::Closing;
 use std::alloc::{AllocError, Global};
 use std::io;
-use std::io::Write;
-use std::net::{OpenStream, TcpStream};
+use std::io::{Read, Write};
+use std::net::{OpenStream, Shutdown, TcpStream};
 use std::sync::{Mutex, Wait};
 use std::time::Duration;
-use wire_types::Text;
+use wire_types::{Shared, Text};
 
 /// A connection that its host is counted to have, until this is let go.
 pub(crate) struct Counted<'x, R: Wait> {
@@ -41,26 +42,120 @@ impl<'x, R: Wait> Drop for Counted<'x, R> {
     }
 }
 
-/// What is written to a connection. Where connections are counted, it is counted until this is let go, whatever became of its
-/// session.
+/// The stream of a session.
+#[derive(Drop)]
+struct Open {
+    session: u64,
+    stream: Shared<TcpStream>,
+}
+
+/// The connections that are open, those that wait for a worker among them.
+#[derive(Drop)]
+pub(crate) struct OpenConnections {
+    all: Mutex<Vec<Open>>,
+}
+
+impl OpenConnections {
+    /// None is open.
+    pub(crate) fn new(alloc: Global) -> OpenConnections {
+        OpenConnections {
+            all: Mutex::new(Vec::new(alloc)),
+        }
+    }
+
+    /// Whether none is open.
+    pub(crate) fn is_empty<R: Wait>(&self, rt: &R) -> bool {
+        self.all.lock(rt).is_empty()
+    }
+
+    /// Ends reading, or both reading and writing, on each connection that is open. Whoever waits in such a call goes on at once.
+    pub(crate) fn shut_down<R: Wait>(&self, rt: &R, how: Shutdown) {
+        let all = self.all.lock(rt);
+        for open in all.iter() {
+            let _ = open.stream.value().shutdown(how);
+        }
+    }
+
+    /// The connection of this session is open no more.
+    fn leave<R: Wait>(&self, rt: &R, session: u64) {
+        self.all.lock(rt).retain(|open| open.session != session);
+    }
+}
+
+/// A connection that is among the open ones, until this is let go.
+pub(crate) struct Entered<'x, R: Wait> {
+    rt: &'x R,
+    open: &'x OpenConnections,
+    session: u64,
+}
+
+impl<'x, R: Wait> Entered<'x, R> {
+    /// One more is open.
+    pub(crate) fn enter(
+        rt: &'x R,
+        open: &'x OpenConnections,
+        session: u64,
+        stream: &Shared<TcpStream>,
+    ) -> Result<Entered<'x, R>, AllocError> {
+        let stream = stream.share()?;
+        open.all.lock(rt).push(Open { session, stream })?;
+        Ok(Entered { rt, open, session })
+    }
+}
+
+impl<'x, R: Wait> Drop for Entered<'x, R> {
+    fn drop(self) {
+        let Entered { rt, open, session } = self;
+        open.leave(rt, session);
+    }
+}
+
+/// What is read from a connection, which comes to its end where no further request is to be read.
+#[derive(Drop)]
+pub(crate) struct Requests<'x> {
+    pub(crate) stream: Shared<TcpStream>,
+    pub(crate) reading: &'x Closing,
+}
+
+impl<'x> Read for Requests<'x> {
+    fn read(&mut self, piece: &mut [u8]) -> io::Result<usize> {
+        if self.reading.is_closed() {
+            return Ok(0);
+        }
+        let mut stream = self.stream.value();
+        stream.read(piece)
+    }
+}
+
+impl<'x> OpenStream for Requests<'x> {
+    fn set_read_timeout(&self, time: Option<Duration>) -> io::Result<()> {
+        self.stream.value().set_read_timeout(time)
+    }
+}
+
+/// What is written to a connection. It is among the open ones until this is let go, whatever became of its session, and counted where
+/// connections are.
 #[derive(Drop)]
 pub(crate) struct Guest<'x, R: Wait> {
-    pub(crate) stream: TcpStream,
+    pub(crate) stream: Shared<TcpStream>,
+    pub(crate) entered: Entered<'x, R>,
     pub(crate) counted: Option<Counted<'x, R>>,
 }
 
 impl<'x, R: Wait> Write for Guest<'x, R> {
     fn write(&mut self, bytes: &[u8]) -> io::Result<usize> {
-        self.stream.write(bytes)
+        let mut stream = self.stream.value();
+        stream.write(bytes)
     }
 
     fn flush(&mut self) -> io::Result<()> {
-        self.stream.flush()
+        let mut stream = self.stream.value();
+        stream.flush()
     }
 }
 
 impl<'x, R: Wait> OpenStream for Guest<'x, R> {
     fn set_write_timeout(&self, time: Option<Duration>) -> io::Result<()> {
-        self.stream.set_write_timeout(time)
+        self.stream.value().set_write_timeout(time)
     }
 }

@@ -1,13 +1,17 @@
 //! Users that ask faster than they may.
 
 use admission::{Pace, Rate};
+use session_pool::Closing;
 use std::alloc::Global;
 use std::sync::{Mutex, Wait};
 use std::time::{Duration, Instant};
 use std::{thread, time};
 use wire_types::Text;
 
-/// Has users wait that ask faster than they may, in all their sessions together.
+/// For how long at most a user that waits isn't asked for, in nanoseconds.
+const NAP: u64 = 100_000_000;
+
+/// Has users wait that ask faster than they may, in all their sessions together, as long as further requests are read.
 #[derive(Drop)]
 pub(crate) struct Pacing<'r, R> {
     rt: &'r R,
@@ -16,11 +20,13 @@ pub(crate) struct Pacing<'r, R> {
     /// From when on moments are counted. None where that can't be told, or where users may ask as fast as they like: then nobody
     /// waits.
     start: Option<Instant>,
+    /// Is closed once no further request is read.
+    reading: &'r Closing,
 }
 
 impl<'r, R: Wait + time::Clock> Pacing<'r, R> {
     /// Nobody has asked.
-    pub(crate) fn new(rt: &'r R, alloc: Global, rate: Rate) -> Pacing<'r, R> {
+    pub(crate) fn new(rt: &'r R, alloc: Global, rate: Rate, reading: &'r Closing) -> Pacing<'r, R> {
         let start = if rate.is_any() {
             None
         } else {
@@ -31,6 +37,7 @@ impl<'r, R: Wait + time::Clock> Pacing<'r, R> {
             alloc,
             pace: Mutex::new(Pace::new(alloc, rate)),
             start,
+            reading,
         }
     }
 
@@ -40,15 +47,26 @@ impl<'r, R: Wait + time::Clock> Pacing<'r, R> {
         u64::try_from(passed.as_nanos()).ok()
     }
 
-    /// A user has asked by so many bytes: returns once it may ask again. Where memory is refused for a user that is new, it may at
-    /// once.
+    /// Sleeps for so many nanoseconds, or until no further request is read.
+    fn sleep(&self, time: u64) {
+        for _ in 0..time / NAP {
+            if self.reading.is_closed() {
+                return;
+            }
+            thread::sleep(self.rt, Duration::from_nanos(NAP));
+        }
+        thread::sleep(self.rt, Duration::from_nanos(time % NAP));
+    }
+
+    /// A user has asked by so many bytes: returns once it may ask again, or no further request is read. Where memory is refused for a
+    /// user that is new, it may at once.
     pub(crate) fn pause(&self, user: &Text, bytes: u64) {
         let Some(now) = self.now() else {
             return;
         };
         let wait = self.pace.lock(self.rt).charge(self.alloc, user, now, bytes);
         if let Ok(wait) = wait {
-            thread::sleep(self.rt, Duration::from_nanos(wait));
+            self.sleep(wait);
         }
     }
 }

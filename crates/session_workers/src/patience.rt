@@ -69,6 +69,10 @@ impl<'x, R: time::Clock, G: Gate> Gate for Patient<'x, R, G> {
         self.gate.after(session, frame);
     }
 
+    fn garbled(&self, session: u64, kept: &[u8]) {
+        self.gate.garbled(session, kept);
+    }
+
     fn ended(&self, session: u64, host: &Text, who: Option<&Text>, why: Why) {
         self.gate.ended(session, host, who, why);
     }

@@ -67,6 +67,10 @@ impl<'x, 'r, G: Gate, R: Wait + time::Clock> Gate for Noting<'x, 'r, G, R> {
         }
     }
 
+    fn garbled(&self, session: u64, kept: &[u8]) {
+        self.gate.garbled(session, kept);
+    }
+
     fn ended(&self, session: u64, host: &Text, who: Option<&Text>, why: Why) {
         self.gate.ended(session, host, who, why);
     }

@@ -13,7 +13,7 @@ use admission::{Doorman, Rate};
 use crossbeam_channel::Receiver;
 use request_handlers::Seat;
 use session_logins::ListedVersions;
-use session_pool::{Clock, Clocked, DeskLedger, Gate, LockedDesk, Steps};
+use session_pool::{Clock, Clocked, Closing, DeskLedger, Gate, LockedDesk, Steps};
 use std::alloc::{AllocError, Global};
 use std::io::{Read, Write};
 use std::net::OpenStream;
@@ -219,7 +219,8 @@ fn serve_lent<
 }
 
 /// Serves the jobs of the channel by so many worker threads, until the channel is closed and all of them are served, while the
-/// keeper does the steps that it is told on the calling thread. The keeper's end is the last. After a fault the ends are given
+/// keeper does the steps that it is told on the calling thread. Whoever has a user wait that asks too fast looks now and then
+/// whether further requests are read, which ends once that is closed. The keeper's end is the last. After a fault the ends are given
 /// up.
 pub fn serve_all_stepped<
     L: DeskLedger + Send + Sync,
@@ -237,6 +238,7 @@ pub fn serve_all_stepped<
     desk: &LockedDesk<L, R>,
     jobs: Receiver<Job<Rd, Wr>>,
     workers: usize,
+    reading: &Closing,
     steps: K,
     gate: &G,
     doorman: &D,
@@ -245,7 +247,7 @@ pub fn serve_all_stepped<
 {
     let SessionOptions { listed, rate } = options;
     let running = AtomicU64::new(0);
-    let pacing = Pacing::new(rt, alloc, rate);
+    let pacing = Pacing::new(rt, alloc, rate, reading);
     serve_lent(
         rt, alloc, listed, desk, &jobs, &running, workers, steps, gate, doorman, &pacing,
     )
@@ -277,5 +279,17 @@ pub fn serve_all<
         rate: Rate::ANY,
     };
     let steps = Clocked::new(clock);
-    serve_all_stepped(rt, alloc, options, desk, jobs, workers, steps, gate, &())
+    let reading = Closing::new();
+    serve_all_stepped(
+        rt,
+        alloc,
+        options,
+        desk,
+        jobs,
+        workers,
+        &reading,
+        steps,
+        gate,
+        &(),
+    )
 }

@@ -1,0 +1,178 @@
+//! Lines that ask how things stand, and those that come beside a clock.
+
+use crate::news::{lines_of, refusals_since};
+use crate::said::{Said, parse_said};
+use crate::standing::standing_of;
+use crate::state_text::state_text;
+use authorizer::Refusal;
+use request_handlers::{Core, Stop};
+use session_pool::{Closing, DeskLedger, LockedDesk};
+use std::alloc::{AllocError, Global};
+use std::io::{BufRead, Write};
+use std::sync::Wait;
+use wire_types::write_whole;
+
+/// Lines that steer a broker, and where each is answered.
+#[derive(Drop)]
+pub struct Steering<'d, I, O> {
+    pub lines: I,
+    pub answers: O,
+    /// Is closed by the last line, and once all is served.
+    pub closing: &'d Closing,
+    /// Whether they steer it in place of the clock, or the broker keeps its time beside them.
+    pub without_clock: bool,
+}
+
+/// Reads lines, and answers those that ask how things stand.
+#[derive(Drop)]
+pub(crate) struct Asking<'d, 'r, L: DeskLedger, R: Wait, I: BufRead, O: Write> {
+    alloc: Global,
+    pub(crate) desk: &'d LockedDesk<L, &'r R>,
+    steering: Steering<'d, I, O>,
+    /// How many entries of the trail were told of.
+    told: usize,
+}
+
+/// The refusals since the last time, and how many entries the trail has.
+#[derive(Drop)]
+struct Refused {
+    refusals: Vec<Refusal>,
+    len: usize,
+}
+
+/// The refusals of the entries from a place on.
+fn refused_since(alloc: Global, core: &Core, since: usize) -> Result<Refused, AllocError> {
+    let trail = core.trail();
+    Ok(Refused {
+        refusals: refusals_since(alloc, trail, since)?,
+        len: trail.len(),
+    })
+}
+
+/// A line for each refusal, and at last `refusals N`: how many they are.
+fn refused_text(alloc: Global, refusals: &[Refusal]) -> Result<String, AllocError> {
+    let count = refusals.len();
+    let mut text = lines_of(alloc, refusals)?;
+    text.push_str(format!(in alloc; "refusals {count}\n")?.as_str())?;
+    Ok(text)
+}
+
+impl<'d, 'r, L: DeskLedger, R: Wait, I: BufRead, O: Write> Asking<'d, 'r, L, R, I, O> {
+    /// Before the first line.
+    pub(crate) fn new(
+        alloc: Global,
+        desk: &'d LockedDesk<L, &'r R>,
+        steering: Steering<'d, I, O>,
+    ) -> Asking<'d, 'r, L, R, I, O> {
+        Asking {
+            alloc,
+            desk,
+            steering,
+            told: 0,
+        }
+    }
+
+    /// Answers with whole lines. Whoever doesn't read them misses them.
+    pub(crate) fn say(&mut self, lines: &str) {
+        let _ = write_whole(&mut self.steering.answers, lines.as_bytes());
+    }
+
+    /// Answers with lines, or tells that memory was refused for them.
+    pub(crate) fn say_or_stop(&mut self, lines: Result<String, AllocError>) {
+        match lines {
+            Ok(lines) => self.say(lines.as_str()),
+            Err(_) => self.say(Stop::NoMemory.line()),
+        }
+    }
+
+    /// Answers a line that asks for nothing that is done.
+    pub(crate) fn say_unreadable(&mut self) {
+        self.say("unreadable\n");
+    }
+
+    /// No more connections are to be taken.
+    pub(crate) fn close(&self) {
+        self.steering.closing.close();
+    }
+
+    /// What the next line asks for; none where it can't be read. The end of the lines is `end`.
+    pub(crate) fn read(&mut self) -> Option<Said> {
+        let mut line = Vec::new(self.alloc);
+        match self.steering.lines.read_until(b'\n', &mut line) {
+            Ok(count) if count > 0 => {}
+            _ => return Some(Said::End),
+        }
+        match line.as_slice().split_last() {
+            Some((last, front)) if *last == b'\n' => parse_said(front),
+            _ => parse_said(line.as_slice()),
+        }
+    }
+
+    pub(crate) fn tell_state(&mut self) {
+        let alloc = self.alloc;
+        let lines = match self.desk.look(|core| standing_of(alloc, core)) {
+            Ok(standing) => state_text(alloc, &standing),
+            Err(error) => Err(error),
+        };
+        self.say_or_stop(lines);
+    }
+
+    pub(crate) fn tell_refusals(&mut self) {
+        let (alloc, told) = (self.alloc, self.told);
+        let lines = match self.desk.look(|core| refused_since(alloc, core, told)) {
+            Ok(Refused { refusals, len }) => {
+                let text = refused_text(alloc, refusals.as_slice());
+                if text.is_ok() {
+                    self.told = len;
+                }
+                text
+            }
+            Err(error) => Err(error),
+        };
+        self.say_or_stop(lines);
+    }
+}
+
+/// Reads lines beside a clock, which ask how things stand, until one of them stops the broker.
+#[derive(Drop)]
+pub struct Attendant<'d, 'r, L: DeskLedger, R: Wait, I: BufRead, O: Write> {
+    rt: &'r R,
+    asking: Asking<'d, 'r, L, R, I, O>,
+}
+
+impl<'d, 'r, L: DeskLedger, R: Wait, I: BufRead + Drop, O: Write + Drop> Attendant<
+    'd,
+    'r,
+    L,
+    R,
+    I,
+    O,
+> {
+    /// Before the first line.
+    pub fn new(
+        rt: &'r R,
+        alloc: Global,
+        desk: &'d LockedDesk<L, &'r R>,
+        steering: Steering<'d, I, O>,
+    ) -> Attendant<'d, 'r, L, R, I, O> {
+        Attendant {
+            rt,
+            asking: Asking::new(alloc, desk, steering),
+        }
+    }
+
+    /// Answers `state` and `audit`, and nothing else, until the line `end` or the end of the lines. From there on no more connections
+    /// are to be taken.
+    pub fn attend(mut self) {
+        let rt = self.rt;
+        for _ in rt.forever() {
+            match self.asking.read() {
+                Some(Said::End) => break,
+                Some(Said::Audit) => self.asking.tell_refusals(),
+                Some(Said::State) => self.asking.tell_state(),
+                _ => self.asking.say_unreadable(),
+            }
+        }
+        self.asking.close();
+    }
+}

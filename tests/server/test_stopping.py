@@ -1,0 +1,340 @@
+"""A server is stopped by the end of its standard input, by a line, by the time of `--for`, and by signals to `./kbroker`.
+
+Whatever its connections do then, the last line comes within the grace, and says that the books are settled: connections that say
+nothing, one in the middle of a request, a Fetch that is held back, peers that read no answer, a user that has to wait, and 64
+connections that ask all the time. Answers that are due are written first. After `./kbroker` no process is left.
+"""
+
+import contextlib
+import os
+import random
+import signal
+import subprocess
+import tempfile
+import threading
+import time
+import unittest
+from pathlib import Path
+
+from kbroker_testing.broker import LAST, BrokerProcess, ClockedKbroker
+from kbroker_testing.codes import Code
+from kbroker_testing.protocol import batch, logged_in, partition_of, request_frame
+from tests.server.told import CUT, FULL, WRITE_FAILED, of_nobody, of_user
+from tests.support import OF_ROOT, connect, of_b, topic, wait_until
+
+ROOT = Path(__file__).resolve().parents[2]
+SETTINGS = OF_ROOT + topic("b")
+GRACE = 5  # seconds, if nothing is said of it
+LATE = 2  # seconds after the grace in which the last line comes
+MOST = 64  # connections at once
+UNREAD = 32  # MB of an answer
+DRAWN = 3  # rounds of connections that ask all the time
+STARTED_WITHIN = 0.5  # seconds
+CLOCK_STOPS = "kbroker: the clock stops, so no transaction ends any more: "
+CONTROL_ALONE = ("tick 1", "mark", "marks", "stop", "")
+
+
+class Stopped(BrokerProcess):
+    """A broker that keeps its time itself until its standard input ends."""
+
+    def words(self, settings):
+        return ["--stop-with-input", "--settings", settings.name], subprocess.PIPE
+
+    def say(self, line):
+        """Hands in a line."""
+        self.process.stdin.write(line + "\n")
+        self.process.stdin.flush()
+
+    def heard(self):
+        """The next line of an answer."""
+        return self.process.stdout.readline().rstrip("\n")
+
+    def lines(self, said, last):
+        """Hands in a line, and gives the lines of the answer up to one that begins with this word."""
+        self.say(said)
+        found = [self.heard()]
+        while not found[-1].startswith(last + " "):
+            found.append(self.heard())
+        return found
+
+
+class Wrapped(BrokerProcess):
+    """A broker that `./kbroker` starts, in a folder in which no source is newer than the program."""
+
+    def __enter__(self):
+        with contextlib.ExitStack() as stack:
+            root = Path(stack.enter_context(tempfile.TemporaryDirectory()))
+            (root / "tools").mkdir()
+            (root / "crates/kbroker/out").mkdir(parents=True)
+            (root / "crates/kbroker/out/kbroker").symlink_to(Path(self.program).resolve())
+            (root / "tools/program.py").symlink_to("/bin/true")
+            (root / "kbroker").write_bytes((ROOT / "kbroker").read_bytes())
+            (root / "kbroker").chmod(0o755)
+            self.program = str(root / "kbroker")
+            super().__enter__()
+            self.stack = stack.pop_all()
+        return self
+
+    def __exit__(self, *given):
+        super().__exit__(*given)
+        self.stack.close()
+
+    def words(self, settings):
+        return ["--settings", settings.name], subprocess.DEVNULL
+
+    def children(self):
+        """The processes that the shell has started."""
+        with open(f"/proc/{self.process.pid}/task/{self.process.pid}/children", encoding="ascii") as it:
+            return [int(word) for word in it.read().split()]
+
+
+def is_running(process):
+    """Whether there is a process of this number that hasn't ended."""
+    try:
+        stat = Path(f"/proc/{process}/stat").read_text(encoding="utf-8")
+    except FileNotFoundError:
+        return False
+    return stat.rpartition(")")[2].split()[0] != "Z"
+
+
+class StoppingCase(unittest.TestCase):
+    def assert_stops(self, broker, grace=GRACE, line=None):
+        """Ends standard input, or says a line before, and gives what the settled broker did and what it told."""
+        began = time.monotonic()
+        settled, told = broker.settled(line, timeout=30)
+        self.assertLess(time.monotonic() - began, grace + LATE)
+        return settled, told
+
+    def ask_unread(self, client):
+        """Asks for more than the sockets of both ends hold, and reads nothing of it."""
+        answer = client.ask("Produce", topics=of_b(records=batch([bytes(1_000_000)])))
+        self.assertEqual(partition_of(answer)["error"], Code.NONE)
+        client.send("Fetch", max_bytes=UNREAD << 20, topics=of_b(offset=0, max_bytes=1 << 20) * UNREAD)
+        time.sleep(STARTED_WITHIN)
+
+    def assert_closed(self, peer):
+        """Nothing more comes."""
+        with contextlib.suppress(ConnectionResetError):
+            self.assertEqual(peer.recv(1), b"")
+
+
+class Inputs(StoppingCase):
+    """The end of standard input, or a line."""
+
+    def test_nobody(self):
+        with Stopped(SETTINGS) as broker:
+            settled, told = self.assert_stops(broker, 0)
+        self.assertEqual((settled.sessions, settled.refusals, told), (0, 0, []))
+
+    def test_connections_that_say_nothing(self):
+        """Some have logged in, one hasn't, and one waits for a worker."""
+        with Stopped(SETTINGS) as broker, contextlib.ExitStack() as stack:
+            clients = [stack.enter_context(logged_in(broker.address)) for _ in range(3)]
+            others = [stack.enter_context(connect(broker.address)) for _ in range(2)]
+            for client in clients:
+                self.assertTrue(client.ask("Metadata", topics=None)["topics"])
+            time.sleep(STARTED_WITHIN)
+            settled, told = self.assert_stops(broker, 0)
+            for peer in (*(it.socket for it in clients), *others):
+                self.assert_closed(peer)
+        self.assertEqual((settled.refusals, told), (0, []))
+        self.assertIn(settled.sessions, (3, 4, 5))  # the others may not have been taken yet
+
+    def test_a_line(self):
+        with Stopped(SETTINGS) as broker, logged_in(broker.address):
+            settled, told = self.assert_stops(broker, 0, "end\n")
+        self.assertEqual((settled.sessions, settled.refusals, told), (1, 0, []))
+
+    def test_no_connection_is_taken_afterwards(self):
+        with Stopped(SETTINGS) as broker:
+            self.assert_stops(broker, 0)
+            with self.assertRaises(ConnectionError):
+                connect(broker.address)
+
+    def test_in_the_middle_of_a_request(self):
+        frame = request_frame("Metadata", 1, {"topics": None})
+        with Stopped(SETTINGS) as broker, connect(broker.address) as peer:
+            peer.sendall(frame[:-1])
+            time.sleep(STARTED_WITHIN)
+            settled, told = self.assert_stops(broker, 0)
+            self.assert_closed(peer)
+        self.assertEqual((settled.sessions, told), (1, [of_nobody(0, CUT)]))
+
+    def test_a_fetch_that_is_held_back(self):
+        """It is answered, and nothing that was asked after the stop."""
+        with Stopped(SETTINGS, more=("--librdkafka",)) as broker, logged_in(broker.address) as client:
+            client.send("Fetch", max_wait=60_000, topics=of_b(offset=0, max_bytes=1_000))
+            time.sleep(0.05)
+            settled, told = self.assert_stops(broker, 0)
+            self.assertEqual(partition_of(client.receive("Fetch")[1])["error"], Code.NONE)
+            self.assert_closed(client.socket)
+        self.assertEqual((settled.sessions, told), (1, []))
+
+    def test_a_peer_that_reads_nothing(self):
+        """Its connection is closed after the grace."""
+        with Stopped(SETTINGS, more=("--grace", "1")) as broker, logged_in(broker.address) as client:
+            self.ask_unread(client)
+            began = time.monotonic()
+            settled, told = self.assert_stops(broker, 1)
+            self.assertGreater(time.monotonic() - began, 0.9)
+        self.assertEqual((settled.sessions, told), (1, [of_user(0, "root", WRITE_FAILED)]))
+
+    def test_a_user_that_has_to_wait(self):
+        """It waits for a minute since its login, and is closed without an answer."""
+        with Stopped(SETTINGS, more=("--rate-bytes", "1")) as broker, logged_in(broker.address) as client:
+            client.send("Metadata", topics=None)
+            time.sleep(STARTED_WITHIN)
+            settled, told = self.assert_stops(broker, 0)
+            self.assert_closed(client.socket)
+        self.assertEqual((settled.sessions, told), (1, []))
+
+    def test_a_full_trail(self):
+        """The clock has stopped, and the stop is a clean one."""
+        with Stopped("trail_limit = 3\n" + SETTINGS) as broker:
+            wait_until(lambda: any(it.startswith(CLOCK_STOPS) for it in broker.told()), "the clock goes on")
+            settled, told = self.assert_stops(broker, 0)
+        self.assertEqual((settled.events, told[-1]), (3, CLOCK_STOPS + FULL))
+
+    def test_connections_that_are_used_up(self):
+        """The one that is open is served until the stop."""
+        broker = Stopped(SETTINGS, more=("--connections", "1"))
+        broker.connections = 1
+        with broker, logged_in(broker.address) as client:
+            time.sleep(STARTED_WITHIN)
+            self.assertTrue(client.ask("Metadata", topics=None)["topics"])
+            settled, told = self.assert_stops(broker, 0)
+        self.assertEqual((settled.sessions, told), (1, []))
+
+    def test_lines_that_ask(self):
+        """`state` and `audit` are answered as by a broker that is steered, and nothing else is."""
+        with Stopped(OF_ROOT + topic("b") + '[[user]]\nname = "ann"\npassword = "p"\n') as broker:
+            for line in CONTROL_ALONE:
+                broker.say(line)
+                self.assertEqual(broker.heard(), "unreadable", line)
+            with logged_in(broker.address, "ann", "p") as client:
+                client.ask("Produce", topics=of_b(records=batch([b"mine"])))
+            lines = broker.lines("audit", "refusals")
+            self.assertEqual(lines, ["unmatched WRITE Topic b User:ann 127.0.0.1", "refusals 1"])
+            self.assertEqual(broker.lines("audit", "refusals"), ["refusals 0"])
+            lines = broker.lines("state", "events")
+            self.assertRegex(lines[0], r"^moment \d+$")
+            self.assertIn("partition b 0 end 0 stable 0", lines)
+            settled, told = self.assert_stops(broker, 0)
+        self.assertEqual((settled.sessions, settled.refusals, told), (1, 1, []))
+
+
+class Drawn(StoppingCase):
+    """Connections that ask all the time."""
+
+    def ask_until_closed(self, address, answered, drawn):
+        """Asks one thing after the other, and counts the answers, until the connection is closed."""
+        with contextlib.suppress(OSError, EOFError), logged_in(address) as client:
+            while True:
+                asked = drawn.choice(("Metadata", "Produce", "Fetch", "rest"))
+                if asked == "rest":
+                    time.sleep(drawn.random() / 10)
+                    continue
+                fields = {
+                    "Metadata": {"topics": None},
+                    "Produce": {"topics": of_b(records=batch([bytes(drawn.choice((1, 100, 100_000)))]))},
+                    "Fetch": {"topics": of_b(offset=0, max_bytes=drawn.choice((1, 1_000_000))), "max_wait": 100},
+                }
+                client.ask(asked, **fields[asked])
+                answered.append(asked)
+
+    def test_at_random_moments(self):
+        for seed in range(DRAWN):
+            drawn, answered = random.Random(seed), []
+            with self.subTest(seed=seed), Stopped(SETTINGS, workers=MOST, more=("--librdkafka",)) as broker:
+                threads = [
+                    threading.Thread(
+                        target=self.ask_until_closed, args=(broker.address, answered, random.Random(f"{seed} {number}"))
+                    )
+                    for number in range(MOST)
+                ]
+                for it in threads:
+                    it.start()
+                time.sleep(0.5 + drawn.random())
+                settled, told = self.assert_stops(broker)
+                for it in threads:
+                    it.join(GRACE + LATE)
+                    self.assertFalse(it.is_alive(), "a connection is open")
+                self.assertEqual(settled.sessions, MOST)
+                self.assertGreaterEqual(settled.events, len(answered))
+                self.assertTrue(all(it.endswith(CUT) for it in told), told)
+
+
+class Times(StoppingCase):
+    """`--for`."""
+
+    def assert_ends(self, broker, seconds):
+        """Waits for the end of a broker that has begun, and gives what it did and what it told."""
+        began = time.monotonic()
+        settled, told = broker.settled(timeout=30)
+        self.assertLess(time.monotonic() - began, seconds + LATE)
+        return settled, told
+
+    def test_an_open_connection(self):
+        with ClockedKbroker(SETTINGS, connections=None, more=("--for", "1")) as broker:
+            with logged_in(broker.address) as client:
+                self.assertTrue(client.ask("Metadata", topics=None)["topics"])
+                settled, told = self.assert_ends(broker, 1)
+                self.assert_closed(client.socket)
+        self.assertEqual((settled.sessions, settled.refusals, told), (1, 0, []))
+
+    def test_an_open_connection_where_connections_are_used_up(self):
+        with ClockedKbroker(SETTINGS, connections=1, more=("--for", "1")) as broker, logged_in(broker.address):
+            settled, told = self.assert_ends(broker, 1)
+        self.assertEqual((settled.sessions, told), (1, []))
+
+    def test_an_input_that_stays_open(self):
+        """A line that has no end doesn't hold it up."""
+        with Stopped(SETTINGS, more=("--for", "1")) as broker:
+            broker.process.stdin.write("sta")
+            broker.process.stdin.flush()
+            began = time.monotonic()
+            self.assertEqual(broker.process.wait(1 + LATE + STARTED_WITHIN), 0)
+            self.assertLess(time.monotonic() - began, 1 + LATE)
+            self.assertRegex(broker.process.stdout.read(), LAST)
+
+
+class Signals(StoppingCase):
+    """Signals to `./kbroker`."""
+
+    def test_a_clean_stop(self):
+        for sent in (signal.SIGTERM, signal.SIGINT):
+            with self.subTest(sent.name), Wrapped(SETTINGS) as broker, logged_in(broker.address) as client:
+                self.assertTrue(client.ask("Metadata", topics=None)["topics"])
+                processes = broker.children()
+                broker.process.send_signal(sent)
+                settled, told = self.assert_stops(broker, 0)
+                self.assertEqual((settled.sessions, told), (1, []))
+                self.assertEqual([it for it in processes if is_running(it)], [])
+
+    def test_a_second_signal(self):
+        """It ends the program at once, which waits for a peer that reads nothing."""
+        with Wrapped(SETTINGS, more=("--grace", "60")) as broker, logged_in(broker.address) as client:
+            self.ask_unread(client)
+            processes = broker.children()
+            self.assertTrue(processes)
+            broker.process.send_signal(signal.SIGTERM)
+            time.sleep(STARTED_WITHIN)
+            self.assertIsNone(broker.process.poll())
+            broker.process.send_signal(signal.SIGTERM)
+            status, said, _ = broker.wait(timeout=LATE)
+            self.assertEqual((status, said), (128 + signal.SIGKILL, ""))
+            self.assertEqual([it for it in processes if is_running(it)], [])
+
+    def test_the_status_of_settings_that_are_refused(self):
+        with Wrapped(SETTINGS) as broker:
+            words = [broker.program, "serve", "--listen", "127.0.0.1:0", "--settings", os.devnull]
+            ran = subprocess.run(words, capture_output=True, timeout=30)
+        self.assertEqual((ran.returncode, ran.stdout), (1, b"settings refused: Key\n"))
+
+    def test_streams_that_are_closed(self):
+        """They are on /dev/null, so that no file and no socket takes their numbers."""
+        with Wrapped(SETTINGS) as broker:
+            words = ["sh", "-c", 'exec "$0" serve --listen 127.0.0.1:0 --for 1 --settings "$1" <&- >&- 2>&-']
+            settings = os.path.join(broker.folder.name, "settings.toml")
+            ran = subprocess.run([*words, broker.program, settings], timeout=30)
+        self.assertEqual(ran.returncode, 0)
