@@ -1,23 +1,30 @@
 #!/usr/bin/env python3
 """The gate, `make test`: `rt ci`, and then the tests of tests/ over the program that it has built.
 
-It proves every crate and its tests from nothing, and runs all that there is to run. The last line is 'N passed, M failed',
-with a crate, an edit and a case of tests/ for one each, and in brackets how many there were of each kind. What rt said is
-kept in out/gate.log, and what each crate took, as seen every two seconds, in out/gate.json: tools/gate_times.py makes a
-table of it.
+It proves every crate and its tests from nothing, and runs all that there is to run. `rt ci` gives a proof one processor for as
+long as wrong bodies wait, and so holds up all that stands on it. So the proofs are done first, over a copy that has no wrong
+bodies, and beside them those of the crates that are proved are tried, over copies too, on what the proofs leave. What both
+passed is kept, and `rt ci` over the repository does the rest: its word alone counts.
+
+The last line is 'N passed, M failed', with a crate, an edit and a case of tests/ for one each, and in brackets how many there
+were of each kind. What rt said is kept in out/gate.log, and what each crate took, as seen every two seconds, in out/gate.json:
+tools/gate_times.py makes a table of it.
 """
 
 import json
 import os
 import re
 import resource
+import shutil
 import subprocess
 import sys
+import tempfile
 import threading
 import time
+from pathlib import Path
 
 import prove
-from program import PROGRAM, ROOT, crates_of
+from program import PROGRAM, ROOT, crates_list
 
 # What the environment asks of the tests, as fewer frames or another program, is not asked of the gate.
 for variable in [it for it in os.environ if it.startswith("KBROKER")]:
@@ -28,19 +35,14 @@ from tests import harness  # noqa: E402
 
 LOG = ROOT / "out/gate.log"
 TIMES = ROOT / "out/gate.json"
-# rt gives a proof only the processors that no other one waits for, also where all the others could wait. So what all the
-# rest waits for comes by itself, and has two: the crate below all others. After it comes the core with what that stands on,
-# and what fills a gap before the core though that doesn't stand on it; then the server, on which the longest tests stand. All
-# else is left for the end.
-# An rt that takes no names (rattle-kit-13b) prints its help for them and proves nothing: there all is left for the last call.
-CORE = "request_handlers"
-SERVER = "broker_server"
-BESIDE = "script_lines", "session_logins"
 SEEN_EVERY = 2  # seconds
-NICE = 19  # of what runs beside the proofs: it takes only what they leave
+NICE_OF_EDITS = 10  # they take what the proofs leave
+EDITS_AT_ONCE = 2
+NICE_OF_SOURCES = 19  # they take what all else leaves
 TICKS = os.sysconf("SC_CLK_TCK")
 PAGE = os.sysconf("SC_PAGE_SIZE")
 TOTALS = re.compile(r"^(\d+) passed, (\d+) failed$", re.M)
+PROVED = re.compile(r"^rt: (\w+) (?:proved$|is kept)", re.M)
 
 
 def processes():
@@ -76,15 +78,21 @@ class Sampler:
 
     def __init__(self):
         self.peak = 0
-        self.works, self.seconds = {}, {}
+        self.tops, self.works, self.seconds = set(), {}, {}
 
-    def look(self, top):
-        """Takes one sample of a process and of those below it."""
+    def watch(self):
+        """Takes samples for as long as this process runs."""
+        while True:
+            self.look()
+            time.sleep(SEEN_EVERY)
+
+    def look(self):
+        """Takes one sample of the processes that are looked at and of those below them."""
         found, held = processes(), 0
         below = {}
         for process, (parent, *_) in found.items():
             below.setdefault(parent, []).append(process)
-        stack = [(top, None)]
+        stack = [(it, None) for it in [*self.tops]]
         while stack:
             process, work = stack.pop()
             if process in found:
@@ -108,63 +116,116 @@ class Sampler:
         return crates
 
 
-def copy_lines(source, shown, kept):
-    """Writes each line that comes to both, and goes on where nobody reads what is shown."""
-    for line in source:
-        kept.write(line)
-        kept.flush()
+class Runs:
+    """Calls of `rt ci` that may run side by side: what they say is shown and kept, and what they take is sampled."""
+
+    def __init__(self, log):
+        self.log, self.sampler, self.writing, self.running = log, Sampler(), threading.Lock(), set()
+        threading.Thread(target=self.sampler.watch, daemon=True).start()
+
+    def show(self, line):
+        """Shows and keeps a line, and goes on where nobody reads what is shown."""
+        with self.writing:
+            self.log.write(line)
+            self.log.flush()
+            try:
+                sys.stdout.write(line)
+                sys.stdout.flush()
+            except OSError:
+                pass
+
+    def run(self, folder, nice=0, at_once=None, seen=lambda line: None):
+        """Runs `rt ci` in a folder, and hands each line on. Returns its status and what it said."""
+        said, environment = [], {**os.environ, **({"RT_JOBS": str(at_once)} if at_once else {})}
+        streams = {"stdin": subprocess.DEVNULL, "stdout": subprocess.PIPE, "stderr": subprocess.STDOUT}
+        words = ["nice", "-n", str(nice), "rt", "ci"]
+        process = subprocess.Popen(words, cwd=folder, env=environment, text=True, errors="replace", **streams)
+        self.running.add(process)
+        self.sampler.tops.add(process.pid)
         try:
-            shown.write(line)
-            shown.flush()
-        except OSError:
-            continue
+            for line in process.stdout:
+                said.append(line.replace(str(folder), str(ROOT)))
+                self.show(said[-1])
+                seen(said[-1])
+        finally:
+            process.terminate()
+            status = process.wait()
+            self.sampler.tops.discard(process.pid)
+            self.running.discard(process)
+        return status, "".join(said)
+
+    def stop(self):
+        """Ends those that run."""
+        for it in [*self.running]:
+            it.terminate()
 
 
-def stages():
-    """The crates over which `rt ci` is called, in turn; at last over all."""
-    lowest, *_ = crates_of([CORE])
-    return [[lowest], [CORE, *BESIDE], [SERVER], []]
+class Edits:
+    """Tries the wrong bodies of crates that are proved, crate by crate, in a thread of its own, until no more are to be tried."""
+
+    def __init__(self, runs):
+        self.runs, self.proved, self.tried, self.is_over = runs, [], [], False
+        self.thread = threading.Thread(target=self.try_all, daemon=True)
+        self.thread.start()
+
+    def see(self, line):
+        """Notes the crate that a line of `rt ci` calls proved."""
+        for name in PROVED.findall(line):
+            if (ROOT / "crates" / name / "must-fail").is_dir():
+                self.proved.append(name)
+
+    def try_all(self):
+        """Tries those of each crate, in the order in which they are proved."""
+        while not self.is_over:
+            if len(self.tried) < len(self.proved):
+                self.tried.append(self.proved[len(self.tried)])
+                self.try_those_of(self.tried[-1])
+            else:
+                time.sleep(1)
+
+    def try_those_of(self, name):
+        """Tries those of a crate, in a copy."""
+        with tempfile.TemporaryDirectory(prefix="kbroker-edits-") as room:
+            prove.copy_crates([name], Path(room))
+            shutil.copytree(ROOT / "crates" / name / "must-fail", Path(room, "crates", name, "must-fail"))
+            self.runs.run(room, NICE_OF_EDITS, EDITS_AT_ONCE)
+
+    def end(self):
+        """Waits until those of the crate that is being tried are done; what is left is for others."""
+        self.is_over = True
+        self.thread.join()
 
 
-def run_rt(words, log, sampler):
-    """Runs `rt ci` with these words, shows and keeps what it says, and samples what it takes. Returns its status."""
-    said = {"stdout": subprocess.PIPE, "stderr": subprocess.STDOUT}
-    process = subprocess.Popen(["rt", "ci", *words], cwd=ROOT, **said)
-    targets = process.stdout, sys.stdout.buffer, log
-    reader = threading.Thread(target=copy_lines, args=targets)
-    reader.start()
-    try:
-        while process.poll() is None:
-            sampler.look(process.pid)
-            time.sleep(SEEN_EVERY)
-    finally:
-        process.terminate()
-        status = process.wait()
-        reader.join()
-    return status
+def prove_all(runs, edits):
+    """Proves all crates and their tests, while wrong bodies of those that are proved are tried."""
+    with tempfile.TemporaryDirectory(prefix="kbroker-proofs-") as room:
+        prove.copy_crates(crates_list(), Path(room))
+        runs.run(room, seen=edits.see)
 
 
 def run_checks(cases):
-    """Checks all that `rt ci` checks, and writes what it took. Returns what was said, what of it by the last call, which is
-    over all crates, the status of that, and what came of the tests of the sources, which run beside it on what it leaves
-    idle, as they need nothing that it leaves."""
+    """Checks all that `rt ci` checks, and writes what it took. Returns what was said, what of it by `rt ci` over the repository,
+    the status of that, and what came of the tests of the sources, which begin once all is proved, as they need nothing of that."""
     LOG.parent.mkdir(exist_ok=True)
-    started = time.monotonic()
-    sampler, beside = Sampler(), None
-    try:
-        with LOG.open("wb") as log:
-            for names in stages():
-                if not names and cases:
-                    beside = harness.Worker(harness.ON_SOURCES, cases, NICE)
-                last = log.tell()
-                status = run_rt(names, log, sampler)
-        write_times(sampler, time.monotonic() - started)
-        said = LOG.read_bytes()
-        count = beside.wait() if beside else harness.Count(0, 0, 0)
-        return said.decode(errors="replace"), said[last:].decode(errors="replace"), status, count
-    finally:
-        if beside:
-            beside.stop()
+    started, beside = time.monotonic(), None
+    with LOG.open("w", encoding="utf-8") as log:
+        runs = Runs(log)
+        edits = Edits(runs)
+        try:
+            prove_all(runs, edits)
+            if cases:
+                beside = harness.Worker(harness.ON_SOURCES, cases, NICE_OF_SOURCES)
+            edits.end()
+            status, last = runs.run(ROOT)
+            write_times(runs.sampler, time.monotonic() - started)
+            count = beside.wait() if beside else harness.Count(0, 0, 0)
+            return LOG.read_text(encoding="utf-8"), last, status, count
+        finally:
+            edits.is_over = True
+            runs.stop()
+            edits.thread.join()
+            if beside:
+                beside.stop()
 
 
 def write_times(sampler, wall):
@@ -199,7 +260,7 @@ def main():
     passed, failed = map(int, (TOTALS.findall(last) or [(0, 1)])[-1])
     if status and not failed:
         failed = 1
-    crates = len(re.findall(r"^rt: \w+ proved$", text, re.M))
+    crates = len({*re.findall(r"^rt: (\w+) proved$", text, re.M)})
     edits = len({*re.findall(r"^rt: must-fail (\S+): refused", text, re.M)})
     tests = sum(map(int, re.findall(r"^test result: ok\. (\d+) passed", last, re.M)))
     minutes = (time.monotonic() - started) / 60
