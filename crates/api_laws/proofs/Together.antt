@@ -282,7 +282,7 @@ refused_add : (w : World) (caller : Caller) (q : AddPartitionsToTxnRequest) (r :
 refused_add w caller q r is = by_case (refused_or_empty w caller q.transactional_id r (refused_alone (question_refusal (rules_of w) (id_question caller q.transactional_id)) r is) q.topics) where
   by_cut : (b : Bool) → (partitions_of q.topics ≡ []) → (cond b (cut_outcome w caller q) (added_outcome w q)).world ≡ w
   by_cut true none = refl
-  by_cut false none = nothing_added w q none
+  by_cut false none = ap (λ (c : CoordinatorValue). record w { coordinator = c }) (nothing_added w.coordinator w.moment q none)
 
   by_case : (has_any (refusals (cut_rule caller q.transactional_id w.topics) (rules_of w) q.topics) ≡ true) ⊎ (partitions_of q.topics ≡ []) → (add_partitions_outcome w caller q).world ≡ w
   by_case (inl some) = ap (λ (b : Bool). (cond (b || is_missing w.topics q.topics) (cut_outcome w caller q) (added_outcome w q)).world) some

@@ -1,5 +1,5 @@
 -- What is decided by tests is what the relations say.
-use Rattle.std.proofs.Common.{◌≡◌, ◌⊎◌, inl, inr, ◌==◌, ℕ, Bool, true, false, not, ◌&&◌, ◌||◌, List, [], ◌∷◌, ◌++◌, refl, sym, ap, ◌∙◌}
+use Rattle.std.proofs.Common.{◌≡◌, ◌⊎◌, inl, inr, ◌==◌, ℕ, Bool, true, false, not, ◌&&◌, ◌||◌, List, [], ◌∷◌, refl, sym, ap, ◌∙◌}
 use Rattle.std.specs.Prelude.{nat_eq}
 use Rattle.std.specs.List.{list_any, starts_with}
 use Rattle.std.specs.Str.{bytes_eq}
@@ -13,10 +13,10 @@ use Rattle.acl_binding.specs.declared.binding.Binding.{Binding}
 use Rattle.acl_binding.specs.declared.binding.Numbered.{Numbered}
 use Rattle.acl_binding.specs.Words.{kind_number, pattern_number}
 use Rattle.acl_binding.specs.Binding.{star, applies, denies, allows}
-use Rattle.acl_binding.specs.Relations.{Applies, Allows, Denies}
+use Rattle.acl_binding.specs.Relations.{Applies, Denies}
 use Rattle.acl_binding.proofs.Same.{both, kind_one, pattern_one, same_number, same_bytes, itself_number, itself_bytes}
 use Rattle.acl_binding.proofs.Relations.{or_first, or_second, front_is, front_of, does_apply, is_applied, does_deny, is_denied, does_allow, is_allowed}
-use Rattle.authorizer.specs.AnyTopic.{is_topics, lets_write, bars_write, is_star, begins, is_same_literal, takes_name, stands_over, is_barred, is_unbarred, any_topic}
+use Rattle.authorizer.specs.AnyTopic.{is_topics, lets_write, bars_write, is_star, begins, is_same_literal, takes_name, stands_over, is_barred, any_topic}
 use Rattle.authorizer.specs.SomeTopic.{IsBound, IsForAll, TakesName, LeavesNoName, MayWriteSomeTopic, SomeTopicIsExact}
 
 -- ---- tests of one or two bindings

@@ -1,6 +1,7 @@
 pub mod Policy
 pub mod Asking
 pub mod Tally
+pub mod Settled
 pub mod Permits
 pub mod Index
 pub mod Looking

@@ -4,12 +4,14 @@ ghost use Rattle.std.specs.Prelude.{◌≡◌, [], ◌∷◌, IfOk, IfErr, IfSom
 ghost use Rattle.std.specs.List.{cons_option};
 ghost use Rattle.authorizer.specs.Policy.{IsGood, IsGranted};
 ghost use Rattle.authorizer.specs.Asking.{AreYes, IsRefusalOf};
+ghost use Rattle.authorizer.specs.Settled.{IsSettled, IsSettledIfGiven, settled_question};
 ghost use Rattle.authorizer.specs.Permits.{AreBothGood, AreBothGranted, AreThreeGood, AreThreeGranted, AreGivenGranted, given_question};
 
 use crate::answer::{Answer, Refusal};
 use crate::paid::Paid;
 use crate::permit::{Permit, Spent};
 use crate::policy::Policy;
+use crate::settled::Settled;
 use acl_binding::Question;
 
 /// The permits of two questions.
@@ -37,19 +39,30 @@ pub fn ask_one(policy: &Policy, question: Question) -> Result<Permit, Refusal>
     ensures yes { OnOk result (AreYes policy.now (question ∷ [])) }
     ensures refused { IfErr result (IsRefusalOf policy.now (question ∷ [])) }
 {
-    match policy.ask(question) {
+    ask_settled(policy, policy.settle(question))
+}
+
+/// The permit of a question that was settled, or its refusal.
+pub fn ask_settled(policy: &Policy, settled: Settled) -> Result<Permit, Refusal>
+    requires { IsSettled policy.now settled }
+    ensures granted { IfOk result (λ permit. IsGranted policy.now settled.question permit) }
+    ensures yes { OnOk result (AreYes policy.now (settled.question ∷ [])) }
+    ensures refused { IfErr result (IsRefusalOf policy.now (settled.question ∷ [])) }
+{
+    match policy.answer(settled) {
         Answer::Granted(permit) => Ok(permit),
         Answer::Refused(refusal) => Err(refusal),
     }
 }
 
-/// Both permits, or the first refusal.
-pub fn ask_two(policy: &Policy, first: Question, second: Question) -> Result<TwoPermits, Refusal>
-    ensures granted { IfOk result (λ permits. AreBothGranted policy.now first second permits) }
-    ensures yes { OnOk result (AreYes policy.now (first ∷ second ∷ [])) }
-    ensures refused { IfErr result (IsRefusalOf policy.now (first ∷ second ∷ [])) }
+/// Both permits, or the first refusal, where the first question was settled.
+pub fn ask_two(policy: &Policy, first: Settled, second: Question) -> Result<TwoPermits, Refusal>
+    requires { IsSettled policy.now first }
+    ensures granted { IfOk result (λ permits. AreBothGranted policy.now first.question second permits) }
+    ensures yes { OnOk result (AreYes policy.now (first.question ∷ second ∷ [])) }
+    ensures refused { IfErr result (IsRefusalOf policy.now (first.question ∷ second ∷ [])) }
 {
-    let first = ask_one(policy, first)?;
+    let first = ask_settled(policy, first)?;
     match ask_one(policy, second) {
         Ok(second) => Ok(TwoPermits { first, second }),
         Err(refusal) => {
@@ -59,41 +72,48 @@ pub fn ask_two(policy: &Policy, first: Question, second: Question) -> Result<Two
     }
 }
 
-/// All three permits, or the first refusal.
+/// All three permits, or the first refusal, where the first two questions were settled.
 pub fn ask_three(
     policy: &Policy,
-    first: Question,
-    second: Question,
+    first: Settled,
+    second: Settled,
     third: Question,
 ) -> Result<ThreePermits, Refusal>
-    ensures granted { IfOk result (AreThreeGranted policy.now first second third) }
-    ensures yes { OnOk result (AreYes policy.now (first ∷ second ∷ third ∷ [])) }
-    ensures refused { IfErr result (IsRefusalOf policy.now (first ∷ second ∷ third ∷ [])) }
+    requires first { IsSettled policy.now first }
+    requires second { IsSettled policy.now second }
+    ensures granted { IfOk result (AreThreeGranted policy.now first.question second.question third) }
+    ensures yes { OnOk result (AreYes policy.now (first.question ∷ second.question ∷ third ∷ [])) }
+    ensures refused { IfErr result (IsRefusalOf policy.now (first.question ∷ second.question ∷ third ∷ [])) }
 {
-    let TwoPermits { first, second } = ask_two(policy, first, second)?;
-    match ask_one(policy, third) {
-        Ok(third) => Ok(ThreePermits {
+    let first = ask_settled(policy, first)?;
+    match ask_two(policy, second, third) {
+        Ok(
+            TwoPermits {
+                first: second,
+                second: third,
+            },
+        ) => Ok(ThreePermits {
             first,
             second,
             third,
         }),
         Err(refusal) => {
             first.decline();
-            second.decline();
             Err(refusal)
         }
     }
 }
 
-/// The permit of a first question that may be absent, and that of the last; or the first refusal.
+/// The permit of a first question that may be absent and was settled, and that of the last; or the first refusal.
 pub fn ask_given(
     policy: &Policy,
-    given: Option<Question>,
+    given: Option<Settled>,
     last: Question,
 ) -> Result<GivenPermits, Refusal>
-    ensures granted { IfOk result (λ permits. AreGivenGranted policy.now given last permits) }
-    ensures yes { OnOk result (AreYes policy.now (cons_option given (last ∷ []))) }
-    ensures refused { IfErr result (IsRefusalOf policy.now (cons_option given (last ∷ []))) }
+    requires { IsSettledIfGiven policy.now given }
+    ensures granted { IfOk result (λ permits. AreGivenGranted policy.now (settled_question given) last permits) }
+    ensures yes { OnOk result (AreYes policy.now (cons_option (settled_question given) (last ∷ []))) }
+    ensures refused { IfErr result (IsRefusalOf policy.now (cons_option (settled_question given) (last ∷ []))) }
 {
     match given {
         Some(given) => {

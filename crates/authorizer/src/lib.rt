@@ -17,12 +17,16 @@ mod permit;
 mod picking;
 mod place;
 mod policy;
+mod settled;
 mod tally;
 
 pub use answer::{Answer, Refusal, Why};
-pub use asking::{GivenPermits, ThreePermits, TwoPermits, ask_given, ask_one, ask_three, ask_two};
+pub use asking::{
+    GivenPermits, ThreePermits, TwoPermits, ask_given, ask_one, ask_settled, ask_three, ask_two,
+};
 pub use laws::{look_ups_are_few, permit_ends_with_edit, some_topic_is_exact};
 pub use paid::Paid;
 pub use permit::{Permit, Spent};
 pub use policy::Policy;
+pub use settled::{Settled, again_if_given, settle_if_given};
 pub use tally::Tally;

@@ -7,11 +7,12 @@ ghost use Rattle.authorizer.specs.LookUps.{look_ups};
 ghost use Rattle.authorizer.specs.Policy.{first_policy, policy_verdict, policy_added, policy_removed, is_super};
 ghost use Rattle.authorizer.specs.AnyTopic.{any_topic};
 ghost use Rattle.authorizer.specs.Asking.{asking_answer};
+ghost use Rattle.authorizer.specs.Settled.{settled, IsSettled};
 ghost use Rattle.acl_binding.specs.declared.words.Pattern.TheVariants.{Prefixed};
 
-use crate::answer::{Answer, Refusal, Why};
+use crate::answer::Answer;
 use crate::indexed::IndexedBook;
-use crate::permit::Permit;
+use crate::settled::Settled;
 use acl_binding::{Added, Binding, Filter, Question, Verdict};
 use std::alloc::{AllocError, Global};
 use std::hash::RandomState;
@@ -129,16 +130,31 @@ impl Policy {
         self.book.any_topic(who, host)
     }
 
+    /// What it says to a question, for all that ask the same before the next change of the book.
+    pub fn settle(&self, question: Question) -> Settled
+        ensures { result ≡ settled self.now question }
+    {
+        let verdict = self.verdict(&question);
+        Settled {
+            edit: self.edit,
+            question,
+            verdict,
+        }
+    }
+
     /// A permit exactly where the verdict is `Yes`.
     pub fn ask(&self, question: Question) -> Answer
         ensures { result ≡ asking_answer self.now question }
     {
-        let why = match self.verdict(&question) {
-            Verdict::Yes => return Answer::Granted(Permit::new(self.edit, question)),
-            Verdict::Denied(number) => Why::Denied(number),
-            Verdict::Nothing => Why::Nothing,
-        };
-        Answer::Refused(Refusal { question, why })
+        self.answer(self.settle(question))
+    }
+
+    /// The same to a question that was settled under this policy, and before any change of the book since.
+    pub fn answer(&self, settled: Settled) -> Answer
+        requires { IsSettled self.now settled }
+        ensures { result ≡ asking_answer self.now settled.question }
+    {
+        settled.answer()
     }
 
     fn is_super(&self, who: &Text) -> bool

@@ -37,6 +37,8 @@ impl<'a> PartApi<FetchPartition, FetchedRecords, Room> for Fetching<'a> {
 
     ghost cuts = { λ _. false };
 
+    ghost settles = { λ _ _. Unit {0} };
+
     fn serve(
         &self,
         alloc: Global,

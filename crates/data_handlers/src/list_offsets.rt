@@ -39,6 +39,8 @@ impl<'a> PartApi<WantedOffset, FoundOffset, ()> for Listing<'a> {
 
     ghost cuts = { λ _. false };
 
+    ghost settles = { λ _ _. Unit {0} };
+
     fn serve(
         &self,
         _alloc: Global,

@@ -12,7 +12,9 @@ ghost use Rattle.broker_world.specs.Codes.{refused_by};
 ghost use Rattle.data_handlers.specs.Produce.{produced_error, produced_at, produced_to, unproduced, produced, producing, produce_reply, produce_outcome};
 
 use acl_binding::{Caller, Kind, Operation};
-use authorizer::{Paid, Permit, Policy, Spent, ask_given};
+use authorizer::{
+    Paid, Permit, Policy, Settled, Spent, again_if_given, ask_given, settle_if_given,
+};
 use broker_world::{Outcome, State, Topics, magnitude, refused_by, served_in_parts};
 use msg_admin::Reply;
 use msg_data::{ProduceReply, ProduceRequest, ProducedOffset, ProducedRecords};
@@ -24,11 +26,13 @@ use txn_coordinator::Coordinator;
 use walk::{Part, PartApi, refusal_code, walk};
 use wire_types::{ErrorCode, Items, Text, Topic};
 
-/// What a Produce says of all its partitions, the greatest size of a batch, and the transactions that are open.
+/// What a Produce says of all its partitions, what is said to writing with its transactional id, the greatest size of a batch, and
+/// the transactions that are open.
 #[derive(Drop)]
 pub(crate) struct Producing<'a> {
     pub(crate) caller: &'a Caller,
     pub(crate) id: &'a Option<Text>,
+    pub(crate) asked: &'a Option<Settled>,
     pub(crate) acks: i16,
     pub(crate) most: u32,
     pub(crate) coordinator: &'a Coordinator,
@@ -36,11 +40,18 @@ pub(crate) struct Producing<'a> {
 
 impl<'a> PartApi<ProducedRecords, ProducedOffset, Topics> for Producing<'a> {
     ghost use Rattle.std.specs.Prelude.{false};
+    ghost use Rattle.std.specs.Option.{option_map};
+    ghost use Rattle.acl_binding.specs.declared.words.Kind.TheVariants as kinds;
+    ghost use Rattle.acl_binding.specs.declared.words.Operation.TheVariants as operations;
+    ghost use Rattle.acl_binding.specs.Verdict.{asked};
+    ghost use Rattle.authorizer.specs.Settled.{settled_if_given};
     ghost use Rattle.data_handlers.specs.Produce.{produce_rule};
 
     ghost rule = { λ api. produce_rule api.caller.now api.most api.coordinator.now api.id.now api.acks };
 
     ghost cuts = { λ _. false };
+
+    ghost settles = { λ api policy. api.asked.now ≡ settled_if_given policy (option_map (asked api.caller.now operations.Write kinds.TransactionalId) api.id.now) };
 
     fn serve(
         &self,
@@ -52,9 +63,7 @@ impl<'a> PartApi<ProducedRecords, ProducedOffset, Topics> for Producing<'a> {
     ) -> Result<Part<ProducedOffset>, AllocError> {
         let records = part.records.clone()?;
         let target = partition_at(name, part.index)?;
-        let id = self
-            .caller
-            .asks_given(Operation::Write, Kind::TransactionalId, self.id)?;
+        let id = again_if_given(self.asked)?;
         let topic = self.caller.asks(Operation::Write, Kind::Topic, name)?;
         match ask_given(policy, id, topic) {
             Ok(given) => {
@@ -316,9 +325,13 @@ pub fn answer_produce(
     ensures paid { IfOk result (λ o. o.paid ≡ []) }
     ensures spent { IfOk result (λ o. o.spent ≡ counted (rules_of state.old) 0 (asked_in (producing state.old caller.now request.now) request.now.topics)) }
 {
+    let id = &request.transactional_id;
+    let asks = caller.asks_given(Operation::Write, Kind::TransactionalId, id)?;
+    let asked = settle_if_given(&state.policy, asks);
     let api = Producing {
         caller,
-        id: &request.transactional_id,
+        id,
+        asked: &asked,
         acks: request.acks,
         most: magnitude(state.node.max_batch),
         coordinator: &state.coordinator,

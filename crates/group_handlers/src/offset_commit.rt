@@ -10,7 +10,7 @@ ghost use Rattle.broker_world.specs.World.{rules_of};
 ghost use Rattle.group_handlers.specs.OffsetCommit.{committing_rule, offset_of, committed_code, code_by, groups_by, offset_commit_outcome};
 
 use acl_binding::{Caller, Kind, Operation};
-use authorizer::{Paid, Permit, Policy, Spent, TwoPermits, ask_two};
+use authorizer::{Paid, Permit, Policy, Settled, Spent, TwoPermits, ask_two};
 use broker_world::{Outcome, State, Topics, code_in, read_question, served_in_parts};
 use group_offsets::Groups;
 use msg_admin::Reply;
@@ -21,11 +21,12 @@ use std::alloc::{AllocError, Global};
 use walk::{Part, PartApi, refusal_code, walk};
 use wire_types::{ErrorCode, Text};
 
-/// Who commits for which group, and what partitions there are.
+/// Who commits for which group, what is said to reading it, and what partitions there are.
 #[derive(Drop)]
 pub(crate) struct Committing<'a> {
     pub(crate) caller: &'a Caller,
     pub(crate) group: &'a Text,
+    pub(crate) asked: &'a Settled,
     pub(crate) generation: i32,
     pub(crate) member: &'a Text,
     pub(crate) topics: &'a Topics,
@@ -33,11 +34,15 @@ pub(crate) struct Committing<'a> {
 
 impl<'a> PartApi<OffsetToCommit, CommittedOffset, Groups> for Committing<'a> {
     ghost use Rattle.std.specs.Prelude.{false};
+    ghost use Rattle.authorizer.specs.Settled.{settled};
+    ghost use Rattle.broker_world.specs.Questions.{read_question};
     ghost use Rattle.group_handlers.specs.OffsetCommit.{commit_rule};
 
     ghost rule = { λ api. commit_rule api.caller.now (record { group = api.group.now; generation = api.generation; member = api.member.now }) api.topics.now };
 
     ghost cuts = { λ _. false };
+
+    ghost settles = { λ api policy. api.asked.now ≡ settled policy (read_question api.caller.now api.group.now) };
 
     fn serve(
         &self,
@@ -48,7 +53,7 @@ impl<'a> PartApi<OffsetToCommit, CommittedOffset, Groups> for Committing<'a> {
         part: &OffsetToCommit,
     ) -> Result<Part<CommittedOffset>, AllocError> {
         let offset = offset_of(alloc, name, part)?;
-        let group = read_question(self.caller, self.group)?;
+        let group = self.asked.again()?;
         let topic = self.caller.asks(Operation::Read, Kind::Topic, name)?;
         match ask_two(policy, group, topic) {
             Ok(TwoPermits { first, second }) => {
@@ -130,9 +135,11 @@ pub fn answer_offset_commit(
     ensures paid { IfOk result (λ o. o.paid ≡ []) }
     ensures spent { IfOk result (λ o. o.spent ≡ counted (rules_of state.old) 0 (asked_in (committing_rule state.old caller.now request.now) request.now.topics)) }
 {
+    let asked = state.policy.settle(read_question(caller, &request.group)?);
     let api = Committing {
         caller,
         group: &request.group,
+        asked: &asked,
         generation: request.generation,
         member: &request.member,
         topics: &state.topics,

@@ -36,6 +36,8 @@ impl<'a> PartApi<i32, FetchedOffset, ()> for Telling<'a> {
 
     ghost cuts = { λ _. false };
 
+    ghost settles = { λ _ _. Unit {0} };
+
     fn serve(
         &self,
         alloc: Global,

@@ -22,6 +22,7 @@ use Rattle.walk.specs.Woven.{has_any}
 use Rattle.walk.specs.Alike.{AllParts, AllTopics}
 use Rattle.transactions.specs.declared.marker.OwedMarker.{OwedMarker}
 use Rattle.transactions.specs.Coordinator.{recorded}
+use Rattle.transactions.specs.Coordinator.{CoordinatorValue}
 use Rattle.transactions.specs.InitProducerId.{init}
 use Rattle.offset_tables.specs.declared.group.Group.{Group as GroupValue}
 use Rattle.offset_tables.specs.Groups.{find_group}
@@ -100,7 +101,7 @@ nothing_granted : (w : World) (caller : Caller) (r : AddPartitionsToTxnRequest) 
 nothing_granted w caller r all = by_case (refused_or_none w caller r.transactional_id r.topics all) where
   by_cut : (b : Bool) → partitions_of r.topics ≡ [] → (cond b (cut_outcome w caller r) (added_outcome w r)).world ≡ w
   by_cut true none = refl
-  by_cut false none = nothing_added w r none
+  by_cut false none = ap (λ (c : CoordinatorValue). record w { coordinator = c }) (nothing_added w.coordinator w.moment r none)
 
   by_case : (has_any (refusals (cut_rule caller r.transactional_id w.topics) (rules_of w) r.topics) ≡ true) ⊎ (partitions_of r.topics ≡ []) → (add_partitions_outcome w caller r).world ≡ w
   by_case (inl some) = ap (λ (b : Bool). (cond (b || is_missing w.topics r.topics) (cut_outcome w caller r) (added_outcome w r)).world) some

@@ -7,6 +7,7 @@ use Rattle.acl_binding.specs.declared.words.Operation.TheVariants as operations
 use Rattle.acl_binding.specs.Verdict.{asked}
 use Rattle.authorizer.specs.Asking.{Rules, question_refusal}
 use Rattle.wire_types.specs.declared.error_code.ErrorCode.{ErrorCode}
+use Rattle.wire_types.specs.declared.error_code.ErrorCode.TheVariants as codes
 use Rattle.wire_types.specs.declared.topic.Topic.{Topic}
 use Rattle.msg_txn.specs.declared.add_partitions.AddPartitionsToTxnRequest.{AddPartitionsToTxnRequest}
 use Rattle.msg_txn.specs.declared.add_partitions.AddedPartition.{AddedPartition}
@@ -14,11 +15,11 @@ use Rattle.walk.specs.Walk.{plain_parts_world, plain_parts, plain_topics, parts_
 use Rattle.walk.specs.Woven.{has_any, has_part}
 use Rattle.walk.proofs.Granted.{first_granted as first_is_granted}
 use Rattle.transactions.specs.declared.target.TopicPartition.{TopicPartition}
-use Rattle.transactions.specs.Coordinator.{turned}
+use Rattle.transactions.specs.Coordinator.{CoordinatorValue, turned, turn_code}
 use Rattle.transactions.specs.Adding.{add_partitions}
-use Rattle.broker_world.specs.World.{World, TopicValue, rules_of}
+use Rattle.broker_world.specs.World.{TopicValue}
 use Rattle.broker_world.specs.Questions.{id_question}
-use Rattle.txn_handlers.specs.AddPartitions.{added_partition, cut_rule, told_rule, told_for, added_outcome, partitions_in, partitions_of}
+use Rattle.txn_handlers.specs.AddPartitions.{added_partition, cut_rule, told_rule, told_for, add_turn, partitions_in, partitions_of}
 
 pub no_part : (ts : List (Topic ℤ)) → has_part ts ≡ false → partitions_of ts ≡ []
 no_part [] none = refl
@@ -27,13 +28,18 @@ no_part (t ∷ ts) none = by_parts t.name t.partitions none (no_part ts) where
   by_parts name [] h behind = behind h
   by_parts name (index ∷ indices) h behind = absurd (let clash : true ≡ false = h in cc)
 
-pub id_granted : (w : World) (caller : Caller) (id : List ℕ) (ts : List (Topic ℤ)) → has_part ts ≡ true → refusals (cut_rule caller id w.topics) (rules_of w) ts ≡ [] → question_refusal (rules_of w) (id_question caller id) ≡ None
-id_granted w caller id ts some none =
-    first_is_granted (cut_rule caller id w.topics) (rules_of w) (id_question caller id) ts (λ name index. (asked caller operations.Write kinds.Topic name ∷ [], refl)) some none
+pub id_granted : (rules : Rules) (topics : List TopicValue) (caller : Caller) (id : List ℕ) (ts : List (Topic ℤ)) → has_part ts ≡ true → refusals (cut_rule caller id topics) rules ts ≡ [] → question_refusal rules (id_question caller id) ≡ None
+id_granted rules topics caller id ts some none =
+    first_is_granted (cut_rule caller id topics) rules (id_question caller id) ts (λ name index. (asked caller operations.Write kinds.Topic name ∷ [], refl)) some none
 
-pub nothing_added : (w : World) (r : AddPartitionsToTxnRequest) → partitions_of r.topics ≡ [] → (added_outcome w r).world ≡ w
-nothing_added w r none =
-    ap (λ (ps : List TopicPartition). record w { coordinator = turned w.coordinator (add_partitions w.coordinator r.transactional_id (record { producer = r.producer; epoch = r.epoch }) w.moment ps) }) none
+module _ (c : CoordinatorValue) (moment : ℕ) (r : AddPartitionsToTxnRequest) (none : partitions_of r.topics ≡ []) where
+  pub nothing_added : turned c (add_turn c moment r) ≡ c
+  nothing_added =
+      ap (λ (ps : List TopicPartition). turned c (add_partitions c r.transactional_id (record { producer = r.producer; epoch = r.epoch }) moment ps)) none
+
+  pub nothing_told : turn_code (add_turn c moment r) ≡ codes.None
+  nothing_told =
+      ap (λ (ps : List TopicPartition). turn_code (add_partitions c r.transactional_id (record { producer = r.producer; epoch = r.epoch }) moment ps)) none
 
 -- ---- what is told where nothing is refused
 

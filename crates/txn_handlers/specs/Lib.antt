@@ -1,3 +1,4 @@
+pub mod Asked
 pub mod InitProducerId
 pub mod EndTxn
 pub mod AddPartitions

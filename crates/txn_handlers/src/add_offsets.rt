@@ -60,7 +60,9 @@ pub fn answer_add_offsets(
     ensures paid { IfOk result (λ o. o.paid ≡ part_paid (rules_of state.old) (add_offsets_questions caller.now request.now.transactional_id request.now.group)) }
     ensures spent { IfOk result (λ o. o.spent ≡ 0) }
 {
-    let id = id_question(caller, &request.transactional_id)?;
+    let id = state
+        .policy
+        .settle(id_question(caller, &request.transactional_id)?);
     let group = read_question(caller, &request.group)?;
     let moment = state.moment.milliseconds();
     match ask_two(&state.policy, id, group) {

@@ -1,42 +1,52 @@
 //! AddPartitionsToTxn: partitions become part of a transaction, all of them or none.
 
-ghost use Rattle.std.specs.Prelude.{◌≡◌, ◌++◌, [], None, IfOk, OnOk};
+ghost use Rattle.std.specs.Prelude.{◌≡◌, ◌++◌, [], None, true, IfOk, OnOk};
 ghost use Rattle.std.specs.Option.{option_copied};
 ghost use Rattle.authorizer.specs.Asking.{policy_rules, question_refusal};
 ghost use Rattle.authorizer.specs.Policy.{IsGranted};
+ghost use Rattle.authorizer.specs.Settled.{IsSettled, settled};
 ghost use Rattle.authorizer.specs.Tally.{counted};
 ghost use Rattle.walk.specs.Walk.{plain_topics, answers, refusals, asked_in};
-ghost use Rattle.transactions.specs.Coordinator.{turn_code};
+ghost use Rattle.walk.specs.Woven.{has_part};
+ghost use Rattle.transactions.specs.Coordinator.{turn_code, turned};
+ghost use Rattle.broker_world.specs.Questions.{id_question};
 ghost use Rattle.broker_world.specs.World.{rules_of};
-ghost use Rattle.txn_handlers.specs.AddPartitions.{added_partition, cut_code, is_missing_in, is_missing, cut_rule, told_rule, told_for, added_parts, partitions_in, partitions_of, add_turn, add_reply, added_outcome, add_partitions_outcome};
+ghost use Rattle.txn_handlers.specs.Asked.{AsksForId};
+ghost use Rattle.txn_handlers.specs.AddPartitions.{added_partition, cut_code, is_missing_in, is_missing, cut_rule, told_rule, told_for, added_parts, partitions_in, partitions_of, add_turn, add_reply, add_partitions_outcome};
 
-use acl_binding::{Caller, Kind, Operation, Question};
-use authorizer::{Permit, Policy, Tally, TwoPermits, ask_one, ask_two};
+use acl_binding::{Caller, Kind, Operation};
+use authorizer::{Permit, Policy, Settled, Tally, TwoPermits, ask_settled, ask_two};
 use broker_world::{Outcome, State, Topics, id_question, served_in_parts};
 use msg_admin::Reply;
 use msg_txn::{AddPartitionsToTxnReply, AddPartitionsToTxnRequest, AddedPartition};
 use partition_log::Log;
 use std::alloc::{AllocError, Global};
 use transactions::{Pair, TopicPartition};
+use txn_coordinator::Coordinator;
 use walk::{Part, PartApi, Walked, has_part, refusal_code, walk_cut, walk_granted};
 use wire_types::{ErrorCode, Items, Text, Topic};
 
-/// Who asks to add partitions to the transaction of an id, and what partitions there are. Nothing is added, and nothing
-/// spent.
+/// Who asks to add partitions to the transaction of an id, what is said to writing with that, and what partitions there are.
+/// Nothing is added, and nothing spent.
 #[derive(Drop)]
 pub(crate) struct Cutting<'a> {
     pub(crate) caller: &'a Caller,
     pub(crate) id: &'a Text,
+    pub(crate) asked: &'a Settled,
     pub(crate) topics: &'a Topics,
 }
 
 impl<'a> PartApi<i32, AddedPartition, ()> for Cutting<'a> {
     ghost use Rattle.std.specs.Prelude.{true};
+    ghost use Rattle.authorizer.specs.Settled.{settled};
+    ghost use Rattle.broker_world.specs.Questions.{id_question};
     ghost use Rattle.txn_handlers.specs.AddPartitions.{cut_rule};
 
     ghost rule = { λ api. cut_rule api.caller.now api.id.now api.topics.now };
 
     ghost cuts = { λ _. true };
+
+    ghost settles = { λ api policy. api.asked.now ≡ settled policy (id_question api.caller.now api.id.now) };
 
     fn serve(
         &self,
@@ -46,7 +56,7 @@ impl<'a> PartApi<i32, AddedPartition, ()> for Cutting<'a> {
         name: &Text,
         part: &i32,
     ) -> Result<Part<AddedPartition>, AllocError> {
-        let id = id_question(self.caller, self.id)?;
+        let id = self.asked.again()?;
         let topic = self.caller.asks(Operation::Write, Kind::Topic, name)?;
         match ask_two(policy, id, topic) {
             Ok(TwoPermits { first, second }) => {
@@ -63,21 +73,27 @@ impl<'a> PartApi<i32, AddedPartition, ()> for Cutting<'a> {
     }
 }
 
-/// Who has added partitions to the transaction of an id, and the code that each of them is told.
+/// Who has added partitions to the transaction of an id, what is said to writing with that, and the code that each of them is
+/// told.
 #[derive(Drop)]
 struct Telling<'a> {
     caller: &'a Caller,
     id: &'a Text,
+    asked: &'a Settled,
     code: ErrorCode,
 }
 
 impl<'a> PartApi<i32, AddedPartition, ()> for Telling<'a> {
     ghost use Rattle.std.specs.Prelude.{false};
+    ghost use Rattle.authorizer.specs.Settled.{settled};
+    ghost use Rattle.broker_world.specs.Questions.{id_question};
     ghost use Rattle.txn_handlers.specs.AddPartitions.{told_for};
 
     ghost rule = { λ api. told_for api.caller.now api.id.now api.code };
 
     ghost cuts = { λ _. false };
+
+    ghost settles = { λ api policy. api.asked.now ≡ settled policy (id_question api.caller.now api.id.now) };
 
     fn serve(
         &self,
@@ -87,7 +103,7 @@ impl<'a> PartApi<i32, AddedPartition, ()> for Telling<'a> {
         name: &Text,
         part: &i32,
     ) -> Result<Part<AddedPartition>, AllocError> {
-        let id = id_question(self.caller, self.id)?;
+        let id = self.asked.again()?;
         let topic = self.caller.asks(Operation::Write, Kind::Topic, name)?;
         match ask_two(policy, id, topic) {
             Ok(permits) => {
@@ -177,24 +193,32 @@ fn told(
     policy: &Policy,
     caller: &Caller,
     id: &Text,
+    asked: &Settled,
     code: ErrorCode,
     named: &[Topic<i32>],
 ) -> Result<(Reply, Tally), AllocError>
-    requires { refusals (told_for caller.now id.now code) (policy_rules policy.now) named.now ≡ [] }
+    requires settled { asked.now ≡ settled policy.now (id_question caller.now id.now) }
+    requires granted { refusals (told_for caller.now id.now code) (policy_rules policy.now) named.now ≡ [] }
     ensures reply { IfOk result (λ r. r.0 ≡ add_reply (plain_topics (told_rule code) tt named.now)) }
     ensures spent { IfOk result (λ r. r.1 ≡ counted (policy_rules policy.now) 0 (asked_in (told_for caller.now id.now code) named.now)) }
 {
-    let api = Telling { caller, id, code };
+    let api = Telling {
+        caller,
+        id,
+        asked,
+        code,
+    };
     let walked = walk_granted(alloc, &api, policy, &mut (), named)?;
     Ok((add_reply(walked.topics), walked.spent))
 }
 
-/// The permit of a question that is known to be granted.
-fn granted(policy: &Policy, question: Question) -> Permit
-    requires { question_refusal (policy_rules policy.now) question ≡ None }
-    ensures { IsGranted policy.now question result }
+/// The permit of a question that was settled, and is known to be granted.
+fn granted(policy: &Policy, asked: Settled) -> Permit
+    requires settled { IsSettled policy.now asked }
+    requires granted { question_refusal (policy_rules policy.now) asked.question ≡ None }
+    ensures { IsGranted policy.now asked.question result }
 {
-    match ask_one(policy, question) {
+    match ask_settled(policy, asked) {
         Ok(permit) => permit,
         Err(_) => unreachable!(),
     }
@@ -213,46 +237,65 @@ pub fn answer_add_partitions(
     ensures paid { IfOk result (λ o. o.paid ≡ []) }
     ensures spent { IfOk result (λ o. o.spent ≡ counted (rules_of state.old) 0 (added_parts state.old caller.now request.now)) }
 {
-    let named = request.topics.as_slice();
-    let cut = cut(alloc, state, caller, request)?;
+    let (id, named) = (&request.transactional_id, request.topics.as_slice());
+    let asked = state.policy.settle(id_question(caller, id)?);
+    let cut = cut(
+        alloc,
+        &state.policy,
+        &state.topics,
+        caller,
+        id,
+        &asked,
+        named,
+    )?;
     if cut.refusals.len() != 0 || is_missing(&state.topics, named) {
         return Ok(served_in_parts(add_reply(cut.topics), cut.refusals, cut.spent));
     }
-    let code = add_all(alloc, state, caller, request)?;
-    let id = &request.transactional_id;
-    let (reply, spent) = told(alloc, &state.policy, caller, id, code, named)?;
+    let moment = state.moment.milliseconds();
+    let (coordinator, policy) = (&mut state.coordinator, &state.policy);
+    let code = add_all(alloc, coordinator, policy, asked.again()?, moment, request)?;
+    let (reply, spent) = told(alloc, policy, caller, id, &asked, code, named)?;
     Ok(served_in_parts(reply, cut.refusals, spent))
 }
 
 /// The answers where nothing is added, and what is refused.
 fn cut(
     alloc: Global,
-    state: &State,
+    policy: &Policy,
+    topics: &Topics,
     caller: &Caller,
-    request: &AddPartitionsToTxnRequest,
+    id: &Text,
+    asked: &Settled,
+    named: &[Topic<i32>],
 ) -> Result<Walked<AddedPartition>, AllocError>
-    ensures answers { IfOk result (λ r. r.topics ≡ answers (cut_rule caller.now request.now.transactional_id state.now.topics) (rules_of state.now) tt request.now.topics) }
-    ensures refusals { IfOk result (λ r. r.refusals ≡ refusals (cut_rule caller.now request.now.transactional_id state.now.topics) (rules_of state.now) request.now.topics) }
+    requires { asked.now ≡ settled policy.now (id_question caller.now id.now) }
+    ensures answers { IfOk result (λ r. r.topics ≡ answers (cut_rule caller.now id.now topics.now) (policy_rules policy.now) tt named.now) }
+    ensures refusals { IfOk result (λ r. r.refusals ≡ refusals (cut_rule caller.now id.now topics.now) (policy_rules policy.now) named.now) }
     ensures spent { IfOk result (λ r. r.spent ≡ 0) }
 {
     let api = Cutting {
         caller,
-        id: &request.transactional_id,
-        topics: state.topics(),
+        id,
+        asked,
+        topics,
     };
-    walk_cut(alloc, &api, state.policy(), request.topics.as_slice())
+    walk_cut(alloc, &api, policy, named)
 }
 
-/// Adds all the partitions, none of which was refused.
+/// Adds all the partitions, if any are named. What all of them ask was settled, and is granted.
 fn add_all(
     alloc: Global,
-    state: &mut State,
-    caller: &Caller,
+    coordinator: &mut Coordinator,
+    policy: &Policy,
+    asked: Settled,
+    moment: u64,
     request: &AddPartitionsToTxnRequest,
 ) -> Result<ErrorCode, AllocError>
-    requires { refusals (cut_rule caller.now request.now.transactional_id state.old.topics) (rules_of state.old) request.now.topics ≡ [] }
-    ensures world { OnOk result (state.new ≡ (added_outcome state.old request.now).world) }
-    ensures code { IfOk result (λ code. code ≡ turn_code (add_turn state.old.coordinator state.old.moment request.now)) }
+    requires settled { IsSettled policy.now asked }
+    requires asked { AsksForId asked.question request.now.transactional_id }
+    requires granted { has_part request.now.topics ≡ true → question_refusal (policy_rules policy.now) asked.question ≡ None }
+    ensures coordinator { OnOk result (coordinator.new ≡ turned coordinator.old (add_turn coordinator.old moment request.now)) }
+    ensures code { IfOk result (λ code. code ≡ turn_code (add_turn coordinator.old moment request.now)) }
 {
     if !has_part(request.topics.as_slice()) {
         return Ok(ErrorCode::None);
@@ -263,10 +306,7 @@ fn add_all(
         producer: request.producer,
         epoch: request.epoch,
     };
-    let moment = state.moment.milliseconds();
-    let question = id_question(caller, id)?;
-    let permit = granted(&state.policy, question);
-    let (coordinator, policy) = (&mut state.coordinator, &state.policy);
+    let permit = granted(policy, asked);
     let (_spent, code) = coordinator.add_partitions(policy, permit, id, pair, moment, &partitions);
     code
 }

@@ -14,7 +14,7 @@ ghost use Rattle.walk.specs.Walk.{world_after, answers, refusals, asked_in};
 ghost use Rattle.txn_handlers.specs.TxnOffsetCommit.{staging, offset_staged, staged_code, staging_refusal, turn_by, stage_rule, staging_rule, txn_offset_commit_outcome};
 
 use acl_binding::{Caller, Kind, Operation};
-use authorizer::{Paid, Permit, Policy, Spent, ThreePermits, ask_three};
+use authorizer::{Paid, Permit, Policy, Settled, Spent, ThreePermits, ask_three};
 use broker_world::{
     Outcome, State, Topics, code_in, id_question, read_question, refused_by, served_in_parts,
 };
@@ -29,13 +29,16 @@ use txn_coordinator::Coordinator;
 use walk::{Part, PartApi, Walked, refusal_code, walk};
 use wire_types::{ErrorCode, Text};
 
-/// Whose transaction commits for which group, and what partitions there are.
+/// Whose transaction commits for which group, what is said to writing with its id and to reading the group, and what partitions
+/// there are.
 #[derive(Drop)]
 pub(crate) struct Staging<'a> {
     pub(crate) caller: &'a Caller,
     pub(crate) id: &'a Text,
+    pub(crate) id_asked: &'a Settled,
     pub(crate) pair: Pair,
     pub(crate) group: &'a Text,
+    pub(crate) group_asked: &'a Settled,
     pub(crate) generation: i32,
     pub(crate) member: &'a Text,
     /// Why the transaction can't commit for the group, if it can't.
@@ -46,10 +49,13 @@ pub(crate) struct Staging<'a> {
 impl<'a> PartApi<OffsetToStage, StagedOffset, Groups> for Staging<'a> {
     ghost use Rattle.std.specs.Prelude.{false};
     ghost use Rattle.txn_handlers.specs.TxnOffsetCommit.{stage_rule};
+    ghost use Rattle.txn_handlers.specs.Asked.{AreAsked};
 
     ghost rule = { λ api. stage_rule api.caller.now (record { id = api.id.now; pair = api.pair; group = api.group.now; generation = api.generation; member = api.member.now }) api.refusal api.topics.now };
 
     ghost cuts = { λ _. false };
+
+    ghost settles = { λ api policy. AreAsked policy api.caller.now api.id.now api.group.now api.id_asked.now api.group_asked.now };
 
     fn serve(
         &self,
@@ -60,8 +66,8 @@ impl<'a> PartApi<OffsetToStage, StagedOffset, Groups> for Staging<'a> {
         part: &OffsetToStage,
     ) -> Result<Part<StagedOffset>, AllocError> {
         let offset = offset_staged(alloc, name, part)?;
-        let id = id_question(self.caller, self.id)?;
-        let group = read_question(self.caller, self.group)?;
+        let id = self.id_asked.again()?;
+        let group = self.group_asked.again()?;
         let topic = self.caller.asks(Operation::Read, Kind::Topic, name)?;
         match ask_three(policy, id, group, topic) {
             Ok(
@@ -169,14 +175,18 @@ fn stage_all(
     ensures refusals { IfOk result (λ walked. walked.refusals ≡ refusals (stage_rule caller.now (staging request.now) refusal topics.now) (policy_rules policy.now) request.now.topics) }
     ensures spent { IfOk result (λ walked. walked.spent ≡ counted (policy_rules policy.now) 0 (asked_in (stage_rule caller.now (staging request.now) refusal topics.now) request.now.topics)) }
 {
+    let id_asked = policy.settle(id_question(caller, &request.transactional_id)?);
+    let group_asked = policy.settle(read_question(caller, &request.group)?);
     let api = Staging {
         caller,
         id: &request.transactional_id,
+        id_asked: &id_asked,
         pair: Pair {
             producer: request.producer,
             epoch: request.epoch,
         },
         group: &request.group,
+        group_asked: &group_asked,
         generation: request.generation,
         member: &request.member,
         refusal,

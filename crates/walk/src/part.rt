@@ -2,6 +2,7 @@
 
 ghost use Rattle.std.specs.Prelude.{◌≡◌, ◌≤◌, Bool, IfOk, OnOk};
 ghost use Rattle.authorizer.specs.Asking.{policy_rules};
+ghost use Rattle.authorizer.specs.Policy.{PolicyValue};
 ghost use Rattle.walk.specs.Rule.{PartRule};
 ghost use Rattle.authorizer.specs.Tally.{raised};
 ghost use Rattle.walk.specs.Steps.{refusal_in, spent_in, part_done, part_world};
@@ -86,6 +87,9 @@ pub trait PartApi<P, A, W> {
     /// Granted parts aren't served, and nothing is spent for them.
     ghost cuts: { Self → Bool };
 
+    /// What all parts ask was asked of this policy.
+    ghost settles: { Self → PolicyValue → Type 0 };
+
     /// Serves one part of the topic of this name, or refuses it.
     fn serve(
         &self,
@@ -95,7 +99,8 @@ pub trait PartApi<P, A, W> {
         name: &Text,
         part: &P,
     ) -> Result<Part<A>, AllocError>
-        requires { (rule self.now).weight part.now ≤ (rule self.now).room world.old }
+        requires settled { settles self.now policy.now }
+        requires room { (rule self.now).weight part.now ≤ (rule self.now).room world.old }
         ensures world { OnOk result (world.new ≡ part_world (rule self.now) (policy_rules policy.now) world.old name.now part.now) }
         ensures done { IfOk result (λ done. done ≡ part_done (cuts self.now) (rule self.now) (policy_rules policy.now) world.old name.now part.now) };
 }

@@ -29,6 +29,7 @@ pub fn walk<P, A: Drop, W, X: PartApi<P, A, W>>(
     topics: &[Topic<P>],
 ) -> Result<Walked<A>, AllocError>
     requires served { X.cuts api.now ≡ false }
+    requires settled { X.settles api.now policy.now }
     requires room { topics_weight (X.rule api.now) topics.now ≤ (X.rule api.now).room world.old }
     ensures world { OnOk result (world.new ≡ world_after (X.rule api.now) (policy_rules policy.now) world.old topics.now) }
     ensures answers { IfOk result (λ r. r.topics ≡ answers (X.rule api.now) (policy_rules policy.now) world.old topics.now) }
@@ -48,6 +49,7 @@ pub fn walk_granted<P, A: Drop, W, X: PartApi<P, A, W>>(
     topics: &[Topic<P>],
 ) -> Result<Walked<A>, AllocError>
     requires served { X.cuts api.now ≡ false }
+    requires settled { X.settles api.now policy.now }
     requires granted { refusals (X.rule api.now) (policy_rules policy.now) topics.now ≡ [] }
     requires room { topics_weight (X.rule api.now) topics.now ≤ (X.rule api.now).room world.old }
     ensures world { OnOk result (world.new ≡ plain_world (X.rule api.now) world.old topics.now) }
@@ -68,6 +70,7 @@ pub fn walk_cut<P, A: Drop, X: PartApi<P, A, ()>>(
     topics: &[Topic<P>],
 ) -> Result<Walked<A>, AllocError>
     requires cut { X.cuts api.now ≡ true }
+    requires settled { X.settles api.now policy.now }
     requires room { topics_weight (X.rule api.now) topics.now ≤ (X.rule api.now).room tt }
     ensures answers { IfOk result (λ r. r.topics ≡ answers (X.rule api.now) (policy_rules policy.now) tt topics.now) }
     ensures refusals { IfOk result (λ r. r.refusals ≡ refusals (X.rule api.now) (policy_rules policy.now) topics.now) }
@@ -84,7 +87,8 @@ fn walk_topics<P, A: Drop, W, X: PartApi<P, A, W>>(
     world: &mut W,
     topics: &[Topic<P>],
 ) -> Result<Walked<A>, AllocError>
-    requires { topics_weight (X.rule api.now) topics.now ≤ (X.rule api.now).room world.old }
+    requires settled { X.settles api.now policy.now }
+    requires room { topics_weight (X.rule api.now) topics.now ≤ (X.rule api.now).room world.old }
     ensures world { OnOk result (world.new ≡ topics_world (X.rule api.now) (policy_rules policy.now) world.old topics.now) }
     ensures answers { IfOk result (λ r. r.topics ≡ topics_answers (X.rule api.now) (policy_rules policy.now) world.old topics.now) }
     ensures refusals { IfOk result (λ r. r.refusals ≡ refusals (X.rule api.now) (policy_rules policy.now) topics.now) }
@@ -129,7 +133,8 @@ fn walk_parts<P, A: Drop, W, X: PartApi<P, A, W>>(
     refusals: &mut Items<Refusal>,
     spent: &mut Tally,
 ) -> Result<Items<A>, AllocError>
-    requires { parts_weight (X.rule api.now) parts.now ≤ (X.rule api.now).room world.old }
+    requires settled { X.settles api.now policy.now }
+    requires room { parts_weight (X.rule api.now) parts.now ≤ (X.rule api.now).room world.old }
     ensures world { OnOk result (world.new ≡ parts_world (X.rule api.now) (policy_rules policy.now) world.old name.now parts.now) }
     ensures answers { IfOk result (λ r. r ≡ parts_answers (X.rule api.now) (policy_rules policy.now) world.old name.now parts.now) }
     ensures refusals { OnOk result (refusals.new ≡ refusals.old ++ parts_refused (X.rule api.now) (policy_rules policy.now) name.now parts.now) }
@@ -162,7 +167,8 @@ fn tell<P, A: Drop, W, X: PartApi<P, A, W>>(
     part: &P,
     spent: &mut Tally,
 ) -> Result<Told<A>, AllocError>
-    requires { (X.rule api.now).weight part.now ≤ (X.rule api.now).room world.old }
+    requires settled { X.settles api.now policy.now }
+    requires room { (X.rule api.now).weight part.now ≤ (X.rule api.now).room world.old }
     ensures world { OnOk result (world.new ≡ part_world (X.rule api.now) (policy_rules policy.now) world.old name.now part.now) }
     ensures spent { OnOk result (spent.new ≡ part_spent (X.cuts api.now) (X.rule api.now) (policy_rules policy.now) spent.old name.now part.now) }
     ensures told { IfOk result (λ told. told ≡ part_told (X.rule api.now) (policy_rules policy.now) world.old name.now part.now) }

@@ -1,5 +1,5 @@
 use Rattle.authorizer.specs.declared.index.KindIndex.{KindIndex}
-use Rattle.std.proofs.Common.{◌≡◌, ℕ, ◌+◌, List, ap, ◌∙◌, arith}
+use Rattle.std.proofs.Common.{◌≡◌, ℕ, List, ap, ◌∙◌, arith}
 use Rattle.std.specs.Str.{chars}
 use Rattle.std.specs.Map.{values_of}
 use Rattle.acl_binding.specs.declared.words.Pattern.TheVariants.{Literal, Prefixed}

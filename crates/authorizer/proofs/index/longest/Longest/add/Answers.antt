@@ -1,4 +1,4 @@
-use Rattle.std.proofs.Common.{◌≡◌, ◌<◌, ◌+◌, ℕ, List, ◌++◌, ◌∷◌, [], subst, sym, arith}
+use Rattle.std.proofs.Common.{◌+◌, ℕ, ◌++◌, ◌∷◌, [], subst, sym, arith}
 use Rattle.authorizer.specs.Longest.{IsLongest}
 use Rattle.authorizer.proofs.Longest.{raised, joined, below_it}
 use Rattle.authorizer.proofs.index.longest.Longest.add.Goals as goal

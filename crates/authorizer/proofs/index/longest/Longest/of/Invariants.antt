@@ -1,4 +1,4 @@
-use Rattle.std.proofs.Common.{◌≡◌, ◌+◌, ◌<◌, ◌^◌, ◌++◌, List}
+use Rattle.std.proofs.Common.{◌≡◌, ◌<◌, ◌^◌, ◌++◌, List}
 use Rattle.std.specs.HashMap.{keys}
 use Rattle.indexmap.specs.IndexMap.{index_map_len}
 use Rattle.std.specs.Map.{keys_of}

@@ -1,5 +1,5 @@
-use Rattle.std.proofs.Common.{List, ℕ, sym, ap, ◌∙◌, rules}
-use Rattle.authorizer.specs.Longest.{greatest, longest_name}
+use Rattle.std.proofs.Common.{sym, ap, ◌∙◌}
+use Rattle.authorizer.specs.Longest.{greatest}
 use Rattle.authorizer.proofs.LongestNames.{key_lengths}
 use Rattle.authorizer.proofs.index.names.Names.longest.Goals as goal
 

@@ -1,0 +1,88 @@
+//! A question that all parts of a request ask: the policy is asked once, and each part has its answer from that.
+
+ghost use Rattle.std.specs.Prelude.{◌≡◌, IfOk};
+ghost use Rattle.authorizer.specs.Asking.{answer_by};
+ghost use Rattle.authorizer.specs.Settled.{settled_if_given};
+
+use crate::answer::{Answer, Refusal, Why};
+use crate::permit::Permit;
+use crate::policy::Policy;
+use acl_binding::{Question, Verdict};
+use std::alloc::AllocError;
+use std::marker::Model;
+
+/// What a policy said to a question, which holds until the next change of its book. It is made by [`Policy::settle`].
+pub struct Settled {
+    pub(crate) edit: u64,
+    pub(crate) question: Question,
+    pub(crate) verdict: Verdict,
+}
+
+/// Written out, so that a crate which lets it go calls this once, and proves nothing of its question.
+impl Drop for Settled {
+    fn drop(self) {
+        let Settled {
+            edit: _,
+            question: _question,
+            verdict: _,
+        } = self;
+    }
+}
+
+impl Model for Settled {
+    ghost use Rattle.authorizer.specs.Settled.{SettledValue};
+
+    ghost Value = { SettledValue };
+
+    ghost view = { λ s. record { edit = s.edit; question = s.question; verdict = s.verdict } };
+}
+
+impl Settled {
+    /// The same once more, for one more part.
+    pub fn again(&self) -> Result<Settled, AllocError>
+        ensures { IfOk result (λ settled. settled ≡ self.now) }
+    {
+        Ok(Settled {
+            edit: self.edit,
+            question: self.question.clone()?,
+            verdict: self.verdict,
+        })
+    }
+
+    /// A permit, or the refusal.
+    pub(crate) fn answer(self) -> Answer
+        ensures { result ≡ answer_by self.verdict self.edit self.question }
+    {
+        let Settled {
+            edit,
+            question,
+            verdict,
+        } = self;
+        let why = match verdict {
+            Verdict::Yes => return Answer::Granted(Permit::new(edit, question)),
+            Verdict::Denied(number) => Why::Denied(number),
+            Verdict::Nothing => Why::Nothing,
+        };
+        Answer::Refused(Refusal { question, why })
+    }
+}
+
+/// What the policy says to a question that may be absent.
+pub fn settle_if_given(policy: &Policy, question: Option<Question>) -> Option<Settled>
+    ensures { result ≡ settled_if_given policy.now question }
+{
+    match question {
+        Some(question) => Some(policy.settle(question)),
+        None => None,
+    }
+}
+
+/// The same once more, for one more part.
+pub fn again_if_given(settled: &Option<Settled>) -> Result<Option<Settled>, AllocError>
+    ensures { IfOk result (λ again. again ≡ settled.now) }
+{
+    match settled {
+        Some(settled) => Ok(Some(settled.again()?)),
+        None => Ok(None),
+    }
+}
