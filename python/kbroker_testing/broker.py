@@ -29,6 +29,7 @@ STARTS_WITHIN = 60  # seconds, until it says its first line
 LISTENING = re.compile(r"listening on (\S+)\n")
 LAST = re.compile(r"sessions (\d+) events (\d+) refusals (\d+)\n")
 # What is told where as many connections were taken as are served.
+STARTED = re.compile(r"kbroker: version \S+ as node \d+: .*")
 USED_UP = "kbroker: no more connections are taken, since --connections is {}"
 TICKS = os.sysconf("SC_CLK_TCK")
 
@@ -228,8 +229,8 @@ class BrokerProcess:
         self.folder.cleanup()
 
     def lines_of(self, errors):
-        """The lines of standard error, but for the one that no more connections are taken."""
-        return [line for line in errors.splitlines() if line != self.used_up]
+        """The lines of standard error, but for the first, of what is served, and the one that no more connections are taken."""
+        return [line for line in errors.splitlines() if line != self.used_up and not STARTED.fullmatch(line)]
 
     @property
     def used_up(self):

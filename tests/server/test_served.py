@@ -13,7 +13,7 @@ from kbroker_testing.apis import APIS
 from kbroker_testing.broker import ClockedKbroker
 from kbroker_testing.codes import Code
 from kbroker_testing.protocol import Connection, batch, committed, logged_in, partition_of, request_frame
-from tests.server.told import CUT, FULL, NEARLY_FULL, NO_LOGIN, READ_FAILED, WAITED, WAITING, of_nobody, of_user
+from tests.server.told import CUT, FULL, LOGS_IN, NEARLY_FULL, NO_LOGIN, READ_FAILED, WAITED, WAITING, asked, of_nobody, of_user
 from tests.support import COLLIDING, LONGEST_FRAME, OF_SUPER, PROGRAM, TooLate, acl, connect, of_b, topic, user, wait_until
 
 USERS = user("root", "toor") + user("ann", "pw")
@@ -163,7 +163,11 @@ class Apis(ServedCase):
             status, said, told = server.wait()
         self.assertEqual(status, 0)
         self.assertRegex(said, r"\Asessions 2 events \d+ refusals 0\n\Z")
-        self.assertEqual(told, server.used_up + "\n")
+        started = (
+            "kbroker: version 0.1.0 as node 1: topics 1, partitions 2, users 2, workers 2,"
+            " a trail of 1048576 events (29 hours at rest), not encrypted"
+        )
+        self.assertEqual(told.splitlines(), [started, server.used_up])
 
     def test_each_api(self):
         """Each api over one connection; another user is refused what it has no binding for; a wrong password."""
@@ -180,7 +184,7 @@ class Apis(ServedCase):
             settled, told = server.settled()
         self.assertEqual((settled.sessions, settled.refusals), (3, 1))
         self.assertGreater(settled.events, 40)
-        self.assertEqual(told, [of_nobody(2, NO_LOGIN)])
+        self.assertEqual(told, [asked(2, LOGS_IN.format("ann")), of_nobody(2, NO_LOGIN)])
 
     def look_at_data(self, broker):
         """Topics and records, as a super user."""
@@ -323,7 +327,8 @@ class Peers(ServedCase):
             connect(server.address).close()
             settled, told = server.settled()
         self.assertEqual((settled.sessions, settled.refusals), (clients + 1, 0))
-        self.assertEqual(sorted(told), sorted(of_nobody(number, NO_LOGIN) for number in range(clients)))
+        lines = [(asked(it, "asks Produce before its login"), of_nobody(it, NO_LOGIN)) for it in range(clients)]
+        self.assertEqual(sorted(told), sorted(line for pair in lines for line in pair))
 
     def test_idle_peers_are_closed(self):
         """A peer that says nothing for a second is closed, and one that says something in time isn't."""

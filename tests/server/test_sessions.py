@@ -41,7 +41,7 @@ from tests.server.session_bytes import (
     login_of,
     settings,
 )
-from tests.server.told import BAD_FRAME, CUT, FULL, MALFORMED, NO_LOGIN
+from tests.server.told import ASKED, BAD_FRAME, CUT, FULL, LOGS_IN, MALFORMED, NO_LOGIN
 from tests.support import connect
 
 # SaslHandshake in version 0, EndTxn in version 6, and an api that there isn't, each with a header alone.
@@ -160,11 +160,15 @@ class SessionBroker(Kbroker):
             return b"".join(pieces)
 
     def ended(self):
-        """What it did, why each session ended that didn't end between two requests, and what is told of a frame that is none."""
+        """What it did, why each session ended that didn't end between two requests, and what is told of a frame that ended it."""
         settled, lines = self.settled("end\n")
-        unserved = {int(line.split(" ")[2]): line.split(" ", 3)[3] for line in lines if " asks " in line}
-        whys = (line.split(": ", 2) for line in lines if " asks " not in line)
-        return settled, {int(who.split(" ")[1]): why for _, who, why in whys}, unserved
+        asked = [ASKED.fullmatch(line) for line in lines]
+        whys = (line.split(": ", 2) for line, found in zip(lines, asked) if not found)
+        return (
+            settled,
+            {int(who.split(" ")[1]): why for _, who, why in whys},
+            {int(found[1]): found[2] for found in asked if found},
+        )
 
 
 class Sessions(unittest.TestCase):
@@ -180,7 +184,7 @@ class Sessions(unittest.TestCase):
             settled, whys, unserved = broker.ended()
         self.assertEqual(settled, (len(ROWS), sum(it.events for it in ROWS), 0))
         self.assertEqual(whys, {number: row.why for number, row in enumerate(ROWS) if row.why})
-        self.assertEqual({*unserved}, {number for number, why in whys.items() if why == MALFORMED})
+        self.assertEqual({*unserved}, {number for number, why in whys.items() if why in (MALFORMED, NO_LOGIN)})
 
     def test_an_operator_is_told_what_is_not_served(self):
         rows = (
@@ -189,12 +193,23 @@ class Sessions(unittest.TestCase):
             (HANDSHAKE + LOGIN + NO_API, "asks api 999, which isn't served"),
             ("0000000b0012000000000001ffff00", "asks ApiVersions in version 0, and the rest of its frame is no such request"),
         )
+        refused = (
+            (METADATA, "asks Metadata before its login"),
+            (HANDSHAKE + PRODUCE, "asks Produce before its login"),
+            (NO_API, "asks api 999 before its login"),
+            (LOGIN, "asks SaslAuthenticate out of its order"),
+            (HANDSHAKE + HANDSHAKE, "asks SaslHandshake out of its order"),
+            (SCRAM, "asks for the mechanism SCRAM, which isn't offered: PLAIN is"),
+            (HANDSHAKE + WRONG, LOGS_IN.format("ann")),
+            (HANDSHAKE + login_of(LONGEST + 1), "sends a login that is longer than each user's"),
+        )
+        rows, unserved_rows = (*rows, *refused), len(rows)
         with SessionBroker(1_000) as broker:
             for asks, _ in rows:
                 broker.answers(bytes.fromhex(asks))
             _, whys, unserved = broker.ended()
         self.assertEqual(unserved, {number: told for number, (_, told) in enumerate(rows)})
-        self.assertEqual(whys, {number: MALFORMED for number in range(len(rows))})
+        self.assertEqual(whys, {at: MALFORMED if at < unserved_rows else NO_LOGIN for at in range(len(rows))})
 
     def test_a_full_trail(self):
         """The trail takes three events; the session ends at the fourth."""

@@ -1,8 +1,14 @@
 """What an operator is told of sessions on standard error."""
 
+import re
+
 # A session of nobody in particular, or of a user, and why it ended.
 OF_SESSION = "kbroker: session {} of {} from 127.0.0.1: {}"
 NOBODY = "nobody"
+
+# What a session's last frame asks, where the broker ends the session on it.
+ASKED = re.compile(r"kbroker: session (\d+) (?!of )(.*)")
+LOGS_IN = "logs in as {}: no user has this name and password"
 
 # That connections wait for one of so many workers, and how many seconds the one had waited that is served then.
 WAITING = "kbroker: connections wait for a worker, since all {} are taken; see --workers"
@@ -20,6 +26,11 @@ ALLOCATION_FAILED = "there is not enough memory"
 DOWN = "an earlier event put the broker down"
 READ_FAILED = "a read failed"
 WRITE_FAILED = "a write failed"
+
+
+def asked(number, what):
+    """The line of the frame on which a session is ended."""
+    return f"kbroker: session {number} {what}"
 
 
 def of_nobody(number, why):

@@ -3,11 +3,13 @@
 ghost use Rattle.std.specs.Prelude.{◌≡◌, ◌==◌};
 ghost use Rattle.std.specs.List.{count_by};
 
+use crate::refused::refused_line;
+use crate::starting::{Started, start_line};
 use crate::teller::{Saying, Teller};
 use crate::unserved::unserved_line;
 use admission::Doorman;
 use crossbeam_channel::Sender;
-use request_handlers::MOST_SEATS;
+use request_handlers::{Core, MOST_SEATS};
 use session_pool::{Gate, Why};
 use std::alloc::{AllocError, Global};
 use std::fmt::Display;
@@ -16,7 +18,7 @@ use std::io::Write;
 use std::sync::Wait;
 use std::sync::atomic::{AtomicU64, Ordering};
 use std::time::Duration;
-use wire_types::Text;
+use wire_types::{Bytes, Text};
 
 /// So many sayings wait for the teller at most.
 const WAITING: usize = 1_024;
@@ -95,6 +97,11 @@ impl<'r, R: Wait> Sentences<'r, R> {
         }
     }
 
+    /// Says what is served, as a server starts.
+    pub fn start(&self, core: &Core, started: Started) {
+        self.say_line(start_line(self.alloc, core, started));
+    }
+
     /// Counts the lines that weren't said, and those that it was to tell of.
     fn leave_out(&self, saying: Saying) {
         let Saying { left_out, lines } = saying;
@@ -151,6 +158,13 @@ impl<'r, R: Wait> Gate for Sentences<'r, R> {
     /// Says which api it asks, and what of it is served.
     fn garbled(&self, session: u64, kept: &[u8]) {
         if let Some(line) = unserved_line(self.alloc, session, kept) {
+            self.say(line);
+        }
+    }
+
+    /// Says what of its login failed, or what it asks before that.
+    fn refused(&self, session: u64, kept: &Bytes, is_answered: bool) {
+        if let Some(line) = refused_line(self.alloc, session, kept, is_answered) {
             self.say(line);
         }
     }

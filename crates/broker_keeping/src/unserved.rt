@@ -4,7 +4,7 @@ use msg_admin::{Api, versions_reply};
 use std::alloc::Global;
 
 /// Key and version of the api that a frame asks: its first four bytes.
-fn asked(kept: &[u8]) -> Option<(i16, i16)> {
+pub(crate) fn asked(kept: &[u8]) -> Option<(i16, i16)> {
     match kept {
         [a, b, c, d, ..] => { Some((i16::from_be_bytes([*a, *b]), i16::from_be_bytes([*c, *d]))) }
         _ => None,
@@ -28,6 +28,12 @@ fn name(alloc: Global, key: i16, version: i16) -> Option<String> {
         Api::EndTxn0 => String::from_str(alloc, "EndTxn").ok(),
         api => format!(in alloc; "{api:?}").ok(),
     }
+}
+
+/// The name of an api that is served.
+pub(crate) fn api_name(alloc: Global, key: i16) -> Option<String> {
+    let (min, _max) = served(alloc, key)?;
+    name(alloc, key, min)
 }
 
 /// A line that says which api the frame of a session asks, and which versions of it are served; none where memory was refused for

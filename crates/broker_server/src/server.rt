@@ -9,7 +9,9 @@ ghost use Rattle.request_handlers.specs.Seats.{most_seats};
 ghost use Rattle.session_workers.specs.Ends.{AreEnds};
 
 use crate::lines::{Failure, Unbegun, failure_line, listening_line, settled_line};
-use broker_keeping::{Attendant, Control, Sentences, Steering, Teller, Ticks, Timekeeper, Watch};
+use broker_keeping::{
+    Attendant, Control, Sentences, Started, Steering, Teller, Ticks, Timekeeper, Watch,
+};
 use request_handlers::{Core, MOST_SEATS, Receipt, Seat};
 use session_logins::Users;
 use session_pool::{Closing, DeskLedger, LockedDesk, SessionEnd};
@@ -34,6 +36,8 @@ const FAILED: u8 = 1;
 /// How a broker serves.
 #[derive(Clone, Copy, Debug, PartialEq, Eq)]
 pub struct ServeOptions {
+    /// Which version of the program serves.
+    pub version: &'static str,
     pub connections: ConnectionOptions,
     /// Whether each refusal is told.
     pub audit: bool,
@@ -101,7 +105,11 @@ fn serve_clocked<
 ) -> Result<Ended<L>, PoolFault>
     ensures { IfOk result (λ ended. (owed : Option ℕ) × AreEnds owed ended.ends.items) }
 {
-    let ServeOptions { connections, audit } = options;
+    let ServeOptions {
+        connections,
+        audit,
+        ..
+    } = options;
     let here: &'x R = rt;
     let watch = Watch::new(alloc, desk, sentences, audit);
     let ticks = Ticks::new(rt, desk);
@@ -326,7 +334,15 @@ fn serve_booked<
     )
 }
 
-/// Serves connections, while a teller tells an operator what is said.
+/// Whether a broker that is steered so keeps its own time.
+fn keeps_time<I, O>(steering: &Option<Steering<'_, I, O>>) -> bool {
+    match steering {
+        Some(steering) => !steering.without_clock,
+        None => true,
+    }
+}
+
+/// Serves connections, while a teller tells an operator what is said, beginning with what is served.
 fn serve_told<
     R: Net<Listener = TcpListener, Stream = TcpStream> + Threads + Wait + time::Clock + Sync,
     E: Write + Drop + Send,
@@ -348,6 +364,15 @@ fn serve_told<
     let Ok((sentences, teller)) = Sentences::new(rt, alloc, errors) else {
         return Err(Failure::Pool(PoolFault::NoMemory));
     };
+    sentences.start(
+        &core,
+        Started {
+            version: options.version,
+            users: users.value().len(),
+            workers: options.connections.workers,
+            has_clock: keeps_time(&steering),
+        },
+    );
     serve_booked(
         rt, alloc, core, users, listener, options, steering, &sentences, teller,
     )

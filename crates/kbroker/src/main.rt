@@ -25,6 +25,9 @@ use std::thread::Threads;
 use std::time::Duration;
 use std::{fs, io, time};
 
+/// The version of the program.
+const VERSION: &str = "0.1.0";
+
 /// The exit status of a command line that isn't understood.
 const MISUSED: u8 = 2;
 
@@ -66,6 +69,7 @@ fn options_of(serving: Serving<'_>) -> ServeOptions {
         (ListedVersions::AsServed, None)
     };
     ServeOptions {
+        version: VERSION,
         connections: ConnectionOptions {
             workers: serving.workers as usize,
             connections: serving.connections,

@@ -63,6 +63,7 @@ fn serve_two<
 {
     let patience = Some(Duration::from_secs(PATIENCE));
     let options = ServeOptions {
+        version: "0.1.0",
         connections: ConnectionOptions {
             workers: 2,
             connections: 2,

@@ -11,5 +11,5 @@ mod users;
 pub use answer::{write_handshake, write_login, write_versions};
 pub use laws::{login_is_exact, no_login_is_longer, versions_are_listed};
 pub use listed::ListedVersions;
-pub use message::{principal_of, user_of};
+pub use message::{name_in, principal_of, user_of};
 pub use users::Users;

@@ -58,6 +58,13 @@ pub fn user_of<'u>(users: &'u Users, message: &[u8]) -> Option<&'u User>
     users.find(plain.authentication, plain.password)
 }
 
+/// The name that a PLAIN message tells, whatever its password: its authentication identity.
+pub fn name_in(message: &[u8]) -> Option<&[u8]>
+    ensures { option_map (λ name. name.now) result ≡ option_map (λ p. p.1) (plain_of message.now) }
+{
+    Some(split_plain(message)?.authentication)
+}
+
 /// The principal as which a user asks.
 pub fn principal_of(alloc: Global, user: &User) -> Result<Text, AllocError>
     ensures { IfOk result (λ who. who ≡ principal_of user.now) }

@@ -1,6 +1,6 @@
 //! Who may log in.
 
-ghost use Rattle.std.specs.Prelude.{◌≡◌, ◌-◌, ◌^◌, Ok, Err, if◌then◌else◌, min, option_map};
+ghost use Rattle.std.specs.Prelude.{◌≡◌, ◌-◌, ◌^◌, length, Ok, Err, if◌then◌else◌, min, option_map};
 ghost use Rattle.std.specs.List.{find};
 ghost use Rattle.settings_text.specs.declared.fault.SettingsFault.TheVariants as faults;
 ghost use Rattle.settings_text.specs.Users.{are_users};
@@ -47,6 +47,13 @@ impl Users {
             Ok(false) => Err(SettingsFault::User),
             Err(_) => Err(SettingsFault::NoMemory),
         }
+    }
+
+    /// How many users there are.
+    pub fn len(&self) -> usize
+        ensures { result ≡ length self.now }
+    {
+        self.users.len()
     }
 
     /// Whether the user has this name and this password. Both are looked at, so that the time doesn't tell which is wrong.

@@ -2,7 +2,7 @@
 
 use crate::why::Why;
 use request_handlers::Receipt;
-use wire_types::Text;
+use wire_types::{Bytes, Text};
 
 /// Is called round the reading and answering of each frame, while no core is locked. Frames are counted from 0.
 pub trait Gate {
@@ -20,6 +20,10 @@ pub trait Gate {
 
     /// Comes once a frame was read that is no request that is served, with what is kept of it: all, or its first eight bytes.
     fn garbled(&self, _session: u64, _kept: &[u8]) {}
+
+    /// Comes once a frame ended the session since its user isn't known: with what is kept of it, all or its first eight bytes, and
+    /// whether it is answered. One that comes out of its order isn't.
+    fn refused(&self, _session: u64, _kept: &Bytes, _is_answered: bool) {}
 
     /// Comes once the session has ended, from whoever serves it: with the host that it came from, the principal that had logged
     /// in, if one had, and why it ended.

@@ -125,10 +125,12 @@ fn tell_receipt<G: Gate>(gate: &G, receipts: &[Receipt], place: usize) {
     }
 }
 
-/// Tells the gate of a frame that is no request that is served.
-fn tell_garbled<G: Gate>(gate: &G, session: u64, outcome: &Outcome, came: &Came) {
-    if let Outcome::Garbled = outcome {
-        gate.garbled(session, came.kept.as_slice());
+/// Tells the gate of a frame that is no request that is served, or that ends the session since its user isn't known.
+fn tell_unserved<G: Gate>(gate: &G, session: u64, outcome: &Outcome, came: &Came) {
+    match outcome {
+        Outcome::Garbled => gate.garbled(session, came.kept.as_slice()),
+        Outcome::Refuses(answer) => gate.refused(session, &came.kept, !answer.is_empty()),
+        _ => {}
     }
 }
 
@@ -174,7 +176,7 @@ fn turn<S, Rd: Read, Wr: Write, D: Desk<S>, G: Gate>(
         alloc, host, users, listed, desk, state, &came, seat, receipts,
     );
     tell_receipt(gate, receipts.as_slice(), place);
-    tell_garbled(gate, session, &outcome, &came);
+    tell_unserved(gate, session, &outcome, &came);
     let next = finish(alloc, writer, outcome);
     tell_login(gate, session, was_known, &next);
     (seat, next)

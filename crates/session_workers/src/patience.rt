@@ -6,7 +6,7 @@ use request_handlers::Receipt;
 use session_pool::{Gate, Why};
 use std::time;
 use std::time::Duration;
-use wire_types::{ErrorCode, Text};
+use wire_types::{Bytes, ErrorCode, Text};
 
 /// For how long the answer to a Fetch is held back that brings no record and no error: as long as its `max_wait_ms` says. None
 /// where no answer of that kind was given.
@@ -71,6 +71,10 @@ impl<'x, R: time::Clock, G: Gate> Gate for Patient<'x, R, G> {
 
     fn garbled(&self, session: u64, kept: &[u8]) {
         self.gate.garbled(session, kept);
+    }
+
+    fn refused(&self, session: u64, kept: &Bytes, is_answered: bool) {
+        self.gate.refused(session, kept, is_answered);
     }
 
     fn ended(&self, session: u64, host: &Text, who: Option<&Text>, why: Why) {

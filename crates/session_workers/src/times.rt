@@ -9,7 +9,7 @@ use std::cell::OnceCell;
 use std::sync::Wait;
 use std::time;
 use std::time::Duration;
-use wire_types::Text;
+use wire_types::{Bytes, Text};
 
 /// The gate of one session: notes that its user is known and who that is, has it wait after a frame where that user asks faster
 /// than it may, and leaves all else to the gate of all sessions.
@@ -69,6 +69,10 @@ impl<'x, 'r, G: Gate, R: Wait + time::Clock> Gate for Noting<'x, 'r, G, R> {
 
     fn garbled(&self, session: u64, kept: &[u8]) {
         self.gate.garbled(session, kept);
+    }
+
+    fn refused(&self, session: u64, kept: &Bytes, is_answered: bool) {
+        self.gate.refused(session, kept, is_answered);
     }
 
     fn ended(&self, session: u64, host: &Text, who: Option<&Text>, why: Why) {
