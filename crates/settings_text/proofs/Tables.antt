@@ -1,11 +1,10 @@
 -- The keys of a table, and reading a list item by item.
-use Rattle.std.proofs.Common.{◌≡◌, ℕ, ◌+◌, ◌<◌, Bool, true, false, ◌&&◌, List, [], ◌∷◌, ◌++◌, length, get_or, drop, map, refl, ap, sym, ◌∙◌, Option, Some, None, option_map, String, Global, string_bytes, Bor, append_assoc, append-nil, ◌≤◌, drop_of_length-le}
-use Rattle.std.specs.Prelude.{option_and_then}
+use Rattle.std.proofs.Common.{◌≡◌, ℕ, ◌+◌, ◌<◌, List, [], ◌∷◌, ◌++◌, length, get_or, drop, refl, ap, sym, ◌∙◌, Option, Some, None, option_map, String, Global, string_bytes, Bor, append_assoc, append-nil, ◌≤◌, drop_of_length-le}
 use Rattle.std.specs.List.{list_any, list_all}
 use Rattle.std.specs.Map.{keys_of}
 use Rattle.std.specs.Str.{bytes_eq}
 use Rattle.toml.specs.declared.value.Value.{Value}
-use Rattle.toml.specs.Data.{Data, Items, item}
+use Rattle.toml.specs.Data.{Data}
 use Rattle.toml.specs.View.{view, items_view, members_view}
 use Rattle.toml.proofs.Views.{items_view-drop}
 use Rattle.settings_text.specs.Fields.{texts, is_one_of, has_only, each}
