@@ -20,17 +20,17 @@ pub enum OpenFault {
     #[error("a number, a length or a count is out of its range")]
     Range,
     /// A topic has a name that none may have.
-    #[error("`name` is none that a topic may have")]
+    #[error("a topic has a name that none may have")]
     TopicName,
     /// A topic stands twice.
-    #[error("`name` stands twice")]
+    #[error("a topic stands twice")]
     Twice,
     /// A binding that may not be created: an empty name or host, another name of the cluster, or a
     /// principal that is no user.
-    #[error("the binding has no name or host, another name of the cluster, or a principal that is no user")]
+    #[error("a binding has no name or host, another name of the cluster, or a principal that is no user")]
     Acl,
     /// A super user that isn't `User:` and at least one character.
-    #[error("is not `User:` and at least one character")]
+    #[error("a super user is not `User:` and at least one character")]
     Super,
     /// Memory was refused, which may come in place of any.
     #[error("there is not enough memory")]
@@ -161,7 +161,7 @@ fn are_topic_names(topics: &[TopicSetting]) -> bool
         .all(|topic| is_topic_name(topic.name.as_str()))
 }
 
-pub(crate) fn is_among(name: &Text, topics: &[TopicSetting]) -> bool
+fn is_among(name: &Text, topics: &[TopicSetting]) -> bool
     ensures { result ≡ list_any (λ u. bytes_eq name.now u.name) topics.now }
 {
     topics

@@ -1,31 +1,16 @@
-//! Where settings have a fault, in words for a reader: the place, and then the fault's own sentence. No contract
-//! speaks of them.
+//! Where settings have a fault, in words for a reader: the place, and then what is wrong there. No contract speaks of
+//! them. A name is told with its escapes, so that each sentence is one line.
 
+use crate::entry::{Entry, name_twice};
 use crate::fault::{
     Limits, MAX_BATCH, MAX_TXN_TIMEOUT, NODE_ID, OpenFault, PARTITIONS, PORT, TRAIL_LIMIT,
-    is_among, is_binding_within, is_host_within, is_text_within, is_within,
+    is_host_within, is_text_within, is_within,
 };
 use crate::names::is_topic_name;
 use crate::settings::{Settings, TopicSetting};
-use acl_binding::is_principal;
+use acl_binding::{Binding, CLUSTER_NAME, Kind, is_principal};
 use std::alloc::{AllocError, Global};
-use std::fmt::Display;
-
-/// Says what is wrong with an entry of a list, which is told by its number from 1.
-fn of_entry<D: Display + Drop>(
-    alloc: Global,
-    list: &str,
-    place: Option<usize>,
-    what: D,
-) -> Result<String, AllocError> {
-    match place {
-        Some(place) => {
-            let number = (place as u64).saturating_add(1);
-            format!(in alloc; "`{list}`, entry {number}: {what}")
-        }
-        None => format!(in alloc; "`{list}`: {what}"),
-    }
-}
+use wire_types::Text;
 
 /// A number that is out of its limits.
 fn number_out_of_range(alloc: Global, settings: &Settings) -> Result<Option<String>, AllocError> {
@@ -46,82 +31,208 @@ fn number_out_of_range(alloc: Global, settings: &Settings) -> Result<Option<Stri
     Ok(None)
 }
 
-/// What is out of its range.
-fn out_of_range(alloc: Global, settings: &Settings) -> Result<String, AllocError> {
-    if let Some(sentence) = number_out_of_range(alloc, settings)? {
-        return Ok(sentence);
+/// A host that is empty or too long.
+fn host_out_of_range(alloc: Global, host: &Text) -> Result<Option<String>, AllocError> {
+    if is_host_within(host) {
+        return Ok(None);
     }
-    if !is_host_within(&settings.host) {
-        return String::from_str(alloc, "`host` has not from 1 to 255 bytes");
-    }
-    let partitions = settings
-        .topics
-        .as_slice()
-        .iter()
-        .position(|topic| !is_within(topic.partitions, PARTITIONS));
-    if partitions.is_some() {
-        return of_entry(
-            alloc,
-            "topic",
-            partitions,
-            "`partitions` is not from 1 to 1000",
-        );
-    }
-    let text = settings
-        .acls
-        .as_slice()
-        .iter()
-        .position(|binding| !is_binding_within(binding));
-    if text.is_some() {
-        return of_entry(alloc, "acl", text, "a text has more than 1000 bytes");
-    }
-    let principal = settings
-        .supers
-        .as_slice()
-        .iter()
-        .position(|principal| !is_text_within(principal));
-    if principal.is_some() {
-        return of_entry(alloc, "supers", principal, "has more than 1000 bytes");
-    }
-    String::from_str(alloc, "there are more than 1000 topics or 100000 bindings")
+    let bytes = host.len();
+    Ok(Some(format!(in alloc; "`host` has {bytes} bytes, and not from 1 to 255")?))
 }
 
-/// The first topic whose name stands again behind it.
-fn repeated(topics: &[TopicSetting]) -> Option<usize> {
+/// Too many topics, or one with too few or too many partitions.
+fn topics_out_of_range(
+    alloc: Global,
+    topics: &[TopicSetting],
+) -> Result<Option<String>, AllocError> {
+    for (place, topic) in topics.iter().enumerate() {
+        let partitions = topic.partitions;
+        if !is_within(partitions, PARTITIONS) {
+            let entry = Entry {
+                list: "topic",
+                place,
+            };
+            let Limits { least, greatest } = PARTITIONS;
+            return Ok(Some(format!(in alloc;
+                "{entry}: `partitions` is {partitions}, and not from {least} to {greatest}"
+            )?));
+        }
+    }
+    let count = topics.len();
+    if count > 1_000 {
+        return Ok(Some(format!(in alloc; "there are {count} topics, and not at most 1000")?));
+    }
+    Ok(None)
+}
+
+/// A text of a binding that is too long.
+fn long_text(alloc: Global, binding: &Binding) -> Result<Option<String>, AllocError> {
+    for (key, text) in [
+        ("name", &binding.name),
+        ("principal", &binding.principal),
+        ("host", &binding.host),
+    ] {
+        if !is_text_within(text) {
+            let bytes = text.len();
+            return Ok(Some(format!(in alloc; "`{key}` has {bytes} bytes, and not at most 1000")?));
+        }
+    }
+    Ok(None)
+}
+
+/// Too many bindings, or one with a text that is too long.
+fn bindings_out_of_range(alloc: Global, acls: &[Binding]) -> Result<Option<String>, AllocError> {
+    for (place, binding) in acls.iter().enumerate() {
+        if let Some(what) = long_text(alloc, binding)? {
+            let entry = Entry { list: "acl", place };
+            return Ok(Some(format!(in alloc; "{entry}: {what}")?));
+        }
+    }
+    let count = acls.len();
+    if count > 100_000 {
+        return Ok(Some(format!(in alloc; "there are {count} bindings, and not at most 100000")?));
+    }
+    Ok(None)
+}
+
+/// A super user's name that is too long.
+fn supers_out_of_range(alloc: Global, supers: &[Text]) -> Result<Option<String>, AllocError> {
+    for (place, principal) in supers.iter().enumerate() {
+        if !is_text_within(principal) {
+            let entry = Entry {
+                list: "supers",
+                place,
+            };
+            let bytes = principal.len();
+            return Ok(Some(format!(in alloc;
+                "{entry}: it has {bytes} bytes, and not at most 1000"
+            )?));
+        }
+    }
+    Ok(None)
+}
+
+/// What is out of its range.
+fn out_of_range(alloc: Global, settings: &Settings) -> Result<Option<String>, AllocError> {
+    if let Some(sentence) = number_out_of_range(alloc, settings)? {
+        return Ok(Some(sentence));
+    }
+    if let Some(sentence) = host_out_of_range(alloc, &settings.host)? {
+        return Ok(Some(sentence));
+    }
+    if let Some(sentence) = topics_out_of_range(alloc, settings.topics.as_slice())? {
+        return Ok(Some(sentence));
+    }
+    if let Some(sentence) = bindings_out_of_range(alloc, settings.acls.as_slice())? {
+        return Ok(Some(sentence));
+    }
+    supers_out_of_range(alloc, settings.supers.as_slice())
+}
+
+/// A name that no topic may have.
+fn no_topic_name(alloc: Global, topics: &[TopicSetting]) -> Result<Option<String>, AllocError> {
+    for (place, topic) in topics.iter().enumerate() {
+        let name = topic.name.as_str();
+        if !is_topic_name(name) {
+            let entry = Entry {
+                list: "topic",
+                place,
+            };
+            let name = name.escape_debug();
+            return Ok(Some(format!(in alloc;
+                "{entry}: no topic may have the name `{name}`: a name is 1 to 249 ASCII letters, digits, `.`, `_` and `-`, and neither `.` nor `..`"
+            )?));
+        }
+    }
+    Ok(None)
+}
+
+/// The first topic whose name stands again behind it, and the place where that is.
+fn repeated(topics: &[TopicSetting]) -> Option<(&Text, usize, usize)> {
     let mut rest = topics;
     while let Some((first, more)) = rest.split_first() {
-        if is_among(&first.name, more) {
-            return Some(topics.len().saturating_sub(rest.len()));
+        if let Some(between) = more.iter().position(|topic| topic.name == first.name) {
+            let place = topics.len().saturating_sub(rest.len());
+            let again = place.saturating_add(between).saturating_add(1);
+            return Some((&first.name, place, again));
         }
         rest = more;
     }
     None
 }
 
+/// A topic that stands twice.
+fn topic_twice(alloc: Global, topics: &[TopicSetting]) -> Result<Option<String>, AllocError> {
+    match repeated(topics) {
+        Some((name, place, again)) => {
+            Ok(Some(name_twice(alloc, "topic", (place, again), name)?))
+        }
+        None => Ok(None),
+    }
+}
+
+/// Why a binding may not be created.
+fn why_not_creatable(alloc: Global, binding: &Binding) -> Result<String, AllocError> {
+    let name = binding.name.as_str();
+    if binding.kind == Kind::Cluster && name != CLUSTER_NAME {
+        let name = name.escape_debug();
+        return format!(in alloc; "the cluster's name is `{CLUSTER_NAME}`, and not `{name}`");
+    }
+    if name.is_empty() {
+        return String::from_str(alloc, "`name` is empty");
+    }
+    let principal = binding.principal.as_str();
+    if !is_principal(principal) {
+        let principal = principal.escape_debug();
+        return format!(in alloc;
+            "`principal` is `{principal}`, and not `User:` and at least one character"
+        );
+    }
+    String::from_str(alloc, "`host` is empty")
+}
+
+/// A binding that may not be created.
+fn no_binding(alloc: Global, acls: &[Binding]) -> Result<Option<String>, AllocError> {
+    for (place, binding) in acls.iter().enumerate() {
+        if !binding.is_creatable() {
+            let entry = Entry { list: "acl", place };
+            let why = why_not_creatable(alloc, binding)?;
+            return Ok(Some(format!(in alloc; "{entry}: {why}")?));
+        }
+    }
+    Ok(None)
+}
+
+/// A super user that is none.
+fn no_super(alloc: Global, supers: &[Text]) -> Result<Option<String>, AllocError> {
+    for (place, principal) in supers.iter().enumerate() {
+        let principal = principal.as_str();
+        if !is_principal(principal) {
+            let entry = Entry {
+                list: "supers",
+                place,
+            };
+            let principal = principal.escape_debug();
+            return Ok(Some(format!(in alloc;
+                "{entry}: it is `{principal}`, and not `User:` and at least one character"
+            )?));
+        }
+    }
+    Ok(None)
+}
+
 /// Says in a sentence where the settings have a fault of this kind.
 pub fn explain(alloc: Global, settings: &Settings, fault: OpenFault) -> Result<String, AllocError> {
-    let topics = settings.topics.as_slice();
-    let acls = settings.acls.as_slice();
-    let supers = settings.supers.as_slice();
-    match fault {
-        OpenFault::Range => out_of_range(alloc, settings),
-        OpenFault::TopicName => {
-            let place = topics
-                .iter()
-                .position(|topic| !is_topic_name(topic.name.as_str()));
-            of_entry(alloc, "topic", place, fault)
-        }
-        OpenFault::Twice => of_entry(alloc, "topic", repeated(topics), fault),
-        OpenFault::Acl => {
-            let place = acls.iter().position(|binding| !binding.is_creatable());
-            of_entry(alloc, "acl", place, fault)
-        }
-        OpenFault::Super => {
-            let place = supers
-                .iter()
-                .position(|principal| !is_principal(principal.as_str()));
-            of_entry(alloc, "supers", place, fault)
-        }
-        OpenFault::NoMemory => format!(in alloc; "{fault}"),
+    let found = match fault {
+        OpenFault::Range => out_of_range(alloc, settings)?,
+        OpenFault::TopicName => no_topic_name(alloc, settings.topics.as_slice())?,
+        OpenFault::Twice => topic_twice(alloc, settings.topics.as_slice())?,
+        OpenFault::Acl => no_binding(alloc, settings.acls.as_slice())?,
+        OpenFault::Super => no_super(alloc, settings.supers.as_slice())?,
+        OpenFault::NoMemory => None,
+    };
+    match found {
+        Some(sentence) => Ok(sentence),
+        None => format!(in alloc; "{fault}"),
     }
 }

@@ -1,14 +1,17 @@
-//! Where a settings text has a fault, in words for a reader. No contract speaks of them.
+//! Where a settings text has a fault, in words for a reader. No contract speaks of them. A name is told with its
+//! escapes, so that each sentence is one line, but for those of TOML.
 
 use crate::document::{Document, User};
 use crate::fault::SettingsFault;
 use crate::fields::{find, is_among};
 use crate::rows::{ACL_KEYS, TOP_KEYS, TOPIC_KEYS, USER_KEYS, document};
-use crate::users::is_user;
 use acl_binding::{Kind, Operation, Pattern, Permission};
+use settings::{Entry, name_twice};
 use std::alloc::{AllocError, Global};
+use std::collections::BTreeSet;
 use std::str::from_utf8;
 use toml::{Table, Value};
+use wire_types::Text;
 
 /// What stands at a key.
 #[derive(Clone, Copy, Debug, PartialEq, Eq)]
@@ -38,15 +41,44 @@ impl Shape {
     fn name(self) -> &'static str {
         match self {
             Shape::Integer => "an integer",
-            Shape::Text => "a text",
-            Shape::Kind => "a kind of resource",
-            Shape::Pattern => "a pattern",
-            Shape::Operation => "an operation",
-            Shape::Permission => "a permission",
+            Shape::Text | Shape::Kind | Shape::Pattern | Shape::Operation | Shape::Permission => {
+                "a text"
+            }
             Shape::List => "a list",
         }
     }
+
+    /// The words that may stand there, if not every text may.
+    fn words(self) -> Option<&'static str> {
+        match self {
+            Shape::Kind => Some(KINDS),
+            Shape::Pattern => Some(PATTERNS),
+            Shape::Operation => Some(OPERATIONS),
+            Shape::Permission => Some(PERMISSIONS),
+            Shape::Integer | Shape::Text | Shape::List => None,
+        }
+    }
 }
+
+const KINDS: &str = "the kinds are Topic, Group, Cluster, TransactionalId";
+
+const PATTERNS: &str = "the patterns are LITERAL, PREFIXED";
+
+const OPERATIONS: &str =
+    "the operations are ALL, READ, WRITE, CREATE, DELETE, ALTER, DESCRIBE, CLUSTER_ACTION, DESCRIBE_CONFIGS, ALTER_CONFIGS, IDEMPOTENT_WRITE";
+
+const PERMISSIONS: &str = "the permissions are ALLOW, DENY";
+
+/// The keys that stand before the first table, or else are taken for keys of that.
+const BEFORE_TABLES: [&str; 7] = [
+    "node_id",
+    "host",
+    "port",
+    "supers",
+    "trail_limit",
+    "max_batch",
+    "max_txn_timeout",
+];
 
 /// The keys that may not be left out, and what stands at them.
 const TOP: [(&str, Shape); 3] = [
@@ -90,6 +122,55 @@ fn unknown<'a>(table: &'a Table, known: &[&str]) -> Option<&'a str> {
     None
 }
 
+/// A key that belongs before the first table, and stands in this one.
+fn misplaced(table: &Table, known: &[&str]) -> Option<&'static str> {
+    for key in BEFORE_TABLES {
+        if find(table, key).is_some() && !is_among(key, known) {
+            return Some(key);
+        }
+    }
+    None
+}
+
+/// A key that stands in a list's table, and belongs before the first one.
+fn misplaced_fault(
+    alloc: Global,
+    table: &Table,
+    list: &str,
+    known: &[&str],
+) -> Result<Option<String>, AllocError> {
+    let Some(Value::Array(rows)) = find(table, list) else {
+        return Ok(None);
+    };
+    for (place, row) in rows.as_slice().iter().enumerate() {
+        if let Some(key) = row.as_table().and_then(|row| misplaced(row, known)) {
+            let entry = Entry { list, place };
+            return Ok(Some(format!(in alloc;
+                "{entry}: the key `{key}` is unknown there: it belongs before the first table"
+            )?));
+        }
+    }
+    Ok(None)
+}
+
+/// What is wrong with the value at a key.
+fn misfit(
+    alloc: Global,
+    key: &str,
+    shape: Shape,
+    value: &Value,
+) -> Result<Option<String>, AllocError> {
+    if shape.fits(value) {
+        return Ok(None);
+    }
+    if let (Some(word), Some(words)) = (value.as_str(), shape.words()) {
+        let word = word.escape_debug();
+        return Ok(Some(format!(in alloc; "`{key}` is `{word}`, which is none: {words}")?));
+    }
+    let kind = shape.name();
+    Ok(Some(format!(in alloc; "`{key}` is not {kind}")?))
+}
+
 /// What is wrong with the keys of a table, without the place of the table.
 fn keys_fault(
     alloc: Global,
@@ -98,14 +179,14 @@ fn keys_fault(
     required: &[(&str, Shape)],
 ) -> Result<Option<String>, AllocError> {
     if let Some(key) = unknown(table, known) {
+        let key = key.escape_debug();
         return Ok(Some(format!(in alloc; "the key `{key}` is unknown")?));
     }
     for (key, shape) in required {
-        let kind = shape.name();
         match find(table, key) {
             Some(value) => {
-                if !shape.fits(value) {
-                    return Ok(Some(format!(in alloc; "`{key}` is not {kind}")?));
+                if let Some(what) = misfit(alloc, key, *shape, value)? {
+                    return Ok(Some(what));
                 }
             }
             None => return Ok(Some(format!(in alloc; "the key `{key}` is missing")?)),
@@ -125,14 +206,13 @@ fn rows_fault(
     let Some(Value::Array(rows)) = find(table, list) else {
         return Ok(None);
     };
-    let mut number: u64 = 0;
-    for row in rows.as_slice() {
-        number = number.saturating_add(1);
+    for (place, row) in rows.as_slice().iter().enumerate() {
+        let entry = Entry { list, place };
         let Some(row) = row.as_table() else {
-            return Ok(Some(format!(in alloc; "`{list}`, entry {number}: it is no table")?));
+            return Ok(Some(format!(in alloc; "{entry}: it is no table")?));
         };
         if let Some(what) = keys_fault(alloc, row, known, required)? {
-            return Ok(Some(format!(in alloc; "`{list}`, entry {number}: {what}")?));
+            return Ok(Some(format!(in alloc; "{entry}: {what}")?));
         }
     }
     Ok(None)
@@ -141,18 +221,27 @@ fn rows_fault(
 /// What is wrong with the keys that may be left out.
 fn optional_fault(alloc: Global, table: &Table) -> Result<Option<String>, AllocError> {
     for (key, shape) in &OPTIONAL {
-        let kind = shape.name();
         if let Some(value) = find(table, key) {
-            if !shape.fits(value) {
-                return Ok(Some(format!(in alloc; "`{key}` is not {kind}")?));
+            if let Some(what) = misfit(alloc, key, *shape, value)? {
+                return Ok(Some(what));
             }
         }
     }
     Ok(None)
 }
 
-/// What is wrong with a document's keys.
+/// What is wrong with a document's keys. One that stands in a table by mistake is told before those that are missing,
+/// since it may be one of them.
 fn key_fault(alloc: Global, table: &Table) -> Result<String, AllocError> {
+    if let Some(what) = misplaced_fault(alloc, table, "user", &USER_KEYS)? {
+        return Ok(what);
+    }
+    if let Some(what) = misplaced_fault(alloc, table, "topic", &TOPIC_KEYS)? {
+        return Ok(what);
+    }
+    if let Some(what) = misplaced_fault(alloc, table, "acl", &ACL_KEYS)? {
+        return Ok(what);
+    }
     if let Some(what) = keys_fault(alloc, table, &TOP_KEYS, &TOP)? {
         return Ok(what);
     }
@@ -171,32 +260,101 @@ fn key_fault(alloc: Global, table: &Table) -> Result<String, AllocError> {
     String::from_str(alloc, "`supers` is not a list of texts")
 }
 
-/// What is wrong with the users.
-fn user_fault(alloc: Global, users: &[User]) -> Result<String, AllocError> {
-    match users.iter().position(|user| !is_user(user)) {
-        Some(place) => {
-            let number = (place as u64).saturating_add(1);
-            format!(in alloc; "`user`, entry {number}: a name or password is empty or holds a NUL")
+/// What is wrong with a user's name or password.
+fn word_fault(alloc: Global, key: &str, word: &Text) -> Result<Option<String>, AllocError> {
+    if word.is_empty() {
+        return Ok(Some(format!(in alloc; "`{key}` is empty")?));
+    }
+    if word.as_bytes().contains(&0) {
+        return Ok(Some(format!(in alloc; "`{key}` holds a NUL")?));
+    }
+    Ok(None)
+}
+
+/// A user whose name stood before, and where that was, by an ordered set of the names so far: there may be many users.
+fn repeated(alloc: Global, users: &[User]) -> Result<Option<(usize, usize)>, AllocError> {
+    let mut names = BTreeSet::new(alloc);
+    for (again, user) in users.iter().enumerate() {
+        if !names.insert(user.name.as_str())? {
+            let place = users.iter().position(|other| other.name == user.name);
+            return Ok(place.map(|place| (place, again)));
         }
-        None => String::from_str(alloc, "`user`: a name stands twice"),
+    }
+    Ok(None)
+}
+
+/// What is wrong with the users.
+fn user_fault(alloc: Global, users: &[User]) -> Result<Option<String>, AllocError> {
+    for (place, user) in users.iter().enumerate() {
+        let entry = Entry {
+            list: "user",
+            place,
+        };
+        if let Some(what) = word_fault(alloc, "name", &user.name)? {
+            return Ok(Some(format!(in alloc; "{entry}: {what}")?));
+        }
+        if let Some(what) = word_fault(alloc, "password", &user.password)? {
+            return Ok(Some(format!(in alloc; "{entry}: {what}")?));
+        }
+    }
+    let Some((place, again)) = repeated(alloc, users)? else {
+        return Ok(None);
+    };
+    match users.get(place) {
+        Some(user) => Ok(Some(name_twice(alloc, "user", (place, again), &user.name)?)),
+        None => Ok(None),
     }
 }
 
 /// What is wrong with a document whose keys are right.
-fn value_fault(
+fn document_fault(
     alloc: Global,
     document: &Document,
     fault: SettingsFault,
 ) -> Result<String, AllocError> {
+    if let Some(sentence) = user_fault(alloc, document.users.as_slice())? {
+        return Ok(sentence);
+    }
     match settings::first_fault(&document.settings) {
-        Some(first) => {
-            if fault == SettingsFault::User {
-                user_fault(alloc, document.users.as_slice())
-            } else {
-                settings::explain(alloc, &document.settings, first)
-            }
+        Some(first) => settings::explain(alloc, &document.settings, first),
+        None => format!(in alloc; "{fault}"),
+    }
+}
+
+/// Whether no value begins with the byte, though a text without its quotes may.
+fn begins_bare_text(byte: u8) -> bool {
+    byte > b' ' && !byte.is_ascii_digit() && !b"\"'#[{+-tf".contains(&byte)
+}
+
+/// Whether a text without its quotes stands at this place, right after the first `=` of its line.
+fn is_bare_text(text: &str, place: usize) -> bool {
+    let (Some(before), Some(rest)) = (text.get(..place), text.get(place..)) else {
+        return false;
+    };
+    let begun = match before.rsplit_once('\n') {
+        Some((_, begun)) => begun,
+        None => before,
+    };
+    let follows = match begun.trim_end().split_once('=') {
+        Some((_, between)) => between.is_empty(),
+        None => false,
+    };
+    follows
+        && rest
+            .as_bytes()
+            .first()
+            .is_some_and(|byte| begins_bare_text(*byte))
+}
+
+/// What is wrong with a text that is no TOML document.
+fn toml_fault(alloc: Global, text: &str, error: &toml::de::Error) -> Result<String, AllocError> {
+    let said = format!(in alloc; "{error}")?;
+    let said = said.as_str().trim_end();
+    match error.span() {
+        Some(span) if is_bare_text(text, span.start) => {
+            format!(in alloc; "{said}: a text stands between quotes")
         }
-        None => user_fault(alloc, document.users.as_slice()),
+        _ => String::from_str(alloc, said),
     }
 }
 
@@ -207,13 +365,13 @@ pub fn explain(alloc: Global, text: &[u8], fault: SettingsFault) -> Result<Strin
     };
     let table = match toml::table_from_str(alloc, text) {
         Ok(table) => table,
-        Err(error) => return format!(in alloc; "{error}"),
+        Err(error) => return toml_fault(alloc, text, &error),
     };
     if fault == SettingsFault::Key {
         return key_fault(alloc, &table);
     }
     match document(alloc, &table) {
-        Ok(document) => value_fault(alloc, &document, fault),
+        Ok(document) => document_fault(alloc, &document, fault),
         Err(_) => format!(in alloc; "{}", SettingsFault::NoMemory),
     }
 }

@@ -23,7 +23,7 @@ fn is_word(text: &Text) -> bool
     !text.is_empty() && has_no_nul(text.as_bytes())
 }
 
-pub(crate) fn is_user(user: &User) -> bool
+fn is_user(user: &User) -> bool
     ensures { result ≡ is_user user.now }
 {
     is_word(&user.name) && is_word(&user.password)
