@@ -4,7 +4,9 @@
 error of a fault of each kind.
 """
 
+import os
 import subprocess
+import tempfile
 import unittest
 
 from tests import support
@@ -184,8 +186,29 @@ WHOLE_SENTENCES = (
 )
 
 # Command lines that ask for no job: what is said of them stands on standard error.
-REFUSED = ([], ["--help"], ["check", "--help"], ["serves"], ["replay", "now"], ["check", "now"])
+REFUSED = (
+    [],
+    ["--help"],
+    ["check", "--help"],
+    ["--version"],
+    ["-V"],
+    ["check", "--version"],
+    ["serves"],
+    ["replay", "one", "two"],
+    ["check", "one", "--", "two"],
+    ["check", "-x"],
+    ["serve", "--listen", "127.0.0.1:0", "--workers", "65"],
+)
 MISUSED = 2
+FAILED = 1
+
+# The commands that read a file where one is named, and what each prints for REQUIRED alone.
+READERS = {"check": b"settings ok\n", "replay": b"", "show": b""}
+
+
+def said(words, given=b""):
+    """What the program says on standard error."""
+    return subprocess.run([PROGRAM, *words], input=given, capture_output=True, timeout=60).stderr.decode()
 
 
 def run(words, given=b""):
@@ -194,10 +217,9 @@ def run(words, given=b""):
     return ran.stdout, ran.returncode, bool(ran.stderr)
 
 
-def said(settings):
+def said_of(settings):
     """What the program says of settings with a fault."""
-    ran = subprocess.run([PROGRAM, "check"], input=settings, capture_output=True, timeout=60)
-    return ran.stderr.decode()
+    return said(["check"], settings)
 
 
 def of_word(key, word):
@@ -218,7 +240,7 @@ class Settings(unittest.TestCase):
         rows = [((REQUIRED + more).encode(), sentence) for more, sentence in SENTENCES]
         for text, sentence in (*rows, *WHOLE_SENTENCES):
             with self.subTest(text=text):
-                self.assertEqual(said(text), f"kbroker: settings: {sentence}\n")
+                self.assertEqual(said_of(text), f"kbroker: settings: {sentence}\n")
 
     def test_words_of_bindings(self):
         for key, (plural, words) in WORDS.items():
@@ -228,11 +250,46 @@ class Settings(unittest.TestCase):
                     text = of_word(key, f'"{word}"').replace(b'"logs"', f'"{name}"'.encode())
                     self.assertEqual(run(["check"], text), (b"settings ok\n", 0, False))
                 sentence = f"`{key}` is `it`, which is none: the {plural} are {', '.join(words)}"
-                self.assertEqual(said(of_word(key, '"it"')), f"kbroker: settings: `acl`, entry 1: {sentence}\n")
+                self.assertEqual(said_of(of_word(key, '"it"')), f"kbroker: settings: `acl`, entry 1: {sentence}\n")
                 sentence = f"kbroker: settings: `acl`, entry 1: `{key}` is not a text\n"
-                self.assertEqual(said(of_word(key, "1")), sentence)
+                self.assertEqual(said_of(of_word(key, "1")), sentence)
 
     def test_command_lines_that_ask_for_no_job(self):
         for words in REFUSED:
             with self.subTest(words=words):
                 self.assertEqual(run(words), (b"", MISUSED, True))
+
+    def test_version(self):
+        for word in ("--version", "-V"):
+            self.assertRegex(said([word]), r"\Akbroker \d+\.\d+\.\d+\n\Z")
+
+    def test_usage_is_that_of_the_command(self):
+        self.assertIn("kbroker serve [OPTIONS] --listen <ADDR>", said(REFUSED[-1]))
+
+    def test_settings_of_the_help_are_taken(self):
+        for command in ("check", "serve"):
+            shown = [line[4:] for line in said([command, "--help"]).splitlines() if line.startswith("    ")]
+            begin = shown.index("node_id = 1")
+            text = "\n".join(shown[begin : begin + 6])
+            self.assertEqual(run(["check"], text.encode()), (b"settings ok\n", 0, False))
+
+    def test_files_in_place_of_standard_input(self):
+        with tempfile.TemporaryDirectory() as folder:
+            path = os.path.join(folder, "settings.toml")
+            with open(path, "w", encoding="utf-8") as file:
+                file.write(REQUIRED + "---\n")
+            checked = os.path.join(folder, "-checked.toml")
+            with open(checked, "w", encoding="utf-8") as file:
+                file.write(REQUIRED)
+            for command, printed in READERS.items():
+                named = checked if command == "check" else path
+                for words in ([named], ["--", named], [named, "--"]):
+                    with self.subTest(command=command, words=words):
+                        self.assertEqual(run([command, *words], b"="), (printed, 0, False))
+
+    def test_a_file_that_cannot_be_opened(self):
+        for command in READERS:
+            with self.subTest(command=command), tempfile.TemporaryDirectory() as folder:
+                path = os.path.join(folder, "none")
+                self.assertEqual(run([command, path], REQUIRED.encode()), (b"", FAILED, True))
+                self.assertTrue(said([command, path]).startswith(f"kbroker: {path}: the file can't be opened: "))

@@ -1,6 +1,6 @@
--- Which words a parse of the command line takes: a job's name, and `--` perhaps.
-use Rattle.std.proofs.Common.{◌≡◌, ◌∙◌, ◌⊎◌, ◌++◌, Bool, cond, true, false, refl, sym, ap, ap₂, subst, inl, inr, List, [], ◌∷◌, drop, codes, Option, Some, None, append-nil, append_assoc}
-use Rattle.std.specs.Prelude.{find, option_map, option_and_then, is_some, Box}
+-- Which words a parse of the command line takes, and what they ask for.
+use Rattle.std.proofs.Common.{◌≡◌, ◌∙◌, ◌⊎◌, ◌++◌, Bool, cond, true, false, refl, sym, ap, subst, inl, inr, List, [], ◌∷◌, drop, codes, Option, Some, None, append-nil, append_assoc}
+use Rattle.std.specs.Prelude.{find, option_map, is_some, Box}
 use Rattle.std.specs.List.{fold}
 use Rattle.std.specs.Option.{option_map_or}
 use Rattle.std.specs.Str.{bytes_eq}
@@ -11,10 +11,9 @@ use Rattle.clap.specs.Walk.{Names, Row, Rule, Text, Walk, answers_to, finished, 
 use Rattle.clap.specs.Matches.{subcommand_name_of}
 use Rattle.clap.specs.Values.{kind_of}
 use Rattle.clap.specs.declared.error.Error.{Error}
-use Rattle.clap.specs.Simple.{App, HasMatchesOf, Shape, built, built_leaf, entered, is_simple, names_of, new_shape, subcommand_of, subcommand_rows, subcommand_rows_of}
+use Rattle.clap.specs.Simple.{App, HasMatchesOf, Shape, built, entered, is_simple, names_of, subcommand_of, subcommand_rows, subcommand_rows_of}
 use Rattle.clap.specs.Kinds.{HasKind, Kinds, or_else}
 use Rattle.clap.specs.Faults.{built_fault, check_fault, defaults_fault, entered_fault, fault_of, is_simple_and_free, level_fault, settle_fault, turn_fault, walk_fault}
-use Rattle.clap.specs.declared.error.kind.ErrorKind.{ErrorKind}
 use Rattle.clap.specs.declared.error.kind.ErrorKind.TheVariants as kind
 use Rattle.clap.specs.declared.parser.matches.ArgMatches.{ArgMatches}
 use Rattle.clap.specs.declared.parser.matches.ArgMatches.TheViews.{out-ArgMatches, out-SubCommand}
@@ -22,13 +21,13 @@ use Rattle.clap.specs.declared.parser.matches.SubCommand.{SubCommand}
 use Rattle.std.specs.Box.{box_value}
 use Rattle.clap.proofs.OnLiterals.{clap_on_literals}
 use Rattle.arguments.specs.CommandLine.{command_line}
-use Rattle.arguments.specs.Asked.{AsksNothing, AsksToServe, AsksToShow, IsAsked, begin_with}
+use Rattle.arguments.specs.Asked.{AsksNothing, Gives, IsAsked, begin_with}
 use Rattle.arguments.specs.Serving.{IsServedBy, NoneServes}
-use Rattle.arguments.specs.Job.{job_asked, job_named, job_of}
-use Rattle.arguments.specs.declared.job.Job.{Job}
+use Rattle.arguments.specs.Job.{file_asked, file_named, file_of}
 use Rattle.arguments.specs.declared.job.Job.TheVariants.{Replay, Check, Serve, Show}
 use Rattle.arguments.specs.declared.serving.Serving.{Serving}
-use Rattle.arguments.proofs.Refused.{after_dashes, dashes, first_empty, leaf_words, not_empty, second_empty, start, word_refused}
+use Rattle.arguments.proofs.Named.{leaf_fault, leaf_file, named_taken, taken_names}
+use Rattle.arguments.proofs.Refused.{after_dashes, dashes, first_empty, not_empty, second_empty, start, word_refused}
 
 abbrev replay : Text
 replay = codes "replay"
@@ -74,27 +73,25 @@ names = (replay, []) ∷ (check, []) ∷ (serve, []) ∷ (show, []) ∷ (codes "
 abbrev fault_at : List Text → Kinds
 fault_at words = built_fault (built command_line) nothing_held words
 
--- the subcommand of this name takes no word but `--`
+-- a subcommand that reads a file takes what its leaf takes
 module _ (rest : List Text) where
-  after_replay : fault_at (replay ∷ rest) ≡ [] → (rest ≡ []) ⊎ (rest ≡ dashes ∷ [])
+  after_replay : fault_at (replay ∷ rest) ≡ [] → leaf_fault replay rest ≡ []
   unfolding command_line clap_on_literals
   after_replay e =
       let a : App = built command_line in
       let stop : Option (Text × List Text) = (walk a.top.rules names nothing_held (replay ∷ rest)).stopped in
       let met : stop ≡ Some (replay, rest) = stopped_walk a.top.rules names start replay [] rest in
       let below : entered_fault a stop ≡ [] = below_passes a.top names (replay ∷ rest) (is_some (entered a stop)) (entered_fault a stop) e in
-      let leaf : Shape = built_leaf (new_shape replay) in
-      leaf_words leaf rest (words_pass leaf [] rest false [] (subst (λ (o : Option (Text × List Text)). entered_fault a o ≡ []) met below))
+      subst (λ (o : Option (Text × List Text)). entered_fault a o ≡ []) met below
 
-  after_check : fault_at (check ∷ rest) ≡ [] → (rest ≡ []) ⊎ (rest ≡ dashes ∷ [])
+  after_check : fault_at (check ∷ rest) ≡ [] → leaf_fault check rest ≡ []
   unfolding command_line clap_on_literals
   after_check e =
       let a : App = built command_line in
       let stop : Option (Text × List Text) = (walk a.top.rules names nothing_held (check ∷ rest)).stopped in
       let met : stop ≡ Some (check, rest) = stopped_walk a.top.rules names start check [] rest in
       let below : entered_fault a stop ≡ [] = below_passes a.top names (check ∷ rest) (is_some (entered a stop)) (entered_fault a stop) e in
-      let leaf : Shape = built_leaf (new_shape check) in
-      leaf_words leaf rest (words_pass leaf [] rest false [] (subst (λ (o : Option (Text × List Text)). entered_fault a o ≡ []) met below))
+      subst (λ (o : Option (Text × List Text)). entered_fault a o ≡ []) met below
 
   help_refused : fault_at (codes "help" ∷ rest) ≡ [] → ⊥
   unfolding command_line clap_on_literals
@@ -141,12 +138,11 @@ other_refused word rest no_replay no_check no_serve no_show no_help no_dashes e 
 
 -- ---- the words that are taken
 
-abbrev Taken : List Text → Type 0
-Taken words = ((words ≡ replay ∷ []) ⊎ (words ≡ replay ∷ dashes ∷ [])) ⊎ (((words ≡ check ∷ []) ⊎ (words ≡ check ∷ dashes ∷ [])) ⊎ (((rest : List Text) × (words ≡ serve ∷ rest)) ⊎ ((rest : List Text) × (words ≡ show ∷ rest))))
+abbrev IsName : Text → Type 0
+IsName name = (name ≡ replay) ⊎ ((name ≡ check) ⊎ ((name ≡ serve) ⊎ (name ≡ show)))
 
-begun : (word name : Text) (rest : List Text) → word ≡ name → (rest ≡ []) ⊎ (rest ≡ dashes ∷ []) → (word ∷ rest ≡ name ∷ []) ⊎ (word ∷ rest ≡ name ∷ dashes ∷ [])
-begun word name rest is (inl none) = inl (ap₂ (λ (w : Text) (l : List Text). w ∷ l) is none)
-begun word name rest is (inr one) = inr (ap₂ (λ (w : Text) (l : List Text). w ∷ l) is one)
+abbrev Taken : List Text → Type 0
+Taken words = (name : Text) × ((rest : List Text) × (IsName name × (words ≡ name ∷ rest)))
 
 abbrev starting : List Text → Text → Type 0
 starting rest word = fault_at (word ∷ rest) ≡ []
@@ -155,17 +151,13 @@ taken_words : (words : List Text) → fault_at words ≡ [] → Taken words
 taken_words [] e = absurd (nothing_refused e)
 taken_words (word ∷ rest) e =
     elim (cases_Bool (bytes_eq word replay)) [
-      | inl same ↦
-          let is = (bytes_eq-Decides word replay).0 same in
-          inl (begun word replay rest is (after_replay rest (subst (starting rest) is e)))
+      | inl same ↦ (word, (rest, (inl ((bytes_eq-Decides word replay).0 same), refl)))
       | inr no_replay ↦ elim (cases_Bool (bytes_eq word check)) [
-        | inl same ↦
-            let is = (bytes_eq-Decides word check).0 same in
-            inr (inl (begun word check rest is (after_check rest (subst (starting rest) is e))))
+        | inl same ↦ (word, (rest, (inr (inl ((bytes_eq-Decides word check).0 same)), refl)))
         | inr no_check ↦ elim (cases_Bool (bytes_eq word serve)) [
-          | inl same ↦ inr (inr (inl (rest, ap (λ (w : Text). w ∷ rest) ((bytes_eq-Decides word serve).0 same))))
+          | inl same ↦ (word, (rest, (inr (inr (inl ((bytes_eq-Decides word serve).0 same))), refl)))
           | inr no_serve ↦ elim (cases_Bool (bytes_eq word show)) [
-            | inl same ↦ inr (inr (inr (rest, ap (λ (w : Text). w ∷ rest) ((bytes_eq-Decides word show).0 same))))
+            | inl same ↦ (word, (rest, (inr (inr (inr ((bytes_eq-Decides word show).0 same))), refl)))
             | inr no_show ↦ elim (cases_Bool (bytes_eq word (codes "help"))) [
               | inl same ↦ absurd (help_refused rest (subst (starting rest) ((bytes_eq-Decides word (codes "help")).0 same) e))
               | inr no_help ↦ elim (cases_Bool (bytes_eq word dashes)) [
@@ -178,73 +170,122 @@ taken_words (word ∷ rest) e =
       ]
     ]
 
--- ---- the job
+-- ---- the subcommand that is entered
 
 within : {C : Type 0} (x y : C) → Some x ≡ Some y → x ≡ y
 within x y same = cc
 
-apart : (name other : Text) → bytes_eq name other ≡ false → Some name ≡ Some other → ⊥
-apart name other differ e =
-    let clash : true ≡ false = sym ((bytes_eq-Decides name other).1 (within name other e)) ∙ differ in
-    cc
+-- the subcommand that these words enter
+abbrev entered_at : List Text → Option (Text × List Row)
+entered_at words = entered (built command_line) (stop_after (built command_line).top.rules (names_of (built command_line)) words)
 
--- the name of the subcommand that these words enter
 abbrev entered_name_of : List Text → Option Text
-entered_name_of words = option_map (λ p. p.0) (entered (built command_line)
-    (stop_after (built command_line).top.rules (names_of (built command_line)) words))
+entered_name_of words = option_map (λ p. p.0) (entered_at words)
 
-abbrev entered_job : List Text → Option Job
-entered_job words = option_and_then job_named (entered_name_of words)
+-- it is entered by its name, whatever follows
+module _ (rest : List Text) where
+  enters_replay : entered_at (replay ∷ rest) ≡ entered (built command_line) (Some (replay, rest))
+  unfolding command_line clap_on_literals
+  enters_replay = ap (λ (s : Option (Text × List Text)). entered (built command_line) s) (stopped_walk (built command_line).top.rules names start replay [] rest)
 
--- `serve` is entered by its name, whatever follows it, and so is `show`
-serve_entered : (rest : List Text) → entered_name_of (serve ∷ rest) ≡ Some serve
+  enters_check : entered_at (check ∷ rest) ≡ entered (built command_line) (Some (check, rest))
+  unfolding command_line clap_on_literals
+  enters_check = ap (λ (s : Option (Text × List Text)). entered (built command_line) s) (stopped_walk (built command_line).top.rules names start check [] rest)
+
+  enters_serve : entered_name_of (serve ∷ rest) ≡ Some serve
+  unfolding command_line clap_on_literals
+  enters_serve = ap (λ (s : Option (Text × List Text)). option_map (λ p. p.0) (entered (built command_line) s)) (stopped_walk (built command_line).top.rules names start serve [] rest)
+
+  enters_show : entered_name_of (show ∷ rest) ≡ Some show
+  unfolding command_line clap_on_literals
+  enters_show = ap (λ (s : Option (Text × List Text)). option_map (λ p. p.0) (entered (built command_line) s)) (stopped_walk (built command_line).top.rules names start show [] rest)
+
+  replay_named : entered_name_of (replay ∷ rest) ≡ Some replay
+  unfolding command_line clap_on_literals
+  replay_named = ap (option_map (λ p. p.0)) enters_replay
+
+  check_named : entered_name_of (check ∷ rest) ≡ Some check
+  unfolding command_line clap_on_literals
+  check_named = ap (option_map (λ p. p.0)) enters_check
+
+  entered_named : (name : Text) → IsName name → entered_name_of (name ∷ rest) ≡ Some name
+  entered_named name (inl is) = subst (λ (n : Text). entered_name_of (n ∷ rest) ≡ Some n) (sym is) replay_named
+  entered_named name (inr (inl is)) = subst (λ (n : Text). entered_name_of (n ∷ rest) ≡ Some n) (sym is) check_named
+  entered_named name (inr (inr (inl is))) = subst (λ (n : Text). entered_name_of (n ∷ rest) ≡ Some n) (sym is) enters_serve
+  entered_named name (inr (inr (inr is))) = subst (λ (n : Text). entered_name_of (n ∷ rest) ≡ Some n) (sym is) enters_show
+
+  -- and the rows of one that reads a file have its file
+  replay_file : (options : List Row) → entered_at (replay ∷ rest) ≡ Some (replay, options) → leaf_file replay rest ≡ first_of (codes "file") options
+  unfolding command_line clap_on_literals
+  replay_file options e = ap (λ (o : Option (Text × List Row)). option_map_or (λ p. first_of (codes "file") p.1) o None) (sym enters_replay ∙ e)
+
+  check_file : (options : List Row) → entered_at (check ∷ rest) ≡ Some (check, options) → leaf_file check rest ≡ first_of (codes "file") options
+  unfolding command_line clap_on_literals
+  check_file options e = ap (λ (o : Option (Text × List Row)). option_map_or (λ p. first_of (codes "file") p.1) o None) (sym enters_check ∙ e)
+
+-- words that are taken and enter a subcommand begin with its name
+begun : (name : Text) (words : List Text) → fault_at words ≡ [] → entered_name_of words ≡ Some name → (rest : List Text) × (words ≡ name ∷ rest)
+begun name words e found =
+    let it = taken_words words e in
+    let named : Some it.0 ≡ Some name = sym (entered_named it.1.0 it.0 it.1.1.0) ∙ (sym (ap entered_name_of it.1.1.1) ∙ found) in
+    (it.1.0, it.1.1.1 ∙ ap (λ (n : Text). n ∷ it.1.0) (within it.0 name named))
+
+begins_with : (name : Text) (words rest : List Text) → words ≡ name ∷ rest → begin_with name words ≡ true
+begins_with name words rest is = ap (begin_with name) is ∙ (bytes_eq-Decides name name).1 refl
+
+-- ---- a job that reads a file
+
+asks_behind : (name : Text) (words rest : List Text) → words ≡ name ∷ rest → file_asked name words ≡ file_named rest
+asks_behind name words rest is = ap (file_asked name) is ∙ ap (λ (b : Bool). cond b (file_named rest) None) ((bytes_eq-Decides name name).1 refl)
+
+-- the words ask for this job, and so they begin with its name
+asked_begins : (name : Text) (words : List Text) (file : Option Text) → file_asked name words ≡ Some file → (rest : List Text) × ((words ≡ name ∷ rest) × (file_named rest ≡ Some file))
+asked_begins name [] file e = absurd (none-some file e)
+asked_begins name (word ∷ rest) file e =
+    elim (cases_Bool (bytes_eq word name)) [
+      | inl same ↦ (rest, (ap (λ (w : Text). w ∷ rest) ((bytes_eq-Decides word name).0 same), sym (ap (λ (b : Bool). cond b (file_named rest) None) same) ∙ e))
+      | inr other ↦ absurd (none-some file (sym (ap (λ (b : Bool). cond b (file_named rest) None) other) ∙ e))
+    ]
+
+abbrev above : Text → List Text → Kinds → Kinds
+above name rest below = level_fault top names nothing_held (name ∷ rest) true below
+
+replay_passes : (rest : List Text) (file : Option Text) → file_named rest ≡ Some file → fault_at (replay ∷ rest) ≡ []
 unfolding command_line clap_on_literals
-serve_entered rest = ap (λ (s : Option (Text × List Text)). option_map (λ p. p.0) (entered (built command_line) s)) (stopped_walk (built command_line).top.rules names start serve [] rest)
+replay_passes [] file e = ap (above replay []) (named_taken replay [] file e)
+replay_passes (word ∷ []) file e = ap (above replay (word ∷ [])) (named_taken replay (word ∷ []) file e)
+replay_passes (word ∷ last ∷ []) file e = ap (above replay (word ∷ last ∷ [])) (named_taken replay (word ∷ last ∷ []) file e)
+replay_passes (word ∷ last ∷ more ∷ rest) file e = absurd (none-some file e)
 
-show_entered : (rest : List Text) → entered_name_of (show ∷ rest) ≡ Some show
+check_passes : (rest : List Text) (file : Option Text) → file_named rest ≡ Some file → fault_at (check ∷ rest) ≡ []
 unfolding command_line clap_on_literals
-show_entered rest = ap (λ (s : Option (Text × List Text)). option_map (λ p. p.0) (entered (built command_line) s)) (stopped_walk (built command_line).top.rules names start show [] rest)
+check_passes [] file e = ap (above check []) (named_taken check [] file e)
+check_passes (word ∷ []) file e = ap (above check (word ∷ [])) (named_taken check (word ∷ []) file e)
+check_passes (word ∷ last ∷ []) file e = ap (above check (word ∷ last ∷ [])) (named_taken check (word ∷ last ∷ []) file e)
+check_passes (word ∷ last ∷ more ∷ rest) file e = absurd (none-some file e)
 
-asks_none : (name : Text) (rest : List Text) → job_named name ≡ None → job_asked (name ∷ rest) ≡ None
-asks_none name [] none = none
-asks_none name (last ∷ []) none = go (bytes_eq last (codes "--"))
-  where
-    go : (b : Bool) → cond b (job_named name) None ≡ None
-    go true = none
-    go false = refl
-asks_none name (last ∷ more ∷ rest) none = refl
+-- a job of this name reads a file: what the words ask of it is what a parse makes of them
+pub record Reads (name : Text) : Type 0 where
+  pub passes : (rest : List Text) (file : Option Text) → file_named rest ≡ Some file → fault_at (name ∷ rest) ≡ []
+  pub names : (rest : List Text) → fault_at (name ∷ rest) ≡ [] → file_named rest ≡ Some (leaf_file name rest)
+  pub found : (rest : List Text) (options : List Row) → entered_at (name ∷ rest) ≡ Some (name, options) → leaf_file name rest ≡ first_of (codes "file") options
+  pub named : (rest : List Text) → entered_name_of (name ∷ rest) ≡ Some name
 
-job_at : (words : List Text) → Taken words → entered_job words ≡ job_asked words
-unfolding command_line clap_on_literals
-job_at words (inl (inl is)) = subst (λ (l : List Text). entered_job l ≡ job_asked l) (sym is) refl
-job_at words (inl (inr is)) = subst (λ (l : List Text). entered_job l ≡ job_asked l) (sym is) refl
-job_at words (inr (inl (inl is))) = subst (λ (l : List Text). entered_job l ≡ job_asked l) (sym is) refl
-job_at words (inr (inl (inr is))) = subst (λ (l : List Text). entered_job l ≡ job_asked l) (sym is) refl
-job_at words (inr (inr (inl found))) = subst (λ (l : List Text). entered_job l ≡ job_asked l) (sym found.1) (ap (option_and_then job_named) (serve_entered found.0) ∙ sym (asks_none serve found.0 refl))
-job_at words (inr (inr (inr found))) = subst (λ (l : List Text). entered_job l ≡ job_asked l) (sym found.1) (ap (option_and_then job_named) (show_entered found.0) ∙ sym (asks_none show found.0 refl))
+pub replay_reads : Reads replay
+replay_reads = record {
+  passes = replay_passes;
+  names = λ rest e. taken_names replay rest (after_replay rest e);
+  found = replay_file;
+  named = replay_named;
+}
 
-abbrev enters : Text → List Text → Type 0
-enters name words = entered_name_of words ≡ Some name → begin_with name words ≡ true
-
--- only words that begin with `serve` enter it
-serve_begins : (words : List Text) → Taken words → enters serve words
-unfolding command_line clap_on_literals
-serve_begins words (inl (inl is)) = subst (enters serve) (sym is) (λ e. absurd (apart replay serve refl e))
-serve_begins words (inl (inr is)) = subst (enters serve) (sym is) (λ e. absurd (apart replay serve refl e))
-serve_begins words (inr (inl (inl is))) = subst (enters serve) (sym is) (λ e. absurd (apart check serve refl e))
-serve_begins words (inr (inl (inr is))) = subst (enters serve) (sym is) (λ e. absurd (apart check serve refl e))
-serve_begins words (inr (inr (inl found))) = subst (enters serve) (sym found.1) (λ e. refl)
-serve_begins words (inr (inr (inr found))) = subst (enters serve) (sym found.1) (λ e. absurd (apart show serve refl (sym (show_entered found.0) ∙ e)))
-
--- and only words that begin with `show` that
-show_begins : (words : List Text) → Taken words → enters show words
-unfolding command_line clap_on_literals
-show_begins words (inl (inl is)) = subst (enters show) (sym is) (λ e. absurd (apart replay show refl e))
-show_begins words (inl (inr is)) = subst (enters show) (sym is) (λ e. absurd (apart replay show refl e))
-show_begins words (inr (inl (inl is))) = subst (enters show) (sym is) (λ e. absurd (apart check show refl e))
-show_begins words (inr (inl (inr is))) = subst (enters show) (sym is) (λ e. absurd (apart check show refl e))
-show_begins words (inr (inr (inl found))) = subst (enters show) (sym found.1) (λ e. absurd (apart serve show refl (sym (serve_entered found.0) ∙ e)))
-show_begins words (inr (inr (inr found))) = subst (enters show) (sym found.1) (λ e. refl)
+pub check_reads : Reads check
+check_reads = record {
+  passes = check_passes;
+  names = λ rest e. taken_names check rest (after_check rest e);
+  found = check_file;
+  named = check_named;
+}
 
 pub line_is_simple : is_simple command_line ≡ true
 unfolding command_line clap_on_literals
@@ -254,78 +295,34 @@ pub line_is_free : is_simple_and_free command_line ≡ true
 unfolding command_line clap_on_literals
 line_is_free = refl
 
--- where no step of a parse fails, the subcommand that it enters is the one that the words ask for
-pub job_entered : (words : List Text) → fault_of command_line words ≡ [] → option_and_then job_named (option_map (λ p. p.0) (subcommand_of command_line words)) ≡ job_of words
+-- words that ask for a job that reads a file are refused by no step of a parse
+pub asked_passes : (name : Text) → Reads name → (words : List Text) (file : Option Text) → file_of name words ≡ Some file → fault_of command_line words ≡ []
 unfolding command_line
-job_entered words e = job_at (drop 1 words) (taken_words (drop 1 words) e)
+asked_passes name reads words file e =
+    let it = asked_begins name (drop 1 words) file e in
+    subst (λ (l : List Text). fault_at l ≡ []) (sym it.1.0) (reads.passes it.0 file it.1.1)
 
-abbrev job_by : Bool → Bool → Option Job
-job_by is_replay is_check = cond is_replay (Some Replay) (cond is_check (Some Check) None)
-
-name_of_job : (name : Text) (job : Job) → job_named name ≡ Some job → (name ≡ replay) ⊎ (name ≡ check)
-name_of_job name job e =
-    elim (cases_Bool (bytes_eq name replay)) [
-      | inl same ↦ inl ((bytes_eq-Decides name replay).0 same)
-      | inr no_replay ↦ elim (cases_Bool (bytes_eq name check)) [
-        | inl same ↦ inr ((bytes_eq-Decides name check).0 same)
-        | inr no_check ↦ absurd (none-some job (sym (ap₂ job_by no_replay no_check) ∙ e))
-      ]
-    ]
-
-named_alone : (name : Text) → (name ≡ replay) ⊎ (name ≡ check) → fault_at (name ∷ []) ≡ []
-unfolding command_line clap_on_literals
-named_alone name (inl is) = subst (λ (n : Text). fault_at (n ∷ []) ≡ []) (sym is) refl
-named_alone name (inr is) = subst (λ (n : Text). fault_at (n ∷ []) ≡ []) (sym is) refl
-
-named_ended : (name : Text) → (name ≡ replay) ⊎ (name ≡ check) → fault_at (name ∷ dashes ∷ []) ≡ []
-unfolding command_line clap_on_literals
-named_ended name (inl is) = subst (λ (n : Text). fault_at (n ∷ dashes ∷ []) ≡ []) (sym is) refl
-named_ended name (inr is) = subst (λ (n : Text). fault_at (n ∷ dashes ∷ []) ≡ []) (sym is) refl
-
-passes : (words : List Text) (job : Job) → job_asked words ≡ Some job → fault_at words ≡ []
-passes [] job e = absurd (none-some job e)
-passes (name ∷ []) job e = named_alone name (name_of_job name job e)
-passes (name ∷ last ∷ []) job e =
-    elim (cases_Bool (bytes_eq last dashes)) [
-      | inl same ↦
-          let named : job_named name ≡ Some job = sym (ap (λ (b : Bool). cond b (job_named name) None) same) ∙ e in
-          subst (λ (l : Text). fault_at (name ∷ l ∷ []) ≡ []) (sym ((bytes_eq-Decides last dashes).0 same)) (named_ended name (name_of_job name job named))
-      | inr other ↦ absurd (none-some job (sym (ap (λ (b : Bool). cond b (job_named name) None) other) ∙ e))
-    ]
-passes (name ∷ last ∷ more ∷ rest) job e = absurd (none-some job e)
-
--- words that ask for a job are refused by no step of a parse
-pub job_passes : (words : List Text) (job : Job) → job_of words ≡ Some job → fault_of command_line words ≡ []
+-- and enter it
+asked_enters : (name : Text) → Reads name → (words : List Text) (file : Option Text) → file_of name words ≡ Some file → option_map (λ p. p.0) (subcommand_of command_line words) ≡ Some name
 unfolding command_line
-job_passes words job e = passes (drop 1 words) job e
+asked_enters name reads words file e =
+    let it = asked_begins name (drop 1 words) file e in
+    ap entered_name_of it.1.0 ∙ reads.named it.0
+
+-- words that are taken and enter it ask for it, with the file that is found
+entered_asks : (name : Text) → Reads name → (words : List Text) (options : List Row) → fault_of command_line words ≡ [] → subcommand_of command_line words ≡ Some (name, options)
+    → file_of name words ≡ Some (first_of (codes "file") options)
+unfolding command_line
+entered_asks name reads words options e read =
+    let it = begun name (drop 1 words) e (ap (option_map (λ p. p.0)) read) in
+    let taken : fault_at (name ∷ it.0) ≡ [] = subst (λ (l : List Text). fault_at l ≡ []) it.1 e in
+    let entered_here : entered_at (name ∷ it.0) ≡ Some (name, options) = sym (ap entered_at it.1) ∙ read in
+    asks_behind name (drop 1 words) it.0 it.1 ∙ (reads.names it.0 taken ∙ ap (λ (f : Option Text). Some f) (reads.found it.0 options entered_here))
 
 module _ {Z : Type 0} where
   entered_name : (sub : Option (Box SubCommand Z)) → option_map (λ p. p.0) (subcommand_rows sub) ≡ option_map (λ b. (out-SubCommand (box_value b)).name.now) sub
   entered_name None = refl
   entered_name (Some b) = refl
-
--- a parse that found a subcommand with options had words that begin with its name
-module _ (name : Text) (begins : (words : List Text) → Taken words → enters name words) where
-  name_asked : (words : List Text) → fault_of command_line words ≡ [] → option_map (λ p. p.0) (subcommand_of command_line words) ≡ Some name → begin_with name (drop 1 words) ≡ true
-  unfolding command_line
-  name_asked words e = begins (drop 1 words) (taken_words (drop 1 words) e)
-
-  name_found : (a : App) (words : List Text) (m : ArgMatches) → a ≡ command_line → HasMatchesOf a words m → (is_simple_and_free a ≡ true → fault_of a words ≡ [])
-      → subcommand_name_of m ≡ Some name → begin_with name (drop 1 words) ≡ true
-  name_found a words m is has passed named =
-      let name_of : Option (Text × List Row) → Option Text = option_map (λ p. p.0) in
-      let found : name_of (subcommand_rows_of m) ≡ name_of (subcommand_of command_line words) =
-      ap name_of ((has (ap is_simple is ∙ line_is_simple)).1 ∙ ap (λ (b : App). subcommand_of b words) is) in
-      let none : fault_of command_line words ≡ [] = sym (ap (λ (b : App). fault_of b words) is) ∙ passed (ap is_simple_and_free is ∙ line_is_free) in
-      name_asked words none (sym found ∙ (entered_name (out-ArgMatches m).subcommand ∙ named))
-
-pub serve_found : (a : App) (words : List Text) (m : ArgMatches) → a ≡ command_line → HasMatchesOf a words m → (is_simple_and_free a ≡ true → fault_of a words ≡ [])
-    → subcommand_name_of m ≡ Some serve → begin_with serve (drop 1 words) ≡ true
-serve_found = name_found serve serve_begins
-
-pub show_found : (a : App) (words : List Text) (m : ArgMatches) → a ≡ command_line → HasMatchesOf a words m → (is_simple_and_free a ≡ true → fault_of a words ≡ [])
-    → subcommand_name_of m ≡ Some show → begin_with show (drop 1 words) ≡ true
-show_found = name_found show show_begins
 
 both_parts : {A B : Type 0} (o : Option (A × B)) (a : A) (b : B) → option_map (λ p. p.0) o ≡ Some a → option_map (λ p. p.1) o ≡ Some b → o ≡ Some (a, b)
 both_parts None a b e f = absurd (none-some a e)
@@ -338,23 +335,30 @@ options_read name a words m options is has named told =
     sym ((has (ap is_simple is ∙ line_is_simple)).1 ∙ ap (λ (b : App). subcommand_of b words) is)
     ∙ both_parts (subcommand_rows_of m) name options (entered_name (out-ArgMatches m).subcommand ∙ named) told
 
--- the job of the subcommand that a parse found is the one that the words ask for
-pub job_found : (a : App) (words : List Text) (m : ArgMatches) → a ≡ command_line → HasMatchesOf a words m → (is_simple_and_free a ≡ true → fault_of a words ≡ [])
-    → option_and_then job_named (subcommand_name_of m) ≡ job_of words
-job_found a words m is has passed =
-    let name_of : Option (Text × List Row) → Option Text = option_map (λ p. p.0) in
-    let found : name_of (subcommand_rows_of m) ≡ name_of (subcommand_of command_line words) =
-    ap name_of ((has (ap is_simple is ∙ line_is_simple)).1 ∙ ap (λ (b : App). subcommand_of b words) is) in
-    let none : fault_of command_line words ≡ [] = sym (ap (λ (b : App). fault_of b words) is) ∙ passed (ap is_simple_and_free is ∙ line_is_free) in
-    ap (option_and_then job_named) (sym (entered_name (out-ArgMatches m).subcommand) ∙ found) ∙ job_entered words none
+-- what a parse that found a subcommand says of the words
+module _ (a : App) (words : List Text) (m : ArgMatches) (is : a ≡ command_line) (has : HasMatchesOf a words m) (passed : is_simple_and_free a ≡ true → fault_of a words ≡ []) (name : Text) (options : List Row) (named : subcommand_name_of m ≡ Some name) (told : option_map (λ p. p.1) (subcommand_rows (out-ArgMatches m).subcommand) ≡ Some options) where
+  passes : fault_of command_line words ≡ []
+  passes = sym (ap (λ (b : App). fault_of b words) is) ∙ passed (ap is_simple_and_free is ∙ line_is_free)
 
--- words that some step of a parse refuses ask for no job by its name
-no_job : (words : List Text) (first : ErrorKind) (rest : Kinds) → fault_of command_line words ≡ first ∷ rest → job_of words ≡ None
-no_job words first rest e = go (job_of words) refl
-  where
-    go : (asked : Option Job) → job_of words ≡ asked → job_of words ≡ None
-    go None is = is
-    go (Some job) is = absurd (not_empty first rest (sym e ∙ job_passes words job is))
+  begins : begin_with name (drop 1 words) ≡ true
+  unfolding command_line
+  begins =
+      let read = options_read name a words m options is has named told in
+      let it = begun name (drop 1 words) passes (ap (option_map (λ p. p.0)) read) in
+      begins_with name (drop 1 words) it.0 it.1
+
+  pub gives : Gives name words options
+  gives = record { begins = begins; taken = passes; read = options_read name a words m options is has named told }
+
+  pub asks_for : Reads name → file_of name words ≡ Some (first_of (codes "file") options)
+  asks_for reads = entered_asks name reads words options passes (options_read name a words m options is has named told)
+
+-- words that some step of a parse refuses ask for no job
+refused_asks_nothing : (words : List Text) → (fault_of command_line words ≡ [] → ⊥) → AsksNothing words
+refused_asks_nothing words refused (Replay file) e = refused (asked_passes replay replay_reads words (option_map (λ f. f.now) file) e)
+refused_asks_nothing words refused (Check file) e = refused (asked_passes check check_reads words (option_map (λ f. f.now) file) e)
+refused_asks_nothing words refused (Serve serving) asked = refused asked.given.taken
+refused_asks_nothing words refused (Show showing) asked = refused asked.given.taken
 
 -- words that ask for something are refused only for want of memory
 pub job_refused : (a : App) (words : List Text) (error : Error) → a ≡ command_line → (is_simple_and_free a ≡ true → HasKind (fault_of a words) error)
@@ -370,60 +374,31 @@ job_refused a words error is fails = go (fault_of command_line words) refl
 
     go : (kinds : Kinds) → fault_of command_line words ≡ kinds → AsksNothing words ⊎ (kind_of error ≡ kind.OutOfMemory)
     go [] e = inr (only_memory (subst (λ (kinds : Kinds). HasKind kinds error) e has))
-    go (first ∷ rest) e = inl (record {
-      job = no_job words first rest e;
-      serving = λ none s asked. absurd (not_empty first rest (sym e ∙ none));
-      showing = λ none answers asked. absurd (not_empty first rest (sym e ∙ none));
-    })
+    go (first ∷ rest) e = inl (refused_asks_nothing words (λ none. not_empty first rest (sym e ∙ none)))
 
 -- words in whose parse a subcommand was not found don't enter it
-not_entered : (name : Text) (a : App) (words : List Text) (m : ArgMatches) (options : List Row) → a ≡ command_line → HasMatchesOf a words m → (subcommand_name_of m ≡ Some name → ⊥)
-    → subcommand_of command_line words ≡ Some (name, options) → ⊥
-not_entered name a words m options is has none read =
-    let name_of : Option (Text × List Row) → Option Text = option_map (λ p. p.0) in
-    let found : name_of (subcommand_rows_of m) ≡ name_of (subcommand_of command_line words) =
-    ap name_of ((has (ap is_simple is ∙ line_is_simple)).1 ∙ ap (λ (b : App). subcommand_of b words) is) in
-    none (sym (entered_name (out-ArgMatches m).subcommand) ∙ (found ∙ ap name_of read))
+module _ (a : App) (words : List Text) (m : ArgMatches) (is : a ≡ command_line) (has : HasMatchesOf a words m) where
+  not_named : (name : Text) → (subcommand_name_of m ≡ Some name → ⊥) → option_map (λ p. p.0) (subcommand_of command_line words) ≡ Some name → ⊥
+  not_named name none read =
+      let name_of : Option (Text × List Row) → Option Text = option_map (λ p. p.0) in
+      let found : name_of (subcommand_rows_of m) ≡ name_of (subcommand_of command_line words) =
+      ap name_of ((has (ap is_simple is ∙ line_is_simple)).1 ∙ ap (λ (b : App). subcommand_of b words) is) in
+      none (sym (entered_name (out-ArgMatches m).subcommand) ∙ (found ∙ read))
 
-pub no_serve : (a : App) (words : List Text) (m : ArgMatches) → a ≡ command_line → HasMatchesOf a words m → (subcommand_name_of m ≡ Some serve → ⊥) → (s : Serving) → AsksToServe words s → ⊥
-no_serve a words m is has none s asked = not_entered serve a words m asked.options is has none asked.read
+  -- nor does a job ask to serve whose options serve in no way
+  pub none_found : (subcommand_name_of m ≡ Some replay → ⊥) → (subcommand_name_of m ≡ Some check → ⊥) → (subcommand_name_of m ≡ Some show → ⊥)
+      → ((s : Serving) → IsAsked words (Serve s) → ⊥) → AsksNothing words
+  none_found no_replay no_check no_show no_serving (Replay file) e = not_named replay no_replay (asked_enters replay replay_reads words (option_map (λ f. f.now) file) e)
+  none_found no_replay no_check no_show no_serving (Check file) e = not_named check no_check (asked_enters check check_reads words (option_map (λ f. f.now) file) e)
+  none_found no_replay no_check no_show no_serving (Serve serving) asked = no_serving serving asked
+  none_found no_replay no_check no_show no_serving (Show showing) asked = not_named show no_show (ap (option_map (λ p. p.0)) asked.given.read)
 
-pub no_show : (a : App) (words : List Text) (m : ArgMatches) → a ≡ command_line → HasMatchesOf a words m → (subcommand_name_of m ≡ Some show → ⊥) → (answers : Option Text) → AsksToShow words answers → ⊥
-no_show a words m is has none answers asked = not_entered show a words m asked.options is has none asked.read
+  pub serve_not_found : (subcommand_name_of m ≡ Some serve → ⊥) → (s : Serving) → IsAsked words (Serve s) → ⊥
+  serve_not_found no_serve s asked = not_named serve no_serve (ap (option_map (λ p. p.0)) asked.given.read)
 
--- nor do those whose options serve in no way
-pub no_serving : (a : App) (words : List Text) (m : ArgMatches) (options : List Row) → a ≡ command_line → HasMatchesOf a words m
-    → subcommand_name_of m ≡ Some serve → option_map (λ p. p.1) (subcommand_rows (out-ArgMatches m).subcommand) ≡ Some options
-    → NoneServes (λ id. first_of id options) → (s : Serving) → AsksToServe words s → ⊥
-no_serving a words m options is has named told none s asked =
-    let read : Some (serve, asked.options) ≡ Some (serve, options) = sym asked.read ∙ options_read serve a words m options is has named told in
-    let same : asked.options ≡ options = ap (λ (o : Option (Text × List Row)). option_map_or (λ p. p.1) o []) read in
-    none s (subst (λ (rows : List Row). IsServedBy (λ id. first_of id rows) s) same asked.served) asked.within
-
--- ---- what is asked
-
-module _ (job : Job) (not_replay : Some Replay ≡ Some job → ⊥) (not_check : Some Check ≡ Some job → ⊥) where
-  never_named : (name : Text) → job_named name ≡ Some job → ⊥
-  never_named name e = go (bytes_eq name replay) (bytes_eq name check) e
-    where
-      go : (is_replay is_check : Bool) → job_by is_replay is_check ≡ Some job → ⊥
-      go true is_check e = not_replay e
-      go false true e = not_check e
-      go false false e = none-some job e
-
-  never_asked : (words : List Text) → job_asked words ≡ Some job → ⊥
-  never_asked [] e = none-some job e
-  never_asked (name ∷ []) e = never_named name e
-  never_asked (name ∷ last ∷ []) e = go (bytes_eq last (codes "--")) e
-    where
-      go : (b : Bool) → cond b (job_named name) None ≡ Some job → ⊥
-      go true e = never_named name e
-      go false e = none-some job e
-  never_asked (name ∷ last ∷ more ∷ rest) e = none-some job e
-
--- a job that the words ask for is asked
-pub job_is_asked : (words : List Text) (job : Job) → job_of words ≡ Some job → IsAsked words job
-job_is_asked words Replay e = e
-job_is_asked words Check e = e
-job_is_asked words (Serve serving) e = absurd (never_asked (Serve serving) (λ e. cc) (λ e. cc) (drop 1 words) e)
-job_is_asked words (Show answers) e = absurd (never_asked (Show answers) (λ e. cc) (λ e. cc) (drop 1 words) e)
+  pub serves_not : (options : List Row) → subcommand_name_of m ≡ Some serve → option_map (λ p. p.1) (subcommand_rows (out-ArgMatches m).subcommand) ≡ Some options
+      → NoneServes (λ id. first_of id options) → (s : Serving) → IsAsked words (Serve s) → ⊥
+  serves_not options named told none s asked =
+      let read : Some (serve, asked.options) ≡ Some (serve, options) = sym asked.given.read ∙ options_read serve a words m options is has named told in
+      let same : asked.options ≡ options = ap (λ (o : Option (Text × List Row)). option_map_or (λ p. p.1) o []) read in
+      none s (subst (λ (rows : List Row). IsServedBy (λ id. first_of id rows) s) same asked.served) asked.within

@@ -24,6 +24,9 @@ module _ (old new : Command) (text : Bor (List ℕ)) where
   pub after_help_keeps : fields_of new ≡ record (fields_of old) { after_help = Some text } → Keeps old new
   after_help_keeps e = record { app = ap app_of_fields e; globals = ap (λ (f : Command-F Command). f.has_globals) e }
 
+  pub has_version : fields_of new ≡ record (fields_of old) { version = Some text } → app_of new ≡ on_top (λ (s : Shape). record s { has_version = true }) (app_of old)
+  has_version e = ap app_of_fields e
+
 module _ (old new : Command) where
   pub wants_subcommand : fields_of new ≡ record (fields_of old) { subcommand_required = true } → app_of new ≡ on_top (λ (s : Shape). record s { subcommand_required = true }) (app_of old)
   wants_subcommand e = ap app_of_fields e

@@ -1,3 +1,4 @@
 pub mod Asked
 pub mod Kept
+pub mod Named
 pub mod Refused

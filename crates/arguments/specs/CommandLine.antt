@@ -2,14 +2,18 @@
 use Rattle.std.specs.Prelude.{ℕ, List, Bool, Some, true, false, codes}
 use Rattle.clap.specs.Walk.{Rule}
 use Rattle.clap.specs.declared.builder.action.ArgAction.TheVariants.{SetTrue}
-use Rattle.clap.specs.Simple.{App, Shape, new_app, new_rule, new_shape, on_top, with_rule, with_subcommand}
+use Rattle.clap.specs.Simple.{App, Shape, new_app, new_rule, on_top, with_rule, with_subcommand}
 
--- with no word but its own name, the program answers with help; a subcommand is wanted
+-- the program has a version; with no word but its own name it answers with help; a subcommand is wanted
 abbrev pub wanting_a_job : Shape → Shape
-wanting_a_job s = record s { arg_required_else_help = true; subcommand_required = true }
+wanting_a_job s = record s { has_version = true; arg_required_else_help = true; subcommand_required = true }
 
 unfoldable pub program : App
 program = on_top wanting_a_job (new_app (codes "kbroker"))
+
+-- a file, named by a word that belongs to no option
+abbrev pub file_rule : Rule
+file_rule = record (new_rule (codes "file")) { value_names = 1 }
 
 -- an option `--NAME VALUE`
 abbrev pub option_rule : List ℕ → Bool → Rule
@@ -66,9 +70,16 @@ with_serve_options a = with_serve_clients (with_serve_ending (with_serve_steerin
 abbrev pub serve_shape : Shape
 serve_shape = (with_serve_options (new_app (codes "serve"))).top
 
--- the subcommand `show` with its option
+-- the subcommand of this name, behind which a file may be named
+abbrev pub reading_app : List ℕ → App
+reading_app name = with_rule (new_app name) file_rule
+
+abbrev pub reading_shape : List ℕ → Shape
+reading_shape name = (reading_app name).top
+
+-- the subcommand `show` with its file and its option
 abbrev pub show_app : App
-show_app = with_rule (new_app (codes "show")) (option_rule (codes "answers") false)
+show_app = with_rule (reading_app (codes "show")) (option_rule (codes "answers") false)
 
 abbrev pub show_shape : Shape
 show_shape = show_app.top
@@ -76,4 +87,4 @@ show_shape = show_app.top
 -- the program with a subcommand for each job
 unfoldable pub command_line : App
 unfolding program
-command_line = with_subcommand (with_subcommand (with_subcommand (with_subcommand program (new_shape (codes "replay"))) (new_shape (codes "check"))) serve_shape) show_shape
+command_line = with_subcommand (with_subcommand (with_subcommand (with_subcommand program (reading_shape (codes "replay"))) (reading_shape (codes "check"))) serve_shape) show_shape

@@ -1,20 +1,31 @@
--- Which job a command line asks for.
-use Rattle.std.specs.Prelude.{ℕ, if◌then◌else◌, List, [], ◌∷◌, drop, codes, Option, Some, None}
-use Rattle.std.specs.Str.{bytes_eq}
-use Rattle.arguments.specs.declared.job.Job.{Job}
-use Rattle.arguments.specs.declared.job.Job.TheVariants.{Replay, Check}
+-- Which file a command line names for a job that reads one.
+use Rattle.std.specs.Prelude.{ℕ, ◌==◌, ◌&&◌, Bool, true, false, if◌then◌else◌, List, [], ◌∷◌, drop, codes, Option, Some, None}
+use Rattle.std.specs.Str.{bytes_eq, chars}
 
--- the job of this name
-abbrev pub job_named : List ℕ → Option Job
-job_named name = if bytes_eq name (codes "replay") then Some Replay else (if bytes_eq name (codes "check") then Some Check else None)
+abbrev pub is_any : List ℕ → Bool
+is_any [] = false
+is_any (first ∷ rest) = true
 
--- the job that these words ask for: its name alone, or its name and `--`, which ends the options
-abbrev pub job_asked : List (List ℕ) → Option Job
-job_asked [] = None
-job_asked (name ∷ []) = job_named name
-job_asked (name ∷ last ∷ []) = if bytes_eq last (codes "--") then job_named name else None
-job_asked (name ∷ last ∷ more ∷ rest) = None
+-- a word is a flag where it begins with `-` (45), and a character follows
+abbrev pub is_flag : List ℕ → Bool
+is_flag [] = false
+is_flag (first ∷ rest) = first == 45 && is_any (chars rest)
 
--- the job that a command line asks for, whose first word is the program's own name
-abbrev pub job_of : List (List ℕ) → Option Job
-job_of words = job_asked (drop 1 words)
+abbrev pub ends_options : List ℕ → Bool
+ends_options word = bytes_eq word (codes "--")
+
+-- the file that these words name behind a job, if they name one at most and nothing else: `--` ends the options, and what
+-- follows it is no flag
+abbrev pub file_named : List (List ℕ) → Option (Option (List ℕ))
+file_named [] = Some None
+file_named (word ∷ []) = if ends_options word then Some None else (if is_flag word then None else Some (Some word))
+file_named (word ∷ last ∷ []) = if ends_options word then Some (Some last) else (if is_flag word then None else (if ends_options last then Some (Some word) else None))
+file_named (word ∷ last ∷ more ∷ rest) = None
+
+abbrev pub file_asked : List ℕ → List (List ℕ) → Option (Option (List ℕ))
+file_asked job [] = None
+file_asked job (name ∷ rest) = if bytes_eq name job then file_named rest else None
+
+-- the file for the job of this name, if a command line asks for that; its first word is the program's own name
+abbrev pub file_of : List ℕ → List (List ℕ) → Option (Option (List ℕ))
+file_of job words = file_asked job (drop 1 words)

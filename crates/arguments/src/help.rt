@@ -2,11 +2,14 @@
 
 pub(crate) const PROGRAM: &str = "An in-memory Kafka broker for several tenants";
 
+/// The version of the program.
+pub const VERSION: &str = "0.1.0";
+
 pub(crate) const REPLAY: &str = "Answers a script of requests";
 
 pub(crate) const REPLAY_LONG: &str = "Answers a script of requests.
 
-Standard input holds the settings, a line `---`, and the script, whose lines are
+FILE, or else standard input, holds the settings, a line `---`, and the script, whose lines are
 
     req USER HOST HEX    a request of the principal `User:USER` at HOST, its frame with the size
                          field in hexadecimal digits
@@ -21,18 +24,18 @@ that was refused. A line that can't be read prints `line N: unreadable`, a broke
 events `stop N`, and settings with a fault `settings refused: FAULT`; each ends the run. Standard
 error gets a sentence that says where and why.
 
-The exit status is 0 where each line was answered, 1 where the run ended before, and 2 for a
-command line that isn't understood.";
+The exit status is 0 where each line was answered, 1 where the run ended before or FILE can't be
+opened, and 2 for a command line that isn't understood.";
 
 pub(crate) const REPLAY_EXAMPLE: &str = "Example:
 
-    kbroker replay < examples/metadata.txt";
+    kbroker replay examples/metadata.txt";
 
 pub(crate) const CHECK: &str = "Tells what is wrong with settings";
 
 pub(crate) const CHECK_LONG: &str = "Tells what is wrong with settings.
 
-Standard input holds the settings, from its first line to its last.
+FILE, or else standard input, holds the settings, from its first line to its last.
 
 Standard output gets `settings ok`, or `settings refused: FAULT`, FAULT being the first of Toml, Key,
 User, Range, TopicName, Twice, Acl, Super and NoMemory that holds. Standard error gets a sentence
@@ -41,15 +44,30 @@ that says which key of which table, and why.
 The exit status is 0 where the settings can be taken, 1 where they are refused or can't be read, and
 2 for a command line that isn't understood.";
 
+pub(crate) const SCRIPT_FILE: &str =
+    "The file that holds the settings and the script; standard input if it isn't given";
+
+pub(crate) const CHECK_FILE: &str =
+    "The file that holds the settings; standard input if it isn't given";
+
 pub(crate) const CHECK_EXAMPLE: &str = "Example:
 
-    kbroker check < settings.toml";
+    kbroker check settings.toml
+
+Settings to begin with, of one user, to whom everything is allowed, and one topic:
+
+    node_id = 1
+    host = \"127.0.0.1\"
+    port = 9092
+    supers = [\"User:ann\"]
+    user = [{ name = \"ann\", password = \"secret\" }]
+    topic = [{ name = \"orders\", partitions = 2 }]";
 
 pub(crate) const SHOW: &str = "Shows a script of requests, and their answers, in words";
 
 pub(crate) const SHOW_LONG: &str = "Shows a script of requests, and their answers, in words.
 
-Standard input holds what `replay` reads. Each request is shown by the names of the protocol's guide,
+FILE, or else standard input, holds what `replay` reads. Each request is shown by the names of the protocol's guide,
 with the records of its batches, and beside it its answer, which is made as `replay` makes it. With
 `--answers FILE` the answers are read from a file instead, which holds what an earlier `replay`
 printed. Where there are no settings, and so no line `---`, requests alone are shown.
@@ -63,7 +81,7 @@ line that isn't understood.";
 
 pub(crate) const SHOW_EXAMPLE: &str = "Example:
 
-    kbroker show < examples/metadata.txt";
+    kbroker show examples/metadata.txt";
 
 pub(crate) const ANSWERS: &str =
     "The file that holds what an earlier `replay` printed; the answers are made anew if it isn't given";
@@ -117,16 +135,32 @@ that isn't understood.";
 
 pub(crate) const SERVE_EXAMPLE: &str = "Example:
 
-    kbroker serve --listen 127.0.0.1:9092 < settings.toml";
+    kbroker serve --listen 127.0.0.1:9092 --settings settings.toml
+
+Settings to begin with, of one user, to whom everything is allowed, and one topic:
+
+    node_id = 1
+    host = \"127.0.0.1\"
+    port = 9092
+    supers = [\"User:ann\"]
+    user = [{ name = \"ann\", password = \"secret\" }]
+    topic = [{ name = \"orders\", partitions = 2 }]
+
+A client's properties, as librdkafka names them; `serve --librdkafka` serves clients that stand on it:
+
+    bootstrap.servers=127.0.0.1:9092
+    security.protocol=SASL_PLAINTEXT
+    sasl.mechanism=PLAIN
+    sasl.username=ann
+    sasl.password=secret";
 
 pub(crate) const LISTEN: &str =
     "The address and the port to listen on; port 0 takes one that is free";
 
-pub(crate) const WORKERS: &str =
-    "How many connections are served at once, 1 to 64; 4 if it isn't given";
+pub(crate) const WORKERS: &str = "How many connections are served at once, 1 to 64 [default: 4]";
 
 pub(crate) const CONNECTIONS: &str =
-    "How many connections are served in all, 1 to 1,000,000; 1,000,000 if it isn't given";
+    "How many connections are served in all, 1 to 1,000,000 [default: 1000000]";
 
 pub(crate) const ENDLESS: &str =
     "Connections are served without end: they aren't counted; without --connections";
@@ -146,10 +180,10 @@ pub(crate) const IDLE: &str =
     "After how many seconds of waiting for its peer a connection is closed, 1 to 1,000,000; never if it isn't given";
 
 pub(crate) const LOGIN_WITHIN: &str =
-    "Within how many seconds a client logs in, 1 to 1,000,000; else its connection is closed; 10 if it isn't given";
+    "Within how many seconds a client logs in, 1 to 1,000,000; else its connection is closed [default: 10]";
 
 pub(crate) const FRAME_WITHIN: &str =
-    "Within how many seconds a request comes, from its first byte to its last, 1 to 1,000,000; else its connection is closed; 30 if it isn't given";
+    "Within how many seconds a request comes, from its first byte to its last, 1 to 1,000,000; else its connection is closed [default: 30]";
 
 pub(crate) const AUDIT: &str =
     "Where each refusal is told as it happens: -, which is standard error";
@@ -161,7 +195,7 @@ pub(crate) const CONTROL: &str =
     "Lines of standard input steer the broker, in place of the clock; with --settings, and without --audit";
 
 pub(crate) const GRACE: &str =
-    "How many seconds after a stop the connections that are still open are closed, 0 to 1,000,000; 5 if it isn't given, and with --control never";
+    "How many seconds after a stop the connections that are still open are closed, 0 to 1,000,000; never with --control [default: 5]";
 
 pub(crate) const STOP_WITH_INPUT: &str =
     "The end of standard input stops the broker, and so does a line `end`; with --settings, and without --control";

@@ -1,32 +1,43 @@
 //! What the words of the command line ask for.
 
-ghost use Rattle.std.specs.Prelude.{◌≡◌, ◌⊎◌, IfErr, IfOk, None, Some, false, map, option_and_then};
-ghost use Rattle.clap.specs.Words.{app_of, kind_of, new_app, subcommand_name_of};
+ghost use Rattle.std.specs.Prelude.{◌≡◌, ◌⊎◌, IfErr, IfOk, false, map};
+ghost use Rattle.clap.specs.Simple.{with_rule};
+ghost use Rattle.clap.specs.Walk.{rule_of};
+ghost use Rattle.clap.specs.Words.{app_of, kind_of, new_app};
 ghost use Rattle.clap.specs.declared.builder.command.Command.TheViews.{out-Command as fields_of};
-ghost use Rattle.arguments.specs.CommandLine.{command_line, program, show_app};
-ghost use Rattle.arguments.specs.Job.{job_named};
+ghost use Rattle.arguments.specs.CommandLine.{command_line, file_rule, program, show_app};
 ghost use Rattle.arguments.specs.Asked.{AsksNothing, IsAsked};
 
 use crate::help::{
-    ANSWERS, CHECK, CHECK_EXAMPLE, CHECK_LONG, PROGRAM, REPLAY, REPLAY_EXAMPLE, REPLAY_LONG, SERVE,
-    SERVE_EXAMPLE, SERVE_LONG, SHOW, SHOW_EXAMPLE, SHOW_LONG,
+    ANSWERS, CHECK, CHECK_EXAMPLE, CHECK_FILE, CHECK_LONG, PROGRAM, REPLAY, REPLAY_EXAMPLE,
+    REPLAY_LONG, SCRIPT_FILE, SERVE, SERVE_EXAMPLE, SERVE_LONG, SHOW, SHOW_EXAMPLE, SHOW_LONG,
+    VERSION,
 };
-use crate::serving::{Serving, option, serving_by, with_options};
+use crate::serving::{Misused, Serving, option, serving_by, with_options};
 use clap::error::ErrorKind;
-use clap::{ArgMatches, Command, Error};
+use clap::{Arg, Command, Error};
 use std::alloc::{AllocError, Global};
+
+/// Which script is shown, and with which answers.
+#[derive(Clone, Copy, Debug, PartialEq, Eq)]
+pub struct Showing<'a> {
+    /// The file that holds the script, if standard input doesn't.
+    pub file: Option<&'a str>,
+    /// The file that holds the answers, if they aren't made anew.
+    pub answers: Option<&'a str>,
+}
 
 /// What the program is asked to do.
 #[derive(Clone, Copy, Debug, PartialEq, Eq)]
 pub enum Job<'a> {
-    /// Answers a script that is read from standard input.
-    Replay,
-    /// Tells what is wrong with settings that are read from standard input.
-    Check,
+    /// Answers the script in this file, or in standard input where there is none.
+    Replay(Option<&'a str>),
+    /// Tells what is wrong with the settings in this file, or in standard input where there is none.
+    Check(Option<&'a str>),
     /// Serves the connections of a listener.
     Serve(Serving<'a>),
-    /// Shows a script that is read from standard input, with the answers in this file, or made anew where there is none.
-    Show(Option<&'a str>),
+    /// Shows a script, and its answers, in words.
+    Show(Showing<'a>),
 }
 
 /// A subcommand of this name, with what `--help` says of it.
@@ -46,12 +57,33 @@ fn described<'a>(
         .after_help(example)
 }
 
+/// The file that a command reads in place of standard input.
+fn file<'a>(alloc: Global, help: &'a str) -> Arg<'a>
+    ensures rule { rule_of result ≡ file_rule }
+    ensures local { result.global ≡ false }
+{
+    Arg::new(alloc, "file").value_name("FILE").help(help)
+}
+
+/// The command with a file that may be named.
+fn with_file<'a>(
+    alloc: Global,
+    command: Command<'a>,
+    help: &'a str,
+) -> Result<Command<'a>, AllocError>
+    ensures app { IfOk result (λ made. app_of made ≡ with_rule (app_of command.entry) file_rule) }
+    ensures local { IfOk result (λ made. (fields_of made).has_globals ≡ (fields_of command.entry).has_globals) }
+{
+    command.arg(file(alloc, help))
+}
+
 /// The command that shows a script.
 fn show_command<'a>(alloc: Global) -> Result<Command<'a>, AllocError>
     ensures app { IfOk result (λ made. app_of made ≡ show_app) }
     ensures local { IfOk result (λ made. (fields_of made).has_globals ≡ false) }
 {
     let show = described(alloc, "show", SHOW, SHOW_LONG, SHOW_EXAMPLE);
+    let show = with_file(alloc, show, SCRIPT_FILE)?;
     show.arg(option(alloc, "answers", "FILE", ANSWERS, false))
 }
 
@@ -61,6 +93,7 @@ fn bare_program<'a>(alloc: Global) -> Command<'a>
 {
     Command::new(alloc, "kbroker")
         .about(PROGRAM)
+        .version(VERSION)
         .subcommand_required(true)
         .arg_required_else_help(true)
 }
@@ -70,7 +103,9 @@ fn command<'a>(alloc: Global) -> Result<Command<'a>, AllocError>
     ensures { IfOk result (λ made. app_of made ≡ command_line) }
 {
     let replay = described(alloc, "replay", REPLAY, REPLAY_LONG, REPLAY_EXAMPLE);
+    let replay = with_file(alloc, replay, SCRIPT_FILE)?;
     let check = described(alloc, "check", CHECK, CHECK_LONG, CHECK_EXAMPLE);
+    let check = with_file(alloc, check, CHECK_FILE)?;
     let serve = described(alloc, "serve", SERVE, SERVE_LONG, SERVE_EXAMPLE);
     let serve = with_options(alloc, serve)?;
     bare_program(alloc)
@@ -80,22 +115,16 @@ fn command<'a>(alloc: Global) -> Result<Command<'a>, AllocError>
         .subcommand(show_command(alloc)?)
 }
 
-/// The job of the subcommand that was found in the words.
-fn named_job<'a>(matches: &ArgMatches<'_>) -> Option<Job<'a>>
-    ensures { result ≡ option_and_then job_named (subcommand_name_of matches.now) }
-{
-    if matches.subcommand_matches("replay").is_some() {
-        return Some(Job::Replay);
-    }
-    if matches.subcommand_matches("check").is_some() {
-        return Some(Job::Check);
-    }
-    None
+/// Says what is wrong with an option of `serve`, above the usage of `serve`.
+fn misuse(alloc: Global, misused: Misused) -> Result<Error, AllocError> {
+    let serve = described(alloc, "serve", SERVE, SERVE_LONG, SERVE_EXAMPLE);
+    let mut serve = with_options(alloc, serve.bin_name("kbroker serve")?)?;
+    serve.error(ErrorKind::ValueValidation, misused.sentence())
 }
 
 /// What the words ask for, of which the first is the program's own name: the job that the next one names. Behind `replay` and
-/// `check` nothing but `--` follows, behind `serve` and `show` their options. A refusal holds the text to print on standard error; help is
-/// one.
+/// `check` at most one file is named, behind `serve` and `show` their options follow. A refusal holds the text to print on standard
+/// error; help and the version are refusals.
 pub fn arguments<'a>(alloc: Global, words: &'a [&'a str]) -> Result<Job<'a>, Error>
     ensures job { IfOk result (λ job. IsAsked (map (λ word. word.now) words.entry.now) job) }
     ensures refusal { IfErr result (λ error. AsksNothing (map (λ word. word.now) words.entry.now)
@@ -103,17 +132,22 @@ pub fn arguments<'a>(alloc: Global, words: &'a [&'a str]) -> Result<Job<'a>, Err
 {
     let mut command = command(alloc)?;
     let matches = command.try_get_matches_from_mut(words)?;
-    if let Some(job) = named_job(&matches) {
-        return Ok(job);
+    if let Some(options) = matches.subcommand_matches("replay") {
+        return Ok(Job::Replay(options.get_str("file")));
+    }
+    if let Some(options) = matches.subcommand_matches("check") {
+        return Ok(Job::Check(options.get_str("file")));
     }
     if let Some(options) = matches.subcommand_matches("show") {
-        return Ok(Job::Show(options.get_str("answers")));
+        let file = options.get_str("file");
+        let answers = options.get_str("answers");
+        return Ok(Job::Show(Showing { file, answers }));
     }
     let Some(options) = matches.subcommand_matches("serve") else {
         return Err(command.error(ErrorKind::InvalidSubcommand, "no such command")?);
     };
     match serving_by(options) {
         Ok(serving) => Ok(Job::Serve(serving)),
-        Err(misused) => Err(command.error(ErrorKind::ValueValidation, misused.sentence())?),
+        Err(misused) => Err(misuse(alloc, misused)?),
     }
 }

@@ -5,5 +5,6 @@ mod help;
 mod job;
 mod serving;
 
-pub use job::{Job, arguments};
+pub use help::VERSION;
+pub use job::{Job, Showing, arguments};
 pub use serving::{Ending, Serving};

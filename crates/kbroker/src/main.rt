@@ -5,7 +5,7 @@ mod awaited;
 
 use crate::awaited::Awaited;
 use admission::Rate;
-use arguments::{Ending, Job, Serving, arguments};
+use arguments::{Ending, Job, Serving, Showing, VERSION, arguments};
 use broker_keeping::Steering;
 use broker_server::{ServeOptions, serve};
 use commands::{Opened, check_and_explain, open_and_explain, replay_and_explain};
@@ -25,13 +25,10 @@ use std::thread::Threads;
 use std::time::Duration;
 use std::{fs, io, time};
 
-/// The version of the program.
-const VERSION: &str = "0.1.0";
-
 /// The exit status of a command line that isn't understood.
 const MISUSED: u8 = 2;
 
-/// The exit status of a server that was never started.
+/// The exit status of a server that was never started, and of a file that can't be opened.
 const FAILED: u8 = 1;
 
 /// For so many milliseconds at most the answer to a Fetch without a record is held back from clients that stand on librdkafka.
@@ -93,7 +90,7 @@ fn options_of(serving: Serving<'_>) -> ServeOptions {
     }
 }
 
-/// Says why there is no server, and gives the exit status.
+/// Says why nothing is done, and gives the exit status.
 fn fail<W: Write, E: Write>(
     alloc: Global,
     writer: &mut W,
@@ -121,6 +118,56 @@ fn fail_by<W: Write, E: Write>(
     match format!(in alloc; "{why}: {kind}") {
         Ok(why) => fail(alloc, writer, errors, line, what, why.as_str()),
         Err(_) => fail(alloc, writer, errors, line, what, why),
+    }
+}
+
+/// What is done with the text of a file, or of standard input.
+#[derive(Clone, Copy, Debug, PartialEq, Eq)]
+enum Task<'a> {
+    /// Its script is answered.
+    Replay,
+    /// It is told what is wrong with its settings.
+    Check,
+    /// Its script is shown, with the answers in this file, or with those that are made anew where there is none.
+    Show(Option<&'a str>),
+}
+
+impl Task<'_> {
+    /// Does it with the text that is read, and gives the exit status.
+    fn run<T: Files, R: Read, W: Write, E: Write>(
+        self,
+        rt: &T,
+        alloc: Global,
+        reader: &mut R,
+        writer: &mut W,
+        errors: &mut E,
+    ) -> u8 {
+        match self {
+            Task::Replay => replay_and_explain(alloc, reader, writer, errors),
+            Task::Check => check_and_explain(alloc, reader, writer, errors),
+            Task::Show(answers) => show_and_explain(rt, alloc, answers, reader, writer, errors),
+        }
+    }
+
+    /// Does it with the text of the file that is named, or else of standard input, and gives the exit status.
+    fn run_on<T: Input + Files, W: Write, E: Write>(
+        self,
+        rt: &T,
+        alloc: Global,
+        file: Option<&str>,
+        writer: &mut W,
+        errors: &mut E,
+    ) -> u8 {
+        let Some(path) = file else {
+            return self.run(rt, alloc, &mut rt.reader(), writer, errors);
+        };
+        match fs::open(rt, path) {
+            Ok(mut file) => self.run(rt, alloc, &mut file, writer, errors),
+            Err(error) => {
+                let why = "the file can't be opened";
+                fail_by(alloc, writer, errors, "", path, why, &error)
+            }
+        }
     }
 }
 
@@ -258,14 +305,13 @@ fn main(rt: HostRuntime) -> io::Result<ExitCode> {
             return Ok(ExitCode::from(MISUSED));
         }
     };
-    let mut reader = rt.reader();
     let mut writer = io::writer(&rt);
     let mut errors = rt.stderr();
     let status = match job {
-        Job::Replay => replay_and_explain(alloc, &mut reader, &mut writer, &mut errors),
-        Job::Check => check_and_explain(alloc, &mut reader, &mut writer, &mut errors),
-        Job::Show(answers) => {
-            show_and_explain(&rt, alloc, answers, &mut reader, &mut writer, &mut errors)
+        Job::Replay(file) => Task::Replay.run_on(&rt, alloc, file, &mut writer, &mut errors),
+        Job::Check(file) => Task::Check.run_on(&rt, alloc, file, &mut writer, &mut errors),
+        Job::Show(Showing { file, answers }) => {
+            Task::Show(answers).run_on(&rt, alloc, file, &mut writer, &mut errors)
         }
         Job::Serve(serving) => serve_by(&rt, alloc, serving, &mut writer, errors),
     };

@@ -1,6 +1,6 @@
 //! What the words of the command line ask for, where the numbers aren't given or are out of their range.
 
-use arguments::{Ending, Job, Serving, arguments};
+use arguments::{Ending, Job, Serving, Showing, arguments};
 use std::test::Fail;
 
 /// `serve` with an address alone: four workers, a million connections, ten seconds for a login and thirty for a frame, and nothing
@@ -31,6 +31,38 @@ fn serve_with_an_address_alone(rt: HostRuntime) -> Result<(), Fail> {
     let words = ["kbroker", "serve", "--listen", "127.0.0.1:0"];
     let job = arguments(rt.alloc(), &words).ok().ok_or("refused")?;
     assert!(rt; job == Job::Serve(usual));
+    Ok(())
+}
+
+/// A file is one word that is no flag, or one behind `--`; it goes with the options of `show`.
+#[test]
+fn a_file_is_named_once(rt: HostRuntime) {
+    for (word, last, is_taken) in [
+        ("a.toml", "--", Some("a.toml")),
+        ("--", "-a", Some("-a")),
+        ("-", "--", Some("-")),
+        ("-a", "--", None),
+        ("a.toml", "b.toml", None),
+    ] {
+        let words = ["kbroker", "check", word, last];
+        let file = match arguments(rt.alloc(), &words) {
+            Ok(Job::Check(file)) => file,
+            _ => None,
+        };
+        assert!(rt; file == is_taken, "{word} {last}");
+    }
+}
+
+/// `show` has a file and answers, in any order.
+#[test]
+fn show_has_a_file_and_answers(rt: HostRuntime) -> Result<(), Fail> {
+    let showing = Showing {
+        file: Some("script"),
+        answers: Some("answers"),
+    };
+    let words = ["kbroker", "show", "--answers", "answers", "script"];
+    let job = arguments(rt.alloc(), &words).ok().ok_or("refused")?;
+    assert!(rt; job == Job::Show(showing));
     Ok(())
 }
 

@@ -7,6 +7,7 @@ ghost use Rattle.request_handlers.specs.Seats.{most_seats};
 use crate::clients::{HANDSHAKE_TOLD, LOGIN_TOLD, bytes_of};
 use crate::talk::{HANDSHAKE, LOGIN, METADATA, core, event_of, users};
 use admission::Rate;
+use arguments::VERSION;
 use broker_keeping::Steering;
 use broker_server::{ServeOptions, serve};
 use request_handlers::{Core, MOST_SEATS};
@@ -63,7 +64,7 @@ fn serve_two<
 {
     let patience = Some(Duration::from_secs(PATIENCE));
     let options = ServeOptions {
-        version: "0.1.0",
+        version: VERSION,
         connections: ConnectionOptions {
             workers: 2,
             connections: 2,
