@@ -29,7 +29,7 @@ STARTS_WITHIN = 60  # seconds, until it says its first line
 LISTENING = re.compile(r"listening on (\S+)\n")
 LAST = re.compile(r"sessions (\d+) events (\d+) refusals (\d+)\n")
 # What is told where as many connections were taken as are served.
-STARTED = re.compile(r"kbroker: version \S+ as node \d+: .*")
+STARTED = re.compile(r"kbroker: (?:version \S+ as node \d+: |warning: clients are told port ).*")
 USED_UP = "kbroker: no more connections are taken, since --connections is {}"
 TICKS = os.sysconf("SC_CLK_TCK")
 
@@ -229,7 +229,8 @@ class BrokerProcess:
         self.folder.cleanup()
 
     def lines_of(self, errors):
-        """The lines of standard error, but for the first, of what is served, and the one that no more connections are taken."""
+        """The lines of standard error, but for the first, of what is served on which port, and the one that no more connections
+        are taken."""
         return [line for line in errors.splitlines() if line != self.used_up and not STARTED.fullmatch(line)]
 
     @property

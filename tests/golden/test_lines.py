@@ -34,7 +34,6 @@ UNSERVED = (
 
 # The lines after the settings, and what is printed for them.
 ANSWERED = (
-    (b"", b""),
     (b"---", b""),
     (b"---\n", b""),
     (b"---\nreq ann h 00000000\n", CLOSED),
@@ -84,6 +83,18 @@ REFUSED = (
 )
 
 
+# What a reader is told of lines, each by its number in the whole input: `---` is the fifth.
+BLANKS = "a line is `req USER HOST HEX`, `mark` or `tick N`, its words parted by one blank each"
+RETURNED = "the line `---` ends with a carriage return, so no script is parted from the settings"
+TOLD = (
+    (b"---\nreqq a h 00\n", [f"kbroker: line 6 of the input: {BLANKS}"]),
+    (b"---\nmark\nmark 1\n", [f"kbroker: line 7 of the input: {BLANKS}"]),
+    (b"---\nmark\r\n", [f"kbroker: line 6 of the input: {BLANKS}", "kbroker: line 6 of the input: it ends with a carriage return"]),
+    (b"---\r\nmark\r\n", ["kbroker: settings: " + RETURNED]),
+    (b"", ["kbroker: there is no line `---` after the settings, so there is no script to answer"]),
+)
+
+
 def cases():
     """Each input with what it prints and its status."""
     for words in UNSERVED:
@@ -105,3 +116,16 @@ class Lines(unittest.TestCase):
                 ran = subprocess.run([PROGRAM, "replay"], input=given, capture_output=True, timeout=60)
                 self.assertEqual((ran.stdout, ran.returncode), (printed, status), ran.stderr)
                 self.assertEqual(bool(ran.stderr), status != 0, ran.stderr)
+
+    def test_a_reader_is_told_where_and_why(self):
+        for lines, told in TOLD:
+            with self.subTest(lines=lines):
+                ran = subprocess.run([PROGRAM, "replay"], input=SETTINGS + lines, capture_output=True, timeout=60)
+                self.assertEqual(ran.stderr.decode().splitlines()[-len(told) :], told)
+                self.assertEqual(ran.returncode, 1 if lines else 0)
+
+    def test_settings_alone_have_no_script(self):
+        ran = subprocess.run([PROGRAM, "check"], input=SETTINGS + b"---\n", capture_output=True, timeout=60)
+        self.assertEqual((ran.stdout, ran.returncode), (b"settings refused: Toml\n", 1))
+        told = "kbroker: settings: a line `---` ends the settings of a script, and belongs to no others"
+        self.assertEqual(ran.stderr.decode().splitlines()[-1], told)

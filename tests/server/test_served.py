@@ -153,6 +153,26 @@ class CommandLines(unittest.TestCase):
 class Apis(ServedCase):
     """Each api is asked over a connection."""
 
+    def test_what_settings_are_unlikely_to_mean_is_told(self):
+        lines = [
+            'node_id = 1\nhost = "h"\nport = 9092\n',
+            """[[acl]]\nkind = "Topic"\nname = "a"\npattern = "LITERAL"\nprincipal = "User:*"\nhost = "*"
+operation = "READ"\npermission = "ALLOW"\n""",
+            """[[acl]]\nkind = "Group"\nname = "g"\npattern = "LITERAL"\nprincipal = "User:ghost"\nhost = "*"
+operation = "WRITE"\npermission = "ALLOW"\n""",
+        ]
+        status, _, told = run(LISTEN + ("--for", "1"), "".join(lines))
+        warned = [line for line in told.splitlines() if line.startswith("kbroker: settings: ")]
+        self.assertEqual(status, 0)
+        self.assertEqual(
+            warned,
+            [
+                "kbroker: settings: warning: there is no `[[user]]`, so nobody can log in",
+                "kbroker: settings: warning: `acl`, entry 2: `User:ghost` is no `[[user]]`",
+                "kbroker: settings: warning: `acl`, entry 2: nothing asks for WRITE on a Group",
+            ],
+        )
+
     def test_two_connections(self):
         """What one connection produces the next one fetches, and the last line tells of both."""
         with ClockedKbroker(SETTINGS, workers=2, connections=2) as server:
@@ -167,7 +187,9 @@ class Apis(ServedCase):
             "kbroker: version 0.1.0 as node 1: topics 1, partitions 2, users 2, workers 2,"
             " a trail of 1048576 events (29 hours at rest), not encrypted"
         )
-        self.assertEqual(told.splitlines(), [started, server.used_up])
+        port = server.address.rpartition(":")[2]
+        warned = f"kbroker: warning: clients are told port 9092, as the settings have it, and the server listens on {port}"
+        self.assertEqual(told.splitlines(), [started, warned, server.used_up])
 
     def test_each_api(self):
         """Each api over one connection; another user is refused what it has no binding for; a wrong password."""

@@ -102,6 +102,17 @@ impl<'r, R: Wait> Sentences<'r, R> {
         self.say_line(start_line(self.alloc, core, started));
     }
 
+    /// Says it where clients are told another port than this one, on which a server listens: they couldn't come back. Where a proxy
+    /// stands between them, that is as it should be.
+    pub fn warn_of_port(&self, core: &Core, listens: u16) {
+        let told = core.world().node().port;
+        if told != i32::from(listens) {
+            self.say_line(format!(in self.alloc;
+                "kbroker: warning: clients are told port {told}, as the settings have it, and the server listens on {listens}\n"
+            ));
+        }
+    }
+
     /// Counts the lines that weren't said, and those that it was to tell of.
     fn leave_out(&self, saying: Saying) {
         let Saying { left_out, lines } = saying;

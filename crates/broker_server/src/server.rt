@@ -373,6 +373,9 @@ fn serve_told<
             has_clock: keeps_time(&steering),
         },
     );
+    if let Ok(address) = listener.local_addr() {
+        sentences.warn_of_port(&core, address.port());
+    }
     serve_booked(
         rt, alloc, core, users, listener, options, steering, &sentences, teller,
     )

@@ -3,6 +3,7 @@
 
 mod cause;
 mod command;
+mod hints;
 mod open;
 mod run;
 mod text;

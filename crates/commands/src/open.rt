@@ -10,7 +10,7 @@ use crate::cause::Early;
 use crate::run::{Place, end_early, explain, refuse};
 use request_handlers::Core;
 use session_logins::Users;
-use settings_text::{Document, SettingsFault, User, document_of_text};
+use settings_text::{Document, SettingsFault, User, document_of_text, warnings};
 use std::alloc::Global;
 use std::hash::RandomState;
 use std::io::{Read, Write};
@@ -52,6 +52,18 @@ fn share_users(alloc: Global, users: Items<User>) -> Option<Shared<Users>>
     Shared::new(alloc, users).ok()
 }
 
+/// Says what the settings of a server are unlikely to mean. If that fails, nothing else does.
+fn warn<E: Write>(alloc: Global, document: &Document, errors: &mut E) {
+    if let Ok(sentences) = warnings(alloc, document) {
+        for sentence in sentences.as_slice() {
+            let sentence = sentence.as_str();
+            if let Ok(warning) = format!(in alloc; "warning: {sentence}") {
+                explain(alloc, errors, Place::Settings, warning.as_str());
+            }
+        }
+    }
+}
+
 /// Opens a core with settings, or prints that they are refused.
 #[tactic(auto, using(crate::proofs::OpenLemmas::is_of))]
 fn open_settings<W: Write, E: Write>(
@@ -64,7 +76,7 @@ fn open_settings<W: Write, E: Write>(
     ensures core { IfOk result (λ o. o.core ≡ opened o.core.settings) }
     ensures opens { Opens (W.contents writer.old) (W.contents writer.new) input.now (settings_answer input.now) result }
 {
-    let Document { users, settings } = match document_of_text(alloc, input) {
+    let document = match document_of_text(alloc, input) {
         Ok(document) => document,
         Err(SettingsFault::NoMemory) => return Err(Unopened::Early(Early::Settings)),
         Err(fault) => {
@@ -72,6 +84,8 @@ fn open_settings<W: Write, E: Write>(
             return Err(Unopened::Refused(status));
         }
     };
+    warn(alloc, &document, errors);
+    let Document { users, settings } = document;
     // The settings have no fault, so only memory can be refused.
     let Some(users) = share_users(alloc, users) else {
         return Err(Unopened::Early(Early::Settings));

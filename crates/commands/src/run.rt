@@ -12,6 +12,7 @@ ghost use Rattle.commands.specs.declared.cause.Early.TheVariants.{Write as Early
 
 use crate::cause::{Cause, Early};
 use crate::command::Command;
+use crate::hints::{has_return, lines_before, separator_hint};
 use crate::text::refused_text;
 use crate::turn::{Turn, line_turn};
 use request_handlers::{Core, Stop};
@@ -21,6 +22,10 @@ use std::alloc::Global;
 use std::fmt::Display;
 use std::io::{Read, Write, sink};
 use wire_types::{InputFault, read_input, write_whole};
+
+/// Where an input has settings alone.
+const NO_SCRIPT: &str =
+    "there is no line `---` after the settings, so there is no script to answer";
 
 /// Writes a text; where a write fails, some of it stands written, from the front.
 fn write_text<W: Write>(writer: &mut W, text: &str) -> Result<(), Early>
@@ -36,7 +41,7 @@ fn write_text<W: Write>(writer: &mut W, text: &str) -> Result<(), Early>
 /// What a sentence speaks of.
 pub(crate) enum Place {
     Settings,
-    /// The line of this number behind the settings.
+    /// The line of this number of the whole input.
     Line(u64),
     Run,
 }
@@ -50,7 +55,9 @@ pub(crate) fn explain<E: Write, D: Display + Drop>(
 ) {
     let text = match place {
         Place::Settings => format!(in alloc; "kbroker: settings: {sentence}\n"),
-        Place::Line(number) => format!(in alloc; "kbroker: line {number}: {sentence}\n"),
+        Place::Line(number) => {
+            format!(in alloc; "kbroker: line {number} of the input: {sentence}\n")
+        }
         Place::Run => format!(in alloc; "kbroker: {sentence}\n"),
     };
     if let Ok(text) = text {
@@ -58,11 +65,21 @@ pub(crate) fn explain<E: Write, D: Display + Drop>(
     }
 }
 
-/// Runs a script line by line and prints what each line does, until one ends it.
+/// Says why a line ends its script. If that fails, nothing else does.
+fn explain_line<E: Write>(alloc: Global, errors: &mut E, number: u64, line: &[u8], cause: Cause) {
+    explain(alloc, errors, Place::Line(number), cause);
+    if has_return(line) {
+        let sentence = "it ends with a carriage return";
+        explain(alloc, errors, Place::Line(number), sentence);
+    }
+}
+
+/// Runs a script line by line and prints what each line does, until one ends it. So many lines stand before it in its input.
 fn run_script<W: Write, E: Write>(
     alloc: Global,
     mut core: Core,
     script: &[u8],
+    before: u64,
     writer: &mut W,
     errors: &mut E,
 ) -> Result<u8, Early>
@@ -83,7 +100,7 @@ fn run_script<W: Write, E: Write>(
                 if write_text(writer, text.as_str()).is_err() {
                     return Err(Early::Write);
                 }
-                explain(alloc, errors, Place::Line(number), cause);
+                explain_line(alloc, errors, before.saturating_add(number), line, cause);
                 return Ok(1);
             }
             Err(_) => return Err(Early::Script),
@@ -111,6 +128,9 @@ pub(crate) fn refuse<W: Write, E: Write>(
     if let Ok(sentence) = settings_text::explain(alloc, text, fault) {
         explain(alloc, errors, Place::Settings, sentence.as_str());
     }
+    if let Some(hint) = separator_hint(text) {
+        explain(alloc, errors, Place::Settings, hint);
+    }
     Ok(1)
 }
 
@@ -131,7 +151,13 @@ fn answer_input<W: Write, E: Write>(
     };
     // The settings have no fault, so only memory can be refused.
     match Core::open(alloc, settings) {
-        Ok(core) => run_script(alloc, core, script, writer, errors),
+        Ok(core) => {
+            if text.len() == input.len() {
+                explain(alloc, errors, Place::Run, NO_SCRIPT);
+            }
+            let before = lines_before(input, script);
+            run_script(alloc, core, script, before, writer, errors)
+        }
         Err(_) => Err(Early::Settings),
     }
 }

@@ -2,6 +2,7 @@
 #![tactic(auto)]
 
 mod document;
+mod doubts;
 mod fault;
 mod fields;
 mod rows;
@@ -9,6 +10,7 @@ mod sentences;
 mod users;
 
 pub use document::{Document, User, document_of_text};
+pub use doubts::warnings;
 pub use fault::SettingsFault;
 pub use sentences::explain;
 pub use users::are_users;

@@ -1,0 +1,75 @@
+//! What settings without a fault are unlikely to mean, in words for whoever serves by them. No contract speaks of these sentences. A
+//! name is told with its escapes, so that each is one line.
+
+use crate::document::{Document, User};
+use acl_binding::{Binding, Kind, Operation};
+use settings::Entry;
+use std::alloc::{AllocError, Global};
+
+/// The principal that stands for everybody.
+const EVERYBODY: &str = "User:*";
+
+/// Whether Kafka has the operation on resources of this kind (Kafka documentation, "Operations and Resources on Protocols").
+fn is_meant(kind: Kind, operation: Operation) -> bool {
+    match operation {
+        Operation::All | Operation::Describe => true,
+        Operation::Read => kind == Kind::Topic || kind == Kind::Group,
+        Operation::Write => kind == Kind::Topic || kind == Kind::TransactionalId,
+        Operation::Delete => kind == Kind::Topic || kind == Kind::Group,
+        Operation::Create
+        | Operation::Alter
+        | Operation::DescribeConfigs
+        | Operation::AlterConfigs => kind == Kind::Topic || kind == Kind::Cluster,
+        Operation::ClusterAction | Operation::IdempotentWrite => kind == Kind::Cluster,
+    }
+}
+
+/// Whether some user is this principal, or all are.
+fn is_known(users: &[User], principal: &str) -> bool {
+    principal == EVERYBODY
+        || users.iter().any(|user| principal.strip_prefix("User:") == Some(user.name.as_str()))
+}
+
+/// The first binding of a principal that is no user.
+fn unknown_principal(alloc: Global, document: &Document) -> Result<Option<String>, AllocError> {
+    let users = document.users.as_slice();
+    for (place, binding) in document.settings.acls.as_slice().iter().enumerate() {
+        let principal = binding.principal.as_str();
+        if !is_known(users, principal) {
+            let entry = Entry { list: "acl", place };
+            let principal = principal.escape_debug();
+            return Ok(Some(format!(in alloc; "{entry}: `{principal}` is no `[[user]]`")?));
+        }
+    }
+    Ok(None)
+}
+
+/// The first binding with an operation that means nothing for its kind of resource.
+fn meaningless(alloc: Global, acls: &[Binding]) -> Result<Option<String>, AllocError> {
+    for (place, binding) in acls.iter().enumerate() {
+        if !is_meant(binding.kind, binding.operation) {
+            let entry = Entry { list: "acl", place };
+            let (operation, kind) = (binding.operation.name(), binding.kind.name());
+            return Ok(Some(format!(in alloc;
+                "{entry}: nothing asks for {operation} on a {kind}"
+            )?));
+        }
+    }
+    Ok(None)
+}
+
+/// What a server's settings are unlikely to mean, a sentence for each kind: nobody who could log in, a binding of a principal that is
+/// no user, and one with an operation that its kind of resource doesn't have.
+pub fn warnings(alloc: Global, document: &Document) -> Result<Vec<String>, AllocError> {
+    let mut sentences = Vec::new(alloc);
+    if document.users.as_slice().is_empty() {
+        sentences.push(String::from_str(alloc, "there is no `[[user]]`, so nobody can log in")?)?;
+    }
+    if let Some(sentence) = unknown_principal(alloc, document)? {
+        sentences.push(sentence)?;
+    }
+    if let Some(sentence) = meaningless(alloc, document.settings.acls.as_slice())? {
+        sentences.push(sentence)?;
+    }
+    Ok(sentences)
+}
