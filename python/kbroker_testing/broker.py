@@ -5,6 +5,7 @@
     with Kbroker(settings, program="kbroker") as broker:
         client_of(broker.address)      # "127.0.0.1:PORT", which is also what Metadata tells
         broker.tick(60_001)            # the clock shows so many milliseconds, and only now
+        broker.advance(1_000)          # it goes on by a second
         broker.mark()                  # one marker is written, and `marks` writes all that are owed
 
 `ClockedKbroker` keeps its time itself, and takes so many connections. The settings are a TOML text. Where they don't say so,
@@ -28,8 +29,11 @@ PORT_TAKEN = "listen failed\n"  # by somebody else, since it was found free
 STARTS_WITHIN = 60  # seconds, until it says its first line
 LISTENING = re.compile(r"listening on (\S+)\n")
 LAST = re.compile(r"sessions (\d+) events (\d+) refusals (\d+)\n")
-# What is told where as many connections were taken as are served.
+GRACE = 5  # seconds, for which a client is waited for at the end
+# What is told first: what is served, and where clients are told another port.
 STARTED = re.compile(r"kbroker: (?:version \S+ as node \d+: |warning: clients are told port ).*")
+AT_LINE = re.compile(r"(kbroker: settings: TOML parse error at line )(\d+)")
+# What is told where as many connections were taken as are served.
 USED_UP = "kbroker: no more connections are taken, since --connections is {}"
 TICKS = os.sysconf("SC_CLK_TCK")
 
@@ -166,6 +170,7 @@ class BrokerProcess:
         self.settings, self.program, self.host, self.workers = settings, program or program_of_environment(), host, workers
         self.more, self.errors = more, errors
         self.process = self.folder = self.file = self.address = None
+        self.added = 0
 
     def __enter__(self):
         self.folder = tempfile.TemporaryDirectory()
@@ -196,7 +201,8 @@ class BrokerProcess:
         listens, settings = f"{self.host}:0", self.settings
         if not re.search("^node_id *=", settings, re.M):
             port = free_port(self.host)
-            listens, settings = f"{self.host}:{port}", f'node_id = 1\nhost = "{self.host}"\nport = {port}\n{settings}'
+            added = f'node_id = 1\nhost = "{self.host}"\nport = {port}\n'
+            self.added, listens, settings = added.count("\n"), f"{self.host}:{port}", added + settings
         path = os.path.join(self.folder.name, "settings.toml")
         with open(path, "w", encoding="utf-8") as it:
             it.write(settings)
@@ -230,7 +236,8 @@ class BrokerProcess:
 
     def lines_of(self, errors):
         """The lines of standard error, but for the first, of what is served on which port, and the one that no more connections
-        are taken."""
+        are taken. A line of the settings is told by its number in those that were given."""
+        errors = AT_LINE.sub(lambda it: f"{it[1]}{int(it[2]) - self.added}", errors)
         return [line for line in errors.splitlines() if line != self.used_up and not STARTED.fullmatch(line)]
 
     @property
@@ -301,7 +308,7 @@ class Kbroker(BrokerProcess):
             self.close()
 
     def words(self, settings):
-        return ["--control", "--settings", settings.name], subprocess.PIPE
+        return ["--control", "--grace", str(GRACE), "--settings", settings.name], subprocess.PIPE
 
     def say(self, line):
         """Hands in a line, and gives the first line of the answer."""
@@ -333,6 +340,10 @@ class Kbroker(BrokerProcess):
         aborted = tuple(map(unquote, words[3:-2:2]))
         return Moment(int(words[1]), aborted, int(words[-1]))
 
+    def advance(self, milliseconds):
+        """The clock goes on by so many milliseconds."""
+        return self.tick(self.state().moment + milliseconds)
+
     def mark(self):
         """Writes the first marker that is owed, and gives it; None where none is."""
         return marker_of(self.say("mark"))
@@ -351,7 +362,8 @@ class Kbroker(BrokerProcess):
         return state_of([*lines, f"events {events}"])
 
     def end(self, timeout=30):
-        """Takes no more connections, waits until the open ones have ended, and gives what the settled broker did."""
+        """Takes no more connections, closes those that are open once what they have asked is answered, and gives what the settled
+        broker did. A client that reads no answers is waited for five seconds."""
         return self.settled("end\n", timeout)[0]
 
 

@@ -12,6 +12,7 @@ from kbroker_testing.broker import (
     Group,
     Kbroker,
     Marker,
+    Moment,
     NotTaken,
     Partition,
     Settled,
@@ -69,6 +70,29 @@ class Brokers(unittest.TestCase):
         with Kbroker(OWN) as broker:
             broker.tick(1)
         self.assertEqual(broker.process.returncode, 0)
+
+    def test_the_clock_goes_on(self):
+        with Kbroker(OWN) as broker:
+            self.assertEqual(broker.tick(100), Moment(100, (), 0))
+            self.assertEqual(broker.advance(50), Moment(150, (), 0))
+            self.assertEqual(broker.state().moment, 150)
+
+    def test_a_connection_that_stays_open(self):
+        """The end closes it."""
+        with Kbroker(OWN) as broker:
+            client = self.enterContext(Connection(broker.address))
+            client.ask("ApiVersions")
+        self.assertEqual(broker.process.returncode, 0)
+        with self.assertRaises((EOFError, ConnectionError)):
+            client.ask("ApiVersions")
+
+    def test_a_fault_is_told_by_its_line(self):
+        """That is the line of the settings as they are given."""
+        for settings in (f"{TOP}topic =\n", "[[topic]]\n\n\ntopic =\n"):
+            line = settings.count("\n")
+            with self.subTest(settings=settings), self.assertRaisesRegex(BrokerFailed, f"error at line {line}, column"):
+                with Kbroker(settings):
+                    self.fail("it listens")
 
     def test_a_clocked_broker_ends_after_its_connections(self):
         with ClockedKbroker(OF_ROOT, connections=2) as broker:
