@@ -38,6 +38,7 @@ TIMES = ROOT / "out/gate.json"
 SEEN_EVERY = 2  # seconds
 NICE_OF_EDITS = 10  # they take what the proofs leave
 EDITS_AT_ONCE = 2
+PROCESSORS = len(os.sched_getaffinity(0))
 NICE_OF_SOURCES = 19  # they take what all else leaves
 TICKS = os.sysconf("SC_CLK_TCK")
 PAGE = os.sysconf("SC_PAGE_SIZE")
@@ -135,7 +136,8 @@ class Runs:
                 pass
 
     def run(self, folder, nice=0, at_once=None, seen=lambda line: None):
-        """Runs `rt ci` in a folder, and hands each line on. Returns its status and what it said."""
+        """Runs `rt ci` in a folder, and hands each line on. Returns its status and what it said. Where it is said how many checks
+        may run at once, it doesn't look how much memory is free: beside other work it would take one after the other."""
         said, environment = [], {**os.environ, **({"RT_JOBS": str(at_once)} if at_once else {})}
         streams = {"stdin": subprocess.DEVNULL, "stdout": subprocess.PIPE, "stderr": subprocess.STDOUT}
         words = ["nice", "-n", str(nice), "rt", "ci"]
@@ -216,7 +218,7 @@ def run_checks(cases):
             if cases:
                 beside = harness.Worker(harness.ON_SOURCES, cases, NICE_OF_SOURCES)
             edits.end()
-            status, last = runs.run(ROOT)
+            status, last = runs.run(ROOT, at_once=PROCESSORS)
             write_times(runs.sampler, time.monotonic() - started)
             count = beside.wait() if beside else harness.Count(0, 0, 0)
             return LOG.read_text(encoding="utf-8"), last, status, count
@@ -235,7 +237,7 @@ def write_times(sampler, wall):
         "crates": sampler.by_crate(),
         "total": used.ru_utime + used.ru_stime,
         "wall": wall,
-        "processors": len(os.sched_getaffinity(0)),
+        "processors": PROCESSORS,
         "peak": sampler.peak,
     }
     TIMES.write_text(json.dumps(taken, indent=1) + "\n")
