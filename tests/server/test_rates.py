@@ -43,7 +43,7 @@ class Rates(unittest.TestCase):
                 logged_in(server.address, "ann", "pw") as second,
                 logged_in(server.address) as other,
             ):
-                counts, longest = [], 0.0
+                counts, longest, begun = [], 0.0, time.monotonic()
                 asking = [threading.Thread(target=self.ask_for_a_while, args=(it, counts)) for it in (first, second)]
                 for it in asking:
                     it.start()
@@ -53,10 +53,11 @@ class Rates(unittest.TestCase):
                     longest = max(longest, time.monotonic() - began)
                 for it in asking:
                     it.join()
+                took = time.monotonic() - begun
             server.settled()
         self.assertEqual(len(counts), 2)
         # (of each session the request that was answered last may be one above)
-        self.assertLessEqual(sum(counts), RATE * (SECONDS + 1) + 2)
+        self.assertLessEqual(sum(counts), RATE * (took + 1) + 2)
         self.assertGreater(sum(counts), RATE)
         self.assertLess(longest, QUICK, "another user waits")
 
