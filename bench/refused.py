@@ -1,8 +1,8 @@
 """What a refused part of a request costs beside a served one, api by api.
 
-The same frames are sent by `root`, who may do everything, and by `nobody`, who may do nothing, each in a broker of its own. What is
-told is the broker's processor time for each part that a request names, from its first byte to the last of its answer, and how many
-times the served one's the refused one's is.
+The same frames are sent by `root`, a super user, by `granted`, whom bindings allow everything, and by `nobody`, who may do nothing,
+each in a broker of its own. What is told is the broker's processor time for each part that a request names, from its first byte to the
+last of its answer, and how many times what `granted` takes `nobody` takes.
 """
 
 import struct
@@ -13,11 +13,14 @@ sys.path.append(str(Path(__file__).resolve().parent.parent))
 
 from latency import SETTINGS, adds, begins, commits, creation, nothing, partitions, picking  # noqa: E402
 from tests.abuse.beside import ask_whole  # noqa: E402
+from tests.support import acl, user  # noqa: E402
 
 from kbroker_testing.broker import ClockedKbroker  # noqa: E402
 from kbroker_testing.codes import Code  # noqa: E402
 from kbroker_testing.protocol import batch, logged_in, request_frame, response_of  # noqa: E402
 
+ALL = (("Topic", "*"), ("Group", "*"), ("TransactionalId", "*"), ("Cluster", "kafka-cluster"))
+BOUND = [acl(kind, name, "User:granted", operation="ALL") for kind, name in ALL]
 THOUSAND = range(1_000)
 AT_LEAST = 0.5  # seconds of processor time that are measured: the kernel counts hundredths
 PIPELINED = 100  # requests that are sent before their answers are read
@@ -77,7 +80,8 @@ def ask_many(broker, frame, count):
 
 def cost(who, fields, api, parts):
     """The broker's processor time for each part, in microseconds, and the errors that are told."""
-    with ClockedKbroker(SETTINGS) as running, logged_in(running.address, who, who[0], timeout=600) as broker:
+    settings = "".join([SETTINGS, user("granted", "g"), *BOUND])
+    with ClockedKbroker(settings) as running, logged_in(running.address, who, who[0], timeout=600) as broker:
         frame = request_frame(api, 1, fields(broker))
         errors = errors_of(response_of(api, ask_whole(broker, frame))[1])
         count, asked, before = PIPELINED if parts == 1 else 1, 0, running.processor_seconds()
@@ -89,27 +93,30 @@ def cost(who, fields, api, parts):
 
 
 def measure(before, parts, api, fields):
-    """What a served part costs, and a refused one that is asked with the same words."""
+    """What a part costs that a super user is served, one that bindings allow, and a refused one that is asked with the same words."""
     asked = {}
 
     def served(broker):
         asked.update({**before(broker), **fields})
         return asked
 
-    served_cost, errors = cost("root", served, api, parts)
-    if errors & REFUSED:
-        raise AssertionError(f"{api} is refused to root: {errors}")
+    costs = []
+    for who in ("root", "granted"):
+        took, errors = cost(who, served, api, parts)
+        if errors & REFUSED:
+            raise AssertionError(f"{api} is refused to {who}: {errors}")
+        costs.append(took)
     refused_cost, errors = cost("nobody", lambda _: asked, api, parts)
     if not errors or errors - REFUSED:
         raise AssertionError(f"{api} isn't refused to nobody: {errors}")
-    return served_cost, refused_cost
+    return *costs, refused_cost
 
 
 def main():
-    print("| request | served | refused | refused / served |\n|---|--:|--:|--:|")
+    print("| request | super user | by bindings | refused | refused / by bindings |\n|---|--:|--:|--:|--:|")
     for name, row in ROWS.items():
-        served, refused = measure(*row)
-        print(f"| {name} | {served:.2f} µs | {refused:.2f} µs | {refused / served:.2f} |", flush=True)
+        of_super, bound, refused = measure(*row)
+        print(f"| {name} | {of_super:.2f} µs | {bound:.2f} µs | {refused:.2f} µs | {refused / bound:.2f} |", flush=True)
 
 
 if __name__ == "__main__":
