@@ -179,7 +179,7 @@ WHOLE_SENTENCES = (
     ),
     (b"super.users=User:admin\n", f"TOML parse error at line 1, column 13\n{QUOTES}"),
     (b"node_id = 1\nhost = localhost\n", f"TOML parse error at line 2, column 8\n{QUOTES}"),
-    (b"log=/tmp/kafka", f"TOML parse error at line 1, column 5\n{QUOTES}"),
+    (b"log=kafka/data", f"TOML parse error at line 1, column 5\n{QUOTES}"),
     (b"port =\nhost = 1\n", f"TOML parse error at line 1, column 7\n{NO_VALUE}"),
     (b"port = # none\n", f"TOML parse error at line 1, column 8\n{NO_VALUE}"),
     (b"port\n", "TOML parse error at line 1, column 5\nkey with no value, expected `=`"),
