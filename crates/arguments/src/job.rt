@@ -13,7 +13,8 @@ use crate::help::{
     REPLAY_LONG, SCRIPT_FILE, SERVE, SERVE_EXAMPLE, SERVE_LONG, SHOW, SHOW_EXAMPLE, SHOW_LONG,
     VERSION,
 };
-use crate::serving::{Misused, Serving, option, serving_by, with_options};
+use crate::misused::Misused;
+use crate::serving::{Serving, option, serving_by, with_options};
 use clap::error::ErrorKind;
 use clap::{Arg, Command, Error};
 use std::alloc::{AllocError, Global};

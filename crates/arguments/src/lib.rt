@@ -3,6 +3,7 @@
 
 mod help;
 mod job;
+mod misused;
 mod serving;
 
 pub use help::VERSION;

@@ -12,6 +12,7 @@ use crate::help::{
     AUDIT, CONNECTIONS, CONTROL, ENDLESS, FOR, FRAME_WITHIN, GRACE, IDLE, LIBRDKAFKA, LISTEN,
     LOGIN_WITHIN, PER_HOST, RATE, RATE_BYTES, SETTINGS, STOP_WITH_INPUT, WORKERS,
 };
+use crate::misused::Misused;
 use clap::{Arg, ArgAction, ArgMatches, Command};
 use std::alloc::{AllocError, Global};
 
@@ -78,55 +79,6 @@ const USUAL_WORKERS: u64 = 4;
 const USUAL_LOGIN_SECONDS: u64 = 10;
 
 const USUAL_FRAME_SECONDS: u64 = 30;
-
-/// Which option has a value that it can't have, or goes with another that it doesn't go with.
-#[derive(Clone, Copy, Debug, PartialEq, Eq)]
-pub(crate) enum Misused {
-    Listen,
-    Workers,
-    Connections,
-    Endless,
-    PerHost,
-    For,
-    Idle,
-    LoginWithin,
-    FrameWithin,
-    Rate,
-    RateBytes,
-    Audit,
-    Control,
-    Grace,
-    StopWithInput,
-}
-
-impl Misused {
-    /// What is wrong with it.
-    pub(crate) fn sentence(self) -> &'static str {
-        match self {
-            Misused::Listen => "--listen takes an address and a port, as in 127.0.0.1:9092",
-            Misused::Workers => "--workers takes a number from 1 to 64",
-            Misused::Connections => "--connections takes a number from 1 to 1000000",
-            Misused::Endless => {
-                "--endless doesn't go with --connections, which says how many are served in all"
-            }
-            Misused::PerHost => "--per-host takes a number from 1 to 1000000",
-            Misused::For => "--for takes a number of seconds from 1 to 1000000",
-            Misused::Idle => "--idle takes a number of seconds from 1 to 1000000",
-            Misused::LoginWithin => { "--login-within takes a number of seconds from 1 to 1000000" }
-            Misused::FrameWithin => { "--frame-within takes a number of seconds from 1 to 1000000" }
-            Misused::Rate => "--rate takes a number of requests from 1 to 1000000000",
-            Misused::RateBytes => "--rate-bytes takes a number of bytes from 1 to 1000000000000",
-            Misused::Audit => "--audit takes - alone, which is standard error",
-            Misused::Control => {
-                "--control takes standard input, so --settings names the settings' file; --audit doesn't go with it"
-            }
-            Misused::Grace => "--grace takes a number of seconds from 0 to 1000000",
-            Misused::StopWithInput => {
-                "--stop-with-input takes standard input, so --settings names the settings' file; --control doesn't go with it"
-            }
-        }
-    }
-}
 
 /// An option of this name, with a value.
 pub(crate) fn option<'a>(
