@@ -6,7 +6,7 @@
 # as in `make check SINCE=HEAD~3`, compiles the program, and runs the quick tests.
 # `make wrong-bodies` tries the edits that the gate has no time for: of each crate, or of those named, as in
 # `make wrong-bodies CRATES="walk authorizer"`.
-.PHONY: run serve steer prove test check wrong-bodies
+.PHONY: run serve steer prove test check wrong-bodies help
 
 SINCE ?= HEAD
 
@@ -34,3 +34,6 @@ check:
 
 wrong-bodies:
 	@tools/wrong_bodies.py $(CRATES)
+
+help:
+	@sed -n 's/^# //p' Makefile

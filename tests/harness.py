@@ -34,8 +34,10 @@ SIDE_BY_SIDE = (
     "tests.golden.test_shown",
     "tests.golden.test_lines",
     "tests.golden.test_settings",
+    "tests.golden.test_command_lines",
     "tests.package.test_acl_model",
     "tests.package.test_broker",
+    "tests.package.test_pages",
     "tests.package.test_protocol",
 )
 # What needs no program, and keeps processors busy for long.

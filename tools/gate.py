@@ -2,9 +2,10 @@
 """The gate, `make test`: `rt ci`, and then the tests of tests/ over the program that it has built.
 
 It proves every crate and its tests from nothing, and runs all that there is to run. `rt ci` gives a proof one processor for as
-long as wrong bodies wait, and so holds up all that stands on it. So the proofs are done first, over a copy that has no wrong
-bodies, and beside them those of the crates that are proved are tried, over copies too, on what the proofs leave. What both
-passed is kept, and `rt ci` over the repository does the rest: its word alone counts.
+long as wrong bodies wait, and so holds up all that stands on it. So the proofs are done first, over copies that have no wrong
+bodies: that of the crate on which most others stand, those of the program's crates, and beside them those of the crates that are
+tests and laws, as soon as what they stand on is proved. Beside them the wrong bodies of the crates that are proved are tried, over copies too, of more crates side by side the
+fewer proofs run. What all these passed is kept, and `rt ci` over the repository does the rest: its word alone counts.
 
 The last line is 'N passed, M failed', with a crate, an edit and a case of tests/ for one each, and in brackets how many there
 were of each kind. What rt said is kept in out/gate.log, and what each crate took, as seen every two seconds, in out/gate.json:
@@ -24,7 +25,7 @@ import time
 from pathlib import Path
 
 import prove
-from program import PROGRAM, ROOT, crates_list
+from program import NAME, PROGRAM, ROOT, crates_list, crates_of
 
 # What the environment asks of the tests, as fewer frames or another program, is not asked of the gate.
 for variable in [it for it in os.environ if it.startswith("KBROKER")]:
@@ -37,8 +38,9 @@ LOG = ROOT / "out/gate.log"
 TIMES = ROOT / "out/gate.json"
 SEEN_EVERY = 2  # seconds
 NICE_OF_EDITS = 10  # they take what the proofs leave
-EDITS_AT_ONCE = 2
+EDITS_AT_ONCE = 2  # of a crate
 PROCESSORS = len(os.sched_getaffinity(0))
+NICE_OF_OTHERS = 5  # the program's proofs go before them
 NICE_OF_SOURCES = 19  # they take what all else leaves
 TICKS = os.sysconf("SC_CLK_TCK")
 PAGE = os.sysconf("SC_PAGE_SIZE")
@@ -78,7 +80,7 @@ class Sampler:
     """Adds up what processes and those below them take. What one took after it was last seen is lost."""
 
     def __init__(self):
-        self.peak = 0
+        self.peak = self.proofs = 0
         self.tops, self.works, self.seconds = set(), {}, {}
 
     def watch(self):
@@ -89,7 +91,7 @@ class Sampler:
 
     def look(self):
         """Takes one sample of the processes that are looked at and of those below them."""
-        found, held = processes(), 0
+        found, held, proofs = processes(), 0, 0
         below = {}
         for process, (parent, *_) in found.items():
             below.setdefault(parent, []).append(process)
@@ -101,10 +103,11 @@ class Sampler:
                 key = process, started
                 if not self.works.get(key):
                     self.works[key] = work_of(process) or work
+                proofs += bool(self.works[key]) and self.works[key][1] != "edits" and not work
                 self.seconds[key] = seconds
                 held += memory
                 stack += [(it, self.works[key]) for it in below.get(process, [])]
-        self.peak = max(self.peak, held)
+        self.peak, self.proofs = max(self.peak, held), proofs
 
     def by_crate(self):
         """The processor seconds of each crate, by kind."""
@@ -163,46 +166,102 @@ class Runs:
 
 
 class Edits:
-    """Tries the wrong bodies of crates that are proved, crate by crate, in a thread of its own, until no more are to be tried."""
+    """Tries the wrong bodies of crates that are proved, until no more are to be tried: those of one crate beside many proofs, and of
+    more crates side by side where fewer proofs run."""
 
     def __init__(self, runs):
-        self.runs, self.proved, self.tried, self.is_over = runs, [], [], False
+        self.runs, self.proved, self.trying, self.is_over = runs, [], [], False
         self.thread = threading.Thread(target=self.try_all, daemon=True)
         self.thread.start()
 
     def see(self, line):
-        """Notes the crate that a line of `rt ci` calls proved."""
+        """Notes the crate that a line of `rt ci` calls proved, once: each copy in which it stands says so."""
         for name in PROVED.findall(line):
-            if (ROOT / "crates" / name / "must-fail").is_dir():
+            if name not in self.proved and (ROOT / "crates" / name / "must-fail").is_dir():
                 self.proved.append(name)
 
     def try_all(self):
-        """Tries those of each crate, in the order in which they are proved."""
+        """Tries those of each crate, in the order in which they are proved, as processors become free."""
+        tried = 0
         while not self.is_over:
-            if len(self.tried) < len(self.proved):
-                self.tried.append(self.proved[len(self.tried)])
-                self.try_those_of(self.tried[-1])
-            else:
-                time.sleep(1)
+            self.trying = [it for it in self.trying if it.is_alive()]
+            free = (PROCESSORS - self.runs.sampler.proofs) // EDITS_AT_ONCE
+            if tried < len(self.proved) and len(self.trying) < max(free, 1):
+                self.trying.append(threading.Thread(target=self.try_those_of, args=(self.proved[tried],), daemon=True))
+                self.trying[-1].start()
+                tried += 1
+            time.sleep(1)
 
     def try_those_of(self, name):
         """Tries those of a crate, in a copy."""
         with tempfile.TemporaryDirectory(prefix="kbroker-edits-") as room:
             prove.copy_crates([name], Path(room))
             shutil.copytree(ROOT / "crates" / name / "must-fail", Path(room, "crates", name, "must-fail"))
-            self.runs.run(room, NICE_OF_EDITS, EDITS_AT_ONCE)
+            if not self.is_over:
+                self.runs.run(room, NICE_OF_EDITS, EDITS_AT_ONCE)
 
     def end(self):
-        """Waits until those of the crate that is being tried are done; what is left is for others."""
+        """Waits until those of the crates that are being tried are done; what is left is for others."""
         self.is_over = True
         self.thread.join()
+        for it in self.trying:
+            it.join()
+
+
+def prove_copy(runs, names, seen, nice=0, at_once=None):
+    """Proves crates and what they stand on, in a copy without wrong bodies."""
+    with tempfile.TemporaryDirectory(prefix="kbroker-proofs-") as room:
+        prove.copy_crates(names, Path(room))
+        runs.run(room, nice, at_once, seen)
+
+
+def first_crate():
+    """The crate on which most others stand."""
+    listed = crates_list()
+    return max(listed, key=lambda it: sum(it in crates_of([other]) for other in listed))
+
+
+def prove_first(runs, seen):
+    """Proves the crate for which most others wait, and beside it those that don't wait for it, whose end isn't waited for. `rt ci`
+    gives a proof more processors where fewer are ready to be done, so it is proved by a call of its own."""
+    first = first_crate()
+    apart = [it for it in crates_list() if first not in crates_of([it])]
+    words = {"runs": runs, "names": apart, "seen": seen, "at_once": PROCESSORS // 2}
+    beside = threading.Thread(target=prove_copy, kwargs=words, daemon=True)
+    beside.start()
+    prove_copy(runs, [first], seen)
+    return beside
+
+
+def prove_others(runs, left, seen):
+    """Proves the crates that are tests and laws, each once all that it stands on of what is left of the program's crates is proved.
+    As long as something is left, they take what the program's proofs leave."""
+    waiting = [it for it in crates_list() if it not in crates_of([NAME])]
+    while waiting:
+        ready = [it for it in waiting if not left & {*crates_of([it])}]
+        waiting = [it for it in waiting if it not in ready]
+        if ready:
+            beside = {"nice": NICE_OF_OTHERS, "at_once": 1} if left else {}
+            prove_copy(runs, ready, seen, **beside)
+        else:
+            time.sleep(SEEN_EVERY)
 
 
 def prove_all(runs, edits):
     """Proves all crates and their tests, while wrong bodies of those that are proved are tried."""
-    with tempfile.TemporaryDirectory(prefix="kbroker-proofs-") as room:
-        prove.copy_crates(crates_list(), Path(room))
-        runs.run(room, seen=edits.see)
+    left = {*crates_of([NAME])} - {NAME}
+
+    def see(line):
+        edits.see(line)
+        left.difference_update(PROVED.findall(line))
+
+    beside = prove_first(runs, see)
+    others = threading.Thread(target=prove_others, args=(runs, left, edits.see), daemon=True)
+    others.start()
+    prove_copy(runs, [NAME], see)
+    left.clear()  # what can't be proved isn't waited for
+    others.join()
+    beside.join()
 
 
 def run_checks(cases):
@@ -225,7 +284,7 @@ def run_checks(cases):
         finally:
             edits.is_over = True
             runs.stop()
-            edits.thread.join()
+            edits.end()
             if beside:
                 beside.stop()
 
