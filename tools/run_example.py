@@ -1,8 +1,8 @@
 #!/usr/bin/env python3
 """Answers the shipped example, for whoever has just got this repository: `make run`.
 
-The proved program answers it where it is built from the sources as they stand. Elsewhere `rt try` compiles the same
-sources with no proof, in a minute or two, and a line on standard error says so.
+The proved program answers it where it is built from the sources as they stand, and a line on standard error says how it shows the
+answers in words. Elsewhere `rt try` compiles the same sources with no proof, in a minute or two, and a line there says so.
 """
 
 import signal
@@ -19,13 +19,15 @@ OWN_LINES = (b"interpreter: ", b"checked: ended ", b"races: ", b"run=ended ")
 def run_proved():
     """The status of the proved program."""
     with EXAMPLE.open("rb") as given:
-        return subprocess.run([PROGRAM, "replay"], stdin=given).returncode
+        status = subprocess.run([PROGRAM, "replay"], stdin=given).returncode
+    print(f"kbroker: `./kbroker show {EXAMPLE.relative_to(ROOT)}` shows these answers in words", file=sys.stderr)
+    return status
 
 
 def run_unproved():
     """The status of the same sources under `rt try`, whose own lines are shown where the program did not end well."""
     print(
-        "kbroker: this run is not proved, and takes a minute or two to compile: "
+        "kbroker: this run is not proved, and takes some minutes to compile: "
         f"`make prove` proves and builds the program, in about {PROVING_TIME}",
         file=sys.stderr,
         flush=True,

@@ -30,8 +30,14 @@ STARTS_WITHIN = 60  # seconds, until it says its first line
 LISTENING = re.compile(r"listening on (\S+)\n")
 LAST = re.compile(r"sessions (\d+) events (\d+) refusals (\d+)\n")
 GRACE = 5  # seconds, for which a client is waited for at the end
+# What a line of standard error may begin with: when it was told, and how much it matters.
+STAMP = re.compile(r"^(?:\d{4}-\d\d-\d\dT\d\d:\d\d:\d\d(?:\.\d+)?Z|-) (?:INFO|WARN) ", re.M)
 # What is told first: what is served, and where clients are told another port.
 STARTED = re.compile(r"kbroker: (?:version \S+ as node \d+: |warning: clients are told port ).*")
+# What is told last: how many requests, ticks and marks were answered, and of each api how many.
+REQUESTS = re.compile(r"kbroker: requests (\d+), ticks (\d+), marks (\d+)(?:; (.+))?")
+# A connection that was open for so long after the end that it was closed.
+CLOSED_LATE = re.compile(r"kbroker: session (\d+) is closed, since it was still open \d+ s after the stop")
 AT_LINE = re.compile(r"(kbroker: settings: TOML parse error at line )(\d+)")
 # What is told where as many connections were taken as are served.
 USED_UP = "kbroker: no more connections are taken, since --connections is {}"
@@ -123,6 +129,17 @@ def free_port(host):
     with socket.socket() as it:
         it.bind((host, 0))
         return it.getsockname()[1]
+
+
+def without_stamps(errors):
+    """What was told on standard error, without the time and the level that its lines may begin with."""
+    return STAMP.sub("", errors)
+
+
+def and_tells(lines):
+    """These lines as the end of a sentence, which names the sessions that the broker had to close, if there are some."""
+    closed = [found[1] for found in map(CLOSED_LATE.fullmatch, lines) if found]
+    return f"and tells {lines}" + f"; clients held open session {', session '.join(closed)}" * bool(closed)
 
 
 def marker_of(line):
@@ -235,10 +252,11 @@ class BrokerProcess:
         self.folder.cleanup()
 
     def lines_of(self, errors):
-        """The lines of standard error, but for the first, of what is served on which port, and the one that no more connections
-        are taken. A line of the settings is told by its number in those that were given."""
-        errors = AT_LINE.sub(lambda it: f"{it[1]}{int(it[2]) - self.added}", errors)
-        return [line for line in errors.splitlines() if line != self.used_up and not STARTED.fullmatch(line)]
+        """The lines of standard error, without times and levels, but for those that come each time: the first, of what is served
+        on which port, the last, of how much was asked, and the one that no more connections are taken. A line of the settings is
+        told by its number in those that were given."""
+        errors = AT_LINE.sub(lambda it: f"{it[1]}{int(it[2]) - self.added}", without_stamps(errors))
+        return [it for it in errors.splitlines() if it != self.used_up and not (STARTED.fullmatch(it) or REQUESTS.fullmatch(it))]
 
     @property
     def used_up(self):
@@ -246,24 +264,30 @@ class BrokerProcess:
         return USED_UP.format(self.connections)
 
     def told(self):
-        """The lines of standard error so far, where it is a file."""
-        return self.lines_of(os.pread(self.file.fileno(), 1 << 20, 0).decode(errors="replace")) if self.file else []
+        """The whole lines of standard error so far, where it is a file."""
+        if not self.file:
+            return []
+        so_far = os.pread(self.file.fileno(), 1 << 20, 0).decode(errors="replace")
+        return self.lines_of(so_far[: so_far.rfind("\n") + 1])
 
     def wait(self, line=None, timeout=30):
-        """Waits for its end, and gives its status, what it said last, and what it said on standard error."""
+        """Waits for its end, and gives its status, what it said last, and what it said on standard error, if that comes here."""
         said, told = self.process.communicate(line, timeout=timeout)
         if self.file:
             self.file.seek(0)
             told = self.file.read().decode()
-        return self.process.returncode, said, told
+        return self.process.returncode, said, told or ""
 
     def settled(self, line=None, timeout=30):
         """Waits for its end, and gives what it did, and the lines of standard error."""
-        status, said, errors = self.wait(line, timeout)
-        found = LAST.fullmatch(said)
+        try:
+            status, said, errors = self.wait(line, timeout)
+        except subprocess.TimeoutExpired:
+            raise BrokerFailed(f"the broker hasn't ended after {timeout} seconds, {and_tells(self.told())}") from None
+        found, told = LAST.fullmatch(said), self.lines_of(errors)
         if status or not found:
-            raise BrokerFailed(f"the broker ends with status {status} and says {said!r}, and {self.lines_of(errors)}")
-        return Settled(*map(int, found.groups())), self.lines_of(errors)
+            raise BrokerFailed(f"the broker ends with status {status} and says {said!r}, {and_tells(told)}")
+        return Settled(*map(int, found.groups())), told
 
     def memory(self, of="VmRSS"):
         """How many bytes of its memory are resident."""
@@ -363,7 +387,8 @@ class Kbroker(BrokerProcess):
 
     def end(self, timeout=30):
         """Takes no more connections, closes those that are open once what they have asked is answered, and gives what the settled
-        broker did. A client that reads no answers is waited for five seconds."""
+        broker did. A client that reads no answers is waited for five seconds. Where the broker doesn't end as it should, the
+        exception names the sessions that it had to close so."""
         return self.settled("end\n", timeout)[0]
 
 

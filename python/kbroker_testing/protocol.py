@@ -14,6 +14,7 @@ import struct
 import sys
 from typing import NamedTuple
 
+from kbroker_testing.acl_model import Kind, Operation, Pattern, Permission
 from kbroker_testing.apis import APIS, DEFAULTS, SCHEMAS
 from kbroker_testing.codes import Code, named
 
@@ -393,9 +394,16 @@ def errors_in(answer):
     return {it for value in answer for it in errors_in(value)} if isinstance(answer, list) else set()
 
 
+def words_of(enum):
+    """What the numbers of a field mean."""
+    return ", ".join(f"{it.value} {it.name}" for it in enum)
+
+
 def usage():
     """How the program is called, and what each api is asked."""
     rows = [f"    {name:<20}{' '.join(api[3].split()) or 'nothing'}" for name, api in APIS.items()]
+    acls = {"kind": Kind, "pattern": Pattern, "operation": Operation, "permission": Permission}
+    numbers = [f"    {name:<20}{words_of(enum)}" for name, enum in acls.items()]
     return (
         "usage: python3 -m kbroker_testing.protocol HOST:PORT USER PASSWORD API ['JSON']\n\n"
         "Logs in, asks one thing and prints the answer as JSON. What an error is called is said on standard error.\n"
@@ -403,6 +411,8 @@ def usage():
         "The apis and their fields: s is a text, b bytes, i8 to i64 numbers, bool true or false, [..] a list; with ? it\n"
         "may be null. In place of a Produce's records stands what `batch` takes, as in {\"values\": [\"a cup\"]}.\n\n"
         + "\n".join(rows)
+        + "\n\nWhat the numbers of ACLs mean; in a filter 1 is any:\n\n"
+        + "\n".join(numbers)
     )
 
 
@@ -455,7 +465,7 @@ def main():
         sys.exit(f"{NAME}: the broker has closed the connection; its standard error says why")
     show_records(fields, answer)
     line = json.dumps(answer, default=lambda data: data.hex())
-    print(line if len(line) <= LINE else json.dumps(answer, indent=1, default=lambda data: data.hex()))
+    print(line if len(line) <= LINE else json.dumps(answer, indent=1, default=lambda data: data.hex()), flush=True)
     for number in sorted(errors_in(answer)):
         print(f"{NAME}: error {named(number)}", file=sys.stderr)
 

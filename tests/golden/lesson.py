@@ -10,25 +10,16 @@ import subprocess
 from kbroker_testing.broker import Kbroker
 from program import ROOT
 from tests.golden.scripts import EXAMPLES
+from tests.pages import ADDRESS, settings_of
 
 LESSON = EXAMPLES / "steered.md"
 SETTINGS = EXAMPLES / "steered.toml"
-ADDRESS = "127.0.0.1:9092"
-# The lines that the fixture writes itself.
-OWN = ("node_id", "host", "port")
 # What the last line of an answer begins with.
 LAST = {"state": "events ", "marks": "markers ", "audit": "refusals "}
 
 
 class CommandFailed(Exception):
     """A command of the lesson failed."""
-
-
-def settings():
-    """The lesson's settings, on whatever port is free."""
-    top, table, rest = SETTINGS.read_text().partition("[[")
-    lines = [it for it in top.splitlines() if it.partition(" = ")[0] not in OWN]
-    return "\n".join(lines) + "\n" + table + rest
 
 
 def typed(broker, line):
@@ -68,7 +59,7 @@ def followed(broker, lines):
 def gone_through():
     """The lesson's lines as they are, and as they should be."""
     lines = LESSON.read_text().splitlines()
-    with Kbroker(settings()) as broker:
+    with Kbroker(settings_of(SETTINGS)) as broker:
         return lines, followed(broker, lines)
 
 

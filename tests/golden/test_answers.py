@@ -10,13 +10,19 @@ import unittest
 from tests.golden.scripts import a_case_for_each, assert_lines, folders
 from tests.support import PROGRAM
 
+# What is said of each line that is answered `closed`.
+CLOSED = r"\Akbroker: line \d+ of the input: here the broker would close the connection; `kbroker show` tells why\Z"
+
 
 @a_case_for_each
 class Answers(unittest.TestCase):
     def look_at(self, script):
         ran = subprocess.run([PROGRAM, "replay"], input=script.read_bytes(), capture_output=True, timeout=60)
-        self.assertEqual((ran.returncode, ran.stderr), (0, b""))
         wanted = script.with_suffix(".out").read_bytes()
+        said = ran.stderr.decode().splitlines()
+        self.assertEqual((ran.returncode, len(said)), (0, wanted.splitlines().count(b"closed")))
+        for line in said:
+            self.assertRegex(line, CLOSED)
         assert_lines(self, ran.stdout.splitlines(keepends=True), wanted.splitlines(keepends=True))
 
 

@@ -1,7 +1,7 @@
 """Scripts of a line or two: what is read as a request, a mark or a tick, and how a run ends that ends early.
 
-What a run prints is compared byte for byte, with its status; and standard error says something where it ends early,
-and nothing else.
+What a run prints is compared byte for byte, with its status; and standard error says something where it ends early, or
+the broker would close the connection, and nothing else.
 """
 
 import subprocess
@@ -115,7 +115,7 @@ class Lines(unittest.TestCase):
             with self.subTest(given=given):
                 ran = subprocess.run([PROGRAM, "replay"], input=given, capture_output=True, timeout=60)
                 self.assertEqual((ran.stdout, ran.returncode), (printed, status), ran.stderr)
-                self.assertEqual(bool(ran.stderr), status != 0, ran.stderr)
+                self.assertEqual(bool(ran.stderr), status != 0 or printed == CLOSED, ran.stderr)
 
     def test_a_reader_is_told_where_and_why(self):
         for lines, told in TOLD:
@@ -123,6 +123,13 @@ class Lines(unittest.TestCase):
                 ran = subprocess.run([PROGRAM, "replay"], input=SETTINGS + lines, capture_output=True, timeout=60)
                 self.assertEqual(ran.stderr.decode().splitlines()[-len(told) :], told)
                 self.assertEqual(ran.returncode, 1 if lines else 0)
+
+    def test_a_reader_is_told_what_closed_means(self):
+        lines = SETTINGS + b"---\nmark\nreq ann h 00000000\n"
+        ran = subprocess.run([PROGRAM, "replay"], input=lines, capture_output=True, timeout=60)
+        self.assertEqual((ran.stdout, ran.returncode), (UNSENT + CLOSED, 0))
+        told = "kbroker: line 7 of the input: here the broker would close the connection; `kbroker show` tells why\n"
+        self.assertEqual(ran.stderr.decode(), told)
 
     def test_settings_alone_have_no_script(self):
         ran = subprocess.run([PROGRAM, "check"], input=SETTINGS + b"---\n", capture_output=True, timeout=60)

@@ -12,6 +12,8 @@ import unittest
 from tests import support
 from tests.support import PROGRAM, topic, user
 
+WARNING = b"kbroker: settings: warning: "
+
 # The keys that must be there.
 REQUIRED = 'node_id = 1\nhost = "broker"\nport = 9092\n'
 
@@ -212,9 +214,9 @@ def said(words, given=b""):
 
 
 def run(words, given=b""):
-    """What the program prints, its status, and whether it says something on standard error."""
+    """What the program prints, its status, and whether it says something on standard error that is no warning."""
     ran = subprocess.run([PROGRAM, *words], input=given, capture_output=True, timeout=60)
-    return ran.stdout, ran.returncode, bool(ran.stderr)
+    return ran.stdout, ran.returncode, not all(it.startswith(WARNING) for it in ran.stderr.splitlines())
 
 
 def said_of(settings):
@@ -258,6 +260,17 @@ class Settings(unittest.TestCase):
         for words in REFUSED:
             with self.subTest(words=words):
                 self.assertEqual(run(words), (b"", MISUSED, True))
+
+    def test_warnings(self):
+        warning = WARNING.decode() + "{}\n"
+        for settings, warned in (
+            (REQUIRED + user(), []),
+            (REQUIRED, ["there is no `[[user]]`, so nobody can log in"]),
+            (REQUIRED + user("bob") + acl(), ["`acl`, entry 1: `User:ann` is no `[[user]]`"]),
+        ):
+            with self.subTest(settings=settings):
+                self.assertEqual(said(["check"], settings.encode()), "".join(warning.format(it) for it in warned))
+                self.assertEqual(run(["check"], settings.encode()), (b"settings ok\n", 0, False))
 
     def test_version(self):
         for word in ("--version", "-V"):

@@ -248,9 +248,9 @@ class ByHand(ShownCase):
         full = self.enterContext(open("/dev/full", "wb"))
         ways = (
             ("show: the text can't be written", (), {"stdout": full}),
-            ("standard input: it can't be read", (), {"stdin": folder}),
-            (f"{ROOT}: it can't be read", ("--answers", ROOT), {}),
-            (f"{ROOT}/none: the file can't be opened", ("--answers", ROOT / "none"), {}),
+            ("standard input: it can't be read\nkbroker: standard input: is a directory", (), {"stdin": folder}),
+            (f"{ROOT}: it can't be read: is a directory", ("--answers", ROOT), {}),
+            (f"{ROOT}/none: the file can't be opened: entity not found", ("--answers", ROOT / "none"), {}),
         )
         for why, words, streams in ways:
             with self.subTest(why=why):

@@ -1,6 +1,7 @@
 """The package's brokers: what their lines tell, how they start and end, and what is told of those that fail."""
 
 import tempfile
+import textwrap
 import unittest
 from pathlib import Path
 from unittest import mock
@@ -22,11 +23,32 @@ from kbroker_testing.broker import (
     marker_of,
     replay,
     state_of,
+    without_stamps,
 )
 from kbroker_testing.protocol import Connection, logged_in, request_digits
 from tests.support import OF_ROOT, TOP, topic, user
 
 OWN = 'supers = ["User:root"]\n' + user("root", "toor") + topic("b")
+# What stands on standard error, of which a test is told the second and the fourth line.
+ERRORS = """2026-11-29T03:50:45.123Z INFO kbroker: version 0.1.0 as node 1: topics 1, partitions 1, users 1, workers 4
+2026-11-29T03:50:46.000Z INFO unmatched WRITE Topic b User:ann 127.0.0.1
+2026-11-29T03:50:47.999Z INFO kbroker: no more connections are taken, since --connections is 1
+- WARN kbroker: the clock stops, so no transaction ends any more: there is not enough memory
+2026-11-29T03:50:48.001Z INFO kbroker: requests 3, ticks 27, marks 0; Produce 2 (1 refusal), Fetch 1
+"""
+TOLD = [
+    "unmatched WRITE Topic b User:ann 127.0.0.1",
+    "kbroker: the clock stops, so no transaction ends any more: there is not enough memory",
+]
+# A program that tells of two connections which it had to close, and then ends as it shouldn't, or not at all.
+LATE = "kbroker: session {} is closed, since it was still open 5 s after the stop"
+HELD_UP = f"""
+    #!/bin/sh
+    echo listening on 127.0.0.1:9092
+    read -r line
+    echo "2026-11-29T03:50:45.123Z INFO {LATE.format(3)}" >&2
+    echo "2026-11-29T03:50:45.123Z INFO {LATE.format(11)}" >&2
+"""
 STATE = """moment 5
 owed 1
 partition a%20b 1 end 4 stable 2
@@ -51,6 +73,12 @@ class Lines(unittest.TestCase):
         line = "marker abort producer 3 epoch 1 group g owed 0"
         self.assertEqual(marker_of(line), Marker("abort", 3, 1, "group", "g", None, 0))
         self.assertIsNone(marker_of("marker none owed 0"))
+
+    def test_times_and_levels(self):
+        """They are taken off, and so are lines that come each time."""
+        broker = ClockedKbroker(OWN, connections=1)
+        self.assertEqual(broker.lines_of(ERRORS), TOLD)
+        self.assertEqual(broker.lines_of(without_stamps(ERRORS)), TOLD)
 
     def test_answers(self):
         printed = "00\ndenied a\nunmatched b\n-\nclosed\n"
@@ -134,15 +162,36 @@ class Brokers(unittest.TestCase):
                 broker.tick(2)
             self.assertEqual(broker.end(), Settled(0, 1, 0))
 
+    def program_of(self, text):
+        """A program of this text."""
+        path = Path(self.enterContext(tempfile.TemporaryDirectory()), "program")
+        path.write_text(textwrap.dedent(text).lstrip())
+        path.chmod(0o700)
+        return path
+
     def test_a_program_that_says_nothing(self):
-        folder = self.enterContext(tempfile.TemporaryDirectory())
-        silent = Path(folder, "silent")
-        silent.write_text("#!/bin/sh\nexec sleep 60\n")
-        silent.chmod(0o700)
+        silent = self.program_of("#!/bin/sh\nexec sleep 60\n")
         self.enterContext(mock.patch.object(broker_module, "STARTS_WITHIN", 0.2))
         with self.assertRaisesRegex(BrokerFailed, "says nothing"):
             with ClockedKbroker(OF_ROOT, program=silent):
                 self.fail("it listens")
+
+    def test_connections_that_hold_up_the_end(self):
+        """Where a broker doesn't end well, the sessions are named that it had to close, if it had to."""
+        named = "; clients held open session 3, session 11$"
+        fails = self.program_of(f"{HELD_UP}    echo settle failed: Stray\n    exit 1\n")
+        with self.assertRaisesRegex(BrokerFailed, f"status 1 and says 'settle failed: Stray.*{named}"):
+            with Kbroker(OWN, program=fails):
+                pass
+        stays = self.program_of(f"{HELD_UP}    exec sleep 60\n")
+        with Kbroker(OWN, program=stays) as broker:
+            with self.assertRaisesRegex(BrokerFailed, f"hasn't ended after 0.5 seconds.*{named}"):
+                broker.end(timeout=0.5)
+            broker.kill()
+        with self.assertRaisesRegex(BrokerFailed, r"says '', and tells \[\]$"):
+            with Kbroker(OWN, program=self.program_of("#!/bin/sh\necho listening on 127.0.0.1:9092\nexit 1\n")) as broker:
+                broker.process.wait()
+                broker.settled()
 
     def test_a_program_that_is_not_there(self):
         with self.assertRaises(FileNotFoundError):

@@ -170,11 +170,15 @@ class CommandLine(unittest.TestCase):
         return ran.returncode, ran.stdout, ran.stderr
 
     def test_help_names_each_api(self):
+        """And what the numbers of ACLs mean, as the protocol's guide has them."""
         status, said, errors = self.said("--help")
         self.assertEqual((status, errors), (0, ""))
         for api in APIS:
             with self.subTest(api=api):
                 self.assertIn(f"    {api} ", said)
+        for meant in ("2 Topic, 3 Group, 4 Cluster, 5 TransactionalId\n", "4 PREFIXED\n", " 8 DESCRIBE, ", "2 DENY, 3 ALLOW\n"):
+            with self.subTest(meant=meant):
+                self.assertIn(meant, said)
 
     def test_what_is_asked_is_answered(self):
         produced = '{"topics": [{"topic": "b", "partitions": [{"index": 0, "records": {"values": ["a cup"]}}]}]}'

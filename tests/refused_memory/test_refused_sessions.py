@@ -18,6 +18,7 @@ import struct
 import subprocess
 
 from kbroker_testing import protocol
+from kbroker_testing.broker import without_stamps
 from tests.refused_memory import refusing
 from tests.server import session_bytes
 from tests.server.told import ALLOCATION_FAILED, DOWN
@@ -101,7 +102,7 @@ class Run:
         finally:
             process.kill()
         self.first, self.last = (self.said, rest) if found else (b"", self.said + rest)
-        self.told, self.status = told.decode(), process.returncode
+        self.told, self.status = without_stamps(told.decode()), process.returncode
 
     def talk(self, address):
         """Asks one thing after the other as long as the connection is there, and over another one what is left."""

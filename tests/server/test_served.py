@@ -10,10 +10,12 @@ from concurrent.futures import ThreadPoolExecutor
 
 from kbroker_testing.acl_model import ANY, OPEN, Entry, Kind, Operation, Pattern, Permission
 from kbroker_testing.apis import APIS
-from kbroker_testing.broker import ClockedKbroker
+from kbroker_testing.broker import REQUESTS, ClockedKbroker, without_stamps
 from kbroker_testing.codes import Code
 from kbroker_testing.protocol import Connection, batch, committed, logged_in, partition_of, request_frame
-from tests.server.told import CUT, FULL, LOGS_IN, NEARLY_FULL, NO_LOGIN, READ_FAILED, WAITED, WAITING, asked, of_nobody, of_user
+from tests.server.session_bytes import framed
+from tests.server.told import CUT, FULL, LOGS_IN, NEARLY_FULL, NO_LOGIN, READ_FAILED, WAITED, WAITING
+from tests.server.told import asked, counted, of_nobody, of_user, text_of
 from tests.support import COLLIDING, LONGEST_FRAME, OF_SUPER, PROGRAM, TooLate, acl, connect, of_b, topic, user, wait_until
 
 USERS = user("root", "toor") + user("ann", "pw")
@@ -184,12 +186,13 @@ operation = "WRITE"\npermission = "ALLOW"\n""",
         self.assertEqual(status, 0)
         self.assertRegex(said, r"\Asessions 2 events \d+ refusals 0\n\Z")
         started = (
-            "kbroker: version 0.1.0 as node 1: topics 1, partitions 2, users 2, workers 2,"
+            "kbroker: version 0.1.0 as node 1: topics 1, partitions 2, users 2, ACLs 1, workers 2,"
             " a trail of 1048576 events (29 hours at rest), not encrypted"
         )
         port = server.address.rpartition(":")[2]
         warned = f"kbroker: warning: clients are told port 9092, as the settings have it, and the server listens on {port}"
-        self.assertEqual(told.splitlines(), [started, warned, server.used_up])
+        lines = [it for it in without_stamps(told).splitlines() if not REQUESTS.fullmatch(it)]
+        self.assertEqual(lines, [started, warned, server.used_up])
 
     def test_each_api(self):
         """Each api over one connection; another user is refused what it has no binding for; a wrong password."""
@@ -330,12 +333,13 @@ class Peers(ServedCase):
                 peer.sendall(struct.pack(">i", LONGEST_FRAME) + b"\0")
             for peer in peers:
                 peer.shutdown(socket.SHUT_WR)
-            cut = sorted(of_nobody(number, CUT) for number in range(clients))
-            wait_until(lambda: sorted(server.told()) == cut, "the sessions are not cut")
+            for peer in peers:
+                self.assertEqual(peer.recv(1), b"", "the session is not cut")
             self.assertLess(server.peak_memory(), ROOM)
             connect(server.address).close()
-            settled, _ = server.settled()
+            settled, told = server.settled()
         self.assertEqual(settled.sessions, clients + 1)
+        self.assertEqual(counted(told), {text_of(of_nobody(0, CUT)): clients})
 
     def test_sent_frames_are_not_kept(self):
         """Clients that send the longest frame before a login cost the broker no room for it, and are closed."""
@@ -349,8 +353,8 @@ class Peers(ServedCase):
             connect(server.address).close()
             settled, told = server.settled()
         self.assertEqual((settled.sessions, settled.refusals), (clients + 1, 0))
-        lines = [(asked(it, "asks Produce before its login"), of_nobody(it, NO_LOGIN)) for it in range(clients)]
-        self.assertEqual(sorted(told), sorted(line for pair in lines for line in pair))
+        texts = ("asks Produce before its login", text_of(of_nobody(0, NO_LOGIN)))
+        self.assertEqual(counted(told), dict.fromkeys(texts, clients))
 
     def test_idle_peers_are_closed(self):
         """A peer that says nothing for a second is closed, and one that says something in time isn't."""
@@ -383,12 +387,11 @@ class Operators(ServedCase):
             settled, told = server.settled()
         self.assertEqual((settled.sessions, settled.refusals, told), (2, 2, refused))
 
-    def leave_in_a_request(self, server, strangers):
-        """So many strangers end inside a request."""
+    def ask_without_a_login(self, server, strangers):
+        """So many strangers ask before a login, each for an api of its own: what is told of it is told of nobody else."""
         for number in range(strangers):
             with connect(server.address, 20) as stranger:
-                stranger.sendall(b"\0")
-                stranger.shutdown(socket.SHUT_WR)
+                stranger.sendall(bytes.fromhex(framed(1_000 + number, 0, 1, None, b"")))
                 self.assertEqual(stranger.recv(1), b"", number)
 
     def test_unread_lines_hold_up_nobody(self):
@@ -397,19 +400,25 @@ class Operators(ServedCase):
         words = {"workers": 3, "connections": strangers + 2, "more": ("--audit", "-"), "errors": subprocess.PIPE}
         with ClockedKbroker(SETTINGS, **words) as server:
             with logged_in(server.address) as broker, logged_in(server.address, "ann", "pw") as reader:
-                self.leave_in_a_request(server, strangers)
+                self.ask_without_a_login(server, strangers)
                 for _ in range(refused):
                     self.produce(reader, b"x", code=Code.TOPIC_AUTHORIZATION_FAILED)
                 self.transact(broker, [b"kept"], True)
                 wait_for_markers(broker)
             settled, told = server.settled()
         self.assertEqual((settled.sessions, settled.refusals), (strangers + 2, refused))
-        counts = [int(found[1]) for found in map(LEFT_OUT.fullmatch, told) if found]
+        left_out = [int(found[1]) for found in map(LEFT_OUT.fullmatch, told) if found]
         lines = [line for line in told if not LEFT_OUT.fullmatch(line)]
-        self.assertEqual(lines, [of_nobody(2 + number, CUT) for number in range(len(lines))])
-        self.assertTrue(counts)
-        # (the line that no more connections are taken may be left out too)
-        self.assertIn(len(lines) + sum(counts) - strangers - refused, (0, 1), (len(lines), counts))
+        asks = [asked(2 + number, f"asks api {1_000 + number} before its login") for number in range(strangers)]
+        heard = [line for line in lines if "asks api" in line]
+        self.assertEqual(heard, asks[: len(heard)])
+        ends = {text: count for text, count in counted(lines).items() if "asks api" not in text}
+        self.assertEqual([*ends], [text_of(of_nobody(2, NO_LOGIN))])
+        self.assertIn(len(heard) - sum(ends.values()), (0, 1))
+        self.assertTrue(left_out)
+        # (the lines that no more connections are taken, and how much was asked, may be left out too)
+        missing = 2 * strangers + refused - len(heard) - sum(ends.values())
+        self.assertIn(sum(left_out) - missing, (0, 1, 2), (len(heard), ends, left_out))
 
     def test_a_full_trail_is_told(self):
         """Where the trail is full the operator is told once that the clock stops, and each session ends at its next request."""

@@ -1,5 +1,6 @@
 """Sessions over TCP, byte for byte: which messages log in, what is answered before a login and after it, why a session
-ends, and how many events it was. Lines steer the brokers, so nothing happens but what is asked."""
+ends, and how many events it was. Lines steer the brokers, so nothing happens but what is asked; and where it is looked at what
+is told of a session, it has a broker of its own, since what is told of several alike is counted."""
 
 import socket
 import struct
@@ -41,7 +42,7 @@ from tests.server.session_bytes import (
     login_of,
     settings,
 )
-from tests.server.told import ASKED, BAD_FRAME, CUT, FULL, LOGS_IN, MALFORMED, NO_LOGIN
+from tests.server.told import ASKED, BAD_FRAME, CUT, FULL, LOGS_IN, MALFORMED, NO_LOGIN, counted, of_nobody, text_of
 from tests.support import connect
 
 # SaslHandshake in version 0, EndTxn in version 6, and an api that there isn't, each with a header alone.
@@ -160,34 +161,26 @@ class SessionBroker(Kbroker):
             return b"".join(pieces)
 
     def ended(self):
-        """What it did, why each session ended that didn't end between two requests, and what is told of a frame that ended it."""
+        """What it did, why its session ended, if not between two requests, and what is told of a frame that ended it."""
         settled, lines = self.settled("end\n")
-        asked = [ASKED.fullmatch(line) for line in lines]
-        whys = (line.split(": ", 2) for line, found in zip(lines, asked) if not found)
-        return (
-            settled,
-            {int(who.split(" ")[1]): why for _, who, why in whys},
-            {int(found[1]): found[2] for found in asked if found},
-        )
+        asks = [found[2] for found in map(ASKED.fullmatch, lines) if found]
+        whys = [line.split(": ", 2)[2] for line in lines if not ASKED.fullmatch(line)]
+        return settled, whys, asks
 
 
 class Sessions(unittest.TestCase):
     def test_rows(self):
-        with SessionBroker(1_000) as broker:
-            events = 0
-            for number, row in enumerate(ROWS):
-                with self.subTest(row=number):
-                    found = broker.answers(bytes.fromhex("".join(row.asks))).hex()
-                    before, events = events, broker.state().events
-                    self.assertEqual(found, "".join(row.answers))
-                    self.assertEqual(events - before, row.events)
-            settled, whys, unserved = broker.ended()
-        self.assertEqual(settled, (len(ROWS), sum(it.events for it in ROWS), 0))
-        self.assertEqual(whys, {number: row.why for number, row in enumerate(ROWS) if row.why})
-        self.assertEqual({*unserved}, {number for number, why in whys.items() if why in (MALFORMED, NO_LOGIN)})
+        for number, row in enumerate(ROWS):
+            with self.subTest(row=number), SessionBroker(1_000) as broker:
+                found = broker.answers(bytes.fromhex("".join(row.asks))).hex()
+                self.assertEqual(found, "".join(row.answers))
+                settled, whys, asks = broker.ended()
+                self.assertEqual(settled, (1, row.events, 0))
+                self.assertEqual(whys, [row.why] if row.why else [])
+                self.assertEqual(len(asks), row.why in (MALFORMED, NO_LOGIN), asks)
 
     def test_an_operator_is_told_what_is_not_served(self):
-        rows = (
+        unserved = (
             (HANDSHAKE_IN_ZERO, "asks SaslHandshake in version 0, which isn't served: 1 is"),
             (HANDSHAKE + LOGIN + END_IN_SIX, "asks EndTxn in version 6, which isn't served: 0 to 5 are"),
             (HANDSHAKE + LOGIN + NO_API, "asks api 999, which isn't served"),
@@ -203,20 +196,18 @@ class Sessions(unittest.TestCase):
             (HANDSHAKE + WRONG, LOGS_IN.format("ann")),
             (HANDSHAKE + login_of(LONGEST + 1), "sends a login that is longer than each user's"),
         )
-        rows, unserved_rows = (*rows, *refused), len(rows)
-        with SessionBroker(1_000) as broker:
-            for asks, _ in rows:
-                broker.answers(bytes.fromhex(asks))
-            _, whys, unserved = broker.ended()
-        self.assertEqual(unserved, {number: told for number, (_, told) in enumerate(rows)})
-        self.assertEqual(whys, {at: MALFORMED if at < unserved_rows else NO_LOGIN for at in range(len(rows))})
+        for rows, why in ((unserved, MALFORMED), (refused, NO_LOGIN)):
+            for asks, told in rows:
+                with self.subTest(told=told), SessionBroker(1_000) as broker:
+                    broker.answers(bytes.fromhex(asks))
+                    self.assertEqual(broker.ended()[1:], ([why], [told]))
 
     def test_a_full_trail(self):
         """The trail takes three events; the session ends at the fourth."""
         with SessionBroker(3) as broker:
             found = broker.answers(bytes.fromhex(HANDSHAKE + LOGIN + 4 * METADATA)).hex()
             self.assertEqual(found, HANDSHAKE_TOLD + LOGIN_TOLD + 3 * METADATA_TOLD)
-            self.assertEqual(broker.ended(), ((1, 3, 0), {0: FULL}, {}))
+            self.assertEqual(broker.ended(), ((1, 3, 0), [FULL], []))
 
     def whom_it_logs_in(self, broker, message):
         """Whom a message logs in, as an audit line tells it of somebody who asks for the topic `a`, or None."""
@@ -241,6 +232,7 @@ class Sessions(unittest.TestCase):
                 for message in messages:
                     with self.subTest(message=message):
                         self.assertEqual(self.whom_it_logs_in(broker, message), whom)
-            settled, whys, _ = broker.ended()
+            settled, lines = broker.settled("end\n")
         self.assertEqual(settled, (len(LOG_ANN_IN + LOG_NOBODY_IN), len(LOG_ANN_IN), len(LOG_ANN_IN)))
-        self.assertEqual(whys, {len(LOG_ANN_IN) + at: NO_LOGIN for at in range(len(LOG_NOBODY_IN))})
+        ends = {text: count for text, count in counted(lines).items() if text.startswith("of ")}
+        self.assertEqual(ends, {text_of(of_nobody(0, NO_LOGIN)): len(LOG_NOBODY_IN)})

@@ -8,11 +8,15 @@ import unittest
 from kbroker_testing.broker import Group, Kbroker, Marker, Moment, NotTaken, Partition, Settled, Transaction
 from kbroker_testing.codes import Code
 from kbroker_testing.protocol import batch, committed, in_partition, logged_in, partition_of, partitions_of
-from tests.support import PROGRAM, TOP, topic, user
+from tests.support import PROGRAM, TOP, topic, user, wait_until
 
 TIMEOUT = 60_000
 PARTITIONS = (("debits", 0), ("credits", 0))
 USERS = user("bank", "bank-secret") + user("audit", "audit-secret")
+UNREADABLE = (
+    "kbroker: a line of standard input can't be read: there are `tick N`, `mark`, `marks`, `audit`, `state` and `end`"
+)
+OPEN = "kbroker: connections that are still open: {}; the last line waits for their end, or for --grace"
 SETTINGS = 'supers = ["User:bank"]\n' + USERS + "".join(topic(name) for name, _ in PARTITIONS)
 
 
@@ -162,9 +166,12 @@ class Steered(unittest.TestCase):
 
     def test_other_lines_change_nothing(self):
         """The last one is a byte that is no text."""
-        for line in ("", "tick", "tick -1", "tick 1.5", f"tick {1 << 64}", "mark 2", "MARK", "state\r", "\xff", "\udcff"):
+        lines = ("", "tick", "tick -1", "tick 1.5", f"tick {1 << 64}", "mark 2", "MARK", "state\r", "\xff", "\udcff")
+        for line in lines:
             self.assertEqual(self.broker.say(line), "unreadable", line)
         self.assertEqual(self.broker.state().events, 0)
+        told = [UNREADABLE] * len(lines)
+        wait_until(lambda: self.broker.told() == told, "it isn't told which lines there are")
 
     def test_open_connections_are_served_to_their_end(self):
         self.broker.process.stdin.write("end\n")
@@ -172,6 +179,13 @@ class Steered(unittest.TestCase):
         self.assertEqual(self.bank.begin(), Code.NONE)
         self.bank.close()
         self.assertEqual(self.broker.settled()[0], Settled(1, 1, 0))
+
+    def test_open_connections_are_told(self):
+        self.broker.process.stdin.write("end\n")
+        self.broker.process.stdin.flush()
+        wait_until(lambda: self.broker.told() == [OPEN.format(1)], "it isn't told that a connection is open")
+        self.bank.close()
+        self.assertEqual(self.broker.settled(), (Settled(1, 0, 0), [OPEN.format(1)]))
 
 
 class Ends(unittest.TestCase):

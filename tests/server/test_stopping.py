@@ -19,7 +19,7 @@ from pathlib import Path
 from kbroker_testing.broker import LAST, BrokerProcess, ClockedKbroker
 from kbroker_testing.codes import Code
 from kbroker_testing.protocol import batch, logged_in, partition_of, request_frame
-from tests.server.told import CUT, FULL, WRITE_FAILED, of_nobody, of_user
+from tests.server.told import CLOSED, CUT, FULL, WRITE_FAILED, of_nobody, of_user
 from tests.support import OF_ROOT, connect, of_b, topic, wait_until
 
 ROOT = Path(__file__).resolve().parents[2]
@@ -29,9 +29,13 @@ LATE = 2  # seconds after the grace in which the last line comes
 MOST = 64  # connections at once
 UNREAD = 32  # MB of an answer
 DRAWN = 3  # rounds of connections that ask all the time
+PRODUCED = [batch([bytes(size)]) for size in (1, 100, 100_000)]  # their check sums take this test long, so they are made once
+READ_WITHIN = 60  # seconds in which 64 threads of this test read what was sent before the connections were closed
 STARTED_WITHIN = 0.5  # seconds
+FAILED = [of_user(number, "root", WRITE_FAILED) for number in (1, 2)]
 CLOCK_STOPS = "kbroker: the clock stops, so no transaction ends any more: "
 CONTROL_ALONE = ("tick 1", "mark", "marks", "stop", "")
+UNREADABLE = "kbroker: a line of standard input can't be read: there are `audit`, `state` and `end`"
 
 
 class Stopped(BrokerProcess):
@@ -171,13 +175,23 @@ class Inputs(StoppingCase):
         self.assertEqual((settled.sessions, told), (1, []))
 
     def test_a_peer_that_reads_nothing(self):
-        """Its connection is closed after the grace."""
+        """Its connection is closed after the grace, which is told before the session ends."""
         with Stopped(SETTINGS, more=("--grace", "1")) as broker, logged_in(broker.address) as client:
             self.ask_unread(client)
             began = time.monotonic()
             settled, told = self.assert_stops(broker, 1)
             self.assertGreater(time.monotonic() - began, 0.9)
-        self.assertEqual((settled.sessions, told), (1, [of_user(0, "root", WRITE_FAILED)]))
+        self.assertEqual((settled.sessions, told), (1, [CLOSED.format(0, 1), of_user(0, "root", WRITE_FAILED)]))
+
+    def test_each_that_is_closed_is_named(self):
+        """By its session; one that ends at the stop isn't."""
+        with Stopped(SETTINGS, more=("--grace", "1")) as broker, contextlib.ExitStack() as stack:
+            clients = [stack.enter_context(logged_in(broker.address)) for _ in range(3)]
+            for client in clients[1:]:
+                self.ask_unread(client)
+            settled, told = self.assert_stops(broker, 1)
+        self.assertEqual(settled.sessions, 3)
+        self.assertEqual(sorted(it for it in told if it not in FAILED), [CLOSED.format(number, 1) for number in (1, 2)])
 
     def test_a_user_that_has_to_wait(self):
         """It waits for a minute since its login, and is closed without an answer."""
@@ -220,15 +234,15 @@ class Inputs(StoppingCase):
             self.assertRegex(lines[0], r"^moment \d+$")
             self.assertIn("partition b 0 end 0 stable 0", lines)
             settled, told = self.assert_stops(broker, 0)
-        self.assertEqual((settled.sessions, settled.refusals, told), (1, 1, []))
+        self.assertEqual((settled.sessions, settled.refusals, told), (1, 1, [UNREADABLE] * len(CONTROL_ALONE)))
 
 
 class Drawn(StoppingCase):
     """Connections that ask all the time."""
 
-    def ask_until_closed(self, address, answered, drawn):
+    def ask_until_closed(self, client, answered, drawn):
         """Asks one thing after the other, and counts the answers, until the connection is closed."""
-        with contextlib.suppress(OSError, EOFError), logged_in(address) as client:
+        with contextlib.suppress(OSError, EOFError), client:
             while True:
                 asked = drawn.choice(("Metadata", "Produce", "Fetch", "rest"))
                 if asked == "rest":
@@ -236,19 +250,21 @@ class Drawn(StoppingCase):
                     continue
                 fields = {
                     "Metadata": {"topics": None},
-                    "Produce": {"topics": of_b(records=batch([bytes(drawn.choice((1, 100, 100_000)))]))},
+                    "Produce": {"topics": of_b(records=drawn.choice(PRODUCED))},
                     "Fetch": {"topics": of_b(offset=0, max_bytes=drawn.choice((1, 1_000_000))), "max_wait": 100},
                 }
                 client.ask(asked, **fields[asked])
                 answered.append(asked)
 
     def test_at_random_moments(self):
+        """All have logged in before, so each is a session, however long the threads of this test take."""
         for seed in range(DRAWN):
             drawn, answered = random.Random(seed), []
             with self.subTest(seed=seed), Stopped(SETTINGS, workers=MOST, more=("--librdkafka",)) as broker:
                 threads = [
                     threading.Thread(
-                        target=self.ask_until_closed, args=(broker.address, answered, random.Random(f"{seed} {number}"))
+                        target=self.ask_until_closed,
+                        args=(logged_in(broker.address), answered, random.Random(f"{seed} {number}")),
                     )
                     for number in range(MOST)
                 ]
@@ -257,7 +273,7 @@ class Drawn(StoppingCase):
                 time.sleep(0.5 + drawn.random())
                 settled, told = self.assert_stops(broker)
                 for it in threads:
-                    it.join(GRACE + LATE)
+                    it.join(READ_WITHIN)
                     self.assertFalse(it.is_alive(), "a connection is open")
                 self.assertEqual(settled.sessions, MOST)
                 self.assertGreaterEqual(settled.events, len(answered))
@@ -330,6 +346,15 @@ class Signals(StoppingCase):
             words = [broker.program, "serve", "--listen", "127.0.0.1:0", "--settings", os.devnull]
             ran = subprocess.run(words, capture_output=True, timeout=30)
         self.assertEqual((ran.returncode, ran.stdout), (1, b"settings refused: Key\n"))
+
+    def test_a_link_to_it(self):
+        """It finds the program from wherever the link is."""
+        with Wrapped(SETTINGS) as broker:
+            link = Path(self.enterContext(tempfile.TemporaryDirectory()), "a link")
+            link.symlink_to(broker.program)
+            ran = subprocess.run([link, "--version"], capture_output=True, encoding="utf-8", timeout=30)
+        self.assertEqual((ran.returncode, ran.stdout), (2, ""))
+        self.assertRegex(ran.stderr, r"^kbroker \d+\.\d+\.\d+\n$")
 
     def test_streams_that_are_closed(self):
         """They are on /dev/null, so that no file and no socket takes their numbers."""

@@ -1,6 +1,7 @@
 """What an operator is told of sessions on standard error."""
 
 import re
+from collections import Counter
 
 # A session of nobody in particular, or of a user, and why it ended.
 OF_SESSION = "kbroker: session {} of {} from 127.0.0.1: {}"
@@ -10,12 +11,19 @@ NOBODY = "nobody"
 ASKED = re.compile(r"kbroker: session (\d+) (?!of )(.*)")
 LOGS_IN = "logs in as {}: no user has this name and password"
 
+# That something is told of a session; and the same of so many more, of which the latest is named.
+OF_ONE = re.compile(r"kbroker: session (\d+) (.*)")
+OF_MORE = re.compile(r"kbroker: (\d+) more sessions, up to session (\d+): (.*)")
+
 # That connections wait for one of so many workers, and how many seconds the one had waited that is served then.
 WAITING = "kbroker: connections wait for a worker, since all {} are taken; see --workers"
 WAITED = "kbroker: a connection from 127.0.0.1 has waited {} s for a worker, and is served now"
 NEARLY_FULL = (
     "kbroker: the trail has {} of at most {} events; once it is full, each session is closed at its next request"
 )
+
+# That a session's connection is closed, so many seconds after a stop.
+CLOSED = "kbroker: session {} is closed, since it was still open {} s after the stop"
 
 CUT = "the connection was closed inside a request"
 BAD_FRAME = "a frame is shorter than a request can be, or longer than the limit"
@@ -26,6 +34,22 @@ ALLOCATION_FAILED = "there is not enough memory"
 DOWN = "an earlier event put the broker down"
 READ_FAILED = "a read failed"
 WRITE_FAILED = "a write failed"
+
+
+def counted(lines):
+    """Of how many sessions each text is told. A line that tells of more than one counts so many; others are left out."""
+    counts = Counter()
+    for line in lines:
+        if found := OF_ONE.fullmatch(line):
+            counts[found[2]] += 1
+        elif found := OF_MORE.fullmatch(line):
+            counts[found[3]] += int(found[1])
+    return counts
+
+
+def text_of(line):
+    """What a line tells of its session."""
+    return OF_ONE.fullmatch(line)[2]
 
 
 def asked(number, what):

@@ -25,6 +25,9 @@ pub trait Doorman {
     /// A worker was found for a connection that has waited for it for so long.
     fn begun(&self, _host: &Text, _waited: Duration) {}
 
+    /// A connection is closed, since it was still open so long after a stop.
+    fn closed(&self, _session: u64, _grace: Duration) {}
+
     /// Fewer workers could be started than were asked for.
     fn fewer_workers(&self, _started: usize, _asked: usize) {}
 }

@@ -1,4 +1,5 @@
 pub mod Asked
 pub mod Kept
+pub mod LastColon
 pub mod Named
 pub mod Refused

@@ -1,5 +1,5 @@
 -- What a parse reads of the command line that is understood.
-use Rattle.std.specs.Prelude.{ℕ, List, Bool, Some, true, false, codes}
+use Rattle.std.specs.Prelude.{ℕ, List, [], ◌∷◌, Bool, Some, true, false, codes}
 use Rattle.clap.specs.Walk.{Rule}
 use Rattle.clap.specs.declared.builder.action.ArgAction.TheVariants.{SetTrue}
 use Rattle.clap.specs.Simple.{App, Shape, new_app, new_rule, on_top, with_rule, with_subcommand}
@@ -19,6 +19,10 @@ file_rule = record (new_rule (codes "file")) { value_names = 1 }
 abbrev pub option_rule : List ℕ → Bool → Rule
 option_rule name must = record (new_rule name) { long = Some name; value_names = 1; required = must }
 
+-- the option of the address to listen on, which `--port` names too: so it is told what is wrong with a port alone
+abbrev pub listen_rule : Rule
+listen_rule = record (option_rule (codes "listen") true) { aliases = codes "port" ∷ [] }
+
 -- a flag `--NAME`
 abbrev pub flag_rule : List ℕ → Rule
 flag_rule name = record (new_rule name) { long = Some name; action = Some SetTrue }
@@ -33,11 +37,15 @@ with_rules a first second third = with_rule (with_rule (with_rule a first) secon
 
 -- the options of `serve` that say where, and how many are served
 abbrev pub with_serve_numbers : App → App
-with_serve_numbers a = with_rules a (option_rule (codes "listen") true) (option_rule (codes "workers") false) (option_rule (codes "connections") false)
+with_serve_numbers a = with_rules a listen_rule (option_rule (codes "workers") false) (option_rule (codes "connections") false)
 
 -- those that change nothing where they aren't given
 abbrev pub with_serve_switches : App → App
-with_serve_switches a = with_rules a (option_rule (codes "for") false) (option_rule (codes "idle") false) (option_rule (codes "audit") false)
+with_serve_switches a = with_two_rules a (option_rule (codes "for") false) (option_rule (codes "idle") false)
+
+-- those of what is told, and of the time before each line of it
+abbrev pub with_serve_reports : App → App
+with_serve_reports a = with_two_rules a (option_rule (codes "audit") false) (flag_rule (codes "log-times"))
 
 -- those of the time that a login has, and a frame
 abbrev pub with_serve_deadlines : App → App
@@ -65,7 +73,7 @@ with_serve_clients a = with_rule a (flag_rule (codes "librdkafka"))
 
 -- the options of `serve`
 abbrev pub with_serve_options : App → App
-with_serve_options a = with_serve_clients (with_serve_ending (with_serve_steering (with_serve_rates (with_serve_shares (with_serve_deadlines (with_serve_switches (with_serve_numbers a)))))))
+with_serve_options a = with_serve_clients (with_serve_ending (with_serve_steering (with_serve_rates (with_serve_shares (with_serve_deadlines (with_serve_reports (with_serve_switches (with_serve_numbers a))))))))
 
 abbrev pub serve_shape : Shape
 serve_shape = (with_serve_options (new_app (codes "serve"))).top

@@ -1,9 +1,25 @@
 -- How connections are served.
-use Rattle.std.specs.Prelude.{◌≡◌, ◌≤◌, ℕ, Bool, false, true, List, Option, Some, None, IfSome, codes, is_some, option_map}
+use Rattle.std.specs.Prelude.{◌≡◌, ◌<◌, ◌≤◌, ℕ, Bool, false, true, List, ◌∷◌, ◌++◌, length, Option, Some, None, IfSome, codes, is_some, option_map}
 use Rattle.std.specs.Str.{bytes_eq}
 use Rattle.std.specs.Str.Parse.{IsNumeral, digits_value, without_leading_plus}
 use Rattle.arguments.specs.declared.serving.Ending.{Ending}
 use Rattle.arguments.specs.declared.serving.Serving.{Serving}
+
+-- a text writes a number in decimal digits, a plus before them or not
+abbrev pub Writes : List ℕ → ℕ → Type 0
+Writes text number = IsNumeral 10 (without_leading_plus text) × (number ≡ digits_value 10 (without_leading_plus text))
+
+-- a port is a number of at most 65,535
+abbrev pub IsPort : List ℕ → Type 0
+IsPort text = (number : ℕ) × (number ≤ 65535) × Writes text number
+
+-- an address with a port: a host, a colon (58), and the port
+pub record IsAddress (text : List ℕ) : Type 0 where
+  pub host : List ℕ
+  pub port : List ℕ
+  pub split : text ≡ host ++ 58 ∷ port
+  pub named : 0 < length host
+  pub numbered : IsPort port
 
 abbrev pub IsIn : ℕ → ℕ → Type 0
 IsIn most number = (1 ≤ number) × (number ≤ most)
@@ -16,9 +32,10 @@ MaySteer has_file audit = (has_file ≡ true) × (audit ≡ false)
 abbrev pub MayStop : Bool → Bool → Type 0
 MayStop has_file control = (has_file ≡ true) × (control ≡ false)
 
--- at most 64 connections at once, 1,000,000 in all and of one host, times of at most 1,000,000 seconds, and of each user in a second
--- at most 1,000,000,000 requests and 1,000,000,000,000 bytes
+-- an address with a port, at most 64 connections at once, 1,000,000 in all and of one host, times of at most 1,000,000 seconds, and
+-- of each user in a second at most 1,000,000,000 requests and 1,000,000,000,000 bytes
 pub record IsWithin (s : Serving) : Type 0 where
+  pub listen : IsAddress s.listen.now
   pub workers : IsIn 64 s.workers
   pub connections : IsIn 1000000 s.connections
   pub per_host : IfSome s.per_host (IsIn 1000000)
@@ -31,10 +48,6 @@ pub record IsWithin (s : Serving) : Type 0 where
   pub steered : s.control ≡ true → MaySteer (is_some s.settings) s.audit
   pub grace_seconds : IfSome s.ending.grace_seconds (λ seconds. seconds ≤ 1000000)
   pub stopped : s.ending.with_input ≡ true → MayStop (is_some s.settings) s.control
-
--- a text writes a number in decimal digits, a plus before them or not
-abbrev pub Writes : List ℕ → ℕ → Type 0
-Writes text number = IsNumeral 10 (without_leading_plus text) × (number ≡ digits_value 10 (without_leading_plus text))
 
 -- the number of an option is the one that its value writes, or the usual one where it isn't given
 abbrev pub Tells : Option (List ℕ) → ℕ → ℕ → Type 0
@@ -80,6 +93,7 @@ pub record IsServedBy (value_of : List ℕ → Option (List ℕ)) (s : Serving) 
   pub rate : TellsIfGiven (value_of (codes "rate")) s.rate
   pub rate_bytes : TellsIfGiven (value_of (codes "rate-bytes")) s.rate_bytes
   pub audit : TellsAudit (value_of (codes "audit")) s.audit
+  pub log_times : s.log_times ≡ is_given (value_of (codes "log-times"))
   pub settings : option_map (λ file. file.now) s.settings ≡ value_of (codes "settings")
   pub control : s.control ≡ is_given (value_of (codes "control"))
   pub ending : EndsBy value_of s.ending

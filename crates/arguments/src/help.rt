@@ -1,6 +1,10 @@
 //! What `--help` says of each command.
 
-pub(crate) const PROGRAM: &str = "An in-memory Kafka broker for several tenants";
+pub(crate) const PROGRAM: &str = "An in-memory Kafka broker for several tenants
+
+`kbroker COMMAND --help` tells more of a command. In the repository, docs/USING.md tells of
+settings, clients and scripts, docs/OPERATING.md of a server, and examples/ has pages for kcat and
+confluent-kafka.";
 
 /// The version of the program.
 pub const VERSION: &str = "0.1.0";
@@ -37,9 +41,9 @@ pub(crate) const CHECK_LONG: &str = "Tells what is wrong with settings.
 
 FILE, or else standard input, holds the settings, from its first line to its last.
 
-Standard output gets `settings ok`, or `settings refused: FAULT`, FAULT being the first of Toml, Key,
-User, Range, TopicName, Twice, Acl, Super and NoMemory that holds. Standard error gets a sentence
-that says which key of which table, and why.
+Standard output gets `settings ok`, or `settings refused: FAULT`, FAULT being the first of Toml,
+Key, User, Range, TopicName, Twice, Acl, Super and NoMemory that holds. Standard error gets a
+sentence that says which key of which table, and why.
 
 The exit status is 0 where the settings can be taken, 1 where they are refused or can't be read, and
 2 for a command line that isn't understood.";
@@ -67,10 +71,11 @@ pub(crate) const SHOW: &str = "Shows a script of requests, and their answers, in
 
 pub(crate) const SHOW_LONG: &str = "Shows a script of requests, and their answers, in words.
 
-FILE, or else standard input, holds what `replay` reads. Each request is shown by the names of the protocol's guide,
-with the records of its batches, and beside it its answer, which is made as `replay` makes it. With
-`--answers FILE` the answers are read from a file instead, which holds what an earlier `replay`
-printed. Where there are no settings, and so no line `---`, requests alone are shown.
+FILE, or else standard input, holds what `replay` reads. Each request is shown by the names of the
+protocol's guide, with the records of its batches, and beside it its answer, which is made as
+`replay` makes it. With `--answers FILE` the answers are read from a file instead, which holds what
+an earlier `replay` printed. Where there are no settings, and so no line `---`, requests alone are
+shown.
 
 A frame that can't be read is told by its first fault, and by the byte at which that stands. A line
 that can't be read, a broker that takes no more events, and settings with a fault each end the run,
@@ -83,8 +88,8 @@ pub(crate) const SHOW_EXAMPLE: &str = "Example:
 
     kbroker show examples/metadata.txt";
 
-pub(crate) const ANSWERS: &str =
-    "The file that holds what an earlier `replay` printed; the answers are made anew if it isn't given";
+pub(crate) const ANSWERS: &str = "The file that holds what an earlier `replay` printed;
+the answers are made anew if it isn't given";
 
 pub(crate) const SERVE: &str = "Serves clients over TCP";
 
@@ -97,9 +102,9 @@ others wait until one of them leaves.
 
 Standard output gets `listening on ADDRESS` as soon as clients can connect, and a last line once so
 many connections were served: `sessions S events E refusals R` where each answer that was given
-stands in the broker's trail, and `settle failed: FAULT` where that can't be shown. Where the address
-can't be listened on, it gets `listen failed`, where the settings' file can't be opened, `open
-failed`, and where the settings have a fault, `settings refused: FAULT`.
+stands in the broker's trail, and `settle failed: FAULT` where that can't be shown. Where the
+address can't be listened on, it gets `listen failed`, where the settings' file can't be opened,
+`open failed`, and where the settings have a fault, `settings refused: FAULT`.
 
 With `--control` there is no clock. Lines of standard input steer the broker, each answered on
 standard output once it is done:
@@ -115,20 +120,25 @@ standard output once it is done:
 Another line is answered `unreadable`, and a step that is not taken `stop N`. The end of standard
 input is `end`.
 
-With `--stop-with-input` the broker keeps its own time. `audit` and `state` are answered as above, and
-every other line but `end` is answered `unreadable`. `end` and the end of standard input stop the
-broker, as the end of the time of `--for` does: no more connections are taken, no further request is
-read, answers that are due are written, and so are markers that are owed. Connections that are still
-open after the seconds of `--grace` are closed.
+With `--stop-with-input` the broker keeps its own time. `audit` and `state` are answered as above,
+and every other line but `end` is answered `unreadable`. `end` and the end of standard input stop
+the broker, as the end of the time of `--for` does: no more connections are taken, no further
+request is read, answers that are due are written, and so are markers that are owed. Connections
+that are still open after the seconds of `--grace` are closed.
 
-With `--librdkafka` ApiVersions lists, before a login, SaslHandshake and FindCoordinator from version
-0 on: librdkafka, on which kcat and confluent-kafka stand, logs in only where it sees them so, and
-then asks them in version 1. Version 0 of the two is not served. And since such a client asks again
-at once, the answer to a Fetch that brings no record is held back for as long as the request's
-max_wait_ms says, at most for 100 milliseconds.
+With `--librdkafka` ApiVersions lists, before a login, SaslHandshake and FindCoordinator from
+version 0 on: librdkafka, on which kcat and confluent-kafka stand, logs in only where it sees them
+so, and then asks them in version 1. Version 0 of the two is not served. And since such a client
+asks again at once, the answer to a Fetch that brings no record is held back for as long as the
+request's max_wait_ms says, at most for 100 milliseconds.
 
-Standard error gets a line that begins with `kbroker: ` for each connection that ended otherwise than
-between two requests, and with `--audit -` the line of each refusal, as `replay` prints it.
+Standard error gets a line that begins with `kbroker: ` for each connection that ended otherwise
+than between two requests, and with `--audit -` the line of each refusal, as `replay` prints it.
+
+Where standard error is no terminal, or with `--log-times`, each line of a running server begins
+with the time in UTC and a level, INFO or WARN, as `2026-11-29T03:50:45.123Z INFO kbroker: ..`. What
+is said before it serves, as of settings, has neither. docs/OPERATING.md tells which lines there
+are.
 
 The exit status is 0 where all was served and settled, 1 where it wasn't, and 2 for a command line
 that isn't understood.";
@@ -146,7 +156,7 @@ Settings to begin with, of one user, to whom everything is allowed, and one topi
     user = [{ name = \"ann\", password = \"secret\" }]
     topic = [{ name = \"orders\", partitions = 2 }]
 
-A client's properties, as librdkafka names them; `serve --librdkafka` serves clients that stand on it:
+A client's properties, as librdkafka names them; such clients need `serve --librdkafka`:
 
     bootstrap.servers=127.0.0.1:9092
     security.protocol=SASL_PLAINTEXT
@@ -166,39 +176,49 @@ pub(crate) const ENDLESS: &str =
     "Connections are served without end: they aren't counted; without --connections";
 
 pub(crate) const PER_HOST: &str =
-    "How many connections of one host are served at once at most, 1 to 1,000,000; any number if it isn't given";
+    "How many connections of one host are served at once at most, 1 to 1,000,000;
+any number if it isn't given";
 
-pub(crate) const RATE: &str =
-    "How many requests each user may send in a second, 1 to 1,000,000,000; above that its sessions wait before they read on; any number if it isn't given";
+pub(crate) const RATE: &str = "How many requests each user may send in a second, 1 to 1,000,000,000;
+above that its sessions wait before they read on; any number if it isn't given";
 
 pub(crate) const RATE_BYTES: &str =
-    "How many bytes of requests each user may send in a second, 1 to 1,000,000,000,000; above that its sessions wait before they read on; any number if it isn't given";
+    "How many bytes of requests each user may send in a second, 1 to 1,000,000,000,000;
+above that its sessions wait before they read on; any number if it isn't given";
 
 pub(crate) const FOR: &str = "After how many seconds the broker stops, 1 to 1,000,000; see --grace";
 
 pub(crate) const IDLE: &str =
-    "After how many seconds of waiting for its peer a connection is closed, 1 to 1,000,000; never if it isn't given";
+    "After how many seconds of waiting for its peer a connection is closed, 1 to 1,000,000;
+never if it isn't given";
 
-pub(crate) const LOGIN_WITHIN: &str =
-    "Within how many seconds a client logs in, 1 to 1,000,000; else its connection is closed [default: 10]";
+pub(crate) const LOGIN_WITHIN: &str = "Within how many seconds a client logs in, 1 to 1,000,000;
+else its connection is closed [default: 10]";
 
 pub(crate) const FRAME_WITHIN: &str =
-    "Within how many seconds a request comes, from its first byte to its last, 1 to 1,000,000; else its connection is closed [default: 30]";
+    "Within how many seconds a request comes, from its first byte to its last, 1 to 1,000,000;
+else its connection is closed [default: 30]";
 
 pub(crate) const AUDIT: &str =
     "Where each refusal is told as it happens: -, which is standard error";
 
+pub(crate) const LOG_TIMES: &str =
+    "Each line of a running server on standard error begins with a time and a level,
+as it does where that is no terminal";
+
 pub(crate) const SETTINGS: &str =
     "The file that holds the settings; standard input if it isn't given";
 
-pub(crate) const CONTROL: &str =
-    "Lines of standard input steer the broker, in place of the clock; with --settings, and without --audit";
+pub(crate) const CONTROL: &str = "Lines of standard input steer the broker, in place of the clock;
+with --settings, and without --audit";
 
 pub(crate) const GRACE: &str =
-    "How many seconds after a stop the connections that are still open are closed, 0 to 1,000,000; never with --control [default: 5]";
+    "How many seconds after a stop the connections that are still open are closed,
+0 to 1,000,000; never with --control [default: 5]";
 
 pub(crate) const STOP_WITH_INPUT: &str =
-    "The end of standard input stops the broker, and so does a line `end`; with --settings, and without --control";
+    "The end of standard input stops the broker, and so does a line `end`;
+with --settings, and without --control";
 
-pub(crate) const LIBRDKAFKA: &str =
-    "ApiVersions lists before a login what librdkafka looks for: SaslHandshake and FindCoordinator from version 0";
+pub(crate) const LIBRDKAFKA: &str = "ApiVersions lists before a login what librdkafka looks for:
+SaslHandshake and FindCoordinator from version 0";

@@ -1,6 +1,7 @@
 //! The program's command line.
 #![tactic(auto)]
 
+mod address;
 mod help;
 mod job;
 mod misused;

@@ -5,12 +5,13 @@ ghost use Rattle.clap.specs.Simple.{app_of};
 ghost use Rattle.clap.specs.Matches.{first_value, found_of};
 ghost use Rattle.clap.specs.Walk.{rule_of};
 ghost use Rattle.clap.specs.declared.builder.command.Command.TheViews.{out-Command as fields_of};
-ghost use Rattle.arguments.specs.CommandLine.{flag_rule, option_rule, with_rules, with_two_rules, with_serve_clients, with_serve_deadlines, with_serve_ending, with_serve_numbers, with_serve_options, with_serve_rates, with_serve_shares, with_serve_steering, with_serve_switches};
+ghost use Rattle.arguments.specs.CommandLine.{flag_rule, listen_rule, option_rule, with_rules, with_two_rules, with_serve_clients, with_serve_deadlines, with_serve_ending, with_serve_numbers, with_serve_options, with_serve_rates, with_serve_reports, with_serve_shares, with_serve_steering, with_serve_switches};
 ghost use Rattle.arguments.specs.Serving.{EndsBy, GoesUncounted, IsIn, IsServedBy, IsWithin, MayStop, MaySteer, NoneServes, Tells, TellsAudit, TellsIfGiven, Writes, is_given};
 
+use crate::address::listen_of;
 use crate::help::{
     AUDIT, CONNECTIONS, CONTROL, ENDLESS, FOR, FRAME_WITHIN, GRACE, IDLE, LIBRDKAFKA, LISTEN,
-    LOGIN_WITHIN, PER_HOST, RATE, RATE_BYTES, SETTINGS, STOP_WITH_INPUT, WORKERS,
+    LOG_TIMES, LOGIN_WITHIN, PER_HOST, RATE, RATE_BYTES, SETTINGS, STOP_WITH_INPUT, WORKERS,
 };
 use crate::misused::Misused;
 use clap::{Arg, ArgAction, ArgMatches, Command};
@@ -28,7 +29,7 @@ pub struct Ending {
 /// How a listener's connections are served.
 #[derive(Clone, Copy, Debug, PartialEq, Eq)]
 pub struct Serving<'a> {
-    /// The address to listen on.
+    /// The address to listen on, and its port behind a colon.
     pub listen: &'a str,
     /// How many connections are served at once, 1 to 64.
     pub workers: u64,
@@ -52,6 +53,8 @@ pub struct Serving<'a> {
     pub rate_bytes: Option<u64>,
     /// Whether each refusal is told on standard error.
     pub audit: bool,
+    /// Whether a time and a level stand before each line of standard error, whatever that is.
+    pub log_times: bool,
     /// The file that holds the settings, if standard input doesn't.
     pub settings: Option<&'a str>,
     /// Whether lines of standard input steer the broker, in place of the clock.
@@ -96,6 +99,14 @@ pub(crate) fn option<'a>(
         .value_name(value)
         .help(help)
         .required(must)
+}
+
+/// The option of the address to listen on. Who looks for `--port`, as other servers have it, is told what this one takes.
+fn listen_option<'a>(alloc: Global) -> Result<Arg<'a>, AllocError>
+    ensures rule { IfOk result (λ made. rule_of made ≡ listen_rule) }
+    ensures local { IfOk result (λ made. made.global ≡ false) }
+{
+    option(alloc, "listen", "ADDR", LISTEN, true).alias("port")
 }
 
 /// A flag of this name.
@@ -144,7 +155,7 @@ fn with_numbers<'a>(alloc: Global, command: Command<'a>) -> Result<Command<'a>, 
     ensures app { IfOk result (λ made. app_of made ≡ with_serve_numbers (app_of command.entry)) }
     ensures local { IfOk result (λ made. (fields_of made).has_globals ≡ (fields_of command.entry).has_globals) }
 {
-    let listen = option(alloc, "listen", "ADDR", LISTEN, true);
+    let listen = listen_option(alloc)?;
     let workers = option(alloc, "workers", "N", WORKERS, false);
     let connections = option(alloc, "connections", "N", CONNECTIONS, false);
     with_three(command, listen, workers, connections)
@@ -157,8 +168,17 @@ fn with_switches<'a>(alloc: Global, command: Command<'a>) -> Result<Command<'a>,
 {
     let open = option(alloc, "for", "SECONDS", FOR, false);
     let idle = option(alloc, "idle", "SECONDS", IDLE, false);
-    let audit = option(alloc, "audit", "FILE", AUDIT, false);
-    with_three(command, open, idle, audit)
+    with_two(command, open, idle)
+}
+
+/// The command with the options of what is told, and of the time before each line of it.
+fn with_reports<'a>(alloc: Global, command: Command<'a>) -> Result<Command<'a>, AllocError>
+    ensures app { IfOk result (λ made. app_of made ≡ with_serve_reports (app_of command.entry)) }
+    ensures local { IfOk result (λ made. (fields_of made).has_globals ≡ (fields_of command.entry).has_globals) }
+{
+    let audit = option(alloc, "audit", "-", AUDIT, false);
+    let log_times = flag(alloc, "log-times", LOG_TIMES);
+    with_two(command, audit, log_times)
 }
 
 /// The command with the options of the time that a login has, and a frame.
@@ -229,6 +249,7 @@ pub(crate) fn with_options<'a>(
 {
     let command = with_numbers(alloc, command)?;
     let command = with_switches(alloc, command)?;
+    let command = with_reports(alloc, command)?;
     let command = with_deadlines(alloc, command)?;
     let command = with_shares(alloc, command)?;
     let command = with_rates(alloc, command)?;
@@ -412,7 +433,7 @@ pub(crate) fn serving_by<'a>(options: &ArgMatches<'a>) -> Result<Serving<'a>, Mi
     ensures served { IfOk result (IsServedBy (first_value (found_of options.now))) }
     ensures none { IfErr result (λ _. NoneServes (first_value (found_of options.now))) }
 {
-    let listen = options.get_str("listen").ok_or(Misused::Listen)?;
+    let listen = listen_of(options.get_str("listen"))?;
     let workers = options.get_str("workers");
     let workers = number_or(workers, MOST_WORKERS, USUAL_WORKERS, Misused::Workers)?;
     let endless = is_given(options.get_str("endless"));
@@ -429,6 +450,7 @@ pub(crate) fn serving_by<'a>(options: &ArgMatches<'a>) -> Result<Serving<'a>, Mi
     let rate_bytes = options.get_str("rate-bytes");
     let rate_bytes = number_if_given(rate_bytes, MOST_RATE_BYTES, Misused::RateBytes)?;
     let audit = audit_of(options.get_str("audit"))?;
+    let log_times = is_given(options.get_str("log-times"));
     let settings = options.get_str("settings");
     let control = control_of(options.get_str("control"), settings, audit)?;
     let ending = ending_by(options, settings, control)?;
@@ -446,6 +468,7 @@ pub(crate) fn serving_by<'a>(options: &ArgMatches<'a>) -> Result<Serving<'a>, Mi
         rate,
         rate_bytes,
         audit,
+        log_times,
         settings,
         control,
         ending,

@@ -1,4 +1,5 @@
-pub mod LeftOut
-pub mod News
-pub mod Said
+pub mod Counts
+pub mod Dropped
+pub mod TrailDelta
+pub mod ControlCommand
 pub mod NearlyFull

@@ -1,16 +1,21 @@
 //! Lines that ask how things stand, and those that come beside a clock.
 
-use crate::news::{lines_of, refusals_since};
-use crate::said::{Said, parse_said};
-use crate::standing::standing_of;
+use crate::control_command::{ControlCommand, parse_control_command};
+use crate::operator_log::OperatorLog;
+use crate::state_report::state_report_of;
 use crate::state_text::state_text;
+use crate::trail_delta::{lines_of, refusals_since};
 use authorizer::Refusal;
 use request_handlers::{Core, Stop};
 use session_pool::{Closing, DeskLedger, LockedDesk};
 use std::alloc::{AllocError, Global};
 use std::io::{BufRead, Write};
 use std::sync::Wait;
+use std::time;
 use wire_types::write_whole;
+
+/// The lines that are answered beside a clock, as an operator is told them.
+const ASKING_LINES: &str = "`audit`, `state` and `end`";
 
 /// Lines that steer a broker, and where each is answered.
 #[derive(Drop)]
@@ -28,6 +33,7 @@ pub struct Steering<'d, I, O> {
 pub(crate) struct Asking<'d, 'r, L: DeskLedger, R: Wait, I: BufRead, O: Write> {
     alloc: Global,
     pub(crate) desk: &'d LockedDesk<L, &'r R>,
+    log: &'d OperatorLog<'r, R>,
     steering: Steering<'d, I, O>,
     /// How many entries of the trail were told of.
     told: usize,
@@ -57,37 +63,47 @@ fn refused_text(alloc: Global, refusals: &[Refusal]) -> Result<String, AllocErro
     Ok(text)
 }
 
-impl<'d, 'r, L: DeskLedger, R: Wait, I: BufRead, O: Write> Asking<'d, 'r, L, R, I, O> {
+impl<'d, 'r, L: DeskLedger, R: Wait + time::Clock, I: BufRead, O: Write> Asking<
+    'd,
+    'r,
+    L,
+    R,
+    I,
+    O,
+> {
     /// Before the first line.
     pub(crate) fn new(
         alloc: Global,
         desk: &'d LockedDesk<L, &'r R>,
+        log: &'d OperatorLog<'r, R>,
         steering: Steering<'d, I, O>,
     ) -> Asking<'d, 'r, L, R, I, O> {
         Asking {
             alloc,
             desk,
+            log,
             steering,
             told: 0,
         }
     }
 
     /// Answers with whole lines. Whoever doesn't read them misses them.
-    pub(crate) fn say(&mut self, lines: &str) {
+    pub(crate) fn answer(&mut self, lines: &str) {
         let _ = write_whole(&mut self.steering.answers, lines.as_bytes());
     }
 
     /// Answers with lines, or tells that memory was refused for them.
-    pub(crate) fn say_or_stop(&mut self, lines: Result<String, AllocError>) {
+    pub(crate) fn answer_or_stop(&mut self, lines: Result<String, AllocError>) {
         match lines {
-            Ok(lines) => self.say(lines.as_str()),
-            Err(_) => self.say(Stop::NoMemory.line()),
+            Ok(lines) => self.answer(lines.as_str()),
+            Err(_) => self.answer(Stop::NoMemory.line()),
         }
     }
 
-    /// Answers a line that asks for nothing that is done.
-    pub(crate) fn say_unreadable(&mut self) {
-        self.say("unreadable\n");
+    /// Answers a line that asks for nothing that is done, and tells an operator which lines do.
+    pub(crate) fn answer_unreadable(&mut self, lines: &str) {
+        self.answer("unreadable\n");
+        self.log.tell_unreadable(lines);
     }
 
     /// No more connections are to be taken.
@@ -95,26 +111,32 @@ impl<'d, 'r, L: DeskLedger, R: Wait, I: BufRead, O: Write> Asking<'d, 'r, L, R, 
         self.steering.closing.close();
     }
 
+    /// The same, and an operator is told which are still open.
+    pub(crate) fn close_and_tell(&self) {
+        self.close();
+        self.log.tell_open();
+    }
+
     /// What the next line asks for; none where it can't be read. The end of the lines is `end`.
-    pub(crate) fn read(&mut self) -> Option<Said> {
+    pub(crate) fn read(&mut self) -> Option<ControlCommand> {
         let mut line = Vec::new(self.alloc);
         match self.steering.lines.read_until(b'\n', &mut line) {
             Ok(count) if count > 0 => {}
-            _ => return Some(Said::End),
+            _ => return Some(ControlCommand::End),
         }
         match line.as_slice().split_last() {
-            Some((last, front)) if *last == b'\n' => parse_said(front),
-            _ => parse_said(line.as_slice()),
+            Some((last, front)) if *last == b'\n' => parse_control_command(front),
+            _ => parse_control_command(line.as_slice()),
         }
     }
 
     pub(crate) fn tell_state(&mut self) {
         let alloc = self.alloc;
-        let lines = match self.desk.look(|core| standing_of(alloc, core)) {
-            Ok(standing) => state_text(alloc, &standing),
+        let lines = match self.desk.look(|core| state_report_of(alloc, core)) {
+            Ok(report) => state_text(alloc, &report),
             Err(error) => Err(error),
         };
-        self.say_or_stop(lines);
+        self.answer_or_stop(lines);
     }
 
     pub(crate) fn tell_refusals(&mut self) {
@@ -129,7 +151,7 @@ impl<'d, 'r, L: DeskLedger, R: Wait, I: BufRead, O: Write> Asking<'d, 'r, L, R, 
             }
             Err(error) => Err(error),
         };
-        self.say_or_stop(lines);
+        self.answer_or_stop(lines);
     }
 }
 
@@ -140,7 +162,7 @@ pub struct Attendant<'d, 'r, L: DeskLedger, R: Wait, I: BufRead, O: Write> {
     asking: Asking<'d, 'r, L, R, I, O>,
 }
 
-impl<'d, 'r, L: DeskLedger, R: Wait, I: BufRead + Drop, O: Write + Drop> Attendant<
+impl<'d, 'r, L: DeskLedger, R: Wait + time::Clock, I: BufRead + Drop, O: Write + Drop> Attendant<
     'd,
     'r,
     L,
@@ -153,11 +175,12 @@ impl<'d, 'r, L: DeskLedger, R: Wait, I: BufRead + Drop, O: Write + Drop> Attenda
         rt: &'r R,
         alloc: Global,
         desk: &'d LockedDesk<L, &'r R>,
+        log: &'d OperatorLog<'r, R>,
         steering: Steering<'d, I, O>,
     ) -> Attendant<'d, 'r, L, R, I, O> {
         Attendant {
             rt,
-            asking: Asking::new(alloc, desk, steering),
+            asking: Asking::new(alloc, desk, log, steering),
         }
     }
 
@@ -167,10 +190,10 @@ impl<'d, 'r, L: DeskLedger, R: Wait, I: BufRead + Drop, O: Write + Drop> Attenda
         let rt = self.rt;
         for _ in rt.forever() {
             match self.asking.read() {
-                Some(Said::End) => break,
-                Some(Said::Audit) => self.asking.tell_refusals(),
-                Some(Said::State) => self.asking.tell_state(),
-                _ => self.asking.say_unreadable(),
+                Some(ControlCommand::End) => break,
+                Some(ControlCommand::Audit) => self.asking.tell_refusals(),
+                Some(ControlCommand::State) => self.asking.tell_state(),
+                _ => self.asking.answer_unreadable(ASKING_LINES),
             }
         }
         self.asking.close();

@@ -3,19 +3,24 @@
 ghost use Rattle.std.specs.Prelude.{None};
 
 use crate::asking::{Asking, Steering};
-use crate::said::Said;
-use crate::standing::{Moment, front_of, moment_of, open_ones};
+use crate::control_command::ControlCommand;
+use crate::operator_log::OperatorLog;
+use crate::state_report::{TickReport, front_of, open_ones, tick_report_of};
 use crate::state_text::{front_text, moment_text};
 use request_handlers::{Core, Stop};
 use session_pool::{DeskLedger, LockedDesk, Step, Steps, Why};
 use std::alloc::{AllocError, Global};
 use std::io::{BufRead, Write};
 use std::sync::Wait;
+use std::time;
 use transactions::OwedMarker;
+
+/// The lines that steer a broker, as an operator is told them.
+const STEERING_LINES: &str = "`tick N`, `mark`, `marks`, `audit`, `state` and `end`";
 
 /// What the keeper does for the last line.
 #[derive(Clone, Copy, Debug, PartialEq, Eq)]
-enum Doing {
+enum InFlight {
     Nothing,
     Tick,
     Mark,
@@ -33,15 +38,15 @@ enum Seen {
     /// Which transactions were open before it.
     Open(Vec<bool>),
     /// What a moment came to.
-    Moment(Moment),
+    TickReport(TickReport),
 }
 
 /// What a line comes to.
-enum Turn {
+enum Effect {
     /// A step of the keeper, which is told once it is done.
-    Steps(Doing, Step),
+    Steps(InFlight, Step),
     /// It was answered.
-    Told,
+    Answered,
     /// The keeper ends.
     Ends,
 }
@@ -52,7 +57,7 @@ pub struct Control<'d, 'r, L: DeskLedger, R: Wait, I: BufRead, O: Write> {
     rt: &'r R,
     alloc: Global,
     asking: Asking<'d, 'r, L, R, I, O>,
-    doing: Doing,
+    in_flight: InFlight,
     /// How many markers are owed.
     left: u64,
     /// What is to be told of the step.
@@ -63,17 +68,17 @@ pub struct Control<'d, 'r, L: DeskLedger, R: Wait, I: BufRead, O: Write> {
 fn seen_text(alloc: Global, seen: &Seen) -> Result<String, AllocError> {
     match seen {
         Seen::Front(front) => front_text(alloc, front),
-        Seen::Moment(moment) => moment_text(alloc, moment),
+        Seen::TickReport(report) => moment_text(alloc, report),
         Seen::Nothing | Seen::Open(_) => Err(AllocError),
     }
 }
 
 /// What is to be seen before a step.
-fn seen_before(alloc: Global, core: &Core, doing: Doing) -> Seen {
-    match doing {
-        Doing::Tick => open_ones(alloc, core).map_or(Seen::Nothing, Seen::Open),
-        Doing::Mark | Doing::Marks(_) => front_of(core).map_or(Seen::Nothing, Seen::Front),
-        Doing::Nothing => Seen::Nothing,
+fn seen_before(alloc: Global, core: &Core, in_flight: InFlight) -> Seen {
+    match in_flight {
+        InFlight::Tick => open_ones(alloc, core).map_or(Seen::Nothing, Seen::Open),
+        InFlight::Mark | InFlight::Marks(_) => front_of(core).map_or(Seen::Nothing, Seen::Front),
+        InFlight::Nothing => Seen::Nothing,
     }
 }
 
@@ -85,19 +90,27 @@ fn stop_line(why: Why) -> &'static str {
     }
 }
 
-impl<'d, 'r, L: DeskLedger, R: Wait, I: BufRead, O: Write> Control<'d, 'r, L, R, I, O> {
+impl<'d, 'r, L: DeskLedger, R: Wait + time::Clock, I: BufRead, O: Write> Control<
+    'd,
+    'r,
+    L,
+    R,
+    I,
+    O,
+> {
     /// Before the first line.
     pub fn new(
         rt: &'r R,
         alloc: Global,
         desk: &'d LockedDesk<L, &'r R>,
+        log: &'d OperatorLog<'r, R>,
         steering: Steering<'d, I, O>,
     ) -> Control<'d, 'r, L, R, I, O> {
         Control {
             rt,
             alloc,
-            asking: Asking::new(alloc, desk, steering),
-            doing: Doing::Nothing,
+            asking: Asking::new(alloc, desk, log, steering),
+            in_flight: InFlight::Nothing,
             left: 0,
             seen: Seen::Nothing,
         }
@@ -105,35 +118,38 @@ impl<'d, 'r, L: DeskLedger, R: Wait, I: BufRead, O: Write> Control<'d, 'r, L, R,
 
     /// `markers N` after the last of them.
     fn tell_markers(&mut self, count: u64) {
-        self.doing = Doing::Nothing;
+        self.in_flight = InFlight::Nothing;
         let line = format!(in self.alloc; "markers {count}\n");
-        self.asking.say_or_stop(line);
+        self.asking.answer_or_stop(line);
     }
 
     /// The first mark, if one is owed.
-    fn first_of_marks(&mut self) -> Turn {
+    fn first_of_marks(&mut self) -> Effect {
         if self
             .asking
             .desk
             .look(|core| core.world().coordinator.owed())
             > 0
         {
-            return Turn::Steps(Doing::Marks(0), Step::Mark);
+            return Effect::Steps(InFlight::Marks(0), Step::Mark);
         }
         self.tell_markers(0);
-        Turn::Told
+        Effect::Answered
     }
 
-    fn turn(&mut self, said: Said) -> Turn {
-        match said {
-            Said::Tick(moment) => return Turn::Steps(Doing::Tick, Step::Tick(moment)),
-            Said::Mark => return Turn::Steps(Doing::Mark, Step::Mark),
-            Said::Marks => return self.first_of_marks(),
-            Said::Audit => self.asking.tell_refusals(),
-            Said::State => self.asking.tell_state(),
-            Said::End => return Turn::Ends,
+    fn obey(&mut self, command: ControlCommand) -> Effect {
+        match command {
+            ControlCommand::Tick(moment) => return Effect::Steps(
+                InFlight::Tick,
+                Step::Tick(moment),
+            ),
+            ControlCommand::Mark => return Effect::Steps(InFlight::Mark, Step::Mark),
+            ControlCommand::Marks => return self.first_of_marks(),
+            ControlCommand::Audit => self.asking.tell_refusals(),
+            ControlCommand::State => self.asking.tell_state(),
+            ControlCommand::End => return Effect::Ends,
         }
-        Turn::Told
+        Effect::Answered
     }
 
     /// The line of a step that was taken: `moment MOMENT` or `marker ..`, and how many markers are owed.
@@ -145,35 +161,36 @@ impl<'d, 'r, L: DeskLedger, R: Wait, I: BufRead, O: Write> Control<'d, 'r, L, R,
             Err(error) => Err(error),
         };
         self.seen = Seen::Nothing;
-        self.asking.say_or_stop(line);
-        self.doing = match self.doing {
-            Doing::Marks(count) => Doing::Marks(count.saturating_add(1)),
-            _ => Doing::Nothing,
+        self.asking.answer_or_stop(line);
+        self.in_flight = match self.in_flight {
+            InFlight::Marks(count) => InFlight::Marks(count.saturating_add(1)),
+            _ => InFlight::Nothing,
         };
     }
 }
 
-impl<'d, 'r, L: DeskLedger, R: Wait, I: BufRead, O: Write> Steps for Control<'d, 'r, L, R, I, O> {
+impl<'d, 'r, L: DeskLedger, R: Wait + time::Clock, I: BufRead, O: Write> Steps
+    for Control<'d, 'r, L, R, I, O> {
     /// Whoever steers the broker says when a marker is written.
     ghost owed = { λ _. None };
 
     fn before(&mut self, core: &Core) {
-        self.seen = seen_before(self.alloc, core, self.doing);
+        self.seen = seen_before(self.alloc, core, self.in_flight);
     }
 
     fn after(&mut self, core: &Core) {
-        let moment = match &self.seen {
-            Seen::Open(open) => moment_of(self.alloc, core, open.as_slice()),
+        let report = match &self.seen {
+            Seen::Open(open) => tick_report_of(self.alloc, core, open.as_slice()),
             _ => return,
         };
-        self.seen = match moment {
-            Ok(moment) => Seen::Moment(moment),
+        self.seen = match report {
+            Ok(report) => Seen::TickReport(report),
             Err(_) => Seen::Nothing,
         };
     }
 
     fn next(&mut self, _done: bool) -> Option<Step> {
-        if let Doing::Marks(count) = self.doing {
+        if let InFlight::Marks(count) = self.in_flight {
             if self.left > 0 {
                 return Some(Step::Mark);
             }
@@ -181,20 +198,20 @@ impl<'d, 'r, L: DeskLedger, R: Wait, I: BufRead, O: Write> Steps for Control<'d,
         }
         let rt = self.rt;
         for _ in rt.forever() {
-            let Some(said) = self.asking.read() else {
-                self.asking.say_unreadable();
+            let Some(command) = self.asking.read() else {
+                self.asking.answer_unreadable(STEERING_LINES);
                 continue;
             };
-            match self.turn(said) {
-                Turn::Steps(doing, step) => {
-                    self.doing = doing;
+            match self.obey(command) {
+                Effect::Steps(in_flight, step) => {
+                    self.in_flight = in_flight;
                     return Some(step);
                 }
-                Turn::Told => {}
-                Turn::Ends => break,
+                Effect::Answered => {}
+                Effect::Ends => break,
             }
         }
-        self.asking.close();
+        self.asking.close_and_tell();
         None
     }
 
@@ -202,8 +219,8 @@ impl<'d, 'r, L: DeskLedger, R: Wait, I: BufRead, O: Write> Steps for Control<'d,
         match outcome {
             Ok(left) => self.tell_step(left),
             Err(why) => {
-                self.doing = Doing::Nothing;
-                self.asking.say(stop_line(why));
+                self.in_flight = InFlight::Nothing;
+                self.asking.answer(stop_line(why));
             }
         }
         true

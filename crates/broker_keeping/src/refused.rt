@@ -12,61 +12,55 @@ use wire_types::Bytes;
 const LOGIN_KEYS: [i16; 2] = [17, 36];
 
 /// Appends which api came out of its order.
-fn push_early(alloc: Global, line: &mut String, key: i16) -> Result<(), AllocError> {
+fn push_early(alloc: Global, words: &mut String, key: i16) -> Result<(), AllocError> {
     match api_name(alloc, key) {
-        Some(name) => line.push_str(format!(in alloc; " asks {name}")?.as_str())?,
-        None => line.push_str(format!(in alloc; " asks api {key}")?.as_str())?,
+        Some(name) => words.push_str(format!(in alloc; "asks {name}")?.as_str())?,
+        None => words.push_str(format!(in alloc; "asks api {key}")?.as_str())?,
     }
     if LOGIN_KEYS.contains(&key) {
-        line.push_str(" out of its order")
+        words.push_str(" out of its order")
     } else {
-        line.push_str(" before its login")
+        words.push_str(" before its login")
     }
 }
 
 /// Appends what a login's message tells, without its password.
-fn push_login(line: &mut String, message: &[u8]) -> Result<(), AllocError> {
+fn push_login(words: &mut String, message: &[u8]) -> Result<(), AllocError> {
     let Some(name) = name_in(message) else {
-        return line.push_str(" sends a login that is no PLAIN message");
+        return words.push_str("sends a login that is no PLAIN message");
     };
     let Ok(name) = from_utf8(name) else {
-        return line.push_str(" sends a login whose name is not UTF-8");
+        return words.push_str("sends a login whose name is not UTF-8");
     };
-    line.push_str(" logs in as")?;
-    push_word(line, name)?;
-    line.push_str(": no user has this name and password")
+    words.push_str("logs in as")?;
+    push_word(words, name)?;
+    words.push_str(": no user has this name and password")
 }
 
 /// Appends what of a login was refused.
-fn push_refused(alloc: Global, line: &mut String, kept: &Bytes) -> Result<(), AllocError> {
+fn push_refused(alloc: Global, words: &mut String, kept: &Bytes) -> Result<(), AllocError> {
     let Ok((_header, request)) = read_request(alloc, kept) else {
-        return line.push_str(" sends a login that is longer than each user's");
+        return words.push_str("sends a login that is longer than each user's");
     };
     match &request {
         Request::SaslHandshake(message) => {
-            line.push_str(" asks for the mechanism")?;
-            push_word(line, message.mechanism.as_str())?;
-            line.push_str(", which isn't offered: PLAIN is")
+            words.push_str("asks for the mechanism")?;
+            push_word(words, message.mechanism.as_str())?;
+            words.push_str(", which isn't offered: PLAIN is")
         }
-        Request::SaslAuthenticate(message) => push_login(line, message.auth.as_slice()),
-        _ => line.push_str(" isn't logged in"),
+        Request::SaslAuthenticate(message) => push_login(words, message.auth.as_slice()),
+        _ => words.push_str("isn't logged in"),
     }
 }
 
-/// A line that says what a session asked whose user isn't known, or why its login failed; none where memory was refused for it.
-pub(crate) fn refused_line(
-    alloc: Global,
-    session: u64,
-    kept: &Bytes,
-    is_answered: bool,
-) -> Option<String> {
+/// What a session asked whose user isn't known, or why its login failed, in words; none where memory was refused for them.
+pub(crate) fn refused_words(alloc: Global, kept: &Bytes, is_answered: bool) -> Option<String> {
     let (key, _version) = asked(kept.as_slice())?;
-    let mut line = format!(in alloc; "kbroker: session {session}").ok()?;
+    let mut words = String::new(alloc);
     if is_answered {
-        push_refused(alloc, &mut line, kept).ok()?;
+        push_refused(alloc, &mut words, kept).ok()?;
     } else {
-        push_early(alloc, &mut line, key).ok()?;
+        push_early(alloc, &mut words, key).ok()?;
     }
-    line.push_str("\n").ok()?;
-    Some(line)
+    Some(words)
 }

@@ -11,6 +11,8 @@ const TICKS_AN_HOUR: u64 = 36_000;
 #[derive(Clone, Copy, Debug, PartialEq, Eq)]
 pub struct Started {
     pub version: &'static str,
+    /// How many bindings the settings have.
+    pub bindings: usize,
     /// How many users may log in.
     pub users: usize,
     pub workers: usize,
@@ -50,6 +52,7 @@ pub(crate) fn start_line(
 ) -> Result<String, AllocError> {
     let Started {
         version,
+        bindings,
         users,
         workers,
         has_clock,
@@ -60,7 +63,9 @@ pub(crate) fn start_line(
     let partitions = partitions_of(world.topics().slots());
     let mut line = format!(in alloc; "kbroker: version {version} as node {node}: ")?;
     line.push_str(format!(in alloc; "topics {topics}, partitions {partitions}")?.as_str())?;
-    line.push_str(format!(in alloc; ", users {users}, workers {workers}")?.as_str())?;
+    line.push_str(format!(in alloc;
+        ", users {users}, ACLs {bindings}, workers {workers}"
+    )?.as_str())?;
     push_trail(alloc, &mut line, core.limit(), has_clock)?;
     line.push_str(", not encrypted\n")?;
     Ok(line)

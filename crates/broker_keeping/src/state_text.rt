@@ -1,6 +1,6 @@
 //! What is told of how things stand, a line for each thing.
 
-use crate::standing::{CommittedOffset, GroupStanding, Moment, Standing, TopicStanding};
+use crate::state_report::{CommittedOffset, GroupReport, StateReport, TickReport, TopicReport};
 use audit_trail::push_word;
 use record_batch::Outcome;
 use std::alloc::{AllocError, Global};
@@ -17,7 +17,7 @@ fn push_partition(
 }
 
 /// `partition TOPIC INDEX end OFFSET stable OFFSET`: its log end offset and its last stable offset.
-fn push_topic(alloc: Global, text: &mut String, topic: &TopicStanding) -> Result<(), AllocError> {
+fn push_topic(alloc: Global, text: &mut String, topic: &TopicReport) -> Result<(), AllocError> {
     for (index, ends) in topic.partitions.iter().enumerate() {
         let (end, stable) = (ends.end, ends.stable);
         text.push_str("partition")?;
@@ -93,7 +93,7 @@ fn push_committed(
 }
 
 /// `group GROUP generation GENERATION`, and ` member MEMBER` where it has one; and its committed offsets.
-fn push_group(alloc: Global, text: &mut String, group: &GroupStanding) -> Result<(), AllocError> {
+fn push_group(alloc: Global, text: &mut String, group: &GroupReport) -> Result<(), AllocError> {
     let generation = group.generation;
     text.push_str("group")?;
     push_word(text, group.name.as_str())?;
@@ -110,16 +110,16 @@ fn push_group(alloc: Global, text: &mut String, group: &GroupStanding) -> Result
 }
 
 /// How things stand, and at last `events N`: how many entries the trail has.
-pub(crate) fn state_text(alloc: Global, standing: &Standing) -> Result<String, AllocError> {
-    let (moment, owed, events) = (standing.moment, standing.owed, standing.events);
+pub(crate) fn state_text(alloc: Global, report: &StateReport) -> Result<String, AllocError> {
+    let (moment, owed, events) = (report.moment, report.owed, report.events);
     let mut text = format!(in alloc; "moment {moment}\nowed {owed}\n")?;
-    for topic in &standing.topics {
+    for topic in &report.topics {
         push_topic(alloc, &mut text, topic)?;
     }
-    for transaction in &standing.transactions {
+    for transaction in &report.transactions {
         push_transaction(alloc, &mut text, transaction)?;
     }
-    for group in &standing.groups {
+    for group in &report.groups {
         push_group(alloc, &mut text, group)?;
     }
     text.push_str(format!(in alloc; "events {events}\n")?.as_str())?;
@@ -160,10 +160,10 @@ pub(crate) fn front_text(alloc: Global, front: &Option<OwedMarker>) -> Result<St
 }
 
 /// `moment MOMENT`, and ` aborted ID` for each transaction that it aborted.
-pub(crate) fn moment_text(alloc: Global, moment: &Moment) -> Result<String, AllocError> {
-    let milliseconds = moment.milliseconds;
+pub(crate) fn moment_text(alloc: Global, report: &TickReport) -> Result<String, AllocError> {
+    let milliseconds = report.milliseconds;
     let mut text = format!(in alloc; "moment {milliseconds}")?;
-    for id in &moment.aborted {
+    for id in &report.aborted {
         text.push_str(" aborted")?;
         push_word(&mut text, id.as_str())?;
     }

@@ -36,29 +36,24 @@ pub(crate) fn api_name(alloc: Global, key: i16) -> Option<String> {
     name(alloc, key, min)
 }
 
-/// A line that says which api the frame of a session asks, and which versions of it are served; none where memory was refused for
-/// it, or the frame has no such front.
-pub(crate) fn unserved_line(alloc: Global, session: u64, kept: &[u8]) -> Option<String> {
+/// Which api the frame of a session asks, and which versions of it are served, in words; none where memory was refused for them, or
+/// the frame has no such front.
+pub(crate) fn unserved_words(alloc: Global, kept: &[u8]) -> Option<String> {
     let (key, version) = asked(kept)?;
     let Some((min, max)) = served(alloc, key) else {
-        let line = format!(in alloc;
-            "kbroker: session {session} asks api {key}, which isn't served\n"
-        );
-        return line.ok();
+        return format!(in alloc; "asks api {key}, which isn't served").ok();
     };
     let name = name(alloc, key, min)?;
-    let line = if min <= version && version <= max {
+    let words = if min <= version && version <= max {
         format!(in alloc;
-            "kbroker: session {session} asks {name} in version {version}, and the rest of its frame is no such request\n"
+            "asks {name} in version {version}, and the rest of its frame is no such request"
         )
     } else if min == max {
-        format!(in alloc;
-            "kbroker: session {session} asks {name} in version {version}, which isn't served: {min} is\n"
-        )
+        format!(in alloc; "asks {name} in version {version}, which isn't served: {min} is")
     } else {
         format!(in alloc;
-            "kbroker: session {session} asks {name} in version {version}, which isn't served: {min} to {max} are\n"
+            "asks {name} in version {version}, which isn't served: {min} to {max} are"
         )
     };
-    line.ok()
+    words.ok()
 }

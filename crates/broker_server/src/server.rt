@@ -10,7 +10,7 @@ ghost use Rattle.session_workers.specs.Ends.{AreEnds};
 
 use crate::lines::{Failure, Unbegun, failure_line, listening_line, settled_line};
 use broker_keeping::{
-    Attendant, Control, Sentences, Started, Steering, Teller, Ticks, Timekeeper, Watch,
+    Attendant, Control, LogWriter, OperatorLog, Started, Steering, Ticks, Timekeeper, Watch,
 };
 use request_handlers::{Core, MOST_SEATS, Receipt, Seat};
 use session_logins::Users;
@@ -38,9 +38,13 @@ const FAILED: u8 = 1;
 pub struct ServeOptions {
     /// Which version of the program serves.
     pub version: &'static str,
+    /// How many bindings the settings have.
+    pub bindings: usize,
     pub connections: ConnectionOptions,
     /// Whether each refusal is told.
     pub audit: bool,
+    /// Whether each line of the log for an operator begins with its time and its level.
+    pub log_times: bool,
 }
 
 /// The receipts of each end.
@@ -101,7 +105,7 @@ fn serve_clocked<
     listener: &'x TcpListener,
     options: ServeOptions,
     closing: Option<&'x Closing>,
-    sentences: &'x Sentences<'r, R>,
+    log: &'x OperatorLog<'r, R>,
 ) -> Result<Ended<L>, PoolFault>
     ensures { IfOk result (λ ended. (owed : Option ℕ) × AreEnds owed ended.ends.items) }
 {
@@ -111,7 +115,7 @@ fn serve_clocked<
         ..
     } = options;
     let here: &'x R = rt;
-    let watch = Watch::new(alloc, desk, sentences, audit);
+    let watch = Watch::new(alloc, desk, log, audit);
     let ticks = Ticks::new(rt, desk);
     let keeper = Timekeeper::new(ticks, watch);
     serve_connections(
@@ -123,7 +127,7 @@ fn serve_clocked<
         connections,
         closing,
         keeper,
-        sentences,
+        log,
     )
 }
 
@@ -144,13 +148,13 @@ fn serve_attended<
     listener: &'x TcpListener,
     options: ServeOptions,
     steering: Steering<'x, I, O>,
-    sentences: &'x Sentences<'r, R>,
+    log: &'x OperatorLog<'r, R>,
 ) -> Result<Ended<L>, PoolFault>
     ensures { IfOk result (λ ended. (owed : Option ℕ) × AreEnds owed ended.ends.items) }
 {
     let here: &'x R = rt;
     let closing = steering.closing;
-    let attendant = Attendant::new(rt, alloc, desk, steering);
+    let attendant = Attendant::new(rt, alloc, desk, log, steering);
     thread::scope(
         thread::scope_env(),
         here,
@@ -169,7 +173,7 @@ fn serve_attended<
                 listener,
                 options,
                 Some(closing),
-                sentences,
+                log,
             );
             closing.close();
             ended
@@ -194,21 +198,19 @@ fn serve_steps<
     listener: &'x TcpListener,
     options: ServeOptions,
     steering: Option<Steering<'x, I, O>>,
-    sentences: &'x Sentences<'r, R>,
+    log: &'x OperatorLog<'r, R>,
 ) -> Result<Ended<L>, PoolFault>
     ensures { IfOk result (λ ended. (owed : Option ℕ) × AreEnds owed ended.ends.items) }
 {
     let Some(steering) = steering else {
-        return serve_clocked(rt, alloc, desk, users, listener, options, None, sentences);
+        return serve_clocked(rt, alloc, desk, users, listener, options, None, log);
     };
     if !steering.without_clock {
-        return serve_attended(
-            rt, alloc, desk, users, listener, options, steering, sentences,
-        );
+        return serve_attended(rt, alloc, desk, users, listener, options, steering, log);
     }
     let here: &'x R = rt;
     let closing = Some(steering.closing);
-    let keeper = Control::new(rt, alloc, desk, steering);
+    let keeper = Control::new(rt, alloc, desk, log, steering);
     serve_connections(
         here,
         alloc,
@@ -218,12 +220,12 @@ fn serve_steps<
         options.connections,
         closing,
         keeper,
-        sentences,
+        log,
     )
 }
 
-/// The same, while a teller in a thread of its own writes what is said to an operator; where none can be made for it, nothing is
-/// served. It returns once all that was said is written, or can't be.
+/// The same, while a thread of its own writes the log for an operator; where none can be made for it, nothing is served. It returns
+/// once the log is written, or can't be.
 fn serve_kept<
     'x,
     'r,
@@ -240,8 +242,8 @@ fn serve_kept<
     listener: &'x TcpListener,
     options: ServeOptions,
     steering: Option<Steering<'x, I, O>>,
-    sentences: &'x Sentences<'r, R>,
-    teller: Teller<E>,
+    log: &'x OperatorLog<'r, R>,
+    log_writer: LogWriter<E>,
 ) -> Result<Ended<L>, PoolFault>
     ensures { IfOk result (λ ended. (owed : Option ℕ) × AreEnds owed ended.ends.items) }
 {
@@ -252,14 +254,13 @@ fn serve_kept<
         move |scope| -> Result<Ended<L>, PoolFault>
             ensures { IfOk result (λ ended. (owed : Option ℕ) × AreEnds owed ended.ends.items) }
         {
-            let telling = scope.spawn(move || drop(teller.tell_all(here)));
+            let telling = scope.spawn(move || drop(log_writer.run(here)));
             if telling.is_err() {
                 return Err(PoolFault::NoThread);
             }
-            let ended = serve_steps(
-                rt, alloc, desk, users, listener, options, steering, sentences,
-            );
-            sentences.end();
+            let ended = serve_steps(rt, alloc, desk, users, listener, options, steering, log);
+            log.tell_counts(desk);
+            log.end();
             ended
         },
     )
@@ -282,8 +283,8 @@ fn serve_at<
     listener: &TcpListener,
     options: ServeOptions,
     steering: Option<Steering<'_, I, O>>,
-    sentences: &Sentences<'r, R>,
-    teller: Teller<E>,
+    log: &OperatorLog<'r, R>,
+    log_writer: LogWriter<E>,
 ) -> Result<(u64, Settled), Failure>
     requires settings { core.settings ≡ L.settings }
     requires empty { core.trail ≡ [] }
@@ -292,7 +293,7 @@ fn serve_at<
 {
     let desk: LockedDesk<L, &'r R> = LockedDesk::new(core, blank, rt);
     match serve_kept(
-        rt, alloc, &desk, users, listener, options, steering, sentences, teller,
+        rt, alloc, &desk, users, listener, options, steering, log, log_writer,
     ) {
         Ok(ended) => settle_ends(alloc, desk, ended),
         Err(fault) => Err(Failure::Pool(fault)),
@@ -314,8 +315,8 @@ fn serve_booked<
     listener: &TcpListener,
     options: ServeOptions,
     steering: Option<Steering<'_, I, O>>,
-    sentences: &Sentences<'r, R>,
-    teller: Teller<E>,
+    log: &OperatorLog<'r, R>,
+    log_writer: LogWriter<E>,
 ) -> Result<(u64, Settled), Failure>
     requires { core.trail ≡ [] }
     ensures { IfOk result (λ told. IsCounted core.settings told.0 told.1) }
@@ -329,8 +330,8 @@ fn serve_booked<
         listener,
         options,
         steering,
-        sentences,
-        teller,
+        log,
+        log_writer,
     )
 }
 
@@ -342,7 +343,7 @@ fn keeps_time<I, O>(steering: &Option<Steering<'_, I, O>>) -> bool {
     }
 }
 
-/// Serves connections, while a teller tells an operator what is said, beginning with what is served.
+/// Serves connections, while the log for an operator is written, beginning with what is served.
 fn serve_told<
     R: Net<Listener = TcpListener, Stream = TcpStream> + Threads + Wait + time::Clock + Sync,
     E: Write + Drop + Send,
@@ -361,23 +362,24 @@ fn serve_told<
     requires { core.trail ≡ [] }
     ensures { IfOk result (λ told. IsCounted core.settings told.0 told.1) }
 {
-    let Ok((sentences, teller)) = Sentences::new(rt, alloc, errors) else {
+    let Ok((log, log_writer)) = OperatorLog::new(rt, alloc, errors, options.log_times) else {
         return Err(Failure::Pool(PoolFault::NoMemory));
     };
-    sentences.start(
+    log.start(
         &core,
         Started {
             version: options.version,
+            bindings: options.bindings,
             users: users.value().len(),
             workers: options.connections.workers,
             has_clock: keeps_time(&steering),
         },
     );
     if let Ok(address) = listener.local_addr() {
-        sentences.warn_of_port(&core, address.port());
+        log.warn_of_port(&core, address.port());
     }
     serve_booked(
-        rt, alloc, core, users, listener, options, steering, &sentences, teller,
+        rt, alloc, core, users, listener, options, steering, &log, log_writer,
     )
 }
 
@@ -407,14 +409,24 @@ fn last_line(alloc: Global, outcome: Result<(u64, Settled), Failure>) -> Option<
     }
 }
 
+/// Tells an operator that the first line can't be written.
+fn tell_unwritten<E: Write + Drop>(mut errors: E) {
+    let line = "kbroker: standard output: where the server listens can't be written\n";
+    let _ = write_whole(&mut errors, line.as_bytes());
+}
+
 /// Prints where it listens, serves connections until so many were served or no more are taken, settles the books and prints
 /// how that went. Gives the exit status. Where the listener can't tell its address, or memory is refused before anything is
-/// printed, it prints that and serves nothing. To `errors` it says in a sentence why a session ended, where it didn't end between
-/// two requests, that the clock stops, where the core takes no more of its steps, and what becomes of connections that aren't served;
-/// and the line of each refusal, where that is asked for. A thread of its own waits for `errors`, and nobody else does: 1,024 sayings wait for it at most, and further lines are
-/// left out and counted. Only the last line comes after all that was said is written, or can't be. Where lines steer the server,
-/// connections are taken until the lines end or have it end, or all is served. Where they do so without a clock, a tick or a marker
-/// step comes only by a line.
+/// printed, it prints that and serves nothing; where the first line can't be written, it says so to `errors`.
+///
+/// `errors` gets the log for an operator: why a session ended, where it didn't end between two requests; that the clock stops, where
+/// the core takes no more of its steps; what becomes of connections that aren't served; at last how many requests there were; and
+/// the line of each refusal, where that is asked for. A thread of its own writes to `errors`, and nobody else waits for it: 1,024
+/// messages are queued at most, and further ones are dropped and counted. The last line alone comes after the log is written, or
+/// can't be.
+///
+/// Where lines steer the server, connections are taken until the lines end or have it end, or all is served. Where they do so
+/// without a clock, a tick or a marker step comes only by a line.
 #[tactic(auto, using(crate::proofs::Served::unbegun_said))]
 pub fn serve<
     R: Net<Listener = TcpListener, Stream = TcpStream> + Threads + Wait + time::Clock + Sync,
@@ -445,7 +457,10 @@ pub fn serve<
     };
     match write_whole(writer, first.as_bytes()) {
         Ok(()) => {}
-        Err(_) => return FAILED,
+        Err(_) => {
+            tell_unwritten(errors);
+            return FAILED;
+        }
     }
     let outcome = serve_told(rt, alloc, core, users, listener, options, steering, errors);
     let Some((last, status)) = last_line(alloc, outcome) else {

@@ -1,6 +1,6 @@
 //! Settings in, a core out: what a server is started with.
 
-ghost use Rattle.std.specs.Prelude.{◌≡◌, IfOk, IfSome};
+ghost use Rattle.std.specs.Prelude.{◌≡◌, IfOk, IfSome, length};
 ghost use Rattle.wire_types.specs.Device.{TakesWithin};
 ghost use Rattle.request_handlers.specs.Core.{opened};
 ghost use Rattle.commands.specs.Check.{settings_answer, check_answer};
@@ -21,6 +21,8 @@ use wire_types::{InputFault, Items, Shared, read_input};
 pub struct Opened {
     pub core: Core,
     pub users: Shared<Users>,
+    /// How many bindings the settings have.
+    pub bindings: usize,
 }
 
 /// Why there is no core.
@@ -53,7 +55,7 @@ fn share_users(alloc: Global, users: Items<User>) -> Option<Shared<Users>>
 }
 
 /// Says what the settings of a server are unlikely to mean. If that fails, nothing else does.
-fn warn<E: Write>(alloc: Global, document: &Document, errors: &mut E) {
+pub(crate) fn warn<E: Write>(alloc: Global, document: &Document, errors: &mut E) {
     if let Ok(sentences) = warnings(alloc, document) {
         for sentence in sentences.as_slice() {
             let sentence = sentence.as_str();
@@ -74,6 +76,7 @@ fn open_settings<W: Write, E: Write>(
     errors: &mut E,
 ) -> Result<Opened, Unopened>
     ensures core { IfOk result (λ o. o.core ≡ opened o.core.settings) }
+    ensures bindings { IfOk result (λ o. o.bindings ≡ length o.core.settings.acls) }
     ensures opens { Opens (W.contents writer.old) (W.contents writer.new) input.now (settings_answer input.now) result }
 {
     let document = match document_of_text(alloc, input) {
@@ -86,12 +89,17 @@ fn open_settings<W: Write, E: Write>(
     };
     warn(alloc, &document, errors);
     let Document { users, settings } = document;
+    let bindings = settings.acls.len();
     // The settings have no fault, so only memory can be refused.
     let Some(users) = share_users(alloc, users) else {
         return Err(Unopened::Early(Early::Settings));
     };
     match Core::with_hasher(alloc, settings, hasher) {
-        Ok(core) => Ok(Opened { core, users }),
+        Ok(core) => Ok(Opened {
+            core,
+            users,
+            bindings,
+        }),
         Err(_) => Err(Unopened::Early(Early::Settings)),
     }
 }
@@ -105,6 +113,7 @@ fn open_whole<R: Read, W: Write, E: Write>(
     errors: &mut E,
 ) -> Result<Opened, Unopened>
     ensures core { IfOk result (λ o. o.core ≡ opened o.core.settings) }
+    ensures bindings { IfOk result (λ o. o.bindings ≡ length o.core.settings.acls) }
     ensures opens { IfSome (R.remaining reader.old) (λ input. Opens (W.contents writer.old) (W.contents writer.new) input (check_answer input) result) }
     ensures bounded { TakesWithin (R.remaining reader.old) (R.remaining reader.new) }
 {
@@ -126,6 +135,7 @@ pub fn open_and_explain<R: Read, W: Write, E: Write>(
     errors: &mut E,
 ) -> Result<Opened, u8>
     ensures core { IfOk result (λ o. o.core ≡ opened o.core.settings) }
+    ensures bindings { IfOk result (λ o. o.bindings ≡ length o.core.settings.acls) }
     ensures opens { IfSome (R.remaining reader.old) (λ input. OpensOr (W.contents writer.old) (W.contents writer.new) input (check_answer input) result) }
     ensures bounded { TakesWithin (R.remaining reader.old) (R.remaining reader.new) }
 {

@@ -13,7 +13,8 @@ ghost use Rattle.commands.specs.declared.cause.Early.TheVariants.{Write as Early
 use crate::cause::{Cause, Early};
 use crate::command::Command;
 use crate::hints::{has_return, lines_before, separator_hint};
-use crate::text::refused_text;
+use crate::open::warn;
+use crate::text::{is_closed, refused_text};
 use crate::turn::{Turn, line_turn};
 use request_handlers::{Core, Stop};
 use script_lines::{split_input, split_line};
@@ -74,6 +75,14 @@ fn explain_line<E: Write>(alloc: Global, errors: &mut E, number: u64, line: &[u8
     }
 }
 
+/// Says what a line means that is answered `closed`. If that fails, nothing else does.
+fn explain_closed<E: Write>(alloc: Global, errors: &mut E, number: u64, text: &String) {
+    if is_closed(text) {
+        let sentence = "here the broker would close the connection; `kbroker show` tells why";
+        explain(alloc, errors, Place::Line(number), sentence);
+    }
+}
+
 /// Runs a script line by line and prints what each line does, until one ends it. So many lines stand before it in its input.
 fn run_script<W: Write, E: Write>(
     alloc: Global,
@@ -95,6 +104,7 @@ fn run_script<W: Write, E: Write>(
                 if write_text(writer, text.as_str()).is_err() {
                     return Err(Early::Write);
                 }
+                explain_closed(alloc, errors, before.saturating_add(number), &text);
             }
             Ok(Turn::Ends(text, cause)) => {
                 if write_text(writer, text.as_str()).is_err() {
@@ -172,8 +182,9 @@ fn check_settings<W: Write, E: Write>(
     ensures { Printed (W.contents writer.old) (W.contents writer.new) (settings_answer input.now) result }
 {
     match document_of_text(alloc, input) {
-        Ok(_document) => {
+        Ok(document) => {
             write_text(writer, "settings ok\n")?;
+            warn(alloc, &document, errors);
             Ok(0)
         }
         Err(SettingsFault::NoMemory) => Err(Early::Settings),

@@ -1,18 +1,20 @@
 //! A session's times as they pass.
 
 use crate::limits::{Bound, Limit, Times};
-use std::cell::Cell;
+use std::cell::{Cell, OnceCell};
 use std::io::ErrorKind;
 use std::time::{Duration, Instant};
 use std::{io, time};
 
-/// What is noted of a session: that its user is known, by whoever serves it; and which time was over, and how many bytes were read,
-/// by what reads and writes it.
+/// What is noted of a session: that its user is known, by whoever serves it; and which time was over, how many bytes were read, and
+/// which came first, by what reads and writes it.
 #[derive(Drop)]
 pub struct Notes {
     known: Cell<bool>,
     over: Cell<Option<Limit>>,
     read: Cell<u64>,
+    /// The first four bytes of what was read first, if that has as many.
+    front: OnceCell<Option<[u8; 4]>>,
 }
 
 impl Notes {
@@ -22,6 +24,7 @@ impl Notes {
             known: Cell::new(false),
             over: Cell::new(None),
             read: Cell::new(0),
+            front: OnceCell::new(),
         }
     }
 
@@ -40,6 +43,14 @@ impl Notes {
     /// Which time was over, if one was.
     pub fn over(&self) -> Option<Limit> {
         self.over.get()
+    }
+
+    /// The session's first four bytes, if so many came at once.
+    pub fn front(&self) -> Option<[u8; 4]> {
+        match self.front.get() {
+            Some(front) => *front,
+            None => None,
+        }
     }
 }
 
@@ -87,10 +98,11 @@ impl<'x, R: time::Clock> Course<'x, R> {
         Ok(bound)
     }
 
-    /// Notes that so many bytes were read.
-    pub(crate) fn count(&self, bytes: usize) {
+    /// Notes what was read: how much, and which bytes came first.
+    pub(crate) fn count(&self, bytes: &[u8]) {
         let read = self.notes.read.get();
-        self.notes.read.set(read.saturating_add(bytes as u64));
+        self.notes.read.set(read.saturating_add(bytes.len() as u64));
+        let _later = self.notes.front.set(front_of(bytes));
     }
 
     /// Notes that a time is over, if a call ended for its wait.
@@ -98,6 +110,14 @@ impl<'x, R: time::Clock> Course<'x, R> {
         if matches!(error.kind(), ErrorKind::WouldBlock | ErrorKind::TimedOut) {
             self.notes.over.set(by_of(bound));
         }
+    }
+}
+
+/// The first four bytes, if there are as many.
+fn front_of(bytes: &[u8]) -> Option<[u8; 4]> {
+    match bytes {
+        [a, b, c, d, ..] => Some([*a, *b, *c, *d]),
+        _ => None,
     }
 }
 

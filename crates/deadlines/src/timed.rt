@@ -70,7 +70,7 @@ impl<'x, S: Read + OpenStream, R: time::Clock> Timed<'x, S, R> {
         ensures passed { (came : List Came) → IsCut came self.old.progress → (moment : Duration) × IsCut (came ++ at moment bytes.now) self.new.progress }
     {
         let now = self.course.now().unwrap_or(Duration::ZERO);
-        self.course.count(bytes.len());
+        self.course.count(bytes);
         self.progress.pass(bytes, now);
         if !bytes.is_empty() && self.progress.begun().is_none() {
             self.unheard = false;

@@ -12,10 +12,10 @@ use commands::{Opened, check_and_explain, open_and_explain, replay_and_explain};
 use session_logins::ListedVersions;
 use session_pool::Closing;
 use session_workers::{ConnectionOptions, SessionOptions};
-use show::{explain, show_and_explain};
+use show::{Noted, explain, explain_by, show_and_explain};
 use std::alloc::{AllocError, Global};
 use std::hash::RandomState;
-use std::io::{BufRead, BufReader, Input, Print, Read, Write};
+use std::io::{BufRead, BufReader, ErrorKind, Input, IsTerminal, Print, Read, Write};
 use std::net::{Net, TcpListener, TcpStream};
 use std::process::ExitCode;
 use std::random::RandomSource;
@@ -37,6 +37,11 @@ const PATIENCE: u64 = 100;
 /// How many seconds after a stop connections are closed that are still open, unless that is given.
 const GRACE: u64 = 5;
 
+/// What the command line is called in sentences, and standard input.
+const COMMAND_LINE: &str = "the command line";
+
+const STANDARD_INPUT: &str = "standard input";
+
 /// Why lines of standard input can't be read.
 const NO_MEMORY: &str = "there is not enough memory for its lines";
 
@@ -55,8 +60,9 @@ fn grace_of(serving: Serving<'_>) -> Option<Duration> {
     }
 }
 
-/// How connections are served, with times in place of numbers.
-fn options_of(serving: Serving<'_>) -> ServeOptions {
+/// How connections are served by settings with so many bindings, with times in place of numbers, and whether a time stands before
+/// each line that is told.
+fn options_of(serving: Serving<'_>, bindings: usize, log_times: bool) -> ServeOptions {
     let (listed, patience) = if serving.librdkafka {
         (
             ListedVersions::ForLibrdkafka,
@@ -67,6 +73,7 @@ fn options_of(serving: Serving<'_>) -> ServeOptions {
     };
     ServeOptions {
         version: VERSION,
+        bindings,
         connections: ConnectionOptions {
             workers: serving.workers as usize,
             connections: serving.connections,
@@ -87,6 +94,7 @@ fn options_of(serving: Serving<'_>) -> ServeOptions {
             patience,
         },
         audit: serving.audit,
+        log_times,
     }
 }
 
@@ -114,11 +122,42 @@ fn fail_by<W: Write, E: Write>(
     why: &str,
     error: &io::Error,
 ) -> u8 {
-    let kind = error.kind();
-    match format!(in alloc; "{why}: {kind}") {
-        Ok(why) => fail(alloc, writer, errors, line, what, why.as_str()),
-        Err(_) => fail(alloc, writer, errors, line, what, why),
+    let _ = writer.write_all(line.as_bytes());
+    explain_by(alloc, errors, what, why, error.kind());
+    FAILED
+}
+
+/// Says why the input of this name can't be read, where a read of it failed.
+fn explain_read<R: Read, E: Write>(alloc: Global, errors: &mut E, name: &str, reader: &Noted<R>) {
+    let Some(reason) = reader.reason() else {
+        return;
+    };
+    if let Ok(why) = format!(in alloc; "{reason}") {
+        explain(alloc, errors, name, why.as_str());
     }
+}
+
+/// Says why the words of the command line can't be read, where that is their own fault, and gives the exit status.
+fn misread<E: Write>(alloc: Global, errors: &mut E, error: io::Error) -> io::Result<ExitCode> {
+    if error.kind() != ErrorKind::InvalidData {
+        return Err(error);
+    }
+    explain(alloc, errors, COMMAND_LINE, "an argument is not UTF-8");
+    Ok(ExitCode::from(MISUSED))
+}
+
+/// Tells whoever sits at a terminal what this job waits for, if it reads standard input to its end.
+fn prompt<E: Write>(alloc: Global, errors: &mut E, job: Job<'_>) {
+    let why = match job {
+        Job::Replay(None) | Job::Show(Showing { file: None, .. }) => {
+            "waiting for the script, up to Ctrl-D"
+        }
+        Job::Check(None) | Job::Serve(Serving { settings: None, .. }) => {
+            "waiting for the settings, up to Ctrl-D"
+        }
+        _ => return,
+    };
+    explain(alloc, errors, STANDARD_INPUT, why);
 }
 
 /// What is done with the text of a file, or of standard input.
@@ -133,20 +172,26 @@ enum Task<'a> {
 }
 
 impl Task<'_> {
-    /// Does it with the text that is read, and gives the exit status.
-    fn run<T: Files, R: Read, W: Write, E: Write>(
+    /// Does it with the text that is read from an input of this name, and gives the exit status.
+    fn run<T: Files, R: Read + Drop, W: Write, E: Write>(
         self,
         rt: &T,
         alloc: Global,
-        reader: &mut R,
+        name: &str,
+        reader: R,
         writer: &mut W,
         errors: &mut E,
     ) -> u8 {
-        match self {
-            Task::Replay => replay_and_explain(alloc, reader, writer, errors),
-            Task::Check => check_and_explain(alloc, reader, writer, errors),
-            Task::Show(answers) => show_and_explain(rt, alloc, answers, reader, writer, errors),
-        }
+        let mut reader = Noted::new(reader);
+        let status = match self {
+            Task::Replay => replay_and_explain(alloc, &mut reader, writer, errors),
+            Task::Check => check_and_explain(alloc, &mut reader, writer, errors),
+            Task::Show(answers) => {
+                show_and_explain(rt, alloc, name, answers, &mut reader, writer, errors)
+            }
+        };
+        explain_read(alloc, errors, name, &reader);
+        status
     }
 
     /// Does it with the text of the file that is named, or else of standard input, and gives the exit status.
@@ -159,10 +204,10 @@ impl Task<'_> {
         errors: &mut E,
     ) -> u8 {
         let Some(path) = file else {
-            return self.run(rt, alloc, &mut rt.reader(), writer, errors);
+            return self.run(rt, alloc, STANDARD_INPUT, rt.reader(), writer, errors);
         };
         match fs::open(rt, path) {
-            Ok(mut file) => self.run(rt, alloc, &mut file, writer, errors),
+            Ok(file) => self.run(rt, alloc, path, file, writer, errors),
             Err(error) => {
                 let why = "the file can't be opened";
                 fail_by(alloc, writer, errors, "", path, why, &error)
@@ -191,16 +236,16 @@ fn serve_connections<
         + time::Clock
         + RandomSource
         + Sync,
-    R: Read,
+    R: Read + Drop,
     I: BufRead + Drop + Send,
     O: Write + Drop + Send,
     W: Write,
-    E: Write + Drop + Send,
+    E: Write + IsTerminal + Drop + Send,
 >(
     rt: &T,
     alloc: Global,
     serving: Serving<'_>,
-    reader: &mut R,
+    reader: R,
     steering: Option<Steering<'_, I, O>>,
     writer: &mut W,
     mut errors: E,
@@ -215,15 +260,18 @@ fn serve_connections<
             "the system gives none, by which names are hashed",
         );
     };
-    let Opened { core, users } = match open_and_explain(
-        alloc,
-        hasher,
-        reader,
-        writer,
-        &mut errors,
-    ) {
+    let mut reader = Noted::new(reader);
+    let Opened {
+        core,
+        users,
+        bindings,
+    } = match open_and_explain(alloc, hasher, &mut reader, writer, &mut errors) {
         Ok(opened) => opened,
-        Err(status) => return status,
+        Err(status) => {
+            let name = serving.settings.unwrap_or(STANDARD_INPUT);
+            explain_read(alloc, &mut errors, name, &reader);
+            return status;
+        }
     };
     let listener = match TcpListener::bind(rt, serving.listen) {
         Ok(listener) => listener,
@@ -239,7 +287,11 @@ fn serve_connections<
             );
         }
     };
-    let options = options_of(serving);
+    let options = options_of(
+        serving,
+        bindings,
+        serving.log_times || !errors.is_terminal(),
+    );
     serve(
         rt, alloc, core, &users, &listener, options, steering, writer, errors,
     )
@@ -257,7 +309,7 @@ fn serve_by<
         + Print
         + Files,
     W: Write,
-    E: Write + Drop + Send,
+    E: Write + IsTerminal + Drop + Send,
 >(rt: &T, alloc: Global, serving: Serving<'_>, writer: &mut W, mut errors: E) -> u8
 where
     T::Reader: Send,
@@ -265,7 +317,7 @@ where
     let closing = Closing::new();
     let steering = if serving.control || serving.ending.with_input {
         let Ok(lines) = BufReader::new(alloc, Awaited::new(rt, rt.reader(), &closing)) else {
-            return fail(alloc, writer, &mut errors, "", "standard input", NO_MEMORY);
+            return fail(alloc, writer, &mut errors, "", STANDARD_INPUT, NO_MEMORY);
         };
         Some(Steering {
             lines,
@@ -277,26 +329,23 @@ where
         None
     };
     let Some(path) = serving.settings else {
-        return serve_connections(
-            rt,
-            alloc,
-            serving,
-            &mut rt.reader(),
-            steering,
-            writer,
-            errors,
-        );
+        return serve_connections(rt, alloc, serving, rt.reader(), steering, writer, errors);
     };
-    let mut file = match fs::open(rt, path) {
+    let file = match fs::open(rt, path) {
         Ok(file) => file,
         Err(error) => return fail_to_open(alloc, writer, &mut errors, path, &error),
     };
-    serve_connections(rt, alloc, serving, &mut file, steering, writer, errors)
+    serve_connections(rt, alloc, serving, file, steering, writer, errors)
 }
 
 fn main(rt: HostRuntime) -> io::Result<ExitCode> {
     let alloc = rt.alloc();
-    let words: Vec<String> = std::env::args(&rt)?.collect(alloc)?;
+    let mut errors = rt.stderr();
+    let words = match std::env::args(&rt) {
+        Ok(words) => words,
+        Err(error) => return misread(alloc, &mut errors, error),
+    };
+    let words: Vec<String> = words.collect(alloc)?;
     let words = texts(alloc, words.as_slice())?;
     let job = match arguments(alloc, words.as_slice()) {
         Ok(job) => job,
@@ -305,8 +354,10 @@ fn main(rt: HostRuntime) -> io::Result<ExitCode> {
             return Ok(ExitCode::from(MISUSED));
         }
     };
+    if rt.stdin().is_terminal() {
+        prompt(alloc, &mut errors, job);
+    }
     let mut writer = io::writer(&rt);
-    let mut errors = rt.stderr();
     let status = match job {
         Job::Replay(file) => Task::Replay.run_on(&rt, alloc, file, &mut writer, &mut errors),
         Job::Check(file) => Task::Check.run_on(&rt, alloc, file, &mut writer, &mut errors),

@@ -20,6 +20,7 @@ fn serve_with_an_address_alone(rt: HostRuntime) -> Result<(), Fail> {
         rate: None,
         rate_bytes: None,
         audit: false,
+        log_times: false,
         settings: None,
         control: false,
         ending: Ending {
@@ -64,6 +65,42 @@ fn show_has_a_file_and_answers(rt: HostRuntime) -> Result<(), Fail> {
     let job = arguments(rt.alloc(), &words).ok().ok_or("refused")?;
     assert!(rt; job == Job::Show(showing));
     Ok(())
+}
+
+/// An address has a host and a port, between which its last colon stands.
+#[test]
+fn addresses_have_a_host_and_a_port(rt: HostRuntime) {
+    for (address, is_taken) in [
+        ("127.0.0.1:0", true),
+        ("localhost:65535", true),
+        ("[::1]:09092", true),
+        ("localhost:+9092", true),
+        ("localhost:65536", false),
+        ("localhost:", false),
+        ("localhost:9092x", false),
+        ("localhost:-1", false),
+        (":9092", false),
+        (":", false),
+        ("9092", false),
+        ("", false),
+    ] {
+        let words = ["kbroker", "serve", "--listen", address];
+        let is_address = arguments(rt.alloc(), &words).is_ok();
+        assert!(rt; is_address == is_taken, "{address}");
+    }
+}
+
+/// `--log-times` is a flag: it is given, and takes no value.
+#[test]
+fn log_times_is_a_flag(rt: HostRuntime) {
+    for (option, is_asked) in [("--log-times", true), ("--log-times=1", false)] {
+        let words = ["kbroker", "serve", "--listen", "127.0.0.1:0", option];
+        let is_taken = match arguments(rt.alloc(), &words) {
+            Ok(Job::Serve(serving)) => serving.log_times,
+            _ => false,
+        };
+        assert!(rt; is_taken == is_asked, "{option}");
+    }
 }
 
 /// `--librdkafka` is a flag: it is given, and takes no value.

@@ -22,7 +22,7 @@ mod hold;
 #[cfg(test)]
 mod limits;
 #[cfg(test)]
-mod sentences;
+mod operator_log;
 #[cfg(test)]
 mod served;
 #[cfg(test)]

@@ -65,6 +65,7 @@ fn serve_two<
     let patience = Some(Duration::from_secs(PATIENCE));
     let options = ServeOptions {
         version: VERSION,
+        bindings: 0,
         connections: ConnectionOptions {
             workers: 2,
             connections: 2,
@@ -82,6 +83,7 @@ fn serve_two<
             patience: None,
         },
         audit: false,
+        log_times: false,
     };
     let steering: Option<Steering<'_, Cursor<Vec<u8>>, Vec<u8>>> = None;
     let mut printed = Vec::new(alloc);

@@ -29,8 +29,8 @@ pub trait Gate {
     /// in, if one had, and why it ended.
     fn ended(&self, _session: u64, _host: &Text, _who: Option<&Text>, _why: Why) {}
 
-    /// Comes in place of that where a read or a write failed since the peer took longer than it may, which the words say.
-    fn overdue(&self, session: u64, host: &Text, who: Option<&Text>, why: Why, _words: &str) {
+    /// Comes in place of that where more is known of why than `why` tells: the words say it.
+    fn ended_as(&self, session: u64, host: &Text, who: Option<&Text>, why: Why, _words: &str) {
         self.ended(session, host, who, why);
     }
 }

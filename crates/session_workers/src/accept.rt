@@ -288,6 +288,15 @@ impl<'x, R: Wait + time::Clock, D: Doorman> Door<'x, R, D> {
         }
     }
 
+    /// Tells the doorman which connections are still open after the grace. Where there is no memory for that, nobody is told.
+    fn tell_closed(&self, grace: Duration) {
+        if let Ok(sessions) = self.open.sessions(self.rt, self.alloc) {
+            for session in sessions {
+                self.doorman.closed(session, grace);
+            }
+        }
+    }
+
     /// Sees the open connections out. Where they were counted and are used up, they are served until the time has passed for which
     /// they are, or the broker is told to take no more. From then on no further request is read, and those that are still open after
     /// the grace are closed.
@@ -298,6 +307,7 @@ impl<'x, R: Wait + time::Clock, D: Doorman> Door<'x, R, D> {
         if let Ok(term) = Term::begin(self.rt, Some(grace), None) {
             self.wait_out(term);
         }
+        self.tell_closed(grace);
         self.open.shut_down(self.rt, Shutdown::Both);
     }
 

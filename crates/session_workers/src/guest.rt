@@ -68,6 +68,12 @@ impl OpenConnections {
         self.all.lock(rt).is_empty()
     }
 
+    /// The sessions of the connections that are open.
+    pub(crate) fn sessions<R: Wait>(&self, rt: &R, alloc: Global) -> Result<Vec<u64>, AllocError> {
+        let all = self.all.lock(rt);
+        all.iter().map(|open| open.session).collect(alloc)
+    }
+
     /// Ends reading, or both reading and writing, on each connection that is open. Whoever waits in such a call goes on at once.
     pub(crate) fn shut_down<R: Wait>(&self, rt: &R, how: Shutdown) {
         let all = self.all.lock(rt);

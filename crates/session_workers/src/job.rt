@@ -89,6 +89,6 @@ pub(crate) fn serve_job<
         &noting,
     );
     let who = noting.who();
-    tell_end(alloc, gate, session, &host, who, &end, times, notes.over());
+    tell_end(alloc, gate, session, &host, who, &end, times, &notes);
     Done { end }
 }

@@ -81,7 +81,7 @@ impl<'x, R: time::Clock, G: Gate> Gate for Patient<'x, R, G> {
         self.gate.ended(session, host, who, why);
     }
 
-    fn overdue(&self, session: u64, host: &Text, who: Option<&Text>, why: Why, words: &str) {
-        self.gate.overdue(session, host, who, why, words);
+    fn ended_as(&self, session: u64, host: &Text, who: Option<&Text>, why: Why, words: &str) {
+        self.gate.ended_as(session, host, who, why, words);
     }
 }

@@ -6,6 +6,7 @@ use request_handlers::Receipt;
 use session_pool::{Gate, SessionEnd, Why};
 use std::alloc::Global;
 use std::cell::OnceCell;
+use std::str::from_utf8;
 use std::sync::Wait;
 use std::time;
 use std::time::Duration;
@@ -79,8 +80,8 @@ impl<'x, 'r, G: Gate, R: Wait + time::Clock> Gate for Noting<'x, 'r, G, R> {
         self.gate.ended(session, host, who, why);
     }
 
-    fn overdue(&self, session: u64, host: &Text, who: Option<&Text>, why: Why, words: &str) {
-        self.gate.overdue(session, host, who, why, words);
+    fn ended_as(&self, session: u64, host: &Text, who: Option<&Text>, why: Why, words: &str) {
+        self.gate.ended_as(session, host, who, why, words);
     }
 }
 
@@ -100,7 +101,36 @@ fn overdue(alloc: Global, times: Times, over: Option<Limit>) -> Option<String> {
     }
 }
 
-/// Tells the gate that a session has ended: that a time of its peer's was over, where a read or a write failed for that, and else why.
+/// The first byte of a TLS record that holds a handshake, and the first of its version (RFC 8446, section 5.1).
+const TLS_HANDSHAKE: [u8; 2] = [22, 3];
+
+/// What a session's first bytes look like, where they are those of another protocol, in words.
+fn foreign(front: [u8; 4]) -> Option<&'static str> {
+    if front.starts_with(&TLS_HANDSHAKE) {
+        return Some(
+            "its first bytes look like TLS, which isn't served: clients take security.protocol=SASL_PLAINTEXT",
+        );
+    }
+    match from_utf8(&front) {
+        // Methods of HTTP (RFC 9110, section 9.3), and the preface of its second version (RFC 9113, section 3.4).
+        Ok(
+            "GET " | "HEAD" | "POST" | "PUT " | "DELE" | "CONN" | "OPTI" | "TRAC" | "PATC" | "PRI ",
+        ) => Some("its first bytes look like HTTP, which isn't served"),
+        _ => None,
+    }
+}
+
+/// More of why a session has ended than its end tells, in words: which time of its peer's was over, where a read or a write failed
+/// for that; and what its first bytes look like, where they are no frame's size.
+fn words_of_end(alloc: Global, why: Why, times: Times, notes: &Notes) -> Option<String> {
+    match why {
+        Why::ReadFault | Why::WriteFault => overdue(alloc, times, notes.over()),
+        Why::BadFrame => String::from_str(alloc, foreign(notes.front()?)?).ok(),
+        _ => None,
+    }
+}
+
+/// Tells the gate that a session has ended, and why.
 pub(crate) fn tell_end<S, G: Gate>(
     alloc: Global,
     gate: &G,
@@ -109,14 +139,10 @@ pub(crate) fn tell_end<S, G: Gate>(
     who: Option<&Text>,
     end: &SessionEnd<S>,
     times: Times,
-    over: Option<Limit>,
+    notes: &Notes,
 ) {
-    let words = match end.why {
-        Why::ReadFault | Why::WriteFault => overdue(alloc, times, over),
-        _ => None,
-    };
-    match words {
-        Some(words) => gate.overdue(session, host, who, end.why, words.as_str()),
+    match words_of_end(alloc, end.why, times, notes) {
+        Some(words) => gate.ended_as(session, host, who, end.why, words.as_str()),
         None => gate.ended(session, host, who, end.why),
     }
 }

@@ -3,12 +3,13 @@
 ghost use Rattle.std.specs.Prelude.{◌≡◌, ◌≤◌, IfSome, length};
 ghost use Rattle.wire_types.specs.Device.{TakesWithin};
 
+use crate::noted::Noted;
 use crate::outcome::{ShowFault, Shown};
 use crate::script::show_script;
 use std::alloc::Global;
 use std::fmt::Display;
 use std::fs;
-use std::io::{Read, Write};
+use std::io::{ErrorKind, Read, Write};
 use std::rt::Files;
 use wire_types::{INPUT_LIMIT, InputFault, read_input};
 
@@ -18,10 +19,10 @@ const SHOWN: u8 = 0;
 /// The exit status of a script that wasn't shown to its end.
 const FAILED: u8 = 1;
 
-/// Why a file's text isn't there.
-enum Unread {
-    Unopened,
-    Fault(InputFault),
+/// Why the text of a file isn't there, and the system's reason where it has one.
+struct Unread {
+    why: &'static str,
+    reason: Option<ErrorKind>,
 }
 
 /// Says what went wrong. If that fails, nothing else does.
@@ -31,24 +32,66 @@ pub fn explain<E: Write>(alloc: Global, errors: &mut E, what: &str, why: &str) {
     }
 }
 
-/// Reads the text of a file.
-fn read_file<T: Files>(rt: &T, alloc: Global, path: &str) -> Result<Vec<u8>, Unread> {
-    let Ok(mut file) = fs::open(rt, path) else {
-        return Err(Unread::Unopened);
-    };
-    read_input(alloc, &mut file).map_err(Unread::Fault)
+/// The same, with the system's reason.
+pub fn explain_by<E: Write>(
+    alloc: Global,
+    errors: &mut E,
+    what: &str,
+    why: &str,
+    reason: ErrorKind,
+) {
+    match format!(in alloc; "{why}: {reason}") {
+        Ok(why) => explain(alloc, errors, what, why.as_str()),
+        Err(_) => explain(alloc, errors, what, why),
+    }
 }
 
-/// Says why an input isn't there, and gives the exit status.
-fn give_up<E: Write>(alloc: Global, errors: &mut E, what: &str, fault: InputFault) -> u8
-    ensures { result ≡ 1 }
-{
-    let why = match fault {
+/// Why an input isn't there.
+fn sentence_of(fault: InputFault) -> &'static str {
+    match fault {
         InputFault::Read => "it can't be read",
         InputFault::TooLong => "it has more than 1,073,741,824 bytes",
         InputFault::NoMemory => "there is not enough memory",
+    }
+}
+
+/// Reads the text of a file.
+fn read_file<T: Files>(rt: &T, alloc: Global, path: &str) -> Result<Vec<u8>, Unread> {
+    let mut file = match fs::open(rt, path) {
+        Ok(file) => Noted::new(file),
+        Err(error) => {
+            return Err(Unread {
+                why: "the file can't be opened",
+                reason: Some(error.kind()),
+            });
+        }
     };
-    explain(alloc, errors, what, why);
+    match read_input(alloc, &mut file) {
+        Ok(text) => Ok(text),
+        Err(fault) => Err(Unread {
+            why: sentence_of(fault),
+            reason: file.reason(),
+        }),
+    }
+}
+
+/// Says why the script isn't there, and gives the exit status.
+fn give_up<E: Write>(alloc: Global, errors: &mut E, what: &str, fault: InputFault) -> u8
+    ensures { result ≡ 1 }
+{
+    explain(alloc, errors, what, sentence_of(fault));
+    FAILED
+}
+
+/// Says why the answers aren't there, and gives the exit status.
+fn give_up_answers<E: Write>(alloc: Global, errors: &mut E, path: &str, unread: Unread) -> u8
+    ensures { result ≡ 1 }
+{
+    let Unread { why, reason } = unread;
+    match reason {
+        Some(reason) => explain_by(alloc, errors, path, why, reason),
+        None => explain(alloc, errors, path, why),
+    }
     FAILED
 }
 
@@ -84,11 +127,12 @@ fn end_of<E: Write>(alloc: Global, errors: &mut E, shown: Result<Shown, ShowFaul
     }
 }
 
-/// Shows the script that is read, with the answers in the file that is named, or else made anew, and says why where it isn't shown
-/// to its end. Gives the exit status.
+/// Shows the script that is read from an input of this name, with the answers in the file that is named, or else made anew, and
+/// says why where it isn't shown to its end. Gives the exit status.
 pub fn show_and_explain<T: Files, R: Read, W: Write, E: Write>(
     rt: &T,
     alloc: Global,
+    name: &str,
     answers: Option<&str>,
     reader: &mut R,
     writer: &mut W,
@@ -99,7 +143,7 @@ pub fn show_and_explain<T: Files, R: Read, W: Write, E: Write>(
 {
     let input = match read_input(alloc, reader) {
         Ok(input) => input,
-        Err(fault) => return give_up(alloc, errors, "standard input", fault),
+        Err(fault) => return give_up(alloc, errors, name, fault),
     };
     let Some(path) = answers else {
         let shown = show_script(alloc, input.as_slice(), None, writer);
@@ -107,11 +151,7 @@ pub fn show_and_explain<T: Files, R: Read, W: Write, E: Write>(
     };
     let answers = match read_file(rt, alloc, path) {
         Ok(answers) => answers,
-        Err(Unread::Unopened) => {
-            explain(alloc, errors, path, "the file can't be opened");
-            return FAILED;
-        }
-        Err(Unread::Fault(fault)) => return give_up(alloc, errors, path, fault),
+        Err(unread) => return give_up_answers(alloc, errors, path, unread),
     };
     let shown = show_script(alloc, input.as_slice(), Some(answers.as_slice()), writer);
     end_of(alloc, errors, shown)

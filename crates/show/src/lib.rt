@@ -6,9 +6,11 @@
 mod anew;
 mod answer;
 mod command;
+mod noted;
 mod outcome;
 mod script;
 mod sent;
 mod told;
 
-pub use command::{explain, show_and_explain};
+pub use command::{explain, explain_by, show_and_explain};
+pub use noted::Noted;

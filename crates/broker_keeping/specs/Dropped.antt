@@ -1,0 +1,6 @@
+-- What is told of lines that weren't said.
+use Rattle.std.specs.Prelude.{ℕ, ◌++◌, List, codes, decimal}
+
+-- the line that tells how many were left out
+abbrev pub dropped_line : ℕ → List ℕ
+dropped_line count = codes "kbroker: lines left out, since nobody read them in time: " ++ decimal count ++ codes "\n"

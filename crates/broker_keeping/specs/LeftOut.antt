@@ -1,6 +1,0 @@
--- What is told of lines that weren't said.
-use Rattle.std.specs.Prelude.{ℕ, ◌++◌, List, codes, decimal}
-
--- the line that tells how many were left out
-abbrev pub left_out_line : ℕ → List ℕ
-left_out_line count = codes "kbroker: lines left out, since nobody read them in time: " ++ decimal count ++ codes "\n"

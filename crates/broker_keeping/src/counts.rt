@@ -1,0 +1,170 @@
+//! How many requests, ticks and marks a broker has answered.
+
+ghost use Rattle.std.specs.Prelude.{◌≡◌, ◌+◌, ◌∷◌, [], IfSome, length};
+ghost use Rattle.audit_trail.specs.Trail.{refusal_count};
+ghost use Rattle.broker_keeping.specs.Counts.{entries_of, is_of};
+
+use crate::unserved::api_name;
+use audit_trail::{Entry, Event, Trail};
+use msg_admin::versions_reply;
+use std::alloc::{AllocError, Global};
+
+/// A kind of event.
+#[derive(Clone, Copy, Debug, PartialEq, Eq)]
+pub(crate) enum Kind {
+    /// A request to the api of this key.
+    Request(i16),
+    /// A step that writes a marker, if one is owed.
+    Mark,
+    /// A moment of the clock.
+    Tick,
+}
+
+impl Kind {
+    /// Whether an event is of this kind.
+    fn has(self, event: &Event) -> bool
+        ensures { result ≡ is_of self event.now }
+    {
+        match event {
+            Event::Ask { request, .. } => match self {
+                Kind::Request(key) => request.api().key() == key,
+                Kind::Mark | Kind::Tick => false,
+            },
+            Event::Mark => match self {
+                Kind::Mark => true,
+                Kind::Request(_) | Kind::Tick => false,
+            },
+            Event::Tick(_) => match self {
+                Kind::Tick => true,
+                Kind::Request(_) | Kind::Mark => false,
+            },
+        }
+    }
+}
+
+/// How many events there are, and how many parts of them were refused.
+#[derive(Clone, Copy, Debug, PartialEq, Eq)]
+pub(crate) struct Counted {
+    pub(crate) events: u64,
+    pub(crate) refusals: u64,
+}
+
+impl Counted {
+    /// What an entry adds to those of a kind.
+    #[tactic(auto, using(crate::proofs::Counting::one, crate::proofs::Counting::none, crate::proofs::Counting::its_refusals, crate::proofs::Counting::no_refusals))]
+    fn of(kind: Kind, entry: &Entry) -> Counted
+        ensures events { result.events ≡ length (entries_of kind (entry.now ∷ [])) }
+        ensures refusals { result.refusals ≡ refusal_count (entries_of kind (entry.now ∷ [])) }
+    {
+        if kind.has(entry.event.value()) {
+            Counted {
+                events: 1,
+                refusals: entry.refusals.len() as u64,
+            }
+        } else {
+            Counted {
+                events: 0,
+                refusals: 0,
+            }
+        }
+    }
+
+    /// All of both. None where 64 bits don't count them.
+    fn plus(self, more: Counted) -> Option<Counted>
+        ensures events { IfSome result (λ sum. sum.events ≡ self.events + more.events) }
+        ensures refusals { IfSome result (λ sum. sum.refusals ≡ self.refusals + more.refusals) }
+    {
+        Some(Counted {
+            events: self.events.checked_add(more.events)?,
+            refusals: self.refusals.checked_add(more.refusals)?,
+        })
+    }
+}
+
+/// The events of a kind in a trail. None where 64 bits don't count them.
+pub(crate) fn count_of(trail: &Trail, kind: Kind) -> Option<Counted>
+    ensures events { IfSome result (λ counted. counted.events ≡ length (entries_of kind trail.now)) }
+    ensures refusals { IfSome result (λ counted. counted.refusals ≡ refusal_count (entries_of kind trail.now)) }
+{
+    let mut counted = Counted {
+        events: 0,
+        refusals: 0,
+    };
+    for place in 0..trail.len() {
+        let Some(entry) = trail.entry(place) else {
+            unreachable!()
+        };
+        counted = counted.plus(Counted::of(kind, entry))?;
+    }
+    Some(counted)
+}
+
+/// The requests to an api.
+#[derive(Drop)]
+struct ApiCount {
+    name: String,
+    counted: Counted,
+}
+
+/// What a broker has answered.
+#[derive(Drop)]
+pub(crate) struct Counts {
+    ticks: u64,
+    marks: u64,
+    /// Those that were asked, in the order of their keys.
+    apis: Vec<ApiCount>,
+}
+
+/// What the events of a trail are; none where memory was refused.
+pub(crate) fn counts_of(alloc: Global, trail: &Trail) -> Option<Counts> {
+    let mut apis = Vec::new(alloc);
+    let served = versions_reply(alloc).ok()?;
+    for api in served.apis.iter() {
+        let counted = count_of(trail, Kind::Request(api.key))?;
+        if counted.events > 0 {
+            let name = api_name(alloc, api.key)?;
+            apis.push(ApiCount { name, counted }).ok()?;
+        }
+    }
+    Some(Counts {
+        ticks: count_of(trail, Kind::Tick)?.events,
+        marks: count_of(trail, Kind::Mark)?.events,
+        apis,
+    })
+}
+
+/// Appends how many requests of an api were answered, and how many of their parts were refused, if some were.
+fn push_api(
+    alloc: Global,
+    line: &mut String,
+    before: &str,
+    api: &ApiCount,
+) -> Result<(), AllocError> {
+    let ApiCount { name, counted } = api;
+    let Counted { events, refusals } = *counted;
+    let name = name.as_str();
+    line.push_str(format!(in alloc; "{before}{name} {events}")?.as_str())?;
+    match refusals {
+        0 => Ok(()),
+        1 => line.push_str(" (1 refusal)"),
+        _ => line.push_str(format!(in alloc; " ({refusals} refusals)")?.as_str()),
+    }
+}
+
+/// The line that tells requests, ticks and marks apart.
+pub(crate) fn counts_line(alloc: Global, counts: &Counts) -> Result<String, AllocError> {
+    let Counts { ticks, marks, apis } = counts;
+    let mut requests: u64 = 0;
+    for api in apis.iter() {
+        requests = requests.saturating_add(api.counted.events);
+    }
+    let mut line = format!(in alloc; "kbroker: requests {requests}, ticks {ticks}")?;
+    line.push_str(format!(in alloc; ", marks {marks}")?.as_str())?;
+    let mut before = "; ";
+    for api in apis.iter() {
+        push_api(alloc, &mut line, before, api)?;
+        before = ", ";
+    }
+    line.push_str("\n")?;
+    Ok(line)
+}

@@ -1,0 +1,67 @@
+//! A message of the log for an operator.
+
+ghost use Rattle.std.specs.Prelude.{◌≡◌, ◌==◌};
+ghost use Rattle.std.specs.List.{count_by};
+
+use std::time::SystemTime;
+
+/// How much a message matters.
+#[derive(Clone, Copy, Debug, PartialEq, Eq)]
+pub(crate) enum Level {
+    /// It tells how things go.
+    Info,
+    /// Somebody should do something about it.
+    Warn,
+}
+
+impl Level {
+    /// Its name, as logs have it.
+    pub(crate) fn name(self) -> &'static str {
+        match self {
+            Level::Info => "INFO",
+            Level::Warn => "WARN",
+        }
+    }
+}
+
+/// A message.
+#[derive(Drop)]
+pub(crate) enum LogMessage {
+    /// Whole lines.
+    Lines(Level, String),
+    /// Something about the session with this number, in words.
+    OfSession(u64, String),
+    /// Nothing more.
+    End,
+}
+
+/// How many lines a text has.
+fn lines_in(text: &str) -> u64
+    ensures { result ≡ count_by (λ byte. byte == 10) text.now }
+{
+    text.as_bytes()
+        .iter()
+        .filter(|byte| **byte == b'\n')
+        .count() as u64
+}
+
+impl LogMessage {
+    /// How many lines it has.
+    pub(crate) fn lines(&self) -> u64 {
+        match self {
+            LogMessage::Lines(_, lines) => lines_in(lines.as_str()),
+            LogMessage::OfSession(_, _) => 1,
+            LogMessage::End => 0,
+        }
+    }
+}
+
+/// What waits for the writer of the log.
+#[derive(Drop)]
+pub(crate) struct Queued {
+    /// When the message came, if that can be told.
+    pub(crate) moment: Option<SystemTime>,
+    /// So many lines were left out before it.
+    pub(crate) dropped: u64,
+    pub(crate) message: LogMessage,
+}

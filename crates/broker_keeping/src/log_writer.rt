@@ -1,0 +1,162 @@
+//! The log for an operator: what comes out of it.
+
+ghost use Rattle.std.specs.Prelude.{◌≡◌, IfOk, string_bytes};
+ghost use Rattle.broker_keeping.specs.Dropped.{dropped_line};
+
+use crate::log_message::{Level, LogMessage, Queued};
+use crate::repeats::{Repeated, Repeats, session_line};
+use crate::stamps::Stamp;
+use crossbeam_channel::Receiver;
+use std::alloc::{AllocError, Global};
+use std::io::Write;
+use std::sync::Wait;
+use std::time;
+use std::time::{Duration, SystemTime};
+use wire_types::write_whole;
+
+/// After so many seconds without a message it is told of how many sessions the same was said.
+const QUIET: u64 = 10;
+
+/// Writes the log for an operator, in a thread of its own: it alone waits for whoever reads that.
+#[derive(Drop)]
+pub struct LogWriter<E: Write> {
+    alloc: Global,
+    from: Receiver<Queued>,
+    errors: E,
+    /// Whether each line begins with the time of its message, and its level.
+    stamps: bool,
+    /// So many lines were dropped of which nothing is written yet.
+    dropped: u64,
+    repeats: Repeats,
+}
+
+/// The line that tells how many were dropped.
+fn dropped_line(alloc: Global, count: u64) -> Result<String, AllocError>
+    ensures { IfOk result (λ line. string_bytes line ≡ dropped_line count) }
+{
+    format!(in alloc; "kbroker: lines left out, since nobody read them in time: {count}\n")
+}
+
+impl<E: Write + Drop> LogWriter<E> {
+    /// Nothing was written yet.
+    pub(crate) fn new(
+        alloc: Global,
+        from: Receiver<Queued>,
+        errors: E,
+        stamps: bool,
+    ) -> Result<LogWriter<E>, AllocError> {
+        Ok(LogWriter {
+            alloc,
+            from,
+            errors,
+            stamps,
+            dropped: 0,
+            repeats: Repeats::new(alloc)?,
+        })
+    }
+
+    /// Writes all messages in the order in which they came into the queue, until it is to end or nobody is left to send one, and gives
+    /// the writer back. Where lines were dropped, it writes how many before the next message, or at the end. Where the same is said of
+    /// further sessions, it writes of how many: of the first ten, of the hundred after these, and so on, and of the others once other
+    /// things were said, or nothing for ten seconds. What can't be written is lost.
+    pub fn run<R: Wait + time::Clock>(mut self, rt: &R) -> E {
+        for _ in rt.forever() {
+            match self.from.recv_timeout(rt, Duration::from_secs(QUIET)) {
+                Ok(queued) => {
+                    if !self.tell(queued) {
+                        break;
+                    }
+                }
+                Err(error) => {
+                    if !error.is_timeout() {
+                        break;
+                    }
+                    self.tell_untold(SystemTime::now(rt).ok());
+                }
+            }
+        }
+        let LogWriter { errors, .. } = self;
+        errors
+    }
+
+    /// Writes a message. Gives whether more are to come.
+    fn tell(&mut self, queued: Queued) -> bool {
+        let Queued {
+            moment,
+            dropped,
+            message,
+        } = queued;
+        self.dropped = self.dropped.saturating_add(dropped);
+        self.tell_dropped(moment);
+        match message {
+            LogMessage::Lines(level, lines) => self.write(Stamp { moment, level }, lines.as_str()),
+            LogMessage::OfSession(session, words) => self.tell_of_session(moment, session, words),
+            LogMessage::End => {
+                self.tell_untold(moment);
+                return false;
+            }
+        }
+        true
+    }
+
+    /// Writes lines. Where memory is refused for their stamps, they are written without.
+    fn write(&mut self, stamp: Stamp, lines: &str) {
+        if self.stamps {
+            if let Ok(stamped) = stamp.on(self.alloc, lines) {
+                let _ = write_whole(&mut self.errors, stamped.as_bytes());
+                return;
+            }
+        }
+        let _ = write_whole(&mut self.errors, lines.as_bytes());
+    }
+
+    /// Writes a line, unless there is none.
+    fn write_line(&mut self, moment: Option<SystemTime>, level: Level, line: Option<String>) {
+        if let Some(line) = line {
+            self.write(Stamp { moment, level }, line.as_str());
+        }
+    }
+
+    /// Writes what is said of a session, or counts it where the same was said of another.
+    fn tell_of_session(&mut self, moment: Option<SystemTime>, session: u64, words: String) {
+        let alloc = self.alloc;
+        if let Some(repeated) = self.repeats.find(words.as_str()) {
+            if repeated.again(session) {
+                let line = repeated.take_line(alloc);
+                self.write_line(moment, Level::Info, line);
+            }
+            return;
+        }
+        let line = session_line(alloc, session, words.as_str()).ok();
+        if let Some(forgotten) = self.repeats.keep(session, words) {
+            self.tell_repeated(moment, forgotten);
+        }
+        self.write_line(moment, Level::Info, line);
+    }
+
+    /// Writes of how many more sessions the same was said.
+    fn tell_repeated(&mut self, moment: Option<SystemTime>, mut repeated: Repeated) {
+        let line = repeated.take_line(self.alloc);
+        self.write_line(moment, Level::Info, line);
+    }
+
+    /// The same of all that was said of sessions last, which is forgotten then.
+    fn tell_untold(&mut self, moment: Option<SystemTime>) {
+        for _ in 0..self.repeats.len() {
+            if let Some(repeated) = self.repeats.forget() {
+                self.tell_repeated(moment, repeated);
+            }
+        }
+    }
+
+    /// Writes how many lines were dropped, if some were. Where memory is refused for that, it is left for the next time.
+    fn tell_dropped(&mut self, moment: Option<SystemTime>) {
+        if self.dropped == 0 {
+            return;
+        }
+        if let Ok(line) = dropped_line(self.alloc, self.dropped) {
+            self.write_line(moment, Level::Warn, Some(line));
+            self.dropped = 0;
+        }
+    }
+}

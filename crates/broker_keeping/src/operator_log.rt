@@ -1,0 +1,300 @@
+//! The log for an operator: what goes into it.
+
+use crate::counts::{counts_line, counts_of};
+use crate::log_message::{Level, LogMessage, Queued};
+use crate::log_writer::LogWriter;
+use crate::refused::refused_words;
+use crate::starting::{Started, start_line};
+use crate::unserved::unserved_words;
+use admission::Doorman;
+use crossbeam_channel::Sender;
+use request_handlers::{Core, MOST_SEATS};
+use session_pool::{DeskLedger, Gate, LockedDesk, Why};
+use std::alloc::{AllocError, Global};
+use std::fmt::Display;
+use std::io::Write;
+use std::sync::Wait;
+use std::sync::atomic::{AtomicU64, Ordering};
+use std::time::{Duration, SystemTime};
+use std::{io, time};
+use wire_types::{Bytes, Text};
+
+/// So many messages wait for the writer at most.
+const WAITING: usize = 1_024;
+
+/// After so long a wait for a worker it is told that a connection is served, in seconds.
+const LONG: u64 = 1;
+
+/// The log for an operator. It gets a line for each session that ends by other than Closed, and lines about connections that wait or
+/// aren't served. Messages wait in a queue for a `LogWriter`, so nobody waits for whoever reads them: where the queue is full, they
+/// are dropped, and the next message comes with the number of their lines. A message that can't be put down makes nothing else fail.
+#[derive(Drop)]
+pub struct OperatorLog<'r, R: Wait> {
+    rt: &'r R,
+    alloc: Global,
+    to: Sender<Queued>,
+    /// How many lines were dropped of which the writer doesn't know.
+    dropped: AtomicU64,
+    /// How many sessions found no seat.
+    unseated: AtomicU64,
+    /// How many connections were taken.
+    taken: AtomicU64,
+    /// For how many of them a worker was found.
+    begun: AtomicU64,
+    /// How many of their sessions have ended.
+    ended: AtomicU64,
+    /// How many workers there are, once a connection was taken.
+    workers: AtomicU64,
+}
+
+impl<'r, R: Wait + time::Clock> OperatorLog<'r, R> {
+    /// An empty queue, and the writer of what comes out of it, which puts the time and the level before each line where `stamps` is
+    /// set. Memory for 1,024 messages is allocated here.
+    pub fn new<E: Write + Drop>(
+        rt: &'r R,
+        alloc: Global,
+        errors: E,
+        stamps: bool,
+    ) -> Result<(OperatorLog<'r, R>, LogWriter<E>), AllocError> {
+        let (to, from) = crossbeam_channel::bounded(alloc, WAITING)?;
+        let log = OperatorLog {
+            rt,
+            alloc,
+            to,
+            dropped: AtomicU64::new(0),
+            unseated: AtomicU64::new(0),
+            taken: AtomicU64::new(0),
+            begun: AtomicU64::new(0),
+            ended: AtomicU64::new(0),
+            workers: AtomicU64::new(0),
+        };
+        Ok((log, LogWriter::new(alloc, from, errors, stamps)?))
+    }
+
+    /// A message of this moment, with the number of lines that were dropped before it.
+    fn queued(&self, message: LogMessage) -> Queued {
+        Queued {
+            moment: SystemTime::now(self.rt).ok(),
+            dropped: self.dropped.swap(0, Ordering::SeqCst),
+            message,
+        }
+    }
+
+    /// Puts a message into the queue, and neither fails nor waits for whoever reads it. Where the queue is full, or the writer is
+    /// gone, the message is dropped, and its lines are counted.
+    fn hand(&self, message: LogMessage) {
+        if let Err(refused) = self.to.try_send(self.rt, self.queued(message)) {
+            self.drop_message(refused.into_inner());
+        }
+    }
+
+    /// Puts down whole lines that tell how things go, and neither fails nor waits for whoever reads them. Where the queue is full, or
+    /// the writer is gone, they are dropped and counted.
+    pub fn info(&self, lines: String) {
+        self.hand(LogMessage::Lines(Level::Info, lines));
+    }
+
+    /// Puts down a line that tells how things go, unless memory was refused for it.
+    fn info_line(&self, line: Result<String, AllocError>) {
+        if let Ok(line) = line {
+            self.info(line);
+        }
+    }
+
+    /// Puts down a line about which somebody should do something, unless memory was refused for it.
+    pub(crate) fn warn(&self, line: Result<String, AllocError>) {
+        if let Ok(line) = line {
+            self.hand(LogMessage::Lines(Level::Warn, line));
+        }
+    }
+
+    /// Puts down words about a session, unless memory was refused for them.
+    fn info_of_session(&self, session: u64, words: Option<String>) {
+        if let Some(words) = words {
+            self.hand(LogMessage::OfSession(session, words));
+        }
+    }
+
+    /// Tells what is served, as a server starts.
+    pub fn start(&self, core: &Core, started: Started) {
+        self.info_line(start_line(self.alloc, core, started));
+    }
+
+    /// Warns where clients are told another port than this one, on which a server listens: they couldn't come back. Where a proxy
+    /// stands between them, that is as it should be.
+    pub fn warn_of_port(&self, core: &Core, listens: u16) {
+        let told = core.world().node().port;
+        if told != i32::from(listens) {
+            self.warn(format!(in self.alloc;
+                "kbroker: warning: clients are told port {told}, as the settings have it, and the server listens on {listens}\n"
+            ));
+        }
+    }
+
+    /// Tells how many requests, ticks and marks were answered at a desk.
+    pub fn tell_counts<L: DeskLedger>(&self, desk: &LockedDesk<L, &'r R>) {
+        let alloc = self.alloc;
+        if let Some(counts) = desk.look(|core| counts_of(alloc, core.trail())) {
+            self.info_line(counts_line(alloc, &counts));
+        }
+    }
+
+    /// Counts the lines of a message that is dropped, and those of which it was to tell.
+    fn drop_message(&self, queued: Queued) {
+        let Queued {
+            dropped,
+            message,
+            ..
+        } = queued;
+        self.dropped.fetch_add(dropped, Ordering::SeqCst);
+        self.dropped.fetch_add(message.lines(), Ordering::SeqCst);
+    }
+
+    /// Whether some connection was taken for which no worker is found yet.
+    pub(crate) fn has_waiting(&self) -> bool {
+        self.begun.load(Ordering::SeqCst) != self.taken.load(Ordering::SeqCst)
+    }
+
+    /// Tells that connections wait for a worker.
+    pub(crate) fn tell_waiting(&self) {
+        let workers = self.workers.load(Ordering::SeqCst);
+        self.warn(format!(in self.alloc;
+            "kbroker: connections wait for a worker, since all {workers} are taken; see --workers\n"
+        ));
+    }
+
+    /// Tells which lines of standard input are answered, where one of them isn't.
+    pub(crate) fn tell_unreadable(&self, lines: &str) {
+        self.warn(format!(in self.alloc;
+            "kbroker: a line of standard input can't be read: there are {lines}\n"
+        ));
+    }
+
+    /// How many connections have a worker.
+    fn open(&self) -> u64 {
+        let ended = self.ended.load(Ordering::SeqCst);
+        let unseated = self.unseated.load(Ordering::SeqCst);
+        let begun = self.begun.load(Ordering::SeqCst);
+        begun.saturating_sub(ended.saturating_add(unseated))
+    }
+
+    /// Tells that connections are open which a stop waits for, if some are.
+    pub(crate) fn tell_open(&self) {
+        let open = self.open();
+        if open > 0 {
+            self.info_line(format!(in self.alloc;
+                "kbroker: connections that are still open: {open}; the last line waits for their end, or for --grace\n"
+            ));
+        }
+    }
+
+    /// How many lines were dropped of which the writer doesn't know yet.
+    pub fn dropped(&self) -> u64 {
+        self.dropped.load(Ordering::SeqCst)
+    }
+
+    /// Tells why a session ended.
+    fn tell_end<D: Display + Drop>(&self, session: u64, host: &Text, who: Option<&Text>, why: D) {
+        let host = host.as_str();
+        let who = who.map_or("nobody", |who| who.as_str());
+        let words = format!(in self.alloc; "of {who} from {host}: {why}");
+        self.info_of_session(session, words.ok());
+    }
+
+    /// Has the writer end after what it was handed. Where the queue is full this waits until there is room, and where the writer is gone
+    /// it does nothing.
+    pub fn end(&self) {
+        let _ = self.to.send(self.rt, self.queued(LogMessage::End));
+    }
+}
+
+impl<'r, R: Wait + time::Clock> Gate for OperatorLog<'r, R> {
+    fn before(&self, _session: u64, _frame: u64) {}
+
+    fn logged_in(&self, _session: u64, _who: &Text) {}
+
+    fn after(&self, _session: u64, _frame: u64) {}
+
+    /// Tells which api it asks, and what of it is served.
+    fn garbled(&self, session: u64, kept: &[u8]) {
+        self.info_of_session(session, unserved_words(self.alloc, kept));
+    }
+
+    /// Tells what of its login failed, or what it asks before that.
+    fn refused(&self, session: u64, kept: &Bytes, is_answered: bool) {
+        self.info_of_session(session, refused_words(self.alloc, kept, is_answered));
+    }
+
+    fn ended(&self, session: u64, host: &Text, who: Option<&Text>, why: Why) {
+        self.ended.fetch_add(1, Ordering::SeqCst);
+        if why != Why::Closed {
+            self.tell_end(session, host, who, why);
+        }
+    }
+
+    fn ended_as(&self, session: u64, host: &Text, who: Option<&Text>, _why: Why, words: &str) {
+        self.ended.fetch_add(1, Ordering::SeqCst);
+        self.tell_end(session, host, who, words);
+    }
+}
+
+impl<'r, R: Wait + time::Clock> Doorman for OperatorLog<'r, R> {
+    fn failed(&self, error: &io::Error) {
+        self.warn(format!(in self.alloc;
+            "kbroker: connections can't be accepted for now: {error}\n"
+        ));
+    }
+
+    fn used_up(&self, connections: u64) {
+        self.info_line(format!(in self.alloc;
+            "kbroker: no more connections are taken, since --connections is {connections}\n"
+        ));
+    }
+
+    fn turned_away(&self, host: &Text) {
+        let host = host.as_str();
+        self.warn(format!(in self.alloc;
+            "kbroker: a connection from {host} was closed at once, since its host has as many as --per-host says\n"
+        ));
+    }
+
+    /// Tells so the first time.
+    fn unseated(&self) {
+        if self.unseated.fetch_add(1, Ordering::SeqCst) == 0 {
+            let seats = MOST_SEATS;
+            self.warn(format!(in self.alloc;
+                "kbroker: no seat is left for further sessions, since {seats} have asked\n"
+            ));
+        }
+    }
+
+    fn taken(&self, workers: usize) {
+        self.workers.store(workers as u64, Ordering::SeqCst);
+        self.taken.fetch_add(1, Ordering::SeqCst);
+    }
+
+    /// Tells so of one that has waited for a second.
+    fn begun(&self, host: &Text, waited: Duration) {
+        self.begun.fetch_add(1, Ordering::SeqCst);
+        let seconds = waited.as_secs();
+        if LONG <= seconds {
+            let host = host.as_str();
+            self.info_line(format!(in self.alloc;
+                "kbroker: a connection from {host} has waited {seconds} s for a worker, and is served now\n"
+            ));
+        }
+    }
+
+    fn closed(&self, session: u64, grace: Duration) {
+        let seconds = grace.as_secs();
+        self.info_line(format!(in self.alloc;
+            "kbroker: session {session} is closed, since it was still open {seconds} s after the stop\n"
+        ));
+    }
+
+    fn fewer_workers(&self, started: usize, asked: usize) {
+        self.warn(format!(in self.alloc;
+            "kbroker: only {started} of {asked} workers could be started\n"
+        ));
+    }
+}

@@ -1,0 +1,105 @@
+//! Sessions of which the same is said: a client that tries again and again says nothing new.
+
+use circular_buffer::HeapCircularBuffer;
+use std::alloc::{AllocError, Global};
+
+/// So many different messages about sessions are kept at most, and the next one is compared with them.
+const RECENT: usize = 4;
+
+/// Of so many more sessions the same is said until that is told the first time. From then on it takes ten times as many each time.
+const FEW: u64 = 10;
+
+/// The line that says something of a session.
+pub(crate) fn session_line(alloc: Global, session: u64, words: &str) -> Result<String, AllocError> {
+    format!(in alloc; "kbroker: session {session} {words}\n")
+}
+
+/// What was said of a session, and of how many more since.
+#[derive(Drop)]
+pub(crate) struct Repeated {
+    words: String,
+    /// The latest session of which it was said.
+    session: u64,
+    /// Of how many more sessions it was said than is told.
+    untold: u64,
+    /// Of how many more it is said until that is told.
+    due: u64,
+}
+
+impl Repeated {
+    /// It was said of a first session.
+    fn first(session: u64, words: String) -> Repeated {
+        Repeated {
+            words,
+            session,
+            untold: 0,
+            due: FEW,
+        }
+    }
+
+    /// It is said of one more session. Gives whether that is to be told now.
+    pub(crate) fn again(&mut self, session: u64) -> bool {
+        self.session = session;
+        self.untold = self.untold.saturating_add(1);
+        self.due <= self.untold
+    }
+
+    /// The line that tells of how many more sessions it was said, after which it is told of all of them; none where it was before,
+    /// or memory is refused for it.
+    pub(crate) fn take_line(&mut self, alloc: Global) -> Option<String> {
+        let (untold, session) = (self.untold, self.session);
+        if untold == 0 {
+            return None;
+        }
+        let words = self.words.as_str();
+        let line = if untold == 1 {
+            session_line(alloc, session, words)
+        } else {
+            format!(in alloc; "kbroker: {untold} more sessions, up to session {session}: {words}\n")
+        };
+        if self.due <= untold {
+            self.due = self.due.saturating_mul(FEW);
+        }
+        self.untold = 0;
+        line.ok()
+    }
+}
+
+/// What was said of sessions last.
+#[derive(Drop)]
+pub(crate) struct Repeats {
+    latest: HeapCircularBuffer<Repeated>,
+}
+
+impl Repeats {
+    /// Nothing was said.
+    pub(crate) fn new(alloc: Global) -> Result<Repeats, AllocError> {
+        Ok(Repeats {
+            latest: HeapCircularBuffer::with_capacity(alloc, RECENT)?,
+        })
+    }
+
+    /// What was said in these words, if that is among the latest.
+    pub(crate) fn find(&mut self, words: &str) -> Option<&mut Repeated> {
+        let place = self
+            .latest
+            .iter()
+            .position(|repeated| repeated.words.as_str() == words)?;
+        self.latest.get_mut(place)
+    }
+
+    /// Keeps what was said of a session. Gives what is forgotten for it, if something is.
+    pub(crate) fn keep(&mut self, session: u64, words: String) -> Option<Repeated> {
+        self.latest.push_back(Repeated::first(session, words))
+    }
+
+    /// Forgets the oldest, and gives it.
+    pub(crate) fn forget(&mut self) -> Option<Repeated> {
+        self.latest.pop_front()
+    }
+
+    /// How many are kept.
+    pub(crate) fn len(&self) -> usize {
+        self.latest.len()
+    }
+}

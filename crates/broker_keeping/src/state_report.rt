@@ -1,0 +1,196 @@
+//! How things stand in a core, as plain values. They are taken while it is locked, and laid out as text afterwards.
+
+use broker_world::{Slot, State};
+use offset_tables::Group;
+use request_handlers::Core;
+use std::alloc::{AllocError, Global};
+use transactions::{OwedMarker, Phase, Transaction};
+use wire_types::Text;
+
+/// The log end offset and the last stable offset of a partition.
+#[derive(Clone, Copy, Debug, PartialEq, Eq)]
+pub(crate) struct LogEnds {
+    pub(crate) end: i64,
+    pub(crate) stable: i64,
+}
+
+/// A topic, and where each of its partitions ends.
+#[derive(Drop)]
+pub(crate) struct TopicReport {
+    pub(crate) name: Text,
+    pub(crate) partitions: Vec<LogEnds>,
+}
+
+/// The committed offset of a partition.
+#[derive(Drop)]
+pub(crate) struct CommittedOffset {
+    pub(crate) topic: Text,
+    pub(crate) index: i32,
+    pub(crate) offset: i64,
+}
+
+/// A group, its member, and what is committed.
+#[derive(Drop)]
+pub(crate) struct GroupReport {
+    pub(crate) name: Text,
+    pub(crate) generation: i32,
+    pub(crate) member: Option<Text>,
+    pub(crate) committed: Vec<CommittedOffset>,
+}
+
+/// How things stand.
+#[derive(Drop)]
+pub(crate) struct StateReport {
+    pub(crate) moment: u64,
+    /// How many markers are owed.
+    pub(crate) owed: usize,
+    pub(crate) topics: Vec<TopicReport>,
+    /// Those that are open or prepared.
+    pub(crate) transactions: Vec<Transaction>,
+    pub(crate) groups: Vec<GroupReport>,
+    /// How many entries the trail has.
+    pub(crate) events: usize,
+}
+
+/// What a moment came to.
+#[derive(Drop)]
+pub(crate) struct TickReport {
+    pub(crate) milliseconds: u64,
+    /// The transactions that it aborted.
+    pub(crate) aborted: Vec<Text>,
+}
+
+fn topic_of(alloc: Global, slot: &Slot) -> Result<TopicReport, AllocError> {
+    let mut partitions = Vec::new(alloc);
+    for index in 0..slot.partitions.len() {
+        if let Some(log) = slot.partitions.get(index as i32) {
+            partitions.push(LogEnds {
+                end: log.end(),
+                stable: log.stable(),
+            })?;
+        }
+    }
+    Ok(TopicReport {
+        name: slot.name.clone()?,
+        partitions,
+    })
+}
+
+fn push_committed(
+    committed: &mut Vec<CommittedOffset>,
+    group: &Group,
+    slot: &Slot,
+) -> Result<(), AllocError> {
+    for index in 0..slot.partitions.len() {
+        let index = index as i32;
+        if let Some(found) = group.offsets.committed(&slot.name, index) {
+            committed.push(CommittedOffset {
+                topic: slot.name.clone()?,
+                index,
+                offset: found.offset,
+            })?;
+        }
+    }
+    Ok(())
+}
+
+fn group_of(alloc: Global, group: &Group, slots: &[Slot]) -> Result<GroupReport, AllocError> {
+    let mut committed = Vec::new(alloc);
+    for slot in slots {
+        push_committed(&mut committed, group, slot)?;
+    }
+    let member = match &group.member {
+        Some(member) => Some(member.id.clone()?),
+        None => None,
+    };
+    Ok(GroupReport {
+        name: group.name.clone()?,
+        generation: group.generation,
+        member,
+        committed,
+    })
+}
+
+fn topics_of(alloc: Global, slots: &[Slot]) -> Result<Vec<TopicReport>, AllocError> {
+    let mut topics = Vec::new(alloc);
+    for slot in slots {
+        topics.push(topic_of(alloc, slot)?)?;
+    }
+    Ok(topics)
+}
+
+/// Whether a transaction in this phase is open or prepared.
+fn is_shown(phase: Phase) -> bool {
+    matches!(
+        phase,
+        Phase::Ongoing | Phase::PrepareCommit | Phase::PrepareAbort
+    )
+}
+
+fn shown_of(alloc: Global, all: &[Transaction]) -> Result<Vec<Transaction>, AllocError> {
+    let mut shown = Vec::new(alloc);
+    for transaction in all {
+        if is_shown(transaction.phase) {
+            shown.push(transaction.copied()?)?;
+        }
+    }
+    Ok(shown)
+}
+
+fn groups_of(alloc: Global, world: &State) -> Result<Vec<GroupReport>, AllocError> {
+    let slots = world.topics.slots();
+    let mut groups = Vec::new(alloc);
+    for group in world.groups.as_slice() {
+        groups.push(group_of(alloc, group, slots)?)?;
+    }
+    Ok(groups)
+}
+
+/// How things stand in a core.
+pub(crate) fn state_report_of(alloc: Global, core: &Core) -> Result<StateReport, AllocError> {
+    let world = core.world();
+    Ok(StateReport {
+        moment: world.moment.milliseconds(),
+        owed: world.coordinator.owed(),
+        topics: topics_of(alloc, world.topics.slots())?,
+        transactions: shown_of(alloc, world.coordinator.transactions())?,
+        groups: groups_of(alloc, world)?,
+        events: core.trail().len(),
+    })
+}
+
+/// The marker that is owed first, if one is.
+pub(crate) fn front_of(core: &Core) -> Result<Option<OwedMarker>, AllocError> {
+    match core.world().coordinator.front() {
+        Some(marker) => Ok(Some(marker.clone()?)),
+        None => Ok(None),
+    }
+}
+
+/// Which of the transactions are open, in the order of their ids' creation.
+pub(crate) fn open_ones(alloc: Global, core: &Core) -> Result<Vec<bool>, AllocError> {
+    let mut open = Vec::new(alloc);
+    for transaction in core.world().coordinator.transactions() {
+        open.push(transaction.phase == Phase::Ongoing)?;
+    }
+    Ok(open)
+}
+
+/// The moment, and those of the open transactions that are open no more.
+pub(crate) fn tick_report_of(
+    alloc: Global,
+    core: &Core,
+    open: &[bool],
+) -> Result<TickReport, AllocError> {
+    let world = core.world();
+    let mut aborted = Vec::new(alloc);
+    for (transaction, was_open) in world.coordinator.transactions().iter().zip(open.iter()) {
+        if *was_open && transaction.phase != Phase::Ongoing {
+            aborted.push(transaction.id.clone()?)?;
+        }
+    }
+    Ok(TickReport {
+        milliseconds: world.moment.milliseconds(),
+        aborted,
+    })
+}

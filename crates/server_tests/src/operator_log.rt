@@ -1,0 +1,207 @@
+//! The log for an operator: messages are written in their order, and those that find no room are counted, and told of.
+
+use admission::Doorman;
+use broker_keeping::OperatorLog;
+use session_pool::{Gate, Why};
+use std::alloc::Global;
+use std::ops::Range;
+use std::str::from_utf8;
+use std::sync::Wait;
+use std::test::Fail;
+use std::time::Duration;
+use std::{thread, time};
+use wire_types::Text;
+
+/// So many messages wait for the writer.
+const WAITING: u64 = 1_024;
+
+/// Says lines of these numbers until the queue is full, and three more, two of which are one message.
+fn fill<R: Wait + time::Clock>(alloc: Global, log: &OperatorLog<'_, R>) -> Result<(), Fail> {
+    for number in 0..WAITING {
+        log.info(format!(in alloc; "line {number}\n")?);
+    }
+    log.info(String::from_str(alloc, "one\ntwo\n")?);
+    log.info(String::from_str(alloc, "three\n")?);
+    Ok(())
+}
+
+/// The lines that fill the queue, how many are told to be left out, and what comes after that.
+fn due(alloc: Global, dropped: u64, last: &str) -> Result<String, Fail> {
+    let mut text = String::new(alloc);
+    for number in 0..WAITING {
+        text.push_str(format!(in alloc; "line {number}\n")?.as_str())?;
+    }
+    let line = "kbroker: lines left out, since nobody read them in time";
+    text.push_str(format!(in alloc; "{line}: {dropped}\n")?.as_str())?;
+    text.push_str(last)?;
+    Ok(text)
+}
+
+/// Says a line until there is room for it, and gives how often it was left out.
+fn say_last<R: Wait + time::Clock>(
+    rt: &R,
+    alloc: Global,
+    log: &OperatorLog<'_, R>,
+) -> Result<u64, Fail> {
+    for dropped in 0..10_000 {
+        log.info(String::from_str(alloc, "last\n")?);
+        if log.dropped() == 0 {
+            return Ok(dropped);
+        }
+        thread::sleep(rt, Duration::from_millis(1));
+    }
+    Err(Fail::from("no room"))
+}
+
+#[test]
+fn what_has_no_room_is_counted(rt: HostRuntime) -> Result<(), Fail> {
+    let alloc = rt.alloc();
+    let (log, log_writer) = OperatorLog::new(&rt, alloc, Vec::<u8>::new(alloc), false)?;
+    fill(alloc, &log)?;
+    assert_eq!(rt; log.dropped(), 3);
+    let (handle, log) = (&rt, &log);
+    let (written, _) = thread::join(handle, move || log_writer.run(handle), move || log.end());
+    assert!(rt; written.as_slice() == due(alloc, 3, "")?.as_bytes());
+    assert_eq!(rt; log.dropped(), 0);
+    Ok(())
+}
+
+#[test]
+fn what_was_left_out_is_told_before_what_is_said_next(rt: HostRuntime) -> Result<(), Fail> {
+    let alloc = rt.alloc();
+    let (log, log_writer) = OperatorLog::new(&rt, alloc, Vec::<u8>::new(alloc), false)?;
+    fill(alloc, &log)?;
+    let (handle, log) = (&rt, &log);
+    let (written, dropped) = thread::join(
+        handle,
+        move || log_writer.run(handle),
+        move || {
+            let dropped = say_last(handle, alloc, log);
+            log.end();
+            dropped
+        },
+    );
+    let dropped = dropped?.saturating_add(3);
+    assert!(rt; written.as_slice() == due(alloc, dropped, "last\n")?.as_bytes());
+    Ok(())
+}
+
+/// Nothing is written after the writer has gone, and nobody waits for it.
+#[test]
+fn a_writer_that_is_gone_is_not_waited_for(rt: HostRuntime) -> Result<(), Fail> {
+    let alloc = rt.alloc();
+    let (log, log_writer) = OperatorLog::new(&rt, alloc, Vec::<u8>::new(alloc), false)?;
+    drop(log_writer);
+    log.info(String::from_str(alloc, "one\n")?);
+    assert_eq!(rt; log.dropped(), 1);
+    log.end();
+    Ok(())
+}
+
+/// Sessions of these numbers end inside a request.
+fn cut<R: Wait + time::Clock>(
+    alloc: Global,
+    log: &OperatorLog<'_, R>,
+    numbers: Range<u64>,
+) -> Result<(), Fail> {
+    let host = Text::of(alloc, "10.0.0.5")?;
+    for number in numbers {
+        log.ended(number, &host, None, Why::Cut);
+    }
+    Ok(())
+}
+
+/// Of the first session it is told in full; of ten more at once, and of the last one at the end.
+#[test]
+fn the_same_of_further_sessions_is_counted(rt: HostRuntime) -> Result<(), Fail> {
+    let alloc = rt.alloc();
+    let (log, log_writer) = OperatorLog::new(&rt, alloc, Vec::<u8>::new(alloc), false)?;
+    cut(alloc, &log, 0..12)?;
+    log.end();
+    let written = log_writer.run(&rt);
+    let due =
+        "kbroker: session 0 of nobody from 10.0.0.5: the connection was closed inside a request
+kbroker: 10 more sessions, up to session 10: of nobody from 10.0.0.5: the connection was closed inside a request
+kbroker: session 11 of nobody from 10.0.0.5: the connection was closed inside a request
+";
+    assert!(rt; written.as_slice() == due.as_bytes());
+    Ok(())
+}
+
+/// What was said four sayings ago is compared, and what was said before that isn't any more. Of what is forgotten it is told first.
+#[test]
+fn the_latest_four_sayings_are_compared(rt: HostRuntime) -> Result<(), Fail> {
+    let alloc = rt.alloc();
+    let (log, log_writer) = OperatorLog::new(&rt, alloc, Vec::<u8>::new(alloc), false)?;
+    cut(alloc, &log, 0..3)?;
+    for why in [
+        Why::ReadFault,
+        Why::WriteFault,
+        Why::BadFrame,
+        Why::Malformed,
+    ] {
+        log.ended(7, &Text::of(alloc, "10.0.0.5")?, None, why);
+    }
+    cut(alloc, &log, 8..9)?;
+    log.end();
+    let written = log_writer.run(&rt);
+    let due =
+        "kbroker: session 0 of nobody from 10.0.0.5: the connection was closed inside a request
+kbroker: session 7 of nobody from 10.0.0.5: a read failed
+kbroker: session 7 of nobody from 10.0.0.5: a write failed
+kbroker: session 7 of nobody from 10.0.0.5: a frame is shorter than a request can be, or longer than the limit
+kbroker: 2 more sessions, up to session 2: of nobody from 10.0.0.5: the connection was closed inside a request
+kbroker: session 7 of nobody from 10.0.0.5: a frame is no request that is served
+kbroker: session 8 of nobody from 10.0.0.5: the connection was closed inside a request
+";
+    assert!(rt; written.as_slice() == due.as_bytes());
+    Ok(())
+}
+
+/// Whether a text has the form of a moment in UTC, to the millisecond (RFC 3339, section 5.6).
+fn is_moment(text: &str) -> bool {
+    let form = "dddd-dd-ddTdd:dd:dd.dddZ";
+    text.len() == form.len()
+        && text.as_bytes().iter().zip(form.as_bytes().iter()).all(|(byte, due)| byte == due
+            || (*due == b'd' && byte.is_ascii_digit()))
+}
+
+/// What stands after the moment and this level, if a line begins with them.
+fn after_stamp<'a>(line: &'a str, level: &str) -> Option<&'a str> {
+    let (moment, rest) = line.split_once(' ')?;
+    let (told, rest) = rest.split_once(' ')?;
+    if is_moment(moment) && told == level {
+        Some(rest)
+    } else {
+        None
+    }
+}
+
+#[test]
+fn each_line_begins_with_its_moment_and_its_level(rt: HostRuntime) -> Result<(), Fail> {
+    let alloc = rt.alloc();
+    let (log, log_writer) = OperatorLog::new(&rt, alloc, Vec::<u8>::new(alloc), true)?;
+    log.info(String::from_str(alloc, "one\ntwo\n")?);
+    log.fewer_workers(1, 2);
+    cut(alloc, &log, 3..4)?;
+    log.end();
+    let written = log_writer.run(&rt);
+    let Ok(written) = from_utf8(written.as_slice()) else {
+        return Err(Fail::from("no text"));
+    };
+    let mut lines = written.lines();
+    let due = [
+        ("INFO", "one"),
+        ("INFO", "two"),
+        ("WARN", "kbroker: only 1 of 2 workers could be started"),
+        (
+            "INFO",
+            "kbroker: session 3 of nobody from 10.0.0.5: the connection was closed inside a request",
+        ),
+    ];
+    for (level, text) in due {
+        assert!(rt; lines.next().and_then(|line| after_stamp(line, level)) == Some(text));
+    }
+    assert!(rt; lines.next().is_none());
+    Ok(())
+}

@@ -1,0 +1,50 @@
+"""The pages for people with kcat and confluent-kafka: README's first one, and those of examples/. Their commands are run as they
+stand there, and print what stands there."""
+
+import shutil
+import sys
+import unittest
+
+from program import ROOT
+from tests.clients.test_clients import OF_THE_SYSTEM, has_kafka
+from tests.pages import FIRST, Room, assert_prints, assert_steps, blocks_of, serving, steps_of
+from tests.support import wait_until
+
+
+def interpreter_with_kafka(case):
+    """An interpreter that has confluent-kafka. Where none has, the case is skipped."""
+    for it in (sys.executable, OF_THE_SYSTEM):
+        if has_kafka(it):
+            return it
+    return case.skipTest("confluent-kafka isn't installed")
+
+
+@unittest.skipIf(shutil.which("kcat") is None, "kcat isn't installed")
+class WithKcat(unittest.TestCase):
+    def test_the_first_page(self):
+        """README: a transaction is committed and read, a write is refused, an aborted record isn't read; and the broker tells of
+        the refusal alone."""
+        interpreter = interpreter_with_kafka(self)
+        [block] = [it for it in blocks_of(FIRST) if "kcat" in it]
+        [code] = blocks_of(FIRST, "python")
+        [audit] = [it.splitlines() for it in blocks_of(FIRST) if it.startswith("unmatched")]
+        with serving() as broker, Room(broker.address) as room:
+            assert_steps(self, room, steps_of(block))
+            assert_prints(self, room, code, interpreter)
+            wait_until(broker.told, "the refusal is not told")
+            self.assertEqual(broker.told(), [it for it in audit if " orders " in it])
+
+    def test_kcat(self):
+        """examples/kcat.md, all of it."""
+        steps = [step for block in blocks_of((ROOT / "examples/kcat.md").read_text()) for step in steps_of(block)]
+        with serving() as broker, Room(broker.address) as room:
+            assert_steps(self, room, steps)
+
+
+class WithConfluentKafka(unittest.TestCase):
+    def test_confluent_kafka(self):
+        """examples/confluent_kafka.md: its blocks are one program."""
+        interpreter = interpreter_with_kafka(self)
+        code = "\n".join(blocks_of((ROOT / "examples/confluent_kafka.md").read_text(), "python"))
+        with serving() as broker, Room(broker.address) as room:
+            assert_prints(self, room, code, interpreter)

@@ -1,0 +1,34 @@
+"""What people read first of the package does what it says: README's path for whoever has Python alone, its own test, and the
+recipes of docs/TESTING_WITH_KBROKER.md."""
+
+import sys
+import unittest
+
+from program import ROOT
+from tests.pages import FIRST, OWN_TEST, Room, assert_prints, assert_steps, blocks_of, serving, steps_of
+from tests.support import wait_until
+
+RECIPES = 5
+
+
+class Pages(unittest.TestCase):
+    def test_with_python_alone(self):
+        """README: a record is produced and read, and a write is refused, of which the broker tells."""
+        [block] = [it for it in blocks_of(FIRST) if "kbroker_testing.protocol" in it]
+        [audit] = [it.splitlines() for it in blocks_of(FIRST) if it.startswith("unmatched")]
+        with serving() as broker, Room(broker.address) as room:
+            assert_steps(self, room, steps_of(block))
+            wait_until(broker.told, "the refusal is not told")
+            self.assertEqual(broker.told(), [it for it in audit if " payments " in it])
+
+    def test_its_own_test(self):
+        """README: a commit whose marker isn't written."""
+        [code] = blocks_of(OWN_TEST, "python")
+        with Room() as room:
+            assert_prints(self, room, code, sys.executable)
+
+    def test_recipes(self):
+        """The blocks of the page are one program, all of whose tests pass."""
+        code = "\n".join(blocks_of((ROOT / "docs/TESTING_WITH_KBROKER.md").read_text(), "python"))
+        with Room() as room:
+            self.assertRegex(room.run(code, sys.executable)[1], rf"(?s)Ran {RECIPES} tests .*\nOK\n\Z")
