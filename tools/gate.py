@@ -4,8 +4,9 @@
 It proves every crate and its tests from nothing, and runs all that there is to run. `rt ci` gives a proof one processor for as
 long as wrong bodies wait, and so holds up all that stands on it. So the proofs are done first, over copies that have no wrong
 bodies: that of the crate on which most others stand, those of the program's crates, and beside them those of the crates that are
-tests and laws, as soon as what they stand on is proved. Beside them the wrong bodies of the crates that are proved are tried, over copies too, of more crates side by side the
-fewer proofs run. What all these passed is kept, and `rt ci` over the repository does the rest: its word alone counts.
+tests and laws, as soon as what they stand on is proved. Beside them the wrong bodies of the crates that are proved are tried,
+over copies too, the more side by side the fewer proofs run. What all these passed is kept, and `rt ci` over the repository does
+the rest: its word alone counts.
 
 The last line is 'N passed, M failed', with a crate, an edit and a case of tests/ for one each, and in brackets how many there
 were of each kind. What rt said is kept in out/gate.log, and what each crate took, as seen every two seconds, in out/gate.json:
@@ -38,7 +39,6 @@ LOG = ROOT / "out/gate.log"
 TIMES = ROOT / "out/gate.json"
 SEEN_EVERY = 2  # seconds
 NICE_OF_EDITS = 10  # they take what the proofs leave
-EDITS_AT_ONCE = 2  # of a crate
 PROCESSORS = len(os.sched_getaffinity(0))
 NICE_OF_OTHERS = 5  # the program's proofs go before them
 NICE_OF_SOURCES = 19  # they take what all else leaves
@@ -166,39 +166,42 @@ class Runs:
 
 
 class Edits:
-    """Tries the wrong bodies of crates that are proved, until no more are to be tried: those of one crate beside many proofs, and of
-    more crates side by side where fewer proofs run."""
+    """Tries the wrong bodies of crates that are proved, until no more are to be tried: as many at once as proofs leave processors,
+    and first those of the crate that has the most."""
 
     def __init__(self, runs):
-        self.runs, self.proved, self.trying, self.is_over = runs, [], [], False
+        self.runs, self.proved, self.waiting, self.trying, self.is_over = runs, set(), [], {}, False
         self.thread = threading.Thread(target=self.try_all, daemon=True)
         self.thread.start()
 
     def see(self, line):
         """Notes the crate that a line of `rt ci` calls proved, once: each copy in which it stands says so."""
         for name in PROVED.findall(line):
-            if name not in self.proved and (ROOT / "crates" / name / "must-fail").is_dir():
-                self.proved.append(name)
+            if name not in self.proved and wrong_bodies(name):
+                self.proved.add(name)
+                self.waiting.append(name)
 
     def try_all(self):
-        """Tries those of each crate, in the order in which they are proved, as processors become free."""
-        tried = 0
+        """Tries those of each crate as processors become free, and of one crate where none are."""
         while not self.is_over:
-            self.trying = [it for it in self.trying if it.is_alive()]
-            free = (PROCESSORS - self.runs.sampler.proofs) // EDITS_AT_ONCE
-            if tried < len(self.proved) and len(self.trying) < max(free, 1):
-                self.trying.append(threading.Thread(target=self.try_those_of, args=(self.proved[tried],), daemon=True))
-                self.trying[-1].start()
-                tried += 1
+            self.trying = {it: at_once for it, at_once in self.trying.items() if it.is_alive()}
+            free = PROCESSORS - self.runs.sampler.proofs - sum(self.trying.values())
+            if self.waiting and (free > 0 or not self.trying):
+                name = max(self.waiting, key=lambda it: len(wrong_bodies(it)))
+                self.waiting.remove(name)
+                at_once = max(1, min(free, len(wrong_bodies(name))))
+                thread = threading.Thread(target=self.try_those_of, args=(name, at_once), daemon=True)
+                self.trying[thread] = at_once
+                thread.start()
             time.sleep(1)
 
-    def try_those_of(self, name):
-        """Tries those of a crate, in a copy."""
+    def try_those_of(self, name, at_once):
+        """Tries those of a crate, in a copy, so many at once."""
         with tempfile.TemporaryDirectory(prefix="kbroker-edits-") as room:
             prove.copy_crates([name], Path(room))
             shutil.copytree(ROOT / "crates" / name / "must-fail", Path(room, "crates", name, "must-fail"))
             if not self.is_over:
-                self.runs.run(room, NICE_OF_EDITS, EDITS_AT_ONCE)
+                self.runs.run(room, NICE_OF_EDITS, at_once)
 
     def end(self):
         """Waits until those of the crates that are being tried are done; what is left is for others."""
@@ -206,6 +209,11 @@ class Edits:
         self.thread.join()
         for it in self.trying:
             it.join()
+
+
+def wrong_bodies(name):
+    """The wrong bodies of a crate that the gate tries."""
+    return [*(ROOT / "crates" / name / "must-fail").glob("*.edit")]
 
 
 def prove_copy(runs, names, seen, nice=0, at_once=None):
