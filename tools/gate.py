@@ -39,6 +39,7 @@ LOG = ROOT / "out/gate.log"
 TIMES = ROOT / "out/gate.json"
 SEEN_EVERY = 2  # seconds
 NICE_OF_EDITS = 10  # they take what the proofs leave
+LEAST_EDITS = 2  # of a crate at once, however few processors are free as it begins
 PROCESSORS = len(os.sched_getaffinity(0))
 NICE_OF_OTHERS = 5  # the program's proofs go before them
 NICE_OF_SOURCES = 19  # they take what all else leaves
@@ -189,7 +190,7 @@ class Edits:
             if self.waiting and (free > 0 or not self.trying):
                 name = max(self.waiting, key=lambda it: len(wrong_bodies(it)))
                 self.waiting.remove(name)
-                at_once = max(1, min(free, len(wrong_bodies(name))))
+                at_once = min(max(free, LEAST_EDITS), len(wrong_bodies(name)))
                 thread = threading.Thread(target=self.try_those_of, args=(name, at_once), daemon=True)
                 self.trying[thread] = at_once
                 thread.start()
