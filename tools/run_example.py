@@ -2,7 +2,7 @@
 """Answers the shipped example, for whoever has just got this repository: `make run`.
 
 The proved program answers it where it is built from the sources as they stand, and a line on standard error says how it shows the
-answers in words. Elsewhere `rt try` compiles the same sources with no proof, in a minute or two, and a line there says so.
+answers in words. Elsewhere `rt try` compiles the same sources with no proof, in some minutes, and a line there says so.
 """
 
 import signal
