@@ -4,9 +4,9 @@
 # that `python3 -m unittest discover -s tests -t .` finds.
 # `make check` is what takes minutes: it lays out and checks the crates that changed since the last commit, or since another one,
 # as in `make check SINCE=HEAD~3`, compiles the program, and runs the quick tests.
-# `make wrong-bodies` tries the edits that the gate has no time for: of each crate, or of those named, as in
-# `make wrong-bodies CRATES="walk authorizer"`.
-.PHONY: run serve steer prove test check wrong-bodies help
+# `make mutants` tries the mutants that the gate has no time for: of each crate, or of those named, as in
+# `make mutants CRATES="walk authorizer"`.
+.PHONY: run serve steer prove test check mutants help
 
 SINCE ?= HEAD
 
@@ -32,8 +32,8 @@ endif
 check:
 	@tools/check.py "$(SINCE)"
 
-wrong-bodies:
-	@tools/wrong_bodies.py $(CRATES)
+mutants:
+	@tools/mutants.py $(CRATES)
 
 help:
 	@sed -n 's/^# //p' Makefile

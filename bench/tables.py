@@ -15,10 +15,10 @@ from pathlib import Path
 sys.path.append(str(Path(__file__).resolve().parent.parent))
 
 from tests import support  # noqa: E402
-from tests.support import COLLIDING, OF_SUPER  # noqa: E402
+from tests.support import COLLIDING, OF_SUPER, script_line as ask  # noqa: E402
 
 from kbroker_testing.acl_model import ANY, Entry, Kind, Pattern  # noqa: E402
-from kbroker_testing.protocol import batch, in_partition, request_digits  # noqa: E402
+from kbroker_testing.protocol import batch, in_partition  # noqa: E402
 
 RUNS = 3
 WORK = 20_000
@@ -41,8 +41,6 @@ def acl(name, principal):
     return support.acl(name=name, principal=f"User:{principal}")
 
 
-def ask(api, **fields):
-    return f"req root h {request_digits(api, **fields)}\n"
 
 
 def of_producer(name, producer):

@@ -35,6 +35,7 @@ SIDE_BY_SIDE = (
     "tests.golden.test_lines",
     "tests.golden.test_settings",
     "tests.golden.test_command_lines",
+    "tests.abuse.test_kept",
     "tests.package.test_acl_model",
     "tests.package.test_broker",
     "tests.package.test_pages",

@@ -2,11 +2,14 @@
 
 import os
 import socket
+import subprocess
+import sys
+import tempfile
 import time
 from pathlib import Path
 
 from kbroker_testing.broker import free_port
-from kbroker_testing.protocol import in_partition
+from kbroker_testing.protocol import in_partition, request_digits
 
 PROGRAM = Path(os.environ["KBROKER"])
 
@@ -49,6 +52,37 @@ OF_ROOT = OF_SUPER + user("root", "toor")
 def of_b(**fields):
     """The first partition of the topic `b`, with these fields."""
     return in_partition(("b", 0), **fields)
+
+
+def script_line(api, **fields):
+    """The line of a script in which root asks something."""
+    return f"req root h {request_digits(api, **fields)}\n"
+
+
+# ---- the memory of a run
+
+# A process's peak of memory begins with that of the process that started it, so a small one does. It has no huge pages, each of
+# which would count as a whole (prctl(2), PR_SET_THP_DISABLE).
+STARTER = """
+import ctypes, os, sys
+ctypes.CDLL(None).prctl(41, 1, 0, 0, 0)
+child = os.posix_spawn(sys.argv[1], sys.argv[1:], os.environ)
+_, status, usage = os.wait4(child, 0)
+sys.stderr.write(f"{os.waitstatus_to_exitcode(status)} {usage.ru_maxrss}")
+"""
+
+
+def peak_of(script):
+    """The peak of memory, in bytes, of the program that answers a script, of which no answer is looked at."""
+    with tempfile.TemporaryFile("w+") as text:
+        text.write(script)
+        text.seek(0)
+        words = [sys.executable, "-S", "-c", STARTER, PROGRAM, "replay"]
+        told = subprocess.run(words, stdin=text, stdout=subprocess.DEVNULL, stderr=subprocess.PIPE, check=True, text=True)
+    status, peak = map(int, told.stderr.split())
+    if status:
+        raise AssertionError(f"the program ended with {status}")
+    return peak * 1024
 
 
 # ---- connections and waits

@@ -2,13 +2,13 @@
 """The gate, `make test`: `rt ci`, and then the tests of tests/ over the program that it has built.
 
 It proves every crate and its tests from nothing, and runs all that there is to run. `rt ci` gives a proof one processor for as
-long as wrong bodies wait, and so holds up all that stands on it. So the proofs are done first, over copies that have no wrong
-bodies: that of the crate on which most others stand, those of the program's crates, and beside them those of the crates that are
-tests and laws, as soon as what they stand on is proved. Beside them the wrong bodies of the crates that are proved are tried,
+long as mutants wait, and so holds up all that stands on it. So the proofs are done first, over copies that have no
+mutants: that of the crate on which most others stand, those of the program's crates, and beside them those of the crates that are
+tests and laws, as soon as what they stand on is proved. Beside them the mutants of the crates that are proved are tried,
 over copies too, the more side by side the fewer proofs run. What all these passed is kept, and `rt ci` over the repository does
 the rest: its word alone counts.
 
-The last line is 'N passed, M failed', with a crate, an edit and a case of tests/ for one each, and in brackets how many there
+The last line is 'N passed, M failed', with a crate, a mutant and a case of tests/ for one each, and in brackets how many there
 were of each kind. What rt said is kept in out/gate.log, and what each crate took, as seen every two seconds, in out/gate.json:
 tools/gate_times.py makes a table of it.
 """
@@ -38,8 +38,8 @@ from tests import harness  # noqa: E402
 LOG = ROOT / "out/gate.log"
 TIMES = ROOT / "out/gate.json"
 SEEN_EVERY = 2  # seconds
-NICE_OF_EDITS = 10  # they take what the proofs leave
-LEAST_EDITS = 2  # of a crate at once, however few processors are free as it begins
+NICE_OF_MUTANTS = 10  # they take what the proofs leave
+LEAST_MUTANTS = 2  # of a crate at once, however few processors are free as it begins
 PROCESSORS = len(os.sched_getaffinity(0))
 NICE_OF_OTHERS = 5  # the program's proofs go before them
 NICE_OF_SOURCES = 19  # they take what all else leaves
@@ -73,7 +73,7 @@ def work_of(process):
         return None
     if "--crate-name" not in words[:-1]:
         return None
-    kind = "edits" if "/rt-edit-" in folder else "tests" if "--test" in words else "proof"
+    kind = "mutants" if "/rt-edit-" in folder else "tests" if "--test" in words else "proof"
     return words[words.index("--crate-name") + 1], kind
 
 
@@ -104,7 +104,7 @@ class Sampler:
                 key = process, started
                 if not self.works.get(key):
                     self.works[key] = work_of(process) or work
-                proofs += bool(self.works[key]) and self.works[key][1] != "edits" and not work
+                proofs += bool(self.works[key]) and self.works[key][1] != "mutants" and not work
                 self.seconds[key] = seconds
                 held += memory
                 stack += [(it, self.works[key]) for it in below.get(process, [])]
@@ -116,7 +116,7 @@ class Sampler:
         for key, seconds in self.seconds.items():
             if self.works[key]:
                 crate, kind = self.works[key]
-                kinds = crates.setdefault(crate, {"proof": 0.0, "tests": 0.0, "edits": 0.0})
+                kinds = crates.setdefault(crate, {"proof": 0.0, "tests": 0.0, "mutants": 0.0})
                 kinds[kind] += seconds
         return crates
 
@@ -166,8 +166,8 @@ class Runs:
             it.terminate()
 
 
-class Edits:
-    """Tries the wrong bodies of crates that are proved, until no more are to be tried: as many at once as proofs leave processors,
+class Mutants:
+    """Tries the mutants of crates that are proved, until no more are to be tried: as many at once as proofs leave processors,
     and first those of the crate that has the most."""
 
     def __init__(self, runs):
@@ -178,7 +178,7 @@ class Edits:
     def see(self, line):
         """Notes the crate that a line of `rt ci` calls proved, once: each copy in which it stands says so."""
         for name in PROVED.findall(line):
-            if name not in self.proved and wrong_bodies(name):
+            if name not in self.proved and mutants_of(name):
                 self.proved.add(name)
                 self.waiting.append(name)
 
@@ -188,9 +188,9 @@ class Edits:
             self.trying = {it: at_once for it, at_once in self.trying.items() if it.is_alive()}
             free = PROCESSORS - self.runs.sampler.proofs - sum(self.trying.values())
             if self.waiting and (free > 0 or not self.trying):
-                name = max(self.waiting, key=lambda it: len(wrong_bodies(it)))
+                name = max(self.waiting, key=lambda it: len(mutants_of(it)))
                 self.waiting.remove(name)
-                at_once = min(max(free, LEAST_EDITS), len(wrong_bodies(name)))
+                at_once = min(max(free, LEAST_MUTANTS), len(mutants_of(name)))
                 thread = threading.Thread(target=self.try_those_of, args=(name, at_once), daemon=True)
                 self.trying[thread] = at_once
                 thread.start()
@@ -198,11 +198,11 @@ class Edits:
 
     def try_those_of(self, name, at_once):
         """Tries those of a crate, in a copy, so many at once."""
-        with tempfile.TemporaryDirectory(prefix="kbroker-edits-") as room:
+        with tempfile.TemporaryDirectory(prefix="kbroker-mutants-") as room:
             prove.copy_crates([name], Path(room))
             shutil.copytree(ROOT / "crates" / name / "must-fail", Path(room, "crates", name, "must-fail"))
             if not self.is_over:
-                self.runs.run(room, NICE_OF_EDITS, at_once)
+                self.runs.run(room, NICE_OF_MUTANTS, at_once)
 
     def end(self):
         """Waits until those of the crates that are being tried are done; what is left is for others."""
@@ -212,13 +212,13 @@ class Edits:
             it.join()
 
 
-def wrong_bodies(name):
-    """The wrong bodies of a crate that the gate tries."""
+def mutants_of(name):
+    """The mutants of a crate that the gate tries."""
     return [*(ROOT / "crates" / name / "must-fail").glob("*.edit")]
 
 
 def prove_copy(runs, names, seen, nice=0, at_once=None):
-    """Proves crates and what they stand on, in a copy without wrong bodies."""
+    """Proves crates and what they stand on, in a copy without mutants."""
     with tempfile.TemporaryDirectory(prefix="kbroker-proofs-") as room:
         prove.copy_crates(names, Path(room))
         runs.run(room, nice, at_once, seen)
@@ -256,16 +256,16 @@ def prove_others(runs, left, seen):
             time.sleep(SEEN_EVERY)
 
 
-def prove_all(runs, edits):
-    """Proves all crates and their tests, while wrong bodies of those that are proved are tried."""
+def prove_all(runs, mutants):
+    """Proves all crates and their tests, while mutants of those that are proved are tried."""
     left = {*crates_of([NAME])} - {NAME}
 
     def see(line):
-        edits.see(line)
+        mutants.see(line)
         left.difference_update(PROVED.findall(line))
 
     beside = prove_first(runs, see)
-    others = threading.Thread(target=prove_others, args=(runs, left, edits.see), daemon=True)
+    others = threading.Thread(target=prove_others, args=(runs, left, mutants.see), daemon=True)
     others.start()
     prove_copy(runs, [NAME], see)
     left.clear()  # what can't be proved isn't waited for
@@ -280,20 +280,20 @@ def run_checks(cases):
     started, beside = time.monotonic(), None
     with LOG.open("w", encoding="utf-8") as log:
         runs = Runs(log)
-        edits = Edits(runs)
+        mutants = Mutants(runs)
         try:
-            prove_all(runs, edits)
+            prove_all(runs, mutants)
             if cases:
                 beside = harness.Worker(harness.ON_SOURCES, cases, NICE_OF_SOURCES)
-            edits.end()
+            mutants.end()
             status, last = runs.run(ROOT, at_once=PROCESSORS)
             write_times(runs.sampler, time.monotonic() - started)
             count = beside.wait() if beside else harness.Count(0, 0, 0)
             return LOG.read_text(encoding="utf-8"), last, status, count
         finally:
-            edits.is_over = True
+            mutants.is_over = True
             runs.stop()
-            edits.end()
+            mutants.end()
             if beside:
                 beside.stop()
 
@@ -331,10 +331,10 @@ def main():
     if status and not failed:
         failed = 1
     crates = len({*re.findall(r"^rt: (\w+) proved$", text, re.M)})
-    edits = len({*re.findall(r"^rt: must-fail (\S+): refused", text, re.M)})
+    mutants = len({*re.findall(r"^rt: must-fail (\S+): refused", text, re.M)})
     tests = sum(map(int, re.findall(r"^test result: ok\. (\d+) passed", last, re.M)))
     minutes = (time.monotonic() - started) / 60
-    what = f"{crates} crates proved, {edits} edits refused, {tests} tests of crates and {count.passed} of tests/ passed"
+    what = f"{crates} crates proved, {mutants} mutants refused, {tests} tests of crates and {count.passed} of tests/ passed"
     passed, failed = passed + count.passed, failed + count.failed
     print(f"gate: what was said is in {LOG.relative_to(ROOT)}")
     print(f"{passed} passed, {failed} failed ({what}, {count.skipped} skipped, in {minutes:.1f} minutes)", flush=True)

@@ -6,7 +6,7 @@ import sys
 
 from gate import TIMES
 
-KINDS = ("proof", "tests", "edits")
+KINDS = ("proof", "tests", "mutants")
 
 
 def row(name, *seconds):
@@ -22,7 +22,7 @@ def main():
     rows = {name: [kinds[it] for it in KINDS] for name, kinds in taken["crates"].items()}
     rows = dict(sorted(rows.items(), key=lambda it: -sum(it[1])))
     sums = [sum(column) for column in zip(*rows.values())] or [0.0] * len(KINDS)
-    print("| crate | proof | tests | edits | together |")
+    print("| crate | proof | tests | mutants | together |")
     print("|---|--:|--:|--:|--:|")
     for name, seconds in rows.items():
         print(row(f"`{name}`", *seconds, sum(seconds)))

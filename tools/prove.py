@@ -1,7 +1,7 @@
 #!/usr/bin/env python3
 """Proves and builds the program: `make prove`. With names, as in `tools/prove.py walk`, it proves those crates and what they stand on.
 
-It calls `rt ci` over a copy of these crates that has no wrong bodies for it to try. `rt ci` proves each crate from nothing, unless a
+It calls `rt ci` over a copy of these crates that has no mutants for it to try. `rt ci` proves each crate from nothing, unless a
 run of it on this machine has passed the same files over the same libraries; it proves as many side by side as there are processors and
 memory for, and keeps what it passed, for the gate too. Each crate's log is crates/NAME/out/prove.log.
 """

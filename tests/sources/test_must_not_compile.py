@@ -1,6 +1,6 @@
 """Tries the edits that the compiler has to refuse, crates/NAME/must-not-compile/*.edit.
 
-`rt ci` tries wrong bodies, which reach the prover. These are of another kind: uses that types alone rule out, as that of a
+`rt ci` tries mutants, which reach the prover. These are of another kind: uses that types alone rule out, as that of a
 state which a call has used up. The first line of an edit, `says: CODE`, is the code of the error that is due. Each is
 applied to a copy of its crate, and `rt check` there refuses it before it proves anything.
 """

@@ -6,7 +6,7 @@ use Rattle.std.proofs.lemmas.List.Folds.{Any-from_list_any}
 use Rattle.std.proofs.lemmas.List.Elements.{All-nil, All-cons}
 use Rattle.acl_binding.specs.declared.binding.Numbered.{Numbered}
 use Rattle.acl_binding.specs.declared.question.Question.{Question}
-use Rattle.acl_binding.specs.Verdict.{least, lesser, denials, is_denial, is_grant, any_grant, decided, verdict_of, IsDecided, IsFirstDenial}
+use Rattle.acl_binding.specs.Verdict.{least_of, lesser_of, denials, is_denial, is_grant, any_grant, verdict_by, verdict_of, IsDecided, IsFirstDenial}
 
 any_first : {X : Type 0} (P : X → Type 0) (x : X) (xs : List X) → P x → Any P (x ∷ xs)
 any_first P x xs p = (0, x, omega arith, refl, p)
@@ -46,7 +46,7 @@ passed e es q (Some n) other is = record {
 }
 
 -- one in front that denies is the first, or the first of the others is
-headed : (e : Numbered) (es : List Numbered) (q : Question) (o : Option ℕ) → is_denial q e.binding ≡ true → LeastIs es q o → LeastIs (e ∷ es) q (Some (lesser e.number o))
+headed : (e : Numbered) (es : List Numbered) (q : Question) (o : Option ℕ) → is_denial q e.binding ≡ true → LeastIs es q o → LeastIs (e ∷ es) q (Some (lesser_of e.number o))
 headed e es q None denies is = record {
   denies = any_first (DeniesAt q e.number) e es (refl, denies);
   first = All-cons (DeniesFrom q e.number) e es (λ _. omega arith) (all_weaker (Undenied q) (DeniesFrom q e.number) es (never q e.number) is);
@@ -67,12 +67,12 @@ headed e es q (Some n) denies is = ⊎_elim older younger (cases_lt n e.number) 
     first = All-cons (DeniesFrom q e.number) e es (λ _. omega arith) (others e.number le);
   })
 
-least_is : (es : List Numbered) (q : Question) → LeastIs es q (least (denials es q))
+least_is : (es : List Numbered) (q : Question) → LeastIs es q (least_of (denials es q))
 least_is [] q = All-nil (Undenied q)
 least_is (e ∷ es) q = by (is_denial q e.binding) refl (least_is es q) where
-  by : (t : Bool) → is_denial q e.binding ≡ t → LeastIs es q (least (denials es q)) → LeastIs (e ∷ es) q (least (cond t (e.number ∷ denials es q) (denials es q)))
-  by true denies rest = headed e es q (least (denials es q)) denies rest
-  by false other rest = passed e es q (least (denials es q)) other rest
+  by : (t : Bool) → is_denial q e.binding ≡ t → LeastIs es q (least_of (denials es q)) → LeastIs (e ∷ es) q (least_of (cond t (e.number ∷ denials es q) (denials es q)))
+  by true denies rest = headed e es q (least_of (denials es q)) denies rest
+  by false other rest = passed e es q (least_of (denials es q)) other rest
 
 abbrev Ungranted : Question → Numbered → Type 0
 Ungranted q e = is_grant q e.binding ≡ false
@@ -88,8 +88,8 @@ none_grants (e ∷ es) q h =
     All-cons (Ungranted q) e es parts.0 (none_grants es q parts.1)
 
 pub verdict_right : (es : List Numbered) (q : Question) → IsDecided es q (verdict_of es q)
-verdict_right es q = by (least (denials es q)) (any_grant es q) refl (least_is es q) where
-  by : (o : Option ℕ) (any : Bool) → any_grant es q ≡ any → LeastIs es q o → IsDecided es q (decided o any)
+verdict_right es q = by (least_of (denials es q)) (any_grant es q) refl (least_is es q) where
+  by : (o : Option ℕ) (any : Bool) → any_grant es q ≡ any → LeastIs es q o → IsDecided es q (verdict_by o any)
   by (Some n) any is first = first
   by None true is undenied = record { undenied = undenied; allows = Any-from_list_any (λ (e : Numbered). is_grant q e.binding) es is }
   by None false is undenied = record { undenied = undenied; unallowed = none_grants es q is }

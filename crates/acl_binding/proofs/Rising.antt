@@ -5,7 +5,7 @@ use Rattle.acl_binding.specs.declared.binding.Numbered.{Numbered}
 use Rattle.acl_binding.specs.declared.question.Question.{Question}
 use Rattle.acl_binding.specs.Binding.{same_binding}
 use Rattle.acl_binding.specs.Book.{IsRising, AreBelow, AreDistinct, number_of}
-use Rattle.acl_binding.specs.Verdict.{least, lesser, denials, is_denial}
+use Rattle.acl_binding.specs.Verdict.{least_of, lesser_of, denials, is_denial}
 use Rattle.acl_binding.proofs.Same.{not_same_either_way}
 
 pub rising_from_less : (es : List Numbered) (a b : ℕ) → a ≤ b → IsRising b es → IsRising a es
@@ -18,23 +18,23 @@ rising_drop [] low (suc i) h = tt
 rising_drop (e ∷ es) low (suc i) h = let lower = h.0 in rising_drop es low i (rising_from_less es low (e.number + 1) (omega arith) h.1)
 
 -- one more number in front, where the test says so
-least_step : (b : Bool) (e n : ℕ) (rest : List ℕ) → n < e → lesser e (least rest) ≡ e → lesser n (least rest) ≡ n → lesser n (least (cond b (e ∷ rest) rest)) ≡ n
+least_step : (b : Bool) (e n : ℕ) (rest : List ℕ) → n < e → lesser_of e (least_of rest) ≡ e → lesser_of n (least_of rest) ≡ n → lesser_of n (least_of (cond b (e ∷ rest) rest)) ≡ n
 least_step true e n rest lt below_e below_n = let small : min n e ≡ n = omega arith in ap (λ m. min n m) below_e ∙ small
 least_step false e n rest lt below_e below_n = below_n
 
 -- what is less than all of them stays the least
-pub lesser_rising : (es : List Numbered) (q : Question) (n : ℕ) → IsRising (n + 1) es → lesser n (least (denials es q)) ≡ n
+pub lesser_rising : (es : List Numbered) (q : Question) (n : ℕ) → IsRising (n + 1) es → lesser_of n (least_of (denials es q)) ≡ n
 lesser_rising [] q n h = refl
 lesser_rising (e ∷ es) q n h = let lower = h.0 in
     least_step (is_denial q e.binding) e.number n (denials es q) (omega arith) (lesser_rising es q e.number h.1) (lesser_rising es q n (rising_from_less es (n + 1) (e.number + 1) (omega arith) h.1))
 
 -- the first that denies has the least number
-pub first_is_least : (es : List Numbered) (q : Question) (i : ℕ) (e : Numbered) → IsRising 1 es → denials (drop i es) q ≡ denials es q → i < length es → e ≡ get_or es i e → is_denial q e.binding ≡ true → Some e.number ≡ least (denials es q)
+pub first_is_least : (es : List Numbered) (q : Question) (i : ℕ) (e : Numbered) → IsRising 1 es → denials (drop i es) q ≡ denials es q → i < length es → e ≡ get_or es i e → is_denial q e.binding ≡ true → Some e.number ≡ least_of (denials es q)
 first_is_least es q i e rising same lt is holds =
     let split : drop i es ≡ e ∷ drop (suc i) es = drop-cons es i e lt ∙ ap (λ x. x ∷ drop (suc i) es) (sym is) in
     let rest : IsRising 1 (e ∷ drop (suc i) es) = subst (IsRising 1) split (rising_drop es 1 i rising) in
     let head : denials (e ∷ drop (suc i) es) q ≡ e.number ∷ denials (drop (suc i) es) q = ap (λ b. cond b (e.number ∷ denials (drop (suc i) es) q) (denials (drop (suc i) es) q)) holds in
-    ap (λ n. Some n) (sym (lesser_rising (drop (suc i) es) q e.number rest.1)) ∙ ap least (sym head ∙ sym (ap (λ l. denials l q) split) ∙ same)
+    ap (λ n. Some n) (sym (lesser_rising (drop (suc i) es) q e.number rest.1)) ∙ ap least_of (sym head ∙ sym (ap (λ l. denials l q) split) ∙ same)
 
 -- ---- one more binding at the end
 

@@ -19,12 +19,12 @@ number_of [] b = None
 number_of (e ∷ es) b = if same_binding e.binding b then Some e.number else number_of es b
 
 -- the book with the binding under its next number
-abbrev pub appended : BookValue → Binding → BookValue
-appended book b = record { entries = book.entries ++ record { number = book.next; binding = b } ∷ []; next = book.next + 1 }
+abbrev pub with_new_binding : BookValue → Binding → BookValue
+with_new_binding book b = record { entries = book.entries ++ record { number = book.next; binding = b } ∷ []; next = book.next + 1 }
 
 -- the book with the binding: one that stands there already changes nothing
-abbrev pub added : BookValue → Binding → BookValue
-added book b = if is_some (number_of book.entries b) then book else appended book b
+abbrev pub with_binding : BookValue → Binding → BookValue
+with_binding book b = if is_some (number_of book.entries b) then book else with_new_binding book b
 
 -- ---- what holds of every book
 

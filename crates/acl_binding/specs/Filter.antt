@@ -49,14 +49,14 @@ matches f b = (kind_fits f.kind b.kind && name_fits f.pattern f.name b)
     && ((text_fits f.principal b.principal && text_fits f.host b.host) && (operation_fits f.operation b.operation && permission_fits f.permission b.permission))
 
 -- the filter doesn't pick the binding
-abbrev pub stays : Filter → Numbered → Bool
-stays f e = not (matches f e.binding)
+abbrev pub is_not_matched : Filter → Numbered → Bool
+is_not_matched f e = not (matches f e.binding)
 
 -- the bindings that the filter picks, in creation order
-abbrev pub matching : List Numbered → Filter → List Binding
-matching [] f = []
-matching (e ∷ es) f = if matches f e.binding then e.binding ∷ matching es f else matching es f
+abbrev pub matching_bindings : List Numbered → Filter → List Binding
+matching_bindings [] f = []
+matching_bindings (e ∷ es) f = if matches f e.binding then e.binding ∷ matching_bindings es f else matching_bindings es f
 
 -- the book without them; the next number stays, so that none is used again
-abbrev pub removed : BookValue → Filter → BookValue
-removed book f = record book { entries = filter (stays f) book.entries }
+abbrev pub without_matching : BookValue → Filter → BookValue
+without_matching book f = record book { entries = filter (is_not_matched f) book.entries }

@@ -12,8 +12,8 @@ use Rattle.acl_binding.specs.declared.question.Verdict.TheVariants.{Yes, Denied,
 use Rattle.acl_binding.specs.Binding.{covers, applies, denies, allows}
 
 -- may the caller do this with the resource of this name?
-abbrev pub asked : Caller → Operation → Kind → List ℕ → Question
-asked caller op kind name = record { who = caller.who; host = caller.host; op = op; kind = kind; name = name }
+abbrev pub question_of : Caller → Operation → Kind → List ℕ → Question
+question_of caller op kind name = record { who = caller.who; host = caller.host; op = op; kind = kind; name = name }
 
 -- the binding covers, applies and denies
 abbrev pub is_denial : Question → Binding → Bool
@@ -24,14 +24,14 @@ abbrev pub is_grant : Question → Binding → Bool
 is_grant q b = covers b q.kind q.name && (applies b q.who q.host && allows b q.op)
 
 -- the lesser of two, where there is a second
-abbrev pub lesser : ℕ → Option ℕ → ℕ
-lesser n None = n
-lesser n (Some m) = min n m
+abbrev pub lesser_of : ℕ → Option ℕ → ℕ
+lesser_of n None = n
+lesser_of n (Some m) = min n m
 
 -- the least of the numbers
-abbrev pub least : List ℕ → Option ℕ
-least [] = None
-least (n ∷ ns) = Some (lesser n (least ns))
+abbrev pub least_of : List ℕ → Option ℕ
+least_of [] = None
+least_of (n ∷ ns) = Some (lesser_of n (least_of ns))
 
 -- the creation numbers of the bindings that deny
 abbrev pub denials : List Numbered → Question → List ℕ
@@ -43,14 +43,14 @@ abbrev pub any_grant : List Numbered → Question → Bool
 any_grant es q = list_any (λ (e : Numbered). is_grant q e.binding) es
 
 -- deny before allow: the number that denies, else Yes where something allows
-abbrev pub decided : Option ℕ → Bool → Verdict
-decided (Some n) any = Denied n
-decided None true = Yes
-decided None false = Nothing
+abbrev pub verdict_by : Option ℕ → Bool → Verdict
+verdict_by (Some n) any = Denied n
+verdict_by None true = Yes
+verdict_by None false = Nothing
 
 -- what the bindings say: the least number of one that denies, else Yes where any allows
 abbrev pub verdict_of : List Numbered → Question → Verdict
-verdict_of es q = decided (least (denials es q)) (any_grant es q)
+verdict_of es q = verdict_by (least_of (denials es q)) (any_grant es q)
 
 -- ---- the same in the subject's words
 

@@ -1,9 +1,9 @@
 //! The book of bindings, each under its creation number.
 
-ghost use Rattle.std.specs.Prelude.{◌≡◌, ◌↔◌, ◌+◌, ◌^◌, ◌<◌, ◌≤◌, [], length, Option, Some, None, IfOk, OnOk, OnErr, IsOk, IsTrue};
-ghost use Rattle.acl_binding.specs.Book.{empty_book, number_of, added, appended, IsBook};
+ghost use Rattle.std.specs.Prelude.{◌≡◌, ◌↔◌, ◌+◌, ◌^◌, ◌<◌, ◌≤◌, [], length, Option, Some, None, IfOk, OnOk, OnErr, IsTrue};
+ghost use Rattle.acl_binding.specs.Book.{empty_book, number_of, with_binding, with_new_binding, IsBook};
 ghost use Rattle.acl_binding.specs.Adding.{adding_answer};
-ghost use Rattle.acl_binding.specs.Filter.{matching, removed};
+ghost use Rattle.acl_binding.specs.Filter.{matching_bindings, without_matching};
 ghost use Rattle.acl_binding.specs.Verdict.{verdict_of};
 
 use crate::binding::{Binding, Numbered};
@@ -90,7 +90,7 @@ impl Book {
         requires bound { self.old.next + 1 < 2 ^ 64 }
         requires number { entry.number ≡ self.old.next }
         requires absent { number_of self.old.entries entry.binding ≡ None }
-        ensures ok { OnOk result (self.new ≡ appended self.old entry.binding) }
+        ensures ok { OnOk result (self.new ≡ with_new_binding self.old entry.binding) }
         ensures err { OnErr result (self.new ≡ self.old) }
     {
         self.entries.push(entry)?;
@@ -101,7 +101,7 @@ impl Book {
     /// Adds a binding under the next creation number, unless an equal one is there.
     pub fn add(&mut self, alloc: Global, binding: Binding) -> Result<Added, AllocError>
         requires { self.old.next + 1 < 2 ^ 64 }
-        ensures ok { OnOk result (self.new ≡ added self.old binding) }
+        ensures ok { OnOk result (self.new ≡ with_binding self.old binding) }
         ensures number { IfOk result (λ answer. answer ≡ adding_answer self.old binding) }
         ensures grows { self.new.next ≤ self.old.next + 1 }
         ensures err { OnErr result (self.new ≡ self.old) }
@@ -117,15 +117,16 @@ impl Book {
 
     /// Copies of the bindings that the filter picks, in creation order.
     pub fn matching(&self, alloc: Global, filter: &Filter) -> Result<Items<Binding>, AllocError>
-        ensures { IfOk result (λ picked. picked ≡ matching self.now.entries filter.now) }
+        ensures { IfOk result (λ picked. picked ≡ matching_bindings self.now.entries filter.now) }
     {
         matching(alloc, &self.entries, filter)
     }
 
     /// Takes out the bindings that the filter picks, and answers them in creation order.
     pub fn remove(&mut self, alloc: Global, filter: &Filter) -> Result<Items<Binding>, AllocError>
-        ensures ok { OnOk result (self.new ≡ removed self.old filter.now) }
-        ensures picked { IfOk result (λ list. list ≡ matching self.old.entries filter.now) }
+        ensures ok { OnOk result (self.new ≡ without_matching self.old filter.now) }
+        ensures picked { IfOk result
+            (λ list. list ≡ matching_bindings self.old.entries filter.now) }
         ensures err { OnErr result (self.new ≡ self.old) }
     {
         let picked = self.matching(alloc, filter)?;
@@ -135,7 +136,7 @@ impl Book {
 
     /// Takes out the bindings that the filter picks.
     fn clean(&mut self, filter: &Filter)
-        ensures { self.new ≡ removed self.old filter.now }
+        ensures { self.new ≡ without_matching self.old filter.now }
     {
         self.entries
             .retain(|entry| !filter.matches(&entry.value().binding));

@@ -3,7 +3,7 @@
 ghost use Rattle.std.specs.Prelude.{◌≡◌};
 ghost use Rattle.std.specs.List.{find};
 ghost use Rattle.std.specs.Str.{bytes_eq};
-ghost use Rattle.acl_binding.specs.Names.{kind_name, kind_named, all_kinds, pattern_name, pattern_named, all_patterns, operation_name, operation_named, all_operations, permission_name, permission_named, all_permissions};
+ghost use Rattle.acl_binding.specs.Names.{kind_name, kind_named, pattern_name, pattern_named, operation_name, operation_named, permission_name, permission_named};
 
 use crate::words::{Kind, Operation, Pattern, Permission};
 

@@ -2,7 +2,7 @@
 
 ghost use Rattle.std.specs.Prelude.{◌≡◌, IfOk};
 ghost use Rattle.std.specs.Option.{option_map};
-ghost use Rattle.acl_binding.specs.Verdict.{asked};
+ghost use Rattle.acl_binding.specs.Verdict.{question_of};
 
 use crate::words::{Kind, Operation};
 use std::alloc::AllocError;
@@ -38,7 +38,7 @@ pub enum Verdict {
 impl Caller {
     /// May the caller do this with the resource of this name?
     pub fn asks(&self, op: Operation, kind: Kind, name: &Text) -> Result<Question, AllocError>
-        ensures { IfOk result (λ question. question ≡ asked self.now op kind name.now) }
+        ensures { IfOk result (λ question. question ≡ question_of self.now op kind name.now) }
     {
         Ok(Question {
             who: self.who.clone()?,
@@ -56,7 +56,7 @@ impl Caller {
         kind: Kind,
         name: &Option<Text>,
     ) -> Result<Option<Question>, AllocError>
-        ensures { IfOk result (λ asks. asks ≡ option_map (asked self.now op kind) name.now) }
+        ensures { IfOk result (λ asks. asks ≡ option_map (question_of self.now op kind) name.now) }
     {
         match name {
             Some(name) => Ok(Some(self.asks(op, kind, name)?)),

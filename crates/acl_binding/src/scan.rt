@@ -2,8 +2,8 @@
 
 ghost use Rattle.std.specs.Prelude.{◌≡◌, IfOk};
 ghost use Rattle.acl_binding.specs.Book.{number_of, IsRising};
-ghost use Rattle.acl_binding.specs.Filter.{matching};
-ghost use Rattle.acl_binding.specs.Verdict.{least, denials, any_grant};
+ghost use Rattle.acl_binding.specs.Filter.{matching_bindings};
+ghost use Rattle.acl_binding.specs.Verdict.{least_of, denials, any_grant};
 
 use crate::binding::{Binding, Numbered};
 use crate::filter::Filter;
@@ -27,7 +27,7 @@ pub fn number_of(entries: &[Shared<Numbered>], binding: &Binding) -> Option<u64>
 /// The creation number of the first binding that denies: where numbers rise, the least of them.
 pub fn first_denial(entries: &[Shared<Numbered>], question: &Question) -> Option<u64>
     requires { IsRising 1 entries.now }
-    ensures { result ≡ least (denials entries.now question.now) }
+    ensures { result ≡ least_of (denials entries.now question.now) }
 {
     for entry in entries {
         let entry = entry.value();
@@ -53,7 +53,7 @@ pub fn matching(
     entries: &[Shared<Numbered>],
     filter: &Filter,
 ) -> Result<Items<Binding>, AllocError>
-    ensures { IfOk result (λ picked. picked ≡ matching entries.now filter.now) }
+    ensures { IfOk result (λ picked. picked ≡ matching_bindings entries.now filter.now) }
 {
     let mut picked = Items::new(alloc);
     for entry in entries {

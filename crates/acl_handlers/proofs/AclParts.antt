@@ -6,7 +6,7 @@ use Rattle.msg_acl.specs.declared.delete_acls.DeletedAcls.{DeletedAcls}
 use Rattle.acl_binding.specs.Entries.{binding_of, filter_of}
 use Rattle.acl_binding.specs.Book.{BookValue}
 use Rattle.acl_handlers.specs.CreateAcls.{book_with, book_created}
-use Rattle.acl_handlers.specs.DeleteAcls.{book_without, book_deleted, deleted_by, deleted}
+use Rattle.acl_handlers.specs.DeleteAcls.{book_without, book_deleted, deletion_result, deletion_results}
 use Rattle.broker_world.proofs.Parts.{one_more, drop_at}
 
 -- one answer more
@@ -30,10 +30,10 @@ removed_further es i e old new whole lt is after so_far =
     ap (λ (b : BookValue). book_deleted b (drop (i + 1) es)) after ∙ sym (ap (book_deleted old) (drop_at es i e lt is)) ∙ so_far
 
 pub deleted_further : (es : List FilterEntry) (i : ℕ) (e : FilterEntry) (old new : BookValue) (done : List DeletedAcls) (d : DeletedAcls) (whole : List DeletedAcls) → i < length es → e ≡ get_or es i e
-    → new ≡ book_without old (filter_of e) → d ≡ deleted_by old (filter_of e) → done ++ deleted old (drop i es) ≡ whole → (done ++ d ∷ []) ++ deleted new (drop (i + 1) es) ≡ whole
+    → new ≡ book_without old (filter_of e) → d ≡ deletion_result old (filter_of e) → done ++ deletion_results old (drop i es) ≡ whole → (done ++ d ∷ []) ++ deletion_results new (drop (i + 1) es) ≡ whole
 deleted_further es i e old new done d whole lt is after answer so_far =
     let rest = drop (i + 1) es in
-    let split : deleted old (drop i es) ≡ d ∷ deleted new rest =
-    ap (deleted old) (drop_at es i e lt is) ∙ ap (λ (x : DeletedAcls). x ∷ deleted (book_without old (filter_of e)) rest) (sym answer)
-    ∙ ap (λ (b : BookValue). d ∷ deleted b rest) (sym after) in
-    one_more done d (deleted old (drop i es)) (deleted new rest) whole split so_far
+    let split : deletion_results old (drop i es) ≡ d ∷ deletion_results new rest =
+    ap (deletion_results old) (drop_at es i e lt is) ∙ ap (λ (x : DeletedAcls). x ∷ deletion_results (book_without old (filter_of e)) rest) (sym answer)
+    ∙ ap (λ (b : BookValue). d ∷ deletion_results b rest) (sym after) in
+    one_more done d (deletion_results old (drop i es)) (deletion_results new rest) whole split so_far

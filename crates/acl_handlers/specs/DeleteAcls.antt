@@ -14,11 +14,11 @@ use Rattle.acl_binding.specs.declared.filter.Filter.{Filter}
 use Rattle.acl_binding.specs.WireNumbers.{kind_code, pattern_code, operation_code, permission_code}
 use Rattle.acl_binding.specs.Entries.{filter_of}
 use Rattle.acl_binding.specs.Book.{BookValue}
-use Rattle.acl_binding.specs.Filter.{matching, removed}
+use Rattle.acl_binding.specs.Filter.{matching_bindings, without_matching}
 use Rattle.msg_admin.specs.declared.reply.Reply.TheVariants as replies
 use Rattle.broker_world.specs.World.{World}
-use Rattle.broker_world.specs.Outcome.{Outcome}
-use Rattle.broker_world.specs.Whole.{whole}
+use Rattle.broker_world.specs.HandlerResult.{HandlerResult}
+use Rattle.broker_world.specs.Whole.{whole_outcome}
 use Rattle.acl_handlers.specs.CreateAcls.{alter_questions}
 
 -- ---- one filter
@@ -26,7 +26,7 @@ use Rattle.acl_handlers.specs.CreateAcls.{alter_questions}
 -- a faulty filter takes nothing out
 abbrev pub book_without : BookValue → Option Filter → BookValue
 book_without book None = book
-book_without book (Some f) = removed book f
+book_without book (Some f) = without_matching book f
 
 -- the binding as it stands in a message
 abbrev pub entry_of_binding : Binding → BindingEntry
@@ -35,13 +35,13 @@ entry_of_binding b = record { kind = kind_code b.kind; name = b.name; pattern = 
 abbrev pub deleted_acl : Binding → DeletedAcl
 deleted_acl b = record { error = codes.None; message = None; binding = entry_of_binding b }
 
-abbrev pub deleted_error : ErrorCode → DeletedAcls
-deleted_error code = record { error = code; message = None; matches = [] }
+abbrev pub deletion_error : ErrorCode → DeletedAcls
+deletion_error code = record { error = code; message = None; matches = [] }
 
 -- what the filter took out, in creation order
-abbrev pub deleted_by : BookValue → Option Filter → DeletedAcls
-deleted_by book None = deleted_error codes.InvalidRequest
-deleted_by book (Some f) = record { error = codes.None; message = None; matches = map deleted_acl (matching book.entries f) }
+abbrev pub deletion_result : BookValue → Option Filter → DeletedAcls
+deletion_result book None = deletion_error codes.InvalidRequest
+deletion_result book (Some f) = record { error = codes.None; message = None; matches = map deleted_acl (matching_bindings book.entries f) }
 
 -- ---- the filters, each on what the earlier ones left
 
@@ -49,15 +49,15 @@ abbrev pub book_deleted : BookValue → List FilterEntry → BookValue
 book_deleted book [] = book
 book_deleted book (e ∷ es) = book_deleted (book_without book (filter_of e)) es
 
-abbrev pub deleted : BookValue → List FilterEntry → List DeletedAcls
-deleted book [] = []
-deleted book (e ∷ es) = deleted_by book (filter_of e) ∷ deleted (book_without book (filter_of e)) es
+abbrev pub deletion_results : BookValue → List FilterEntry → List DeletedAcls
+deletion_results book [] = []
+deletion_results book (e ∷ es) = deletion_result book (filter_of e) ∷ deletion_results (book_without book (filter_of e)) es
 
 abbrev pub delete_acls_reply : List DeletedAcls → DeleteAclsReply
 delete_acls_reply results = record { throttle = pos 0; results = results }
 
 -- refused, each filter is answered with the code
-abbrev pub delete_acls_outcome : World → Caller → DeleteAclsRequest → Outcome
-delete_acls_outcome w caller r = whole w (alter_questions caller)
-    (λ code. replies.DeleteAcls (delete_acls_reply (map (λ (e : FilterEntry). deleted_error code) r.filters)))
-    (record { world = record w { book = book_deleted w.book r.filters }; reply = replies.DeleteAcls (delete_acls_reply (deleted w.book r.filters)) })
+abbrev pub delete_acls_outcome : World → Caller → DeleteAclsRequest → HandlerResult
+delete_acls_outcome w caller r = whole_outcome w (alter_questions caller)
+    (λ code. replies.DeleteAcls (delete_acls_reply (map (λ (e : FilterEntry). deletion_error code) r.filters)))
+    (record { world = record w { book = book_deleted w.book r.filters }; reply = replies.DeleteAcls (delete_acls_reply (deletion_results w.book r.filters)) })

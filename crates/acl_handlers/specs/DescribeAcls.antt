@@ -19,12 +19,12 @@ use Rattle.acl_binding.specs.WireNumbers.{kind_code, pattern_code, operation_cod
 use Rattle.acl_binding.specs.Creatable.{cluster_name}
 use Rattle.acl_binding.specs.Entries.{filter_of}
 use Rattle.acl_binding.specs.Book.{BookValue}
-use Rattle.acl_binding.specs.Filter.{matching}
-use Rattle.acl_binding.specs.Verdict.{asked}
+use Rattle.acl_binding.specs.Filter.{matching_bindings}
+use Rattle.acl_binding.specs.Verdict.{question_of}
 use Rattle.msg_admin.specs.declared.reply.Reply.TheVariants as replies
 use Rattle.broker_world.specs.World.{World}
-use Rattle.broker_world.specs.Outcome.{Outcome}
-use Rattle.broker_world.specs.Whole.{whole}
+use Rattle.broker_world.specs.HandlerResult.{HandlerResult}
+use Rattle.broker_world.specs.Whole.{whole_outcome}
 
 -- ---- bindings of one resource
 
@@ -40,19 +40,19 @@ abbrev pub described_resource : List Binding → Binding → DescribedResource
 described_resource bs b = record { kind = kind_code b.kind; name = b.name; pattern = pattern_code b.pattern; acls = map described_acl (filter (same_resource b) bs) }
 
 -- the first binding of each resource of which none was seen before
-abbrev pub firsts : List Binding → List Binding → List Binding
-firsts seen [] = []
-firsts seen (b ∷ bs) = if list_any (same_resource b) seen then firsts (seen ++ b ∷ []) bs else b ∷ firsts (seen ++ b ∷ []) bs
+abbrev pub first_of_each : List Binding → List Binding → List Binding
+first_of_each seen [] = []
+first_of_each seen (b ∷ bs) = if list_any (same_resource b) seen then first_of_each (seen ++ b ∷ []) bs else b ∷ first_of_each (seen ++ b ∷ []) bs
 
 -- the resources in the order of the first binding of each, the bindings of each in their order
-abbrev pub described : List Binding → List DescribedResource
-described bs = map (described_resource bs) (firsts [] bs)
+abbrev pub described_resources : List Binding → List DescribedResource
+described_resources bs = map (described_resource bs) (first_of_each [] bs)
 
 -- ---- the request
 
 -- to describe the cluster
 abbrev pub describe_acls_questions : Caller → List Question
-describe_acls_questions caller = asked caller Describe Cluster cluster_name ∷ []
+describe_acls_questions caller = question_of caller Describe Cluster cluster_name ∷ []
 
 abbrev pub describe_acls_error : ErrorCode → DescribeAclsReply
 describe_acls_error code = record { throttle = pos 0; error = code; message = None; resources = [] }
@@ -60,8 +60,8 @@ describe_acls_error code = record { throttle = pos 0; error = code; message = No
 -- a faulty filter picks nothing, and is told
 abbrev pub describe_acls_reply : BookValue → Option Filter → DescribeAclsReply
 describe_acls_reply book None = describe_acls_error codes.InvalidRequest
-describe_acls_reply book (Some f) = record { throttle = pos 0; error = codes.None; message = None; resources = described (matching book.entries f) }
+describe_acls_reply book (Some f) = record { throttle = pos 0; error = codes.None; message = None; resources = described_resources (matching_bindings book.entries f) }
 
-abbrev pub describe_acls_outcome : World → Caller → DescribeAclsRequest → Outcome
-describe_acls_outcome w caller r = whole w (describe_acls_questions caller) (λ code. replies.DescribeAcls (describe_acls_error code))
+abbrev pub describe_acls_outcome : World → Caller → DescribeAclsRequest → HandlerResult
+describe_acls_outcome w caller r = whole_outcome w (describe_acls_questions caller) (λ code. replies.DescribeAcls (describe_acls_error code))
     (record { world = w; reply = replies.DescribeAcls (describe_acls_reply w.book (filter_of r.filter)) })

@@ -4,7 +4,7 @@ use Rattle.msg_acl.specs.declared.describe_acls.DescribedResource.{DescribedReso
 use Rattle.acl_binding.specs.declared.binding.Binding.{Binding}
 use Rattle.acl_binding.specs.WireNumbers.{kind_code, pattern_code}
 use Rattle.acl_handlers.specs.declared.resource.Resource.{Resource}
-use Rattle.acl_handlers.specs.DescribeAcls.{described_acl, described_resource, firsts}
+use Rattle.acl_handlers.specs.DescribeAcls.{described_acl, described_resource, first_of_each}
 
 -- what a binding is about, as a key
 abbrev pub resource_of : Binding → Resource
@@ -16,11 +16,11 @@ group_of seen b = (resource_of b, described_resource seen b)
 
 -- the resources of the bindings, in the order of the first binding of each
 abbrev pub groups_of : List Binding → List (Resource × DescribedResource)
-groups_of seen = map (group_of seen) (firsts [] seen)
+groups_of seen = map (group_of seen) (first_of_each [] seen)
 
 -- a resource with its first binding, and with one more, the last
-abbrev pub begun : Binding → DescribedResource
-begun b = record { kind = kind_code b.kind; name = b.name; pattern = pattern_code b.pattern; acls = described_acl b ∷ [] }
+abbrev pub resource_with : Binding → DescribedResource
+resource_with b = record { kind = kind_code b.kind; name = b.name; pattern = pattern_code b.pattern; acls = described_acl b ∷ [] }
 
-abbrev pub joined : DescribedResource → Binding → DescribedResource
-joined r b = record r { acls = r.acls ++ described_acl b ∷ [] }
+abbrev pub resource_with_next : DescribedResource → Binding → DescribedResource
+resource_with_next r b = record r { acls = r.acls ++ described_acl b ∷ [] }

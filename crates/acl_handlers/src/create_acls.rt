@@ -6,11 +6,11 @@ ghost use Rattle.msg_acl.specs.declared.entries.BindingEntry.{BindingEntry as En
 ghost use Rattle.walk.specs.Codes.{refusal_code};
 ghost use Rattle.authorizer.specs.Asking.{part_paid};
 ghost use Rattle.broker_world.specs.World.{rules_of};
-ghost use Rattle.acl_handlers.specs.CreateAcls.{alter_questions, book_with, book_created, created_with, created, create_acls_reply, create_acls_outcome};
+ghost use Rattle.acl_handlers.specs.CreateAcls.{alter_questions, book_with, book_created, creation_result_with, creation_result, create_acls_reply, create_acls_outcome};
 
 use acl_binding::{BadEntry, Binding, Caller, Operation};
 use authorizer::{Paid, Policy, Refusal, ask_one};
-use broker_world::{Outcome, State, asks_cluster, refused_whole, served_whole};
+use broker_world::{HandlerResult, State, asks_cluster, refused_whole, served_whole};
 use msg_acl::{BindingEntry, CreateAclsReply, CreateAclsRequest, CreatedAcl};
 use msg_admin::Reply;
 use std::alloc::{AllocError, Global};
@@ -18,7 +18,7 @@ use walk::refusal_code;
 use wire_types::{ErrorCode, Items};
 
 fn created_with(error: ErrorCode) -> CreatedAcl
-    ensures { result ≡ created_with error }
+    ensures { result ≡ creation_result_with error }
 {
     CreatedAcl {
         error,
@@ -42,10 +42,11 @@ fn create(
     entry: &BindingEntry,
 ) -> Result<CreatedAcl, AllocError>
     requires { policy.old.book.next + 1 < 2 ^ 63 }
-    ensures book { OnOk result (policy.new.book ≡ book_with policy.old.book (binding_of entry.now)) }
+    ensures book { OnOk result
+        (policy.new.book ≡ book_with policy.old.book (binding_of entry.now)) }
     ensures supers { OnOk result (policy.new.supers ≡ policy.old.supers) }
     ensures next { OnOk result (policy.new.book.next ≤ policy.old.book.next + 1) }
-    ensures answer { IfOk result (λ answer. answer ≡ created entry.now) }
+    ensures answer { IfOk result (λ answer. answer ≡ creation_result entry.now) }
 {
     match Binding::check(entry.clone()?) {
         Ok(binding) => {
@@ -65,7 +66,7 @@ fn create_all(
     requires { policy.old.book.next + length creations.now < 2 ^ 63 }
     ensures book { OnOk result (policy.new.book ≡ book_created policy.old.book creations.now) }
     ensures supers { OnOk result (policy.new.supers ≡ policy.old.supers) }
-    ensures answers { IfOk result (λ results. results ≡ map created creations.now) }
+    ensures answers { IfOk result (λ results. results ≡ map creation_result creations.now) }
 {
     let mut results = Items::new(alloc);
     for entry in creations {
@@ -80,7 +81,11 @@ fn created_none(
     refusal: &Refusal,
     creations: &[BindingEntry],
 ) -> Result<Reply, AllocError>
-    ensures { IfOk result (λ reply. reply ≡ Reply.CreateAcls (create_acls_reply (map (λ (entry : Entry). created_with (refusal_code refusal.now)) creations.now))) }
+    ensures { IfOk result
+        (λ reply. reply ≡ Reply.CreateAcls
+        (create_acls_reply
+        (map (λ (entry : Entry). creation_result_with (refusal_code refusal.now))
+        creations.now))) }
 {
     let code = refusal_code(refusal);
     let mut results = Items::new(alloc);
@@ -96,12 +101,16 @@ pub fn answer_create_acls(
     state: &mut State,
     caller: &Caller,
     request: &CreateAclsRequest,
-) -> Result<Outcome, AllocError>
+) -> Result<HandlerResult, AllocError>
     requires { state.old.book.next + length request.now.creations < 2 ^ 63 }
-    ensures world { OnOk result (state.new ≡ (create_acls_outcome state.old caller.now request.now).world) }
-    ensures reply { IfOk result (λ o. o.reply ≡ (create_acls_outcome state.old caller.now request.now).reply) }
-    ensures refusals { IfOk result (λ o. o.refusals ≡ (create_acls_outcome state.old caller.now request.now).refusals) }
-    ensures paid { IfOk result (λ o. o.paid ≡ part_paid (rules_of state.old) (alter_questions caller.now)) }
+    ensures world { OnOk result
+        (state.new ≡ (create_acls_outcome state.old caller.now request.now).world) }
+    ensures reply { IfOk result
+        (λ o. o.reply ≡ (create_acls_outcome state.old caller.now request.now).reply) }
+    ensures refusals { IfOk result
+        (λ o. o.refusals ≡ (create_acls_outcome state.old caller.now request.now).refusals) }
+    ensures paid { IfOk result
+        (λ o. o.paid ≡ part_paid (rules_of state.old) (alter_questions caller.now)) }
     ensures spent { IfOk result (λ o. o.spent ≡ 0) }
 {
     let question = asks_cluster(alloc, caller, Operation::Alter)?;

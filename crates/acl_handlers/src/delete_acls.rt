@@ -1,18 +1,18 @@
 //! DeleteAcls: what filters pick is taken out of the book.
 
-ghost use Rattle.std.specs.Prelude.{◌≡◌, ◌+◌, ◌<◌, ◌≤◌, ◌^◌, map, IfOk, OnOk};
+ghost use Rattle.std.specs.Prelude.{◌≡◌, ◌+◌, ◌<◌, ◌^◌, map, IfOk, OnOk};
 ghost use Rattle.acl_binding.specs.Entries.{filter_of};
 ghost use Rattle.msg_acl.specs.declared.entries.FilterEntry.{FilterEntry as Entry};
 ghost use Rattle.walk.specs.Codes.{refusal_code};
 ghost use Rattle.authorizer.specs.Asking.{part_paid};
 ghost use Rattle.acl_handlers.specs.CreateAcls.{alter_questions};
 ghost use Rattle.broker_world.specs.World.{rules_of};
-ghost use Rattle.acl_handlers.specs.DeleteAcls.{book_without, book_deleted, deleted_acl, deleted_error, deleted_by, deleted, delete_acls_reply, delete_acls_outcome};
+ghost use Rattle.acl_handlers.specs.DeleteAcls.{book_without, book_deleted, deleted_acl, deletion_error, deletion_result, deletion_results, delete_acls_reply, delete_acls_outcome};
 
 use crate::filters::filter_in;
 use acl_binding::{Binding, Caller, Operation};
 use authorizer::{Paid, Policy, Refusal, ask_one};
-use broker_world::{Outcome, State, asks_cluster, refused_whole, served_whole};
+use broker_world::{HandlerResult, State, asks_cluster, refused_whole, served_whole};
 use msg_acl::{
     BindingEntry, DeleteAclsReply, DeleteAclsRequest, DeletedAcl, DeletedAcls, FilterEntry,
 };
@@ -41,7 +41,7 @@ fn deleted_acl(binding: &Binding) -> Result<DeletedAcl, AllocError>
 }
 
 fn deleted_error(alloc: Global, error: ErrorCode) -> DeletedAcls
-    ensures { result ≡ deleted_error error }
+    ensures { result ≡ deletion_error error }
 {
     DeletedAcls {
         error,
@@ -77,9 +77,11 @@ fn delete(
     entry: &FilterEntry,
 ) -> Result<DeletedAcls, AllocError>
     requires { policy.old.book.next < 2 ^ 63 }
-    ensures book { OnOk result (policy.new.book ≡ book_without policy.old.book (filter_of entry.now)) }
+    ensures book { OnOk result
+        (policy.new.book ≡ book_without policy.old.book (filter_of entry.now)) }
     ensures supers { OnOk result (policy.new.supers ≡ policy.old.supers) }
-    ensures answer { IfOk result (λ answer. answer ≡ deleted_by policy.old.book (filter_of entry.now)) }
+    ensures answer { IfOk result
+        (λ answer. answer ≡ deletion_result policy.old.book (filter_of entry.now)) }
 {
     let Some(filter) = filter_in(entry)? else {
         return Ok(deleted_error(alloc, ErrorCode::InvalidRequest));
@@ -101,7 +103,8 @@ fn delete_all(
     requires { policy.old.book.next < 2 ^ 63 }
     ensures book { OnOk result (policy.new.book ≡ book_deleted policy.old.book filters.now) }
     ensures supers { OnOk result (policy.new.supers ≡ policy.old.supers) }
-    ensures answers { IfOk result (λ results. results ≡ deleted policy.old.book filters.now) }
+    ensures answers { IfOk result
+        (λ results. results ≡ deletion_results policy.old.book filters.now) }
 {
     let mut results = Items::new(alloc);
     for entry in filters {
@@ -116,7 +119,10 @@ fn deleted_none(
     refusal: &Refusal,
     filters: &[FilterEntry],
 ) -> Result<Reply, AllocError>
-    ensures { IfOk result (λ reply. reply ≡ Reply.DeleteAcls (delete_acls_reply (map (λ (entry : Entry). deleted_error (refusal_code refusal.now)) filters.now))) }
+    ensures { IfOk result
+        (λ reply. reply ≡ Reply.DeleteAcls
+        (delete_acls_reply
+        (map (λ (entry : Entry). deletion_error (refusal_code refusal.now)) filters.now))) }
 {
     let code = refusal_code(refusal);
     let mut results = Items::new(alloc);
@@ -132,12 +138,16 @@ pub fn answer_delete_acls(
     state: &mut State,
     caller: &Caller,
     request: &DeleteAclsRequest,
-) -> Result<Outcome, AllocError>
+) -> Result<HandlerResult, AllocError>
     requires { state.old.book.next < 2 ^ 63 }
-    ensures world { OnOk result (state.new ≡ (delete_acls_outcome state.old caller.now request.now).world) }
-    ensures reply { IfOk result (λ o. o.reply ≡ (delete_acls_outcome state.old caller.now request.now).reply) }
-    ensures refusals { IfOk result (λ o. o.refusals ≡ (delete_acls_outcome state.old caller.now request.now).refusals) }
-    ensures paid { IfOk result (λ o. o.paid ≡ part_paid (rules_of state.old) (alter_questions caller.now)) }
+    ensures world { OnOk result
+        (state.new ≡ (delete_acls_outcome state.old caller.now request.now).world) }
+    ensures reply { IfOk result
+        (λ o. o.reply ≡ (delete_acls_outcome state.old caller.now request.now).reply) }
+    ensures refusals { IfOk result
+        (λ o. o.refusals ≡ (delete_acls_outcome state.old caller.now request.now).refusals) }
+    ensures paid { IfOk result
+        (λ o. o.paid ≡ part_paid (rules_of state.old) (alter_questions caller.now)) }
     ensures spent { IfOk result (λ o. o.spent ≡ 0) }
 {
     let question = asks_cluster(alloc, caller, Operation::Alter)?;

@@ -5,14 +5,14 @@ ghost use Rattle.acl_binding.specs.declared.binding.Binding.{Binding as AnyBindi
 ghost use Rattle.acl_binding.specs.Entries.{filter_of};
 ghost use Rattle.authorizer.specs.Asking.{part_paid};
 ghost use Rattle.broker_world.specs.World.{rules_of};
-ghost use Rattle.acl_handlers.specs.DescribeAcls.{describe_acls_questions, described_acl, described, describe_acls_error, describe_acls_reply, describe_acls_outcome};
-ghost use Rattle.acl_handlers.specs.Groups.{begun, groups_of};
+ghost use Rattle.acl_handlers.specs.DescribeAcls.{describe_acls_questions, described_acl, described_resources, describe_acls_error, describe_acls_reply, describe_acls_outcome};
+ghost use Rattle.acl_handlers.specs.Groups.{resource_with, groups_of};
 
 use crate::filters::filter_in;
 use crate::resource::Resource;
 use acl_binding::{Binding, Caller, Operation};
 use authorizer::{Paid, ask_one};
-use broker_world::{Outcome, State, asks_cluster, refused_whole, served_whole};
+use broker_world::{HandlerResult, State, asks_cluster, refused_whole, served_whole};
 use indexmap::IndexMap;
 use msg_acl::{
     DescribeAclsReply, DescribeAclsRequest, DescribedAcl, DescribedResource, FilterEntry,
@@ -21,7 +21,7 @@ use msg_admin::Reply;
 use std::alloc::{AllocError, Global};
 use std::hash::RandomState;
 use walk::refusal_code;
-use wire_types::{ErrorCode, Items};
+use wire_types::{Boxed, ErrorCode, Items};
 
 fn described_acl(binding: &Binding) -> Result<DescribedAcl, AllocError>
     ensures { IfOk result (λ acl. acl ≡ described_acl binding.now) }
@@ -36,7 +36,7 @@ fn described_acl(binding: &Binding) -> Result<DescribedAcl, AllocError>
 
 /// The resource of a binding, with that binding alone.
 fn begun(alloc: Global, binding: &Binding) -> Result<DescribedResource, AllocError>
-    ensures { IfOk result (λ resource. resource ≡ begun binding.now) }
+    ensures { IfOk result (λ resource. resource ≡ resource_with binding.now) }
 {
     let mut acls = Items::new(alloc);
     acls.push(described_acl(binding)?)?;
@@ -54,7 +54,9 @@ fn enter(
     groups: &mut IndexMap<Resource, DescribedResource, RandomState>,
     binding: &Binding,
 ) -> Result<(), AllocError>
-    ensures { OnOk result ((seen : List AnyBinding) → groups.old.entries ≡ groups_of seen → groups.new.entries ≡ groups_of (seen ++ binding.now ∷ [])) }
+    ensures { OnOk result
+        ((seen : List AnyBinding) → groups.old.entries ≡ groups_of seen → groups.new.entries
+        ≡ groups_of (seen ++ binding.now ∷ [])) }
 {
     let resource = Resource::of(binding)?;
     match groups.get_mut(&resource) {
@@ -72,7 +74,7 @@ fn described(
     bindings: &[Binding],
     hasher: RandomState,
 ) -> Result<Items<DescribedResource>, AllocError>
-    ensures { IfOk result (λ resources. resources ≡ described bindings.now) }
+    ensures { IfOk result (λ resources. resources ≡ described_resources bindings.now) }
 {
     let mut groups = IndexMap::with_hasher(alloc, hasher);
     for binding in bindings {
@@ -99,10 +101,13 @@ pub fn answer_describe_acls(
     state: &State,
     caller: &Caller,
     request: &DescribeAclsRequest,
-) -> Result<Outcome, AllocError>
-    ensures reply { IfOk result (λ o. o.reply ≡ (describe_acls_outcome state.now caller.now request.now).reply) }
-    ensures refusals { IfOk result (λ o. o.refusals ≡ (describe_acls_outcome state.now caller.now request.now).refusals) }
-    ensures paid { IfOk result (λ o. o.paid ≡ part_paid (rules_of state.now) (describe_acls_questions caller.now)) }
+) -> Result<HandlerResult, AllocError>
+    ensures reply { IfOk result
+        (λ o. o.reply ≡ (describe_acls_outcome state.now caller.now request.now).reply) }
+    ensures refusals { IfOk result
+        (λ o. o.refusals ≡ (describe_acls_outcome state.now caller.now request.now).refusals) }
+    ensures paid { IfOk result
+        (λ o. o.paid ≡ part_paid (rules_of state.now) (describe_acls_questions caller.now)) }
     ensures spent { IfOk result (λ o. o.spent ≡ 0) }
 {
     let question = asks_cluster(alloc, caller, Operation::Describe)?;
@@ -111,11 +116,13 @@ pub fn answer_describe_acls(
         Ok(permit) => {
             let paid = Paid::one(permit.spend(policy));
             let reply = described_by(alloc, state, &request.filter)?;
-            Ok(served_whole(alloc, Reply::DescribeAcls(reply), paid))
+            let reply = Reply::DescribeAcls(Boxed::new(alloc, reply)?);
+            Ok(served_whole(alloc, reply, paid))
         }
         Err(refusal) => {
             let reply = describe_acls_error(alloc, refusal_code(&refusal));
-            refused_whole(alloc, Reply::DescribeAcls(reply), refusal)
+            let reply = Reply::DescribeAcls(Boxed::new(alloc, reply)?);
+            refused_whole(alloc, reply, refusal)
         }
     }
 }
@@ -126,7 +133,8 @@ fn described_by(
     state: &State,
     entry: &FilterEntry,
 ) -> Result<DescribeAclsReply, AllocError>
-    ensures { IfOk result (λ reply. reply ≡ describe_acls_reply state.now.book (filter_of entry.now)) }
+    ensures { IfOk result
+        (λ reply. reply ≡ describe_acls_reply state.now.book (filter_of entry.now)) }
 {
     let Some(filter) = filter_in(entry)? else {
         return Ok(describe_acls_error(alloc, ErrorCode::InvalidRequest));

@@ -32,5 +32,5 @@ pub trait Doorman {
     fn fewer_workers(&self, _started: usize, _asked: usize) {}
 }
 
-/// Nobody.
+/// Does nothing when it is called.
 impl Doorman for () {}

@@ -25,7 +25,6 @@ impl Model for Hosts {
     ghost invariant = { λ h. IsKept h.most h.table };
 }
 
-/// Written out, so that a proof above has one call where hosts are let go, and not the drops of a table.
 impl Drop for Hosts {
     fn drop(self) {
         let Hosts {
@@ -60,7 +59,8 @@ impl Hosts {
 
     /// A host gets one connection more; false where it has as many as it may.
     pub fn enter(&mut self, alloc: Global, host: &Text) -> Result<bool, AllocError>
-        ensures room { IfOk result (λ entered. IsTrue entered ↔ (connections self.old host.now < self.old.most)) }
+        ensures room { IfOk result
+            (λ entered. IsTrue entered ↔ (connections self.old host.now < self.old.most)) }
         ensures entered { result ≡ Ok true → HasOneMore self.old self.new host.now }
         ensures full { result ≢ Ok true → self.new ≡ self.old }
         ensures within { (other : List ℕ) → connections self.new other ≤ self.new.most }

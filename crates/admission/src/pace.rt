@@ -81,7 +81,6 @@ impl Model for Pace {
     ghost view = { λ p. record { rate = p.rate; paid = counts_of p.table.entries } };
 }
 
-/// Written out, so that a proof above has one call where it is let go, and not the drops of a table.
 impl Drop for Pace {
     fn drop(self) {
         let Pace {
@@ -122,8 +121,12 @@ impl Pace {
         now: u64,
         bytes: u64,
     ) -> Result<u64, AllocError>
-        ensures wait { IfOk result (λ nanoseconds. nanoseconds ≡ wait (paid_after self.old.rate (paid_until self.old user.now) now bytes) now) }
-        ensures paid { OnOk result (HasPaid self.old self.new user.now (paid_after self.old.rate (paid_until self.old user.now) now bytes)) }
+        ensures wait { IfOk result
+            (λ nanoseconds. nanoseconds
+            ≡ wait (paid_after self.old.rate (paid_until self.old user.now) now bytes) now) }
+        ensures paid { OnOk result
+            (HasPaid self.old self.new user.now
+            (paid_after self.old.rate (paid_until self.old user.now) now bytes)) }
         ensures err { OnErr result (self.new ≡ self.old) }
     {
         let paid = self.rate.paid_after(self.paid(user), now, bytes);

@@ -8,7 +8,7 @@ use Rattle.authorizer.specs.declared.answer.Refusal.{Refusal}
 use Rattle.authorizer.specs.Asking.{Rules, part_refusal}
 use Rattle.wire_types.specs.declared.topic.Topic.{Topic}
 use Rattle.wire_types.specs.Grammar.{Grammar}
-use Rattle.wire_types.specs.Spelling.{many_written, null_behind_written, behind_written, int_written}
+use Rattle.wire_types.specs.Spelling.{many_written, after_null_count_written, after_count_written, int_written}
 use Rattle.wire_types.specs.Combinators.{◌⨟◌}
 use Rattle.wire_types.specs.Schema.{int16, int32, int64, boolean, string, compact_string, compact_nullable_string, nullable_string, nullable_bytes, array, nullable_array, compact_array, compact_nullable_array, count32, null_count32, compact_count, compact_null_count, tags}
 use Rattle.wire_types.specs.Topic.{topic_of, flexible_topic_of}
@@ -35,9 +35,9 @@ use Rattle.audit_trail.specs.declared.event.Event.TheVariants.{Ask, Mark, Tick}
 use Rattle.broker_world.specs.World.{World, TopicValue, rules_of}
 use Rattle.broker_world.specs.Questions.{topic_refusal}
 use Rattle.data_handlers.specs.Metadata.{topic_refusals}
-use Rattle.broker_world.specs.Logs.{most_end, room_of}
+use Rattle.broker_world.specs.Logs.{most_end, offsets_left}
 use Rattle.data_handlers.specs.Judged.{records_size}
-use Rattle.data_handlers.specs.Produce.{producing}
+use Rattle.data_handlers.specs.Produce.{producing_rule}
 use Rattle.data_handlers.specs.Fetch.{fetch_rule}
 use Rattle.data_handlers.specs.ListOffsets.{list_rule}
 use Rattle.acl_handlers.specs.DescribeAcls.{describe_acls_questions}
@@ -47,14 +47,14 @@ use Rattle.txn_handlers.specs.EndTxn.{end_questions}
 use Rattle.txn_handlers.specs.InitProducerId.{init_questions}
 use Rattle.msg_txn.specs.declared.add_partitions.AddPartitionsToTxnRequest.{AddPartitionsToTxnRequest}
 use Rattle.msg_txn.specs.AddPartitions.{add_partitions_to_txn_request}
-use Rattle.transactions.specs.declared.marker.OwedMarker.{OwedMarker}
-use Rattle.transactions.specs.declared.target.Target.{Target}
-use Rattle.transactions.specs.declared.target.Target.TheVariants.{Partition, Group}
-use Rattle.transactions.specs.Warrants.{next_warrant}
+use Rattle.txn_coordinator.specs.declared.marker.PendingMarker.{PendingMarker}
+use Rattle.txn_coordinator.specs.declared.target.Target.{Target}
+use Rattle.txn_coordinator.specs.declared.target.Target.TheVariants.{Partition, Group}
+use Rattle.txn_coordinator.specs.Warrants.{next_warrant}
 use Rattle.txn_handlers.specs.AddOffsets.{add_offsets_questions}
 use Rattle.txn_handlers.specs.AddPartitions.{cut_rule, is_cut, cut_outcome, added_outcome}
 use Rattle.broker_world.specs.Markers.{marker_batch}
-use Rattle.txn_handlers.specs.Marks.{marked_at, mark_by}
+use Rattle.txn_handlers.specs.Marks.{topics_with_marker_at, mark_by}
 use Rattle.broker_world.proofs.LogRoom.{marked_within}
 use Rattle.group_handlers.specs.OffsetCommit.{committing_rule}
 use Rattle.txn_handlers.specs.TxnOffsetCommit.{staging_rule}
@@ -84,17 +84,17 @@ few_kept {A} {B} f (x ∷ xs) = by_kept (f x) (few_kept f xs) where
   by_kept (Some y) rest = omega arith
 
 text_bytes : (name : List ℕ) → 0 < length (string.written name)
-unfolding behind_written int_written
+unfolding after_count_written int_written
 text_bytes name = omega arith
 
 -- each text has a byte at least
 many_bytes : (names : List (List ℕ)) → length names ≤ length (many_written string.written names)
-unfolding many_written behind_written
+unfolding many_written after_count_written
 many_bytes [] = omega arith
 many_bytes (name ∷ names) = omega (arith, many_bytes names, length-append (string.written name) (many_written string.written names), text_bytes name)
 
 few_topics : (rules : Rules) (caller : Caller) (topics : Option (List (List ℕ))) → length ((nullable_array string).written topics) ≤ most_parts → length (topic_refusals rules caller topics) ≤ most_parts
-unfolding null_behind_written
+unfolding after_null_count_written
 few_topics rules caller None fits = omega arith
 few_topics rules caller (Some names) fits =
     omega (arith, fits, few_kept (topic_refusal rules caller) names, many_bytes names, length-append (null_count32.written (Some (length names))) (many_written string.written names))
@@ -116,7 +116,7 @@ parts_bytes g f few [] = omega arith
 parts_bytes g f few (p ∷ ps) = omega (arith, few p, parts_bytes g f few ps, length-append (g.written p) (many_written g.written ps))
 
 array_bytes : {P : Type 0} (g : Grammar P) (ps : List P) → length (many_written g.written ps) ≤ length ((array g).written ps)
-unfolding behind_written
+unfolding after_count_written
 array_bytes g ps = omega (arith, length-append (count32.written (length ps)) (many_written g.written ps))
 
 topic_bytes : {P : Type 0} (g : Grammar P) (t : Topic P) → length ((array g).written t.partitions) ≤ length ((topic_of g).written t)
@@ -163,7 +163,7 @@ unfolding int_written
 int32_bytes z = refl
 
 records_bytes : (o : Option (List ℕ)) → records_size o ≤ length (nullable_bytes.written o)
-unfolding null_behind_written
+unfolding after_null_count_written
 records_bytes None = omega arith
 records_bytes (Some text) = omega (arith, length-append (null_count32.written (Some (length text))) text)
 
@@ -190,40 +190,40 @@ stage_some p =
 wanted_some : (p : WantedOffset) → 1 ≤ length (wanted_offset.written p)
 wanted_some p = omega (arith, int32_bytes p.index, length-append (int32.written p.index) (int64.written p.timestamp))
 
--- ---- the topics of a request, behind what stands before them
+-- ---- the topics of a request, after what stands before them
 
-behind_two : (a b c : List ℕ) → length c ≤ length (a ++ (b ++ c))
-behind_two a b c = omega (arith, length-append a (b ++ c), length-append b c)
+after_two : (a b c : List ℕ) → length c ≤ length (a ++ (b ++ c))
+after_two a b c = omega (arith, length-append a (b ++ c), length-append b c)
 
 produce_topics : (r : ProduceRequest) → length ((array (topic_of produced_records)).written r.topics) ≤ length (produce_request.written r)
 produce_topics r =
     let rest = int32.written r.timeout ++ (array (topic_of produced_records)).written r.topics in
-    omega (arith, behind_two (nullable_string.written r.transactional_id) (int16.written r.acks) rest, length-append (int32.written r.timeout) ((array (topic_of produced_records)).written r.topics))
+    omega (arith, after_two (nullable_string.written r.transactional_id) (int16.written r.acks) rest, length-append (int32.written r.timeout) ((array (topic_of produced_records)).written r.topics))
 
 fetch_topics : (r : FetchRequest) → length ((array (topic_of fetch_partition)).written r.topics) ≤ length (fetch_request.written r)
 fetch_topics r =
     let last = isolation.written r.isolation ++ (array (topic_of fetch_partition)).written r.topics in
     let more = int32.written r.min_bytes ++ (int32.written r.max_bytes ++ last) in
-    omega (arith, behind_two (int32.written r.replica) (int32.written r.max_wait) more, behind_two (int32.written r.min_bytes) (int32.written r.max_bytes) last, length-append (isolation.written r.isolation) ((array (topic_of fetch_partition)).written r.topics))
+    omega (arith, after_two (int32.written r.replica) (int32.written r.max_wait) more, after_two (int32.written r.min_bytes) (int32.written r.max_bytes) last, length-append (isolation.written r.isolation) ((array (topic_of fetch_partition)).written r.topics))
 
 list_topics : (r : ListOffsetsRequest) → length ((array (topic_of wanted_offset)).written r.topics) ≤ length (list_offsets_request.written r)
-list_topics r = behind_two (int32.written r.replica) (isolation.written r.isolation) ((array (topic_of wanted_offset)).written r.topics)
+list_topics r = after_two (int32.written r.replica) (isolation.written r.isolation) ((array (topic_of wanted_offset)).written r.topics)
 
 add_topics : (r : AddPartitionsToTxnRequest) → length ((array (topic_of int32)).written r.topics) ≤ length (add_partitions_to_txn_request.written r)
 add_topics r =
     let rest = int16.written r.epoch ++ (array (topic_of int32)).written r.topics in
-    omega (arith, behind_two (string.written r.transactional_id) (int64.written r.producer) rest, length-append (int16.written r.epoch) ((array (topic_of int32)).written r.topics))
+    omega (arith, after_two (string.written r.transactional_id) (int64.written r.producer) rest, length-append (int16.written r.epoch) ((array (topic_of int32)).written r.topics))
 
 commit_topics : (r : OffsetCommitRequest) → length ((array (topic_of offset_to_commit)).written r.topics) ≤ length (offset_commit_request.written r)
 commit_topics r =
     let last = int64.written r.retention ++ (array (topic_of offset_to_commit)).written r.topics in
     let more = string.written r.member ++ last in
-    omega (arith, behind_two (string.written r.group) (int32.written r.generation) more, behind_two (string.written r.member) (int64.written r.retention) ((array (topic_of offset_to_commit)).written r.topics))
+    omega (arith, after_two (string.written r.group) (int32.written r.generation) more, after_two (string.written r.member) (int64.written r.retention) ((array (topic_of offset_to_commit)).written r.topics))
 
 -- ---- topics of a flexible version
 
 flexible_bytes : {P : Type 0} (g : Grammar P) (t : Topic P) → length (many_written g.written t.partitions) ≤ length ((flexible_topic_of g).written t)
-unfolding flexible_topic_of behind_written
+unfolding flexible_topic_of after_count_written
 flexible_bytes g t =
     let parts = many_written g.written t.partitions in
     omega (arith, length-append (compact_count.written (length t.partitions)) parts, length-append (compact_string.written t.name) ((compact_array g).written t.partitions), length-append (compact_string.written t.name ++ (compact_array g).written t.partitions) (tags.written tt))
@@ -235,7 +235,7 @@ within_flexible g f few (t ∷ ts) =
     omega (arith, parts_bytes g f few t.partitions, flexible_bytes g t, within_flexible g f few ts, length-append ((flexible_topic_of g).written t) (many_written (flexible_topic_of g).written ts))
 
 null_array_bytes : (ts : List (Topic ℤ)) → length (many_written (flexible_topic_of int32).written ts) ≤ length ((compact_nullable_array (flexible_topic_of int32)).written (Some ts))
-unfolding null_behind_written
+unfolding after_null_count_written
 null_array_bytes ts = omega (arith, length-append (compact_null_count.written (Some (length ts))) (many_written (flexible_topic_of int32).written ts))
 
 fetch_offsets_topics : (r : OffsetFetchRequest) → length ((compact_nullable_array (flexible_topic_of int32)).written r.topics) ≤ length (offset_fetch_request.written r)
@@ -245,7 +245,7 @@ fetch_offsets_topics r =
     omega (arith, length-append topics (boolean.written r.require_stable), length-append (compact_string.written r.group) last, length-append (compact_string.written r.group ++ last) (tags.written tt))
 
 compact_array_bytes : {P : Type 0} (g : Grammar P) (ps : List P) → length (many_written g.written ps) ≤ length ((compact_array g).written ps)
-unfolding behind_written
+unfolding after_count_written
 compact_array_bytes g ps = omega (arith, length-append (compact_count.written (length ps)) (many_written g.written ps))
 
 stage_topics : (r : TxnOffsetCommitRequest) → length (many_written (flexible_topic_of offset_to_stage).written r.topics) ≤ length (txn_offset_commit_request.written r)
@@ -258,10 +258,10 @@ stage_topics r =
     omega (
       arith,
       compact_array_bytes (flexible_topic_of offset_to_stage) r.topics,
-      behind_two (compact_string.written r.member) (compact_nullable_string.written r.instance) topics,
-      behind_two (int16.written r.epoch) (int32.written r.generation) last,
+      after_two (compact_string.written r.member) (compact_nullable_string.written r.instance) topics,
+      after_two (int16.written r.epoch) (int32.written r.generation) last,
       length-append (int64.written r.producer) more,
-      behind_two (compact_string.written r.transactional_id) (compact_string.written r.group) rest,
+      after_two (compact_string.written r.transactional_id) (compact_string.written r.group) rest,
       length-append whole (tags.written tt),
     )
 
@@ -270,7 +270,7 @@ stage_topics r =
 pub few_refusals : (w : World) (e : Event) → EventFits e → length (refusals_of w e) ≤ most_parts
 unfolding request_body
 few_refusals w (Ask caller client (Produce r)) fits =
-    omega (arith, fits.1, few_walked (producing w caller r) (rules_of w) r.topics, within_array produced_records (λ p. 1) produced_some r.topics, produce_topics r)
+    omega (arith, fits.1, few_walked (producing_rule w caller r) (rules_of w) r.topics, within_array produced_records (λ p. 1) produced_some r.topics, produce_topics r)
 few_refusals w (Ask caller client (Fetch r)) fits =
     omega (arith, fits.1, few_walked (fetch_rule caller r.isolation w.topics) (rules_of w) r.topics, within_array fetch_partition (λ p. 1) fetch_some r.topics, fetch_topics r)
 few_refusals w (Ask caller client (ListOffsets r)) fits =
@@ -332,18 +332,18 @@ few_refusals w (Ask caller client (DeleteAcls r)) fits =
     let few : length (refusals_of w (Ask caller client (DeleteAcls r))) ≤ 1 = whole_refusals (part_refusal (rules_of w) (alter_questions caller)) w _ _ in
     omega (arith, few)
 few_refusals w Mark fits = by_front (next_warrant w.coordinator) where
-  by_front : (o : Option OwedMarker) → length (mark_by w o).refusals ≤ most_parts
+  by_front : (o : Option PendingMarker) → length (mark_by w o).refusals ≤ most_parts
   by_front None = omega arith
   by_front (Some m) = omega arith
 few_refusals w (Tick told) fits = omega arith
 
 -- a Produce adds at most as many records to a log as its frame has bytes
-produce_weight : (w : World) (caller : Caller) (r : ProduceRequest) → Fits (Produce r) → topics_weight (producing w caller r) r.topics ≤ most_parts
+produce_weight : (w : World) (caller : Caller) (r : ProduceRequest) → Fits (Produce r) → topics_weight (producing_rule w caller r) r.topics ≤ most_parts
 unfolding request_body
 produce_weight w caller r fits =
-    omega (arith, fits.1, weight_topics (producing w caller r) r.topics, within_array produced_records (producing w caller r).weight produced_bytes r.topics, produce_topics r)
+    omega (arith, fits.1, weight_topics (producing_rule w caller r) r.topics, within_array produced_records (producing_rule w caller r).weight produced_bytes r.topics, produce_topics r)
 
-pub produce_light : (w : World) (caller : Caller) (q : Request) (r : ProduceRequest) → q ≡ Produce r → Fits q → topics_weight (producing w caller r) r.topics ≤ most_parts
+pub produce_light : (w : World) (caller : Caller) (q : Request) (r : ProduceRequest) → q ≡ Produce r → Fits q → topics_weight (producing_rule w caller r) r.topics ≤ most_parts
 produce_light w caller q r is fits = produce_weight w caller r (subst Fits is fits)
 
 same_ends : {us vs : List TopicValue} → us ≡ vs → most_end us ≤ most_end vs + most_parts
@@ -351,9 +351,9 @@ same_ends {us} {vs} same = subst (λ (ts : List TopicValue). most_end ts ≤ mos
 
 pub ends_outcome : (w : World) (e : Event) → EventFits e → most_parts + most_end w.topics < 9223372036854775807 → most_end (outcome w e).world.topics ≤ most_end w.topics + most_parts
 ends_outcome w (Ask caller client (Produce r)) fits room =
-    let after : List TopicValue = world_after (producing w caller r) (rules_of w) w.topics r.topics in
-    let taken : room_of w.topics ≤ topics_weight (producing w caller r) r.topics + room_of after = walk_takes (producing w caller r) (rules_of w) w.topics r.topics in
-    let few : topics_weight (producing w caller r) r.topics ≤ most_parts = produce_weight w caller r fits in
+    let after : List TopicValue = world_after (producing_rule w caller r) (rules_of w) w.topics r.topics in
+    let taken : offsets_left w.topics ≤ topics_weight (producing_rule w caller r) r.topics + offsets_left after = walk_takes (producing_rule w caller r) (rules_of w) w.topics r.topics in
+    let few : topics_weight (producing_rule w caller r) r.topics ≤ most_parts = produce_weight w caller r fits in
     let ends : most_end after ≤ most_end w.topics + most_parts = omega (arith, room, few, taken) in
     ends
 ends_outcome w (Ask caller client (Fetch r)) fits room = omega arith
@@ -378,11 +378,11 @@ ends_outcome w (Ask caller client (DescribeAcls r)) fits room = same_ends (whole
 ends_outcome w (Ask caller client (CreateAcls r)) fits room = same_ends (whole_topics (part_refusal (rules_of w) (alter_questions caller)) w _ _ refl)
 ends_outcome w (Ask caller client (DeleteAcls r)) fits room = same_ends (whole_topics (part_refusal (rules_of w) (alter_questions caller)) w _ _ refl)
 ends_outcome w Mark fits room = by_front (next_warrant w.coordinator) where
-  by_target : (m : OwedMarker) (t : Target) → most_end (marked_at w.topics t (marker_batch m w.moment)) ≤ most_end w.topics + 1
+  by_target : (m : PendingMarker) (t : Target) → most_end (topics_with_marker_at w.topics t (marker_batch m w.moment)) ≤ most_end w.topics + 1
   by_target m (Partition p) = marked_within w.topics p.topic p.index m w.moment
   by_target m (Group g) = omega arith
 
-  by_front : (o : Option OwedMarker) → most_end (mark_by w o).world.topics ≤ most_end w.topics + most_parts
+  by_front : (o : Option PendingMarker) → most_end (mark_by w o).world.topics ≤ most_end w.topics + most_parts
   by_front None = omega arith
   by_front (Some m) = omega (arith, by_target m m.target)
 ends_outcome w (Tick told) fits room = omega arith

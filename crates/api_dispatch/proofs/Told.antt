@@ -18,27 +18,27 @@ use Rattle.walk.specs.Rule.{PartRule}
 use Rattle.walk.specs.Walk.{parts_refused, refusals}
 use Rattle.walk.specs.Woven.{has_any}
 use Rattle.broker_world.specs.World.{World, rules_of}
-use Rattle.broker_world.specs.Whole.{Served, whole_by}
+use Rattle.broker_world.specs.Whole.{Served, whole_outcome_by}
 use Rattle.broker_world.specs.Questions.{topic_part, topic_refusal}
 use Rattle.data_handlers.specs.Metadata.{topic_refusals}
-use Rattle.data_handlers.specs.Produce.{produce_questions, producing}
+use Rattle.data_handlers.specs.Produce.{produce_questions, producing_rule}
 use Rattle.data_handlers.specs.Fetch.{fetch_rule}
 use Rattle.data_handlers.specs.ListOffsets.{list_rule}
 use Rattle.group_handlers.specs.OffsetCommit.{commit_questions, committing_rule}
 use Rattle.group_handlers.specs.OffsetFetch.{group_question, offset_rule, offsets_of, fetched_outcome, offset_fetch_by}
 use Rattle.group_handlers.specs.FindCoordinator.{kind_of, find_questions}
 use Rattle.broker_world.specs.Questions.{read_question}
-use Rattle.group_handlers.specs.Members.{joined, synced, heard, left}
-use Rattle.txn_handlers.specs.InitProducerId.{init_questions, initialized}
-use Rattle.txn_handlers.specs.AddOffsets.{add_offsets_questions, offsets_added}
-use Rattle.txn_handlers.specs.EndTxn.{ended, end_questions}
-use Rattle.txn_handlers.specs.TxnOffsetCommit.{staging, stage_questions, staging_rule}
+use Rattle.group_handlers.specs.Members.{served_join, served_sync, served_heartbeat, served_leave}
+use Rattle.txn_handlers.specs.InitProducerId.{init_questions, served_init}
+use Rattle.txn_handlers.specs.AddOffsets.{add_offsets_questions, served_add_offsets}
+use Rattle.txn_handlers.specs.EndTxn.{served_end, end_questions}
+use Rattle.txn_handlers.specs.TxnOffsetCommit.{staging_of, stage_questions, staging_rule}
 use Rattle.txn_handlers.specs.AddPartitions.{add_questions, cut_rule, is_missing, is_cut, cut_outcome, added_outcome, add_partitions_outcome}
 use Rattle.acl_handlers.specs.DescribeAcls.{describe_acls_questions}
 use Rattle.acl_handlers.specs.CreateAcls.{alter_questions}
 use Rattle.api_dispatch.specs.Step.{request_outcome}
 use Rattle.api_dispatch.specs.Questions.{fetch_questions, partition_parts, topic_parts, offset_parts}
-use Rattle.api_dispatch.specs.Refusals.{refusals_in, told_alone, request_refusals, RefusalsAreOfParts}
+use Rattle.api_dispatch.specs.Refusals.{refusals_in, refusal_or_rest, request_refusals, RefusalsAreOfParts}
 
 -- ---- a walk
 
@@ -58,7 +58,7 @@ module _ (rules : Rules) (asks : List ℕ → List Question) where
 
 -- ---- a request that is one part
 
-whole_told : (o : Option Refusal) (w : World) (refused : ErrorCode → Reply) (served : Served) → (whole_by o w refused served).refusals ≡ cons_option o []
+whole_told : (o : Option Refusal) (w : World) (refused : ErrorCode → Reply) (served : Served) → (whole_outcome_by o w refused served).refusals ≡ cons_option o []
 whole_told None w refused served = refl
 whole_told (Some r) w refused served = refl
 
@@ -79,7 +79,7 @@ module _ (w : World) (caller : Caller) (r : OffsetFetchRequest) where
   fetched_told None = refl
   fetched_told (Some ts) = walk_told (rules_of w) (topic_part caller) (offset_rule caller (offsets_of w r.group) r.require_stable) (λ name index. refl) ts
 
-  offsets_told : (o : Option Refusal) → (offset_fetch_by o w caller r).refusals ≡ told_alone o (refusals_in (rules_of w) (offset_parts caller r.topics))
+  offsets_told : (o : Option Refusal) → (offset_fetch_by o w caller r).refusals ≡ refusal_or_rest o (refusals_in (rules_of w) (offset_parts caller r.topics))
   offsets_told None = fetched_told r.topics
   offsets_told (Some refusal) = refl
 
@@ -98,27 +98,27 @@ add_told w caller r = by_cut (is_cut caller r.transactional_id w.topics (rules_o
 -- ---- each api
 
 module _ (w : World) (caller : Caller) where
-  asked_told : (qs : List Question) (refused : ErrorCode → Reply) (served : Served) → (whole_by (part_refusal (rules_of w) qs) w refused served).refusals ≡ refusals_in (rules_of w) (qs ∷ [])
+  asked_told : (qs : List Question) (refused : ErrorCode → Reply) (served : Served) → (whole_outcome_by (part_refusal (rules_of w) qs) w refused served).refusals ≡ refusals_in (rules_of w) (qs ∷ [])
   asked_told qs refused served = whole_told (part_refusal (rules_of w) qs) w refused served
 
   told : (request : Request) → (request_outcome w caller request).refusals ≡ request_refusals (rules_of w) caller request
-  told (Produce r) = walk_told (rules_of w) (produce_questions caller r.transactional_id) (producing w caller r) (λ name p. refl) r.topics
+  told (Produce r) = walk_told (rules_of w) (produce_questions caller r.transactional_id) (producing_rule w caller r) (λ name p. refl) r.topics
   told (Fetch r) = walk_told (rules_of w) (fetch_questions caller) (fetch_rule caller r.isolation w.topics) (λ name p. refl) r.topics
   told (ListOffsets r) = walk_told (rules_of w) (topic_part caller) (list_rule caller r.isolation w.topics) (λ name p. refl) r.topics
   told (Metadata r) = topics_told (rules_of w) caller r.topics
   told (OffsetCommit r) = walk_told (rules_of w) (commit_questions caller r.group) (committing_rule w caller r) (λ name p. refl) r.topics
   told (OffsetFetch r) = offsets_told w caller r (part_refusal (rules_of w) (group_question caller r.group ∷ []))
   told (FindCoordinator r) = asked_told (find_questions caller (kind_of r.key_type) r.key) _ _
-  told (JoinGroup r) = asked_told (read_question caller r.group ∷ []) _ (joined w r)
-  told (Heartbeat r) = asked_told (read_question caller r.group ∷ []) _ (heard w r)
-  told (LeaveGroup r) = asked_told (read_question caller r.group ∷ []) _ (left w r)
-  told (SyncGroup r) = asked_told (read_question caller r.group ∷ []) _ (synced w r)
-  told (InitProducerId r) = asked_told (init_questions (rules_of w) caller r.transactional_id) _ (initialized w r)
+  told (JoinGroup r) = asked_told (read_question caller r.group ∷ []) _ (served_join w r)
+  told (Heartbeat r) = asked_told (read_question caller r.group ∷ []) _ (served_heartbeat w r)
+  told (LeaveGroup r) = asked_told (read_question caller r.group ∷ []) _ (served_leave w r)
+  told (SyncGroup r) = asked_told (read_question caller r.group ∷ []) _ (served_sync w r)
+  told (InitProducerId r) = asked_told (init_questions (rules_of w) caller r.transactional_id) _ (served_init w r)
   told (AddPartitionsToTxn r) =
       add_told w caller r ∙ walk_told (rules_of w) (add_questions caller r.transactional_id) (cut_rule caller r.transactional_id w.topics) (λ name index. refl) r.topics
-  told (AddOffsetsToTxn r) = asked_told (add_offsets_questions caller r.transactional_id r.group) _ (offsets_added w r)
-  told (EndTxn r) = asked_told (end_questions caller r) _ (ended w r)
-  told (TxnOffsetCommit r) = walk_told (rules_of w) (stage_questions caller (staging r)) (staging_rule w caller r) (λ name p. refl) r.topics
+  told (AddOffsetsToTxn r) = asked_told (add_offsets_questions caller r.transactional_id r.group) _ (served_add_offsets w r)
+  told (EndTxn r) = asked_told (end_questions caller r) _ (served_end w r)
+  told (TxnOffsetCommit r) = walk_told (rules_of w) (stage_questions caller (staging_of r)) (staging_rule w caller r) (λ name p. refl) r.topics
   told (SaslHandshake r) = refl
   told ApiVersions = refl
   told (SaslAuthenticate r) = refl

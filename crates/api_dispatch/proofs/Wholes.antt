@@ -11,7 +11,7 @@ use Rattle.msg_admin.specs.declared.request.Request.TheVariants.{Produce, Fetch,
 use Rattle.audit_trail.specs.declared.event.Event.{Event}
 use Rattle.audit_trail.specs.declared.event.Event.TheVariants.{Ask, Mark, Tick}
 use Rattle.broker_world.specs.World.{World, rules_of}
-use Rattle.broker_world.specs.Whole.{whole_by}
+use Rattle.broker_world.specs.Whole.{whole_outcome_by}
 use Rattle.acl_handlers.specs.DescribeAcls.{describe_acls_questions, describe_acls_outcome}
 use Rattle.wire_types.specs.declared.topic.Topic.{Topic}
 use Rattle.msg_group.specs.declared.offset_fetch.OffsetFetchRequest.{OffsetFetchRequest}
@@ -30,7 +30,7 @@ on_err (Err e) p = p
 
 -- ---- what only reads changes nothing
 
-whole_keeps : (o : Option Refusal) (w : World) (refused : ErrorCode → Reply) (reply : Reply) → (whole_by o w refused (record { world = w; reply = reply })).world ≡ w
+whole_keeps : (o : Option Refusal) (w : World) (refused : ErrorCode → Reply) (reply : Reply) → (whole_outcome_by o w refused (record { world = w; reply = reply })).world ≡ w
 whole_keeps None w refused reply = refl
 whole_keeps (Some r) w refused reply = refl
 

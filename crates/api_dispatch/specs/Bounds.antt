@@ -1,6 +1,6 @@
 -- What an event may hold, and how far numbers go before it.
 use Rattle.std.specs.Prelude.{◌≤ℤ◌, pos, ℕ, List, [], ◌∷◌}
-use Rattle.offset_tables.specs.declared.group.Group.{Group}
+use Rattle.group_offsets.specs.declared.group.Group.{Group}
 use Rattle.msg_admin.specs.Request.{Fits}
 use Rattle.audit_trail.specs.declared.event.Event.{Event}
 use Rattle.audit_trail.specs.declared.event.Event.TheVariants.{Ask, Mark, Tick}

@@ -8,16 +8,16 @@ use Rattle.msg_admin.specs.declared.reply.Reply.{Reply}
 use Rattle.msg_admin.specs.declared.reply.Reply.TheVariants as replies
 use Rattle.msg_admin.specs.Versions.{versions_reply}
 use Rattle.broker_world.specs.World.{World}
-use Rattle.broker_world.specs.Outcome.{Outcome}
+use Rattle.broker_world.specs.HandlerResult.{HandlerResult}
 
-abbrev pub told_all : World → Reply → Outcome
-told_all w reply = record { world = w; reply = reply; refusals = [] }
+abbrev pub reply_outcome : World → Reply → HandlerResult
+reply_outcome w reply = record { world = w; reply = reply; refusals = [] }
 
-abbrev pub api_versions_outcome : World → Outcome
-api_versions_outcome w = told_all w (replies.ApiVersions versions_reply)
+abbrev pub api_versions_outcome : World → HandlerResult
+api_versions_outcome w = reply_outcome w (replies.ApiVersions versions_reply)
 
-abbrev pub sasl_handshake_outcome : World → Outcome
-sasl_handshake_outcome w = told_all w (replies.SaslHandshake (handshake_reply codes.IllegalSaslState))
+abbrev pub sasl_handshake_outcome : World → HandlerResult
+sasl_handshake_outcome w = reply_outcome w (replies.SaslHandshake (handshake_reply codes.IllegalSaslState))
 
-abbrev pub sasl_authenticate_outcome : World → Outcome
-sasl_authenticate_outcome w = told_all w (replies.SaslAuthenticate (authenticate_reply codes.IllegalSaslState))
+abbrev pub sasl_authenticate_outcome : World → HandlerResult
+sasl_authenticate_outcome w = reply_outcome w (replies.SaslAuthenticate (authenticate_reply codes.IllegalSaslState))

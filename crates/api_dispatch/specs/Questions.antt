@@ -28,7 +28,7 @@ use Rattle.acl_binding.specs.declared.question.Caller.{Caller}
 use Rattle.acl_binding.specs.declared.question.Question.{Question}
 use Rattle.acl_binding.specs.declared.words.Kind.TheVariants as kinds
 use Rattle.acl_binding.specs.declared.words.Operation.TheVariants as operations
-use Rattle.acl_binding.specs.Verdict.{asked}
+use Rattle.acl_binding.specs.Verdict.{question_of}
 use Rattle.authorizer.specs.Asking.{Rules}
 use Rattle.wire_types.specs.declared.topic.Topic.{Topic}
 use Rattle.msg_admin.specs.declared.request.Request.{Request}
@@ -47,13 +47,13 @@ use Rattle.txn_handlers.specs.EndTxn.{end_questions}
 use Rattle.txn_handlers.specs.InitProducerId.{init_questions}
 use Rattle.txn_handlers.specs.AddPartitions.{add_questions, is_cut}
 use Rattle.txn_handlers.specs.AddOffsets.{add_offsets_questions}
-use Rattle.txn_handlers.specs.TxnOffsetCommit.{staging, stage_questions}
+use Rattle.txn_handlers.specs.TxnOffsetCommit.{staging_of, stage_questions}
 use Rattle.acl_handlers.specs.DescribeAcls.{describe_acls_questions}
 use Rattle.acl_handlers.specs.CreateAcls.{alter_questions}
 
 -- to read the topic
 abbrev pub fetch_questions : Caller → List ℕ → List Question
-fetch_questions caller name = asked caller operations.Read kinds.Topic name ∷ []
+fetch_questions caller name = question_of caller operations.Read kinds.Topic name ∷ []
 
 -- what the request itself asks; nothing, where its parts are asked for alone
 abbrev pub asks_itself : Rules → Caller → Request → List Question
@@ -86,7 +86,7 @@ asks_at caller (requests.Metadata r) name = topic_part caller name
 asks_at caller (requests.OffsetCommit r) name = commit_questions caller r.group name
 asks_at caller (requests.OffsetFetch r) name = topic_part caller name
 asks_at caller (requests.AddPartitionsToTxn r) name = add_questions caller r.transactional_id name
-asks_at caller (requests.TxnOffsetCommit r) name = stage_questions caller (staging r) name
+asks_at caller (requests.TxnOffsetCommit r) name = stage_questions caller (staging_of r) name
 asks_at caller request name = []
 
 -- each partition is a part, and asks by its topic
@@ -115,7 +115,7 @@ parts_of rules caller (requests.TxnOffsetCommit r) = partition_parts (asks_at ca
 parts_of rules caller request = asks_itself rules caller request ∷ []
 
 -- The parts that are walked, one after the other, where permits are spent for them: all but the part that stands for the
--- request. Of an AddPartitionsToTxn that is cut none, behind a group that may not be described none; and under a null list
+-- request. Of an AddPartitionsToTxn that is cut none, after a group that may not be described none; and under a null list
 -- each topic there is, though it may not be described.
 abbrev pub parts_walked : World → Caller → Request → List (List Question)
 parts_walked w caller (requests.Produce r) = partition_parts (asks_at caller (requests.Produce r)) r.topics

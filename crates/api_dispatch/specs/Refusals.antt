@@ -19,13 +19,13 @@ abbrev pub refusals_in : Rules → List (List Question) → List Refusal
 refusals_in rules parts = filter_map (part_refusal rules) parts
 
 -- where the part that stands for the request is refused, it comes to no other
-abbrev pub told_alone : Option Refusal → List Refusal → List Refusal
-told_alone (Some r) rest = r ∷ []
-told_alone None rest = rest
+abbrev pub refusal_or_rest : Option Refusal → List Refusal → List Refusal
+refusal_or_rest (Some r) rest = r ∷ []
+refusal_or_rest None rest = rest
 
 -- the refusals of a request: those of its parts
 abbrev pub request_refusals : Rules → Caller → Request → List Refusal
-request_refusals rules caller (OffsetFetch r) = told_alone (part_refusal rules (group_question caller r.group ∷ [])) (refusals_in rules (offset_parts caller r.topics))
+request_refusals rules caller (OffsetFetch r) = refusal_or_rest (part_refusal rules (group_question caller r.group ∷ [])) (refusals_in rules (offset_parts caller r.topics))
 request_refusals rules caller request = refusals_in rules (parts_of rules caller request)
 
 -- so the parts and their questions are those that are asked

@@ -8,7 +8,7 @@ use Rattle.msg_admin.specs.declared.reply.Reply.{Reply}
 use Rattle.audit_trail.specs.declared.event.Event.{Event}
 use Rattle.audit_trail.specs.declared.event.Event.TheVariants.{Ask, Mark, Tick}
 use Rattle.broker_world.specs.World.{World}
-use Rattle.broker_world.specs.Outcome.{Outcome}
+use Rattle.broker_world.specs.HandlerResult.{HandlerResult}
 use Rattle.data_handlers.specs.Metadata.{metadata_outcome}
 use Rattle.data_handlers.specs.Produce.{produce_outcome}
 use Rattle.data_handlers.specs.Fetch.{fetch_outcome}
@@ -30,7 +30,7 @@ use Rattle.acl_handlers.specs.CreateAcls.{create_acls_outcome}
 use Rattle.acl_handlers.specs.DeleteAcls.{delete_acls_outcome}
 
 -- permissions are those of the book at the event's start
-abbrev pub request_outcome : World → Caller → Request → Outcome
+abbrev pub request_outcome : World → Caller → Request → HandlerResult
 request_outcome w caller (requests.Produce r) = produce_outcome w caller r
 request_outcome w caller (requests.Fetch r) = fetch_outcome w caller r
 request_outcome w caller (requests.ListOffsets r) = list_offsets_outcome w caller r
@@ -54,17 +54,17 @@ request_outcome w caller (requests.CreateAcls r) = create_acls_outcome w caller 
 request_outcome w caller (requests.DeleteAcls r) = delete_acls_outcome w caller r
 request_outcome w caller (requests.SaslAuthenticate r) = sasl_authenticate_outcome w
 
-abbrev pub outcome : World → Event → Outcome
+abbrev pub outcome : World → Event → HandlerResult
 outcome w (Ask caller client request) = request_outcome w caller request
 outcome w Mark = mark_outcome w
 outcome w (Tick told) = tick_outcome w told
 
 -- one event more
-abbrev pub counted : World → World
-counted w = record w { events = w.events + 1 }
+abbrev pub with_event_counted : World → World
+with_event_counted w = record w { events = w.events + 1 }
 
 abbrev pub step : World → Event → World
-step w e = counted (outcome w e).world
+step w e = with_event_counted (outcome w e).world
 
 abbrev pub reply_to : World → Event → Reply
 reply_to w e = (outcome w e).reply
@@ -73,9 +73,9 @@ abbrev pub refusals_of : World → Event → List Refusal
 refusals_of w e = (outcome w e).refusals
 
 -- the world after the events, one after the other
-abbrev pub reached : World → List Event → World
-reached w [] = w
-reached w (e ∷ es) = reached (step w e) es
+abbrev pub world_after_events : World → List Event → World
+world_after_events w [] = w
+world_after_events w (e ∷ es) = world_after_events (step w e) es
 
 -- ---- requests that only read
 

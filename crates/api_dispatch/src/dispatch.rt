@@ -2,20 +2,20 @@
 
 ghost use Rattle.std.specs.Prelude.{◌≡◌, ◌+◌, ◌<◌, ◌^◌, ◌≤◌, true, IfOk, OnOk, OnErr};
 ghost use Rattle.msg_admin.specs.Request.{Fits};
-ghost use Rattle.broker_world.specs.Logs.{room_of};
+ghost use Rattle.broker_world.specs.Logs.{offsets_left};
 ghost use Rattle.authorizer.specs.Asking.{part_paid};
 ghost use Rattle.broker_world.specs.World.{rules_of};
-ghost use Rattle.authorizer.specs.Tally.{counted as tallied};
+ghost use Rattle.authorizer.specs.Tally.{count_after_parts as tallied};
 ghost use Rattle.api_dispatch.specs.Questions.{asks_itself, event_asks, parts_walked, event_parts};
 ghost use Rattle.api_dispatch.specs.Bounds.{EventFits, most_parts, most_events, GenerationsWithin};
-ghost use Rattle.api_dispatch.specs.Step.{request_outcome, outcome, reply_to, refusals_of, counted, is_reading, is_reading_request};
+ghost use Rattle.api_dispatch.specs.Step.{request_outcome, outcome, reply_to, refusals_of, with_event_counted, is_reading, is_reading_request};
 
 use crate::login::{answer_api_versions, answer_sasl_authenticate, answer_sasl_handshake};
 use crate::tick::answer_tick;
 use acl_binding::Caller;
 use acl_handlers::{answer_create_acls, answer_delete_acls, answer_describe_acls};
 use audit_trail::Event;
-use broker_world::{Outcome, State};
+use broker_world::{HandlerResult, State};
 use data_handlers::{answer_fetch, answer_list_offsets, answer_metadata, answer_produce};
 use group_handlers::{
     answer_find_coordinator, answer_heartbeat, answer_join_group, answer_leave_group,
@@ -29,16 +29,18 @@ use txn_handlers::{
 };
 
 /// What an event does and is answered. It isn't counted yet.
-pub fn apply(alloc: Global, state: &mut State, event: &Event) -> Result<Outcome, AllocError>
+pub fn apply(alloc: Global, state: &mut State, event: &Event) -> Result<HandlerResult, AllocError>
     requires fits { EventFits event.now }
-    requires room { most_parts ≤ room_of state.old.topics }
+    requires room { most_parts ≤ offsets_left state.old.topics }
     requires numbers { state.old.book.next + most_parts < 2 ^ 63 }
     requires generations { GenerationsWithin most_events state.old.groups }
     ensures world { OnOk result (state.new ≡ (outcome state.old event.now).world) }
     ensures reply { IfOk result (λ o. o.reply ≡ reply_to state.old event.now) }
     ensures refusals { IfOk result (λ o. o.refusals ≡ refusals_of state.old event.now) }
-    ensures paid { IfOk result (λ o. o.paid ≡ part_paid (rules_of state.old) (event_asks (rules_of state.old) event.now)) }
-    ensures spent { IfOk result (λ o. o.spent ≡ tallied (rules_of state.old) 0 (event_parts state.old event.now)) }
+    ensures paid { IfOk result
+        (λ o. o.paid ≡ part_paid (rules_of state.old) (event_asks (rules_of state.old) event.now)) }
+    ensures spent { IfOk result
+        (λ o. o.spent ≡ tallied (rules_of state.old) 0 (event_parts state.old event.now)) }
     ensures reading { OnErr result (is_reading event.now ≡ true → state.new ≡ state.old) }
 {
     match event {
@@ -46,7 +48,7 @@ pub fn apply(alloc: Global, state: &mut State, event: &Event) -> Result<Outcome,
             caller,
             request,
             ..
-        } => answer(alloc, state, caller, request),
+        } => answer(alloc, state, caller.value(), request),
         Event::Mark => answer_mark(alloc, state),
         Event::Tick(told) => answer_tick(alloc, state, *told),
     }
@@ -58,52 +60,75 @@ fn answer(
     state: &mut State,
     caller: &Caller,
     request: &Request,
-) -> Result<Outcome, AllocError>
+) -> Result<HandlerResult, AllocError>
     requires fits { Fits request.now }
-    requires room { most_parts ≤ room_of state.old.topics }
+    requires room { most_parts ≤ offsets_left state.old.topics }
     requires numbers { state.old.book.next + most_parts < 2 ^ 63 }
     requires generations { GenerationsWithin most_events state.old.groups }
-    ensures world { OnOk result (state.new ≡ (request_outcome state.old caller.now request.now).world) }
-    ensures reply { IfOk result (λ o. o.reply ≡ (request_outcome state.old caller.now request.now).reply) }
-    ensures refusals { IfOk result (λ o. o.refusals ≡ (request_outcome state.old caller.now request.now).refusals) }
-    ensures paid { IfOk result (λ o. o.paid ≡ part_paid (rules_of state.old) (asks_itself (rules_of state.old) caller.now request.now)) }
-    ensures spent { IfOk result (λ o. o.spent ≡ tallied (rules_of state.old) 0 (parts_walked state.old caller.now request.now)) }
+    ensures world { OnOk result
+        (state.new ≡ (request_outcome state.old caller.now request.now).world) }
+    ensures reply { IfOk result
+        (λ o. o.reply ≡ (request_outcome state.old caller.now request.now).reply) }
+    ensures refusals { IfOk result
+        (λ o. o.refusals ≡ (request_outcome state.old caller.now request.now).refusals) }
+    ensures paid { IfOk result
+        (λ o. o.paid ≡ part_paid (rules_of state.old)
+        (asks_itself (rules_of state.old) caller.now request.now)) }
+    ensures spent { IfOk result
+        (λ o. o.spent ≡ tallied (rules_of state.old) 0
+        (parts_walked state.old caller.now request.now)) }
     ensures reading { OnErr result (is_reading_request request.now ≡ true → state.new ≡ state.old) }
 {
     match request {
-        Request::Produce(request) => answer_produce(alloc, state, caller, request),
-        Request::Fetch(request) => answer_fetch(alloc, state, caller, request),
-        Request::ListOffsets(request) => answer_list_offsets(alloc, state, caller, request),
-        Request::DescribeAcls(request) => answer_describe_acls(alloc, state, caller, request),
-        Request::CreateAcls(request) => answer_create_acls(alloc, state, caller, request),
-        Request::DeleteAcls(request) => answer_delete_acls(alloc, state, caller, request),
-        Request::OffsetCommit(request) => answer_offset_commit(alloc, state, caller, request),
-        Request::OffsetFetch(request) => answer_offset_fetch(alloc, state, caller, request),
-        Request::FindCoordinator(request) => answer_find_coordinator(alloc, state, caller, request),
-        Request::JoinGroup(request) => answer_join_group(alloc, state, caller, request),
-        Request::Heartbeat(request) => answer_heartbeat(alloc, state, caller, request),
-        Request::LeaveGroup(request) => answer_leave_group(alloc, state, caller, request),
-        Request::SyncGroup(request) => answer_sync_group(alloc, state, caller, request),
+        Request::Produce(body) => answer_produce(alloc, state, caller, body.value()),
+        Request::Fetch(body) => answer_fetch(alloc, state, caller, body.value()),
+        Request::ListOffsets(body) => answer_list_offsets(alloc, state, caller, body.value()),
+        Request::DescribeAcls(body) => answer_describe_acls(alloc, state, caller, body.value()),
+        Request::CreateAcls(body) => answer_create_acls(alloc, state, caller, body.value()),
+        Request::DeleteAcls(body) => answer_delete_acls(alloc, state, caller, body.value()),
+        Request::OffsetCommit(body) => answer_offset_commit(alloc, state, caller, body.value()),
+        Request::OffsetFetch(body) => answer_offset_fetch(alloc, state, caller, body.value()),
+        Request::FindCoordinator(body) => answer_find_coordinator(
+            alloc,
+            state,
+            caller,
+            body.value(),
+        ),
+        Request::JoinGroup(body) => answer_join_group(alloc, state, caller, body.value()),
+        Request::Heartbeat(body) => answer_heartbeat(alloc, state, caller, body.value()),
+        Request::LeaveGroup(body) => answer_leave_group(alloc, state, caller, body.value()),
+        Request::SyncGroup(body) => answer_sync_group(alloc, state, caller, body.value()),
         Request::SaslHandshake(_) => answer_sasl_handshake(alloc),
         Request::ApiVersions => answer_api_versions(alloc),
-        Request::SaslAuthenticate(_) => Ok(answer_sasl_authenticate(alloc)),
-        Request::InitProducerId(request) => answer_init_producer_id(alloc, state, caller, request),
-        Request::AddPartitionsToTxn(request) => answer_add_partitions(
-            alloc, state, caller, request,
+        Request::SaslAuthenticate(_) => answer_sasl_authenticate(alloc),
+        Request::InitProducerId(body) => answer_init_producer_id(
+            alloc,
+            state,
+            caller,
+            body.value(),
         ),
-        Request::AddOffsetsToTxn(request) => answer_add_offsets(alloc, state, caller, request),
-        Request::EndTxn(request) => answer_end_txn(alloc, state, caller, request),
-        Request::TxnOffsetCommit(request) => answer_txn_offset_commit(
-            alloc, state, caller, request,
+        Request::AddPartitionsToTxn(body) => answer_add_partitions(
+            alloc,
+            state,
+            caller,
+            body.value(),
         ),
-        Request::Metadata(request) => answer_metadata(alloc, state, caller, request),
+        Request::AddOffsetsToTxn(body) => answer_add_offsets(alloc, state, caller, body.value()),
+        Request::EndTxn(body) => answer_end_txn(alloc, state, caller, body.value()),
+        Request::TxnOffsetCommit(body) => answer_txn_offset_commit(
+            alloc,
+            state,
+            caller,
+            body.value(),
+        ),
+        Request::Metadata(body) => answer_metadata(alloc, state, caller, body.value()),
     }
 }
 
-/// One event more.
+/// Counts an event.
 pub fn count(state: &mut State)
     requires { state.old.events + 1 < 2 ^ 64 }
-    ensures { state.new ≡ counted state.old }
+    ensures { state.new ≡ with_event_counted state.old }
 {
     state.events += 1;
 }

@@ -1,11 +1,11 @@
-//! A tick of the clock: the moment goes on, members that were not heard of are let go, and transactions whose time is
+//! A tick of the clock: the moment goes on, members that were not heard of are removed, and transactions whose time is
 //! over are aborted.
 
 ghost use Rattle.std.specs.Prelude.{◌≡◌, [], IfOk, OnOk};
 ghost use Rattle.api_dispatch.specs.Ticks.{tick_outcome};
 
 use authorizer::Paid;
-use broker_world::{Outcome, State, served_whole};
+use broker_world::{HandlerResult, State, served_whole};
 use msg_admin::Reply;
 use std::alloc::{AllocError, Global};
 
@@ -14,7 +14,7 @@ pub(crate) fn answer_tick(
     alloc: Global,
     state: &mut State,
     told: u64,
-) -> Result<Outcome, AllocError>
+) -> Result<HandlerResult, AllocError>
     ensures world { OnOk result (state.new ≡ (tick_outcome state.old told).world) }
     ensures reply { IfOk result (λ o. o.reply ≡ (tick_outcome state.old told).reply) }
     ensures refusals { IfOk result (λ o. o.refusals ≡ (tick_outcome state.old told).refusals) }

@@ -17,7 +17,7 @@ use Rattle.record_batch.specs.Faults.{first_fault, IsData}
 use Rattle.record_batch.proofs.Kept.{batch_long}
 use Rattle.record_batch.proofs.Lawful.{one_batch, faultless_is_batch, offset_alone_changes}
 use Rattle.producer_state.specs.declared.judgment.Judgment.TheVariants.{Next, Refused}
-use Rattle.producer_state.specs.Sequences.{next_sequence, last_sequence, is_written_by, epochs, greatest, latest_by, expected_after, sequence, has_same_sequences, last_of, repeat, begun, gone_on, judged_in, judged as judged_by_log}
+use Rattle.producer_state.specs.Sequences.{next_sequence, last_sequence, is_written_by, epochs, greatest_of, latest_batches_by, expected_after, sequence, has_same_sequences, last_of, repeat, first_judgment, judgment_by_repeat, judgment_in, judgment_of as judged_by_log}
 use Rattle.producer_state.proofs.Numbers.{lt_false, lt_is, lt_is_not, between, same_is, same_refl, same_here}
 use Rattle.producer_state.proofs.Noting.{epoch_of}
 use Rattle.producer_state.proofs.Judging.{id_of, judged_at, begun_above}
@@ -25,24 +25,24 @@ use Rattle.producer_state.proofs.Accepting.{place}
 use Rattle.partition_log.specs.Log.{end_from, end_of, at_end}
 use Rattle.msg_data.specs.declared.produce.ProducedRecords.{ProducedRecords}
 use Rattle.msg_data.specs.declared.produce.ProducedOffset.{ProducedOffset}
-use Rattle.transactions.specs.declared.pair.Pair.{Pair}
-use Rattle.transactions.specs.declared.target.TopicPartition.{TopicPartition}
-use Rattle.transactions.specs.declared.target.Target.{Target}
-use Rattle.transactions.specs.declared.target.Target.TheVariants.{Partition}
-use Rattle.transactions.specs.declared.transaction.Transaction.{Transaction}
-use Rattle.transactions.specs.declared.transaction.Phase.{Phase}
-use Rattle.transactions.specs.declared.transaction.Phase.TheVariants.{Ongoing}
-use Rattle.transactions.specs.Coordinator.{CoordinatorValue, owner, given_by, recorded}
-use Rattle.transactions.specs.Holding.{holds_found}
-use Rattle.transactions.specs.Words.{is_same_partition, has_partition, is_ongoing}
-use Rattle.broker_world.specs.Codes.{refused_by}
+use Rattle.txn_coordinator.specs.declared.producer_id.ProducerIdAndEpoch.{ProducerIdAndEpoch}
+use Rattle.txn_coordinator.specs.declared.target.TopicPartition.{TopicPartition}
+use Rattle.txn_coordinator.specs.declared.target.Target.{Target}
+use Rattle.txn_coordinator.specs.declared.target.Target.TheVariants.{Partition}
+use Rattle.txn_coordinator.specs.declared.transaction.Transaction.{Transaction}
+use Rattle.txn_coordinator.specs.declared.transaction.TransactionState.{TransactionState}
+use Rattle.txn_coordinator.specs.declared.transaction.TransactionState.TheVariants.{Ongoing}
+use Rattle.txn_coordinator.specs.Coordinator.{CoordinatorValue, owner, given_by, id_record}
+use Rattle.txn_coordinator.specs.Holding.{holding_code_of}
+use Rattle.txn_coordinator.specs.Words.{is_same_partition, has_partition, is_ongoing}
+use Rattle.broker_world.specs.Codes.{code_unless_none}
 use Rattle.broker_world.specs.World.{TopicValue, LogValue}
-use Rattle.broker_world.specs.First.{magnitude}
+use Rattle.broker_world.specs.First.{non_negative}
 use Rattle.broker_world.specs.Logs.{log_at, offset_in}
-use Rattle.data_handlers.specs.Sent.{sent}
+use Rattle.data_handlers.specs.Sent.{batch_or_fault}
 use Rattle.data_handlers.specs.SentLaws.{sent_is}
-use Rattle.data_handlers.specs.Judged.{are_acks, pair_of, partition_at, held_code, given_code, producer_code, passed_by, passed, batch_in, judged, topics_produced}
-use Rattle.data_handlers.specs.Produce.{produced_to, produced_by, produced}
+use Rattle.data_handlers.specs.Judged.{are_acks, id_and_epoch_of, partition_at, held_code, given_code, producer_code, batch_or_error_by, batch_or_error, batch_in, batch_to_append, topics_produced}
+use Rattle.data_handlers.specs.Produce.{produced_to, produce_answer_by, produce_answer}
 use Rattle.api_laws.specs.DataLaws.{IsAppended}
 use Rattle.api_laws.specs.Acceptance.{transactional_bit, IsOfNobody, IsOfFreeId, IsOfTransaction, IsProper, IsInLatestEpoch, IsFirst, GoesOn, IsNextOf, EndsAt, IsTakenIn}
 use Rattle.api_laws.proofs.DataAnswers.{produces_as_answered}
@@ -91,9 +91,9 @@ other_text a b differ = by_test (bytes_eq a b) refl where
   by_test true e = absurd (differ ((bytes_eq-Decides a b).0 e))
   by_test false e = refl
 
-found_first : (before after : List Transaction) (t : Transaction) → AllByRecursion (λ (x : Transaction). x.id ≡ t.id → ⊥) before → recorded (before ++ t ∷ after) t.id ≡ Some t
-found_first [] after t others = ap (λ (b : Bool). cond b (Some t) (recorded after t.id)) ((bytes_eq-Decides t.id t.id).1 refl)
-found_first (x ∷ before) after t others = ap (λ (b : Bool). cond b (Some x) (recorded (before ++ t ∷ after) t.id)) (other_text x.id t.id others.0) ∙ found_first before after t others.1
+found_first : (before after : List Transaction) (t : Transaction) → AllByRecursion (λ (x : Transaction). x.id ≡ t.id → ⊥) before → id_record (before ++ t ∷ after) t.id ≡ Some t
+found_first [] after t others = ap (λ (b : Bool). cond b (Some t) (id_record after t.id)) ((bytes_eq-Decides t.id t.id).1 refl)
+found_first (x ∷ before) after t others = ap (λ (b : Bool). cond b (Some x) (id_record (before ++ t ∷ after) t.id)) (other_text x.id t.id others.0) ∙ found_first before after t others.1
 
 same_place : (p : TopicPartition) → is_same_partition p p ≡ true
 same_place p = ap (λ (b : Bool). b && int_eq p.index p.index) ((bytes_eq-Decides p.topic p.topic).1 refl) ∙ same_refl p.index
@@ -102,11 +102,11 @@ taken_in : (earlier later : List TopicPartition) (p : TopicPartition) → has_pa
 taken_in [] later p = ap (λ (b : Bool). b || has_partition later p) (same_place p)
 taken_in (q ∷ earlier) later p = or_right (is_same_partition q p) (has_partition (earlier ++ p ∷ later) p) (taken_in earlier later p)
 
-holds_it : (t : Transaction) (pair : Pair) (p : TopicPartition) → pair.producer ≡ t.pair.producer → pair.epoch ≡ t.pair.epoch → t.phase ≡ Ongoing → has_partition t.partitions p ≡ true → holds_found (Some t) pair (Partition p) ≡ codes.None
+holds_it : (t : Transaction) (pair : ProducerIdAndEpoch) (p : TopicPartition) → pair.producer ≡ t.pair.producer → pair.epoch ≡ t.pair.epoch → t.state ≡ Ongoing → has_partition t.partitions p ≡ true → holding_code_of (Some t) pair (Partition p) ≡ codes.None
 holds_it t pair p producer epoch ongoing added =
-    ap (λ (b : Bool). cond b (cond (int_eq t.pair.epoch pair.epoch && true) (cond (is_ongoing t.phase && has_partition t.partitions p) codes.None codes.InvalidTxnState) codes.InvalidProducerEpoch) codes.InvalidProducerIdMapping) (same_here t.pair.producer pair.producer (sym producer))
-    ∙ ap (λ (b : Bool). cond (b && true) (cond (is_ongoing t.phase && has_partition t.partitions p) codes.None codes.InvalidTxnState) codes.InvalidProducerEpoch) (same_here t.pair.epoch pair.epoch (sym epoch))
-    ∙ ap (λ (phase : Phase). cond (is_ongoing phase && has_partition t.partitions p) codes.None codes.InvalidTxnState) ongoing
+    ap (λ (b : Bool). cond b (cond (int_eq t.pair.epoch pair.epoch && true) (cond (is_ongoing t.state && has_partition t.partitions p) codes.None codes.InvalidTxnState) codes.InvalidProducerEpoch) codes.InvalidProducerIdMapping) (same_here t.pair.producer pair.producer (sym producer))
+    ∙ ap (λ (b : Bool). cond (b && true) (cond (is_ongoing t.state && has_partition t.partitions p) codes.None codes.InvalidTxnState) codes.InvalidProducerEpoch) (same_here t.pair.epoch pair.epoch (sym epoch))
+    ∙ ap (λ (state : TransactionState). cond (is_ongoing state && has_partition t.partitions p) codes.None codes.InvalidTxnState) ongoing
     ∙ ap (λ (b : Bool). cond b codes.None codes.InvalidTxnState) added
 
 -- what the check comes to for a batch that isn't of a transaction, by its producer id
@@ -114,7 +114,7 @@ abbrev plain_code : CoordinatorValue → ℤ → Option ErrorCode
 plain_code c z = cond (int_lt z (pos 0)) None (given_code (given_by (owner c z)))
 
 plain_check : (c : CoordinatorValue) (id : Option (List ℕ)) (target : Target) (h : BatchHeader) → transactional_bit h ≡ 0 → producer_code c id target h ≡ plain_code c h.producer_id
-plain_check c id target h bit = ap (λ (t : Bool). cond t (held_code c id (pair_of h) target) (plain_code c h.producer_id)) (unset h bit)
+plain_check c id target h bit = ap (λ (t : Bool). cond t (held_code c id (id_and_epoch_of h) target) (plain_code c h.producer_id)) (unset h bit)
 
 free_check : (c : CoordinatorValue) (h : BatchHeader) → IsOfFreeId c h → plain_code c h.producer_id ≡ None
 free_check c h is =
@@ -128,11 +128,11 @@ held_check c id name index h is =
     let t = is.transaction in
     let p : TopicPartition = record { topic = name; index = index } in
     let there : has_partition t.partitions p ≡ true = ap (λ (l : List TopicPartition). has_partition l p) is.added ∙ taken_in is.earlier is.later p in
-    let record_of : recorded c.transactions t.id ≡ Some t = ap (λ (l : List Transaction). recorded l t.id) is.stands ∙ found_first is.before is.after t is.first in
-    ap (λ (b : Bool). cond b (held_code c id (pair_of h) (Partition p)) (plain_code c h.producer_id)) (is_set h is.bit)
-    ∙ ap (λ (o : Option (List ℕ)). held_code c o (pair_of h) (Partition p)) is.asked_for
-    ∙ ap (λ (o : Option Transaction). refused_by (holds_found o (pair_of h) (Partition p))) record_of
-    ∙ ap refused_by (holds_it t (pair_of h) p is.producer is.same_epoch is.ongoing there)
+    let record_of : id_record c.transactions t.id ≡ Some t = ap (λ (l : List Transaction). id_record l t.id) is.stands ∙ found_first is.before is.after t is.first in
+    ap (λ (b : Bool). cond b (held_code c id (id_and_epoch_of h) (Partition p)) (plain_code c h.producer_id)) (is_set h is.bit)
+    ∙ ap (λ (o : Option (List ℕ)). held_code c o (id_and_epoch_of h) (Partition p)) is.asked_for
+    ∙ ap (λ (o : Option Transaction). code_unless_none (holding_code_of o (id_and_epoch_of h) (Partition p))) record_of
+    ∙ ap code_unless_none (holds_it t (id_and_epoch_of h) p is.producer is.same_epoch is.ongoing there)
 
 checks : (c : CoordinatorValue) (id : Option (List ℕ)) (name : List ℕ) (index : ℤ) (h : BatchHeader) → IsOfNobody h ⊎ (IsOfFreeId c h ⊎ IsOfTransaction c id name index h) → producer_code c id (partition_at name index) h ≡ None
 checks c id name index h (inl is) = plain_check c id (partition_at name index) h is.bit ∙ ap (plain_code c) is.id
@@ -141,47 +141,47 @@ checks c id name index h (inr (inr is)) = held_check c id name index h is
 
 -- ---- so it is judged good
 
-within : (n : ℕ) (z : ℤ) → pos n ≤ℤ z → n ≤ magnitude z
+within : (n : ℕ) (z : ℤ) → pos n ≤ℤ z → n ≤ non_negative z
 within n (pos m) le = omega (arith, ints, le)
 within n (negsuc m) le = absurd (omega (arith, ints, le))
 
-pub proper_judged : (most : ℤ) (c : CoordinatorValue) (id : Option (List ℕ)) (acks : ℤ) (name : List ℕ) (p : ProducedRecords) (b : BatchData) → IsProper most c id acks name p b → judged (magnitude most) c id acks (partition_at name p.index) p.records ≡ Ok b
+pub proper_judged : (most : ℤ) (c : CoordinatorValue) (id : Option (List ℕ)) (acks : ℤ) (name : List ℕ) (p : ProducedRecords) (b : BatchData) → IsProper most c id acks name p b → batch_to_append (non_negative most) c id acks (partition_at name p.index) p.records ≡ Ok b
 proper_judged most c id acks name p b is =
     let target = partition_at name p.index in
     let good : IsData b = record { unmarked = is.no_marker; producer = names c id name p.index b.header is.writer } in
-    let none : first_fault (magnitude most) b.bytes ≡ None = (faultless_is_batch (magnitude most) b.bytes).1 (b, refl, is.batch, good, within (length b.bytes) most is.small) in
-    ap (λ (t : Bool). cond t (batch_in (magnitude most) c id target p.records) (Err codes.InvalidRequiredAcks)) (acks_pass acks is.known_acks)
-    ∙ ap (batch_in (magnitude most) c id target) is.sent
-    ∙ ap (λ (t : Bool). cond t (Err codes.InvalidRecord) (passed c id target (sent (magnitude most) b.bytes))) (ne_eqb (length b.bytes) 0 (λ e. omega (arith, e, batch_long b is.batch)))
-    ∙ ap (passed c id target) (sent_is (magnitude most) b.bytes b is.batch is.no_marker refl none)
-    ∙ ap (λ (o : Option ErrorCode). passed_by o b) (checks c id name p.index b.header is.writer)
+    let none : first_fault (non_negative most) b.bytes ≡ None = (faultless_is_batch (non_negative most) b.bytes).1 (b, refl, is.batch, good, within (length b.bytes) most is.small) in
+    ap (λ (t : Bool). cond t (batch_in (non_negative most) c id target p.records) (Err codes.InvalidRequiredAcks)) (acks_pass acks is.known_acks)
+    ∙ ap (batch_in (non_negative most) c id target) is.sent
+    ∙ ap (λ (t : Bool). cond t (Err codes.InvalidRecord) (batch_or_error c id target (batch_or_fault (non_negative most) b.bytes))) (ne_eqb (length b.bytes) 0 (λ e. omega (arith, e, batch_long b is.batch)))
+    ∙ ap (batch_or_error c id target) (sent_is (non_negative most) b.bytes b is.batch is.no_marker refl none)
+    ∙ ap (λ (o : Option ErrorCode). batch_or_error_by o b) (checks c id name p.index b.header is.writer)
 
 -- ---- and next
 
-begun_next : (b : BatchData) → b.header.base_sequence ≡ pos 0 → begun b ≡ Next
+begun_next : (b : BatchData) → b.header.base_sequence ≡ pos 0 → first_judgment b ≡ Next
 begun_next b begins = ap (λ (z : ℤ). cond (int_eq z (pos 0)) Next (Refused codes.OutOfOrderSequenceNumber)) begins
 
 first_next : (log : LogValue) (b : BatchData) → pos 0 ≤ℤ id_of b → IsInLatestEpoch log b → IsFirst log b → judged_by_log log b ≡ Next
-first_next log b low latest first = by_found (greatest (epochs (id_of b) log)) refl (epochs_below (id_of b) (epoch_of b) log latest) where
-  goes : greatest (epochs (id_of b) log) ≡ Some (epoch_of b) → judged_by_log log b ≡ Next
+first_next log b low latest first = by_found (greatest_of (epochs (id_of b) log)) refl (epochs_below (id_of b) (epoch_of b) log latest) where
+  goes : greatest_of (epochs (id_of b) log) ≡ Some (epoch_of b) → judged_by_log log b ≡ Next
   goes is =
       judged_latest log b low is
-      ∙ ap (λ (l : List BatchData). gone_on (expected_after (reverse l)) b (find (has_same_sequences b) (take 5 (reverse l)))) first.alone
+      ∙ ap (λ (l : List BatchData). judgment_by_repeat (expected_after (reverse l)) b (find (has_same_sequences b) (take 5 (reverse l)))) first.alone
       ∙ begun_next b first.begins
 
-  by_order : (m : ℤ) (t : Bool) → int_lt m (epoch_of b) ≡ t → greatest (epochs (id_of b) log) ≡ Some m → m ≤ℤ epoch_of b → judged_by_log log b ≡ Next
+  by_order : (m : ℤ) (t : Bool) → int_lt m (epoch_of b) ≡ t → greatest_of (epochs (id_of b) log) ≡ Some m → m ≤ℤ epoch_of b → judged_by_log log b ≡ Next
   by_order m true e is le =
       judged_at log b (Some m) low is ∙ begun_above (place log (id_of b) m) b (repeat log b) (lt_is m (epoch_of b) e) le ∙ begun_next b first.begins
   by_order m false e is le = goes (is ∙ ap (λ (n : ℤ). Some n) (between m (epoch_of b) le (lt_is_not m (epoch_of b) e)))
 
-  by_found : (o : Option ℤ) → greatest (epochs (id_of b) log) ≡ o → Below (epoch_of b) o → judged_by_log log b ≡ Next
+  by_found : (o : Option ℤ) → greatest_of (epochs (id_of b) log) ≡ o → Below (epoch_of b) o → judged_by_log log b ≡ Next
   by_found None is below = judged_at log b None low is ∙ begun_next b first.begins
   by_found (Some m) is below = by_order m (int_lt m (epoch_of b)) refl is below
 
 later_next : (log : LogValue) (b : BatchData) → pos 0 ≤ℤ id_of b → IsInLatestEpoch log b → GoesOn log b → judged_by_log log b ≡ Next
 unfolding next_sequence last_sequence
 later_next log b low latest on =
-    judged_latest log b low found ∙ ap (gone_on (expected_after (latest_by (id_of b) (epoch_of b) log)) b) (not_again (repeat log b) refl) ∙ ap (λ (t : Bool). cond t Next (Refused codes.OutOfOrderSequenceNumber)) (same_here b.header.base_sequence (expected_after (latest_by (id_of b) (epoch_of b) log)) follows) where
+    judged_latest log b low found ∙ ap (judgment_by_repeat (expected_after (latest_batches_by (id_of b) (epoch_of b) log)) b) (not_again (repeat log b) refl) ∙ ap (λ (t : Bool). cond t Next (Refused codes.OutOfOrderSequenceNumber)) (same_here b.header.base_sequence (expected_after (latest_batches_by (id_of b) (epoch_of b) log)) follows) where
       reached : IsReached (id_of b) (epoch_of b) log
       reached =
           let k = kept_at (is_written_by (id_of b) (epoch_of b)) log on.earlier [] on.last on.own in
@@ -189,10 +189,10 @@ later_next log b low latest on =
           subst (λ (l : LogValue). IsReached (id_of b) (epoch_of b) l) (sym k.2)
           (subst (λ (e : ℤ). IsReached (id_of b) e (k.0 ++ on.last ∷ k.1)) own.same_epoch (epochs_reach (id_of b) k.0 k.1 on.last (is_own on.last (id_of b) own.producer)))
 
-      found : greatest (epochs (id_of b) log) ≡ Some (epoch_of b)
+      found : greatest_of (epochs (id_of b) log) ≡ Some (epoch_of b)
       found = greatest_at (id_of b) (epoch_of b) log reached (epochs_below (id_of b) (epoch_of b) log latest)
 
-      follows : b.header.base_sequence ≡ expected_after (latest_by (id_of b) (epoch_of b) log)
+      follows : b.header.base_sequence ≡ expected_after (latest_batches_by (id_of b) (epoch_of b) log)
       follows = on.follows ∙ sym (ap expected_after (ap (λ (l : List BatchData). reverse l) on.own ∙ reversed on.earlier [] on.last))
 
       not_again : (o : Option BatchData) → repeat log b ≡ o → o ≡ None
@@ -203,14 +203,14 @@ later_next log b low latest on =
           absurd (on.new late.earlier late.later old late.own late.few (same_is old.header.base_sequence b.header.base_sequence both.0) (same_is (last_of old) (last_of b) both.1))
 
 next_judged : (log : LogValue) (b : BatchData) → IsNextOf log b → judged_by_log log b ≡ Next
-next_judged log b (inl nobody) = ap (λ (z : ℤ). cond (not (int_lt z (pos 0))) (judged_in (sequence log b.header.producer_id) b (repeat log b)) Next) nobody
+next_judged log b (inl unknown_group_error) = ap (λ (z : ℤ). cond (not (int_lt z (pos 0))) (judgment_in (sequence log b.header.producer_id) b (repeat log b)) Next) unknown_group_error
 next_judged log b (inr how) = by_sign (int_lt (id_of b) (pos 0)) refl where
   by_kind : pos 0 ≤ℤ id_of b → IsFirst log b ⊎ GoesOn log b → judged_by_log log b ≡ Next
   by_kind low (inl first) = first_next log b low how.0 first
   by_kind low (inr on) = later_next log b low how.0 on
 
   by_sign : (t : Bool) → int_lt (id_of b) (pos 0) ≡ t → judged_by_log log b ≡ Next
-  by_sign true e = ap (λ (t : Bool). cond (not t) (judged_in (sequence log (id_of b)) b (repeat log b)) Next) e
+  by_sign true e = ap (λ (t : Bool). cond (not t) (judgment_in (sequence log (id_of b)) b (repeat log b)) Next) e
   by_sign false e = by_kind (lt_is_not (id_of b) (pos 0) e) how.1
 
 -- ---- what becomes of it
@@ -238,13 +238,13 @@ pub record IsFor (p : ProducedRecords) (answer : ProducedOffset) : Type 0 where
   pub index : answer.index ≡ p.index
   pub append_time : answer.log_append_time ≡ negsuc 0
 
-pub is_for : (r : Result BatchData ErrorCode) (topics : List TopicValue) (name : List ℕ) (p : ProducedRecords) → IsFor p (produced r topics name p)
+pub is_for : (r : Result BatchData ErrorCode) (topics : List TopicValue) (name : List ℕ) (p : ProducedRecords) → IsFor p (produce_answer r topics name p)
 is_for r topics name p = by_result r (log_at topics name p.index) where
   by_offset : (o : Result ℤ ErrorCode) → IsFor p (produced_to p o)
   by_offset (Ok offset) = record { index = refl; append_time = refl }
   by_offset (Err code) = record { index = refl; append_time = refl }
 
-  by_result : (x : Result BatchData ErrorCode) (o : Option LogValue) → IsFor p (produced_by x p o)
+  by_result : (x : Result BatchData ErrorCode) (o : Option LogValue) → IsFor p (produce_answer_by x p o)
   by_result (Ok b) o = by_offset (offset_in b o)
   by_result (Err code) None = record { index = refl; append_time = refl }
   by_result (Err code) (Some log) = record { index = refl; append_time = refl }
@@ -273,8 +273,8 @@ placed_by topics after name p log b answer batch no_marker sent there it_is_for 
 
 pub taken : (most : ℤ) (c : CoordinatorValue) (id : Option (List ℕ)) (acks : ℤ) (topics : List TopicValue) (name : List ℕ) (p : ProducedRecords) (log : LogValue) (b : BatchData)
     → IsProper most c id acks name p b → log_at topics name p.index ≡ Some log → IsNextOf log b
-    → IsTakenIn (topics_produced (judged (magnitude most) c id acks (partition_at name p.index) p.records) topics name p.index) name p.index log b (produced (judged (magnitude most) c id acks (partition_at name p.index) p.records) topics name p)
+    → IsTakenIn (topics_produced (batch_to_append (non_negative most) c id acks (partition_at name p.index) p.records) topics name p.index) name p.index log b (produce_answer (batch_to_append (non_negative most) c id acks (partition_at name p.index) p.records) topics name p)
 taken most c id acks topics name p log b proper there next =
-    let n = magnitude most in
+    let n = non_negative most in
     let is = produces_as_answered.next n c id acks topics name p log b there (proper_judged most c id acks name p b proper) (next_judged log b next) in
-    placed_by topics (topics_produced (judged n c id acks (partition_at name p.index) p.records) topics name p.index) name p log b (produced (judged n c id acks (partition_at name p.index) p.records) topics name p) proper.batch proper.no_marker proper.sent there (is_for (judged n c id acks (partition_at name p.index) p.records) topics name p) is.0 is.1
+    placed_by topics (topics_produced (batch_to_append n c id acks (partition_at name p.index) p.records) topics name p.index) name p log b (produce_answer (batch_to_append n c id acks (partition_at name p.index) p.records) topics name p) proper.batch proper.no_marker proper.sent there (is_for (batch_to_append n c id acks (partition_at name p.index) p.records) topics name p) is.0 is.1

@@ -6,7 +6,7 @@ use Rattle.acl_binding.specs.declared.words.Operation.TheVariants.{Write}
 use Rattle.acl_binding.specs.declared.question.Caller.{Caller}
 use Rattle.acl_binding.specs.declared.question.Verdict.{Verdict}
 use Rattle.acl_binding.specs.declared.question.Verdict.TheVariants.{Yes}
-use Rattle.acl_binding.specs.Verdict.{asked}
+use Rattle.acl_binding.specs.Verdict.{question_of}
 use Rattle.authorizer.specs.declared.answer.Refusal.{Refusal}
 use Rattle.authorizer.specs.Policy.{verdict}
 use Rattle.authorizer.specs.Asking.{Rules, refusal_by, first_of, part_refusal}
@@ -23,7 +23,7 @@ use Rattle.walk.specs.Steps.{answer_by, world_by, part_world, parts_world, parts
 use Rattle.walk.proofs.Weaving.{woven}
 use Rattle.broker_world.specs.World.{World, TopicValue, LogValue, rules_of}
 use Rattle.broker_world.specs.Logs.{log_at}
-use Rattle.data_handlers.specs.Produce.{produce_questions, producing, produce_reply, produce_outcome}
+use Rattle.data_handlers.specs.Produce.{produce_questions, producing_rule, produce_reply, produce_outcome}
 use Rattle.api_laws.specs.DataTenants.{IsAnother}
 use Rattle.api_laws.specs.Acceptance.{IsProper, IsNextOf, IsTakenIn, HasPart, IsTold, IsServed, AcceptsWhatItOught}
 use Rattle.api_laws.proofs.DataPartitions.{produce_keeps_partitions}
@@ -70,12 +70,12 @@ module _ {P : Type 0} (Is : List ℕ → P → Type 0) where
 -- ---- a Produce
 
 -- the questions of a part are granted where its topic may be written, and the transactional id, if one is named
-questions_granted : (rules : Rules) (caller : Caller) (id : Option (List ℕ)) (name : List ℕ) → verdict rules.book rules.supers (asked caller Write kinds.Topic name) ≡ Yes
-    → ((x : List ℕ) → id ≡ Some x → verdict rules.book rules.supers (asked caller Write kinds.TransactionalId x) ≡ Yes) → part_refusal rules (produce_questions caller id name) ≡ None
-questions_granted rules caller None name topic ids = ap (λ (v : Verdict). first_of (refusal_by v (asked caller Write kinds.Topic name)) None) topic
+questions_granted : (rules : Rules) (caller : Caller) (id : Option (List ℕ)) (name : List ℕ) → verdict rules.book rules.supers (question_of caller Write kinds.Topic name) ≡ Yes
+    → ((x : List ℕ) → id ≡ Some x → verdict rules.book rules.supers (question_of caller Write kinds.TransactionalId x) ≡ Yes) → part_refusal rules (produce_questions caller id name) ≡ None
+questions_granted rules caller None name topic ids = ap (λ (v : Verdict). first_of (refusal_by v (question_of caller Write kinds.Topic name)) None) topic
 questions_granted rules caller (Some x) name topic ids =
-    ap (λ (v : Verdict). first_of (refusal_by v (asked caller Write kinds.TransactionalId x)) (part_refusal rules (asked caller Write kinds.Topic name ∷ []))) (ids x refl)
-    ∙ ap (λ (v : Verdict). first_of (refusal_by v (asked caller Write kinds.Topic name)) None) topic
+    ap (λ (v : Verdict). first_of (refusal_by v (question_of caller Write kinds.TransactionalId x)) (part_refusal rules (question_of caller Write kinds.Topic name ∷ []))) (ids x refl)
+    ∙ ap (λ (v : Verdict). first_of (refusal_by v (question_of caller Write kinds.Topic name)) None) topic
 
 silent_reply : (acks : ℤ) (topics : List (Topic ProducedOffset)) → acks ≡ pos 0 → produce_reply acks topics ≡ replies.SilentProduce (record { topics = topics; throttle = pos 0 })
 silent_reply acks topics is = ap (λ (z : ℤ). produce_reply z topics) is
@@ -85,7 +85,7 @@ told_reply acks topics other = ap (λ (t : Bool). cond t (replies.SilentProduce 
 
 module _ (w : World) (caller : Caller) (r : ProduceRequest) (name : List ℕ) (index : ℤ) where
   abbrev api : PartRule ProducedRecords ProducedOffset (List TopicValue)
-  api = producing w caller r
+  api = producing_rule w caller r
 
   abbrev Another : List ℕ → ProducedRecords → Type 0
   Another = IsAnother (rules_of w) caller r.transactional_id name index
@@ -117,7 +117,7 @@ later_there before after name index log b answer kept is = record {
 
 module _ (w : World) (caller : Caller) (r : ProduceRequest) (name : List ℕ) (p : ProducedRecords) (part : HasPart w caller r name p) where
   abbrev rule : PartRule ProducedRecords ProducedOffset (List TopicValue)
-  rule = producing w caller r
+  rule = producing_rule w caller r
 
   abbrev mine : Topic ProducedRecords
   mine = record { name = name; partitions = part.parts ++ p ∷ part.rest }

@@ -12,16 +12,16 @@ use Rattle.acl_binding.specs.declared.filter.Filter.{Filter}
 use Rattle.acl_binding.specs.declared.question.Question.{Question}
 use Rattle.acl_binding.specs.Binding.{same_binding}
 use Rattle.acl_binding.specs.Entries.{binding_of, filter_of}
-use Rattle.acl_binding.specs.Book.{BookValue, number_of, added, appended}
-use Rattle.acl_binding.specs.Filter.{matches, matching, stays}
+use Rattle.acl_binding.specs.Book.{BookValue, number_of, with_binding, with_new_binding}
+use Rattle.acl_binding.specs.Filter.{matches, matching_bindings, is_not_matched}
 use Rattle.acl_binding.proofs.Same.{same_itself}
 use Rattle.authorizer.specs.declared.answer.Refusal.{Refusal}
 use Rattle.authorizer.specs.Asking.{Rules, part_refusal}
 use Rattle.broker_world.specs.World.{World, rules_of}
-use Rattle.broker_world.specs.Whole.{Served, whole_by, whole}
+use Rattle.broker_world.specs.Whole.{Served, whole_outcome_by, whole_outcome}
 use Rattle.acl_handlers.specs.DescribeAcls.{describe_acls_questions, describe_acls_reply}
 use Rattle.acl_handlers.specs.CreateAcls.{alter_questions, book_with, book_created}
-use Rattle.acl_handlers.specs.DeleteAcls.{book_without, book_deleted, deleted, delete_acls_reply}
+use Rattle.acl_handlers.specs.DeleteAcls.{book_without, book_deleted, deletion_results, delete_acls_reply}
 use Rattle.api_laws.specs.AclLaws.{CreatesEach, DeletesEach, IsRefusedWhole, RefusedEditNothing, SameEdit, AclsDependOnTheBook, AclsKeepTopics}
 use Rattle.acl_handlers.proofs.BookBounds.{whole_topics}
 
@@ -42,15 +42,15 @@ there_back (x ∷ es) e b same = by_same (same_binding x.binding b) (there_back 
   by_same true there = refl
   by_same false there = there
 
-added_stands : (book : BookValue) (b : Binding) → is_some (number_of (added book b).entries b) ≡ true
+added_stands : (book : BookValue) (b : Binding) → is_some (number_of (with_binding book b).entries b) ≡ true
 added_stands book b = by_there (is_some (number_of book.entries b)) refl where
-  by_there : (t : Bool) → is_some (number_of book.entries b) ≡ t → is_some (number_of (cond t book (appended book b)).entries b) ≡ true
+  by_there : (t : Bool) → is_some (number_of book.entries b) ≡ t → is_some (number_of (cond t book (with_new_binding book b)).entries b) ≡ true
   by_there true there = there
   by_there false absent = there_back book.entries (record { number = book.next; binding = b }) b (same_itself b)
 
-added_keeps : (book : BookValue) (a b : Binding) → is_some (number_of book.entries b) ≡ true → is_some (number_of (added book a).entries b) ≡ true
+added_keeps : (book : BookValue) (a b : Binding) → is_some (number_of book.entries b) ≡ true → is_some (number_of (with_binding book a).entries b) ≡ true
 added_keeps book a b there = by_there (is_some (number_of book.entries a)) where
-  by_there : (t : Bool) → is_some (number_of (cond t book (appended book a)).entries b) ≡ true
+  by_there : (t : Bool) → is_some (number_of (cond t book (with_new_binding book a)).entries b) ≡ true
   by_there true = there
   by_there false = there_front book.entries (record { number = book.next; binding = a } ∷ []) b there
 
@@ -70,10 +70,10 @@ created_stand book [] = tt
 created_stand book (e ∷ es) = (by_binding (binding_of e), created_stand (book_with book (binding_of e)) es) where
   by_binding : (o : Option Binding) → IfSome o (λ b. is_some (number_of (book_created (book_with book o) es).entries b) ≡ true)
   by_binding None = tt
-  by_binding (Some b) = created_keeps (added book b) es b (added_stands book b)
+  by_binding (Some b) = created_keeps (with_binding book b) es b (added_stands book b)
 
 -- the book of a request that is one part and is granted
-book_granted : (o : Option Refusal) (w : World) (refused : ErrorCode → Reply) (served : Served) → o ≡ None → served.world.book ≡ (whole_by o w refused served).world.book
+book_granted : (o : Option Refusal) (w : World) (refused : ErrorCode → Reply) (served : Served) → o ≡ None → served.world.book ≡ (whole_outcome_by o w refused served).world.book
 book_granted None w refused served is = refl
 book_granted (Some r) w refused served is = absurd (let clash : Some r ≡ None = is in cc)
 
@@ -83,41 +83,41 @@ creates_each w caller r granted =
 
 -- ---- bindings that a filter picks are gone
 
-none_removed : (es : List Numbered) (f : Filter) → matching (filter (stays f) es) f ≡ []
+none_removed : (es : List Numbered) (f : Filter) → matching_bindings (filter (is_not_matched f) es) f ≡ []
 none_removed [] f = refl
 none_removed (e ∷ es) f = by_match (matches f e.binding) refl (none_removed es f) where
-  by_match : (m : Bool) → matches f e.binding ≡ m → matching (filter (stays f) es) f ≡ [] → matching (cond (not m) (e ∷ filter (stays f) es) (filter (stays f) es)) f ≡ []
+  by_match : (m : Bool) → matches f e.binding ≡ m → matching_bindings (filter (is_not_matched f) es) f ≡ [] → matching_bindings (cond (not m) (e ∷ filter (is_not_matched f) es) (filter (is_not_matched f) es)) f ≡ []
   by_match true is none = none
-  by_match false is none = ap (λ (t : Bool). cond t (e.binding ∷ matching (filter (stays f) es) f) (matching (filter (stays f) es) f)) is ∙ none
+  by_match false is none = ap (λ (t : Bool). cond t (e.binding ∷ matching_bindings (filter (is_not_matched f) es) f) (matching_bindings (filter (is_not_matched f) es) f)) is ∙ none
 
 none_picked : (m : Bool) (b : Binding) (rest : List Binding) → cond m (b ∷ rest) rest ≡ [] → (m ≡ false) × (rest ≡ [])
 none_picked true b rest h = absurd (let clash : b ∷ rest ≡ [] = h in cc)
 none_picked false b rest h = (refl, h)
 
-none_kept : (p : Numbered → Bool) (es : List Numbered) (f : Filter) → matching es f ≡ [] → matching (filter p es) f ≡ []
+none_kept : (p : Numbered → Bool) (es : List Numbered) (f : Filter) → matching_bindings es f ≡ [] → matching_bindings (filter p es) f ≡ []
 none_kept p [] f none = refl
 none_kept p (e ∷ es) f none =
-    let parts = none_picked (matches f e.binding) e.binding (matching es f) none in
+    let parts = none_picked (matches f e.binding) e.binding (matching_bindings es f) none in
     by_kept (p e) parts.0 (none_kept p es f parts.1) where
-      by_kept : (k : Bool) → matches f e.binding ≡ false → matching (filter p es) f ≡ [] → matching (cond k (e ∷ filter p es) (filter p es)) f ≡ []
-      by_kept true is rest = ap (λ (t : Bool). cond t (e.binding ∷ matching (filter p es) f) (matching (filter p es) f)) is ∙ rest
+      by_kept : (k : Bool) → matches f e.binding ≡ false → matching_bindings (filter p es) f ≡ [] → matching_bindings (cond k (e ∷ filter p es) (filter p es)) f ≡ []
+      by_kept true is rest = ap (λ (t : Bool). cond t (e.binding ∷ matching_bindings (filter p es) f) (matching_bindings (filter p es) f)) is ∙ rest
       by_kept false is rest = rest
 
-without_none : (book : BookValue) (o : Option Filter) (f : Filter) → matching book.entries f ≡ [] → matching (book_without book o).entries f ≡ []
+without_none : (book : BookValue) (o : Option Filter) (f : Filter) → matching_bindings book.entries f ≡ [] → matching_bindings (book_without book o).entries f ≡ []
 without_none book None f none = none
-without_none book (Some g) f none = none_kept (stays g) book.entries f none
+without_none book (Some g) f none = none_kept (is_not_matched g) book.entries f none
 
-deleted_none : (book : BookValue) (es : List FilterEntry) (f : Filter) → matching book.entries f ≡ [] → matching (book_deleted book es).entries f ≡ []
+deleted_none : (book : BookValue) (es : List FilterEntry) (f : Filter) → matching_bindings book.entries f ≡ [] → matching_bindings (book_deleted book es).entries f ≡ []
 deleted_none book [] f none = none
 deleted_none book (e ∷ es) f none = deleted_none (book_without book (filter_of e)) es f (without_none book (filter_of e) f none)
 
 abbrev NonePicked : BookValue → List FilterEntry → Type 0
-NonePicked book es = AllByRecursion (λ e. IfSome (filter_of e) (λ f. matching book.entries f ≡ [])) es
+NonePicked book es = AllByRecursion (λ e. IfSome (filter_of e) (λ f. matching_bindings book.entries f ≡ [])) es
 
 deleted_picked : (book : BookValue) (es : List FilterEntry) → NonePicked (book_deleted book es) es
 deleted_picked book [] = tt
 deleted_picked book (e ∷ es) = (by_filter (filter_of e), deleted_picked (book_without book (filter_of e)) es) where
-  by_filter : (o : Option Filter) → IfSome o (λ f. matching (book_deleted (book_without book o) es).entries f ≡ [])
+  by_filter : (o : Option Filter) → IfSome o (λ f. matching_bindings (book_deleted (book_without book o) es).entries f ≡ [])
   by_filter None = tt
   by_filter (Some f) = deleted_none (book_without book (Some f)) es f (none_removed book.entries f)
 
@@ -127,10 +127,10 @@ deletes_each w caller r granted =
 
 -- ---- a request that is one part
 
-refused_whole : (w : World) (questions : List Question) (refused : ErrorCode → Reply) (served : Served) (r : Refusal) → part_refusal (rules_of w) questions ≡ Some r → IsRefusedWhole w r (whole w questions refused served)
+refused_whole : (w : World) (questions : List Question) (refused : ErrorCode → Reply) (served : Served) (r : Refusal) → part_refusal (rules_of w) questions ≡ Some r → IsRefusedWhole w r (whole_outcome w questions refused served)
 refused_whole w questions refused served r e = record {
-  world = ap (λ (o : Option Refusal). (whole_by o w refused served).world) e;
-  refusals = ap (λ (o : Option Refusal). (whole_by o w refused served).refusals) e;
+  world = ap (λ (o : Option Refusal). (whole_outcome_by o w refused served).world) e;
+  refusals = ap (λ (o : Option Refusal). (whole_outcome_by o w refused served).refusals) e;
 }
 
 pub refused_edit_nothing : RefusedEditNothing
@@ -139,14 +139,14 @@ refused_edit_nothing = record {
   delete = λ w caller q r e. refused_whole w (alter_questions caller) _ _ r e;
 }
 
-same_by : (o : Option Refusal) (v w : World) (refused : ErrorCode → Reply) (s t : Served) → v.book ≡ w.book → s.reply ≡ t.reply → s.world.book ≡ t.world.book → SameEdit (whole_by o v refused s) (whole_by o w refused t)
+same_by : (o : Option Refusal) (v w : World) (refused : ErrorCode → Reply) (s t : Served) → v.book ≡ w.book → s.reply ≡ t.reply → s.world.book ≡ t.world.book → SameEdit (whole_outcome_by o v refused s) (whole_outcome_by o w refused t)
 same_by None v w refused s t before reply after = record { answer = record { reply = reply; refusals = refl }; book = after }
 same_by (Some r) v w refused s t before reply after = record { answer = record { reply = refl; refusals = refl }; book = before }
 
-same_whole : (v w : World) (questions : List Question) (refused : ErrorCode → Reply) (s t : Served) → rules_of v ≡ rules_of w → s.reply ≡ t.reply → s.world.book ≡ t.world.book → SameEdit (whole v questions refused s) (whole w questions refused t)
+same_whole : (v w : World) (questions : List Question) (refused : ErrorCode → Reply) (s t : Served) → rules_of v ≡ rules_of w → s.reply ≡ t.reply → s.world.book ≡ t.world.book → SameEdit (whole_outcome v questions refused s) (whole_outcome w questions refused t)
 same_whole v w questions refused s t rules reply after =
     let asked : part_refusal (rules_of v) questions ≡ part_refusal (rules_of w) questions = ap (λ (r : Rules). part_refusal r questions) rules in
-    subst (λ (o : Option Refusal). SameEdit (whole_by o v refused s) (whole w questions refused t)) (sym asked)
+    subst (λ (o : Option Refusal). SameEdit (whole_outcome_by o v refused s) (whole_outcome w questions refused t)) (sym asked)
     (same_by (part_refusal (rules_of w) questions) v w refused s t (ap (λ (r : Rules). r.book) rules) reply after)
 
 pub acls_depend : AclsDependOnTheBook
@@ -159,7 +159,7 @@ acls_depend = record {
       same_whole v w (alter_questions caller) _ _ _ base.rules refl (ap (λ (b : BookValue). book_created b r.creations) same);
   delete = λ v w caller r base.
       let same = ap (λ (rules : Rules). rules.book) base.rules in
-      same_whole v w (alter_questions caller) _ _ _ base.rules (ap (λ (b : BookValue). replies.DeleteAcls (delete_acls_reply (deleted b r.filters))) same) (ap (λ (b : BookValue). book_deleted b r.filters) same);
+      same_whole v w (alter_questions caller) _ _ _ base.rules (ap (λ (b : BookValue). replies.DeleteAcls (delete_acls_reply (deletion_results b r.filters))) same) (ap (λ (b : BookValue). book_deleted b r.filters) same);
 }
 
 pub acls_keep_topics : AclsKeepTopics

@@ -16,23 +16,23 @@ use Rattle.record_batch.specs.Batch.{BatchData}
 use Rattle.record_batch.specs.Fault.{code_of}
 use Rattle.producer_state.specs.declared.judgment.Judgment.{Judgment}
 use Rattle.producer_state.specs.declared.judgment.Judgment.TheVariants.{Next, Repeat, Refused}
-use Rattle.producer_state.specs.Sequences.{is_of_producer, begun, gone_on, Sequence, sequence, repeat, judged_in, judged as judged_by_log}
+use Rattle.producer_state.specs.Sequences.{is_of_producer, first_judgment, judgment_by_repeat, Sequence, sequence, repeat, judgment_in, judgment_of as judged_by_log}
 use Rattle.partition_log.specs.Log.{at_end}
 use Rattle.partition_log.specs.Fetch.{limit_of}
 use Rattle.msg_data.specs.declared.produce.ProducedRecords.{ProducedRecords}
 use Rattle.broker_world.specs.World.{TopicValue, LogValue, find_topic}
-use Rattle.broker_world.specs.Logs.{log_in, log_of, log_at, logs_with, with_log, log_by, offset_by, appended_by}
-use Rattle.data_handlers.specs.Sent.{sent}
-use Rattle.transactions.specs.declared.pair.Given.{Given}
-use Rattle.transactions.specs.declared.pair.Given.TheVariants.{Never, Free, Owned}
-use Rattle.transactions.specs.declared.target.Target.{Target}
-use Rattle.transactions.specs.Holding.{holds}
-use Rattle.transactions.specs.Coordinator.{CoordinatorValue, owner, given_by}
-use Rattle.data_handlers.specs.Judged.{partition_at, pair_of, held_code, are_acks, given_code, producer_code, passed_by, passed, batch_in, judged, topics_produced}
-use Rattle.broker_world.specs.Codes.{refused_by}
+use Rattle.broker_world.specs.Logs.{log_in, log_of, log_at, logs_with, with_log, log_by, offset_by, topics_with_batch_by}
+use Rattle.data_handlers.specs.Sent.{batch_or_fault}
+use Rattle.txn_coordinator.specs.declared.producer_id.ProducerIdOwner.{ProducerIdOwner}
+use Rattle.txn_coordinator.specs.declared.producer_id.ProducerIdOwner.TheVariants.{Never, Free, Owned}
+use Rattle.txn_coordinator.specs.declared.target.Target.{Target}
+use Rattle.txn_coordinator.specs.Holding.{holding_code}
+use Rattle.txn_coordinator.specs.Coordinator.{CoordinatorValue, owner, given_by}
+use Rattle.data_handlers.specs.Judged.{partition_at, id_and_epoch_of, held_code, are_acks, given_code, producer_code, batch_or_error_by, batch_or_error, batch_in, batch_to_append, topics_produced}
+use Rattle.broker_world.specs.Codes.{code_unless_none}
 use Rattle.data_handlers.specs.RoomLaws.{IsGoodBatch, judged_batch}
-use Rattle.data_handlers.specs.Produce.{produced_to, produced_by, produced}
-use Rattle.data_handlers.specs.ListOffsets.{listed_by, listed_at, listed_error}
+use Rattle.data_handlers.specs.Produce.{produced_to, produce_answer_by, produce_answer}
+use Rattle.data_handlers.specs.ListOffsets.{listed_offset_by, listed_at, listed_error}
 use Rattle.api_laws.proofs.DataGrants.{find_same}
 use Rattle.api_laws.specs.DataLaws.{IsAppended, IsRepeated, IsAgain, IsUnchanged, ProducesAsAnswered, IsUnlisted, ListsEnds}
 
@@ -49,11 +49,11 @@ unlisted_partition p = record { index = refl; error = refl; timestamp = refl; of
 pub lists_ends : ListsEnds
 lists_ends = record {
   other = λ level topics name p log there last first. subst (IsUnlisted 42 p)
-      (sym (ap (listed_by level p) there ∙ ap (λ (t : Bool). cond t (listed_at (limit_of level log) p) (cond (int_eq p.timestamp (negsuc 1)) (listed_at (pos 0) p) (listed_error codes.InvalidRequest p))) last ∙ ap (λ (t : Bool). cond t (listed_at (pos 0) p) (listed_error codes.InvalidRequest p)) first))
+      (sym (ap (listed_offset_by level p) there ∙ ap (λ (t : Bool). cond t (listed_at (limit_of level log) p) (cond (int_eq p.timestamp (negsuc 1)) (listed_at (pos 0) p) (listed_error codes.InvalidRequest p))) last ∙ ap (λ (t : Bool). cond t (listed_at (pos 0) p) (listed_error codes.InvalidRequest p)) first))
       (unlisted_time p);
-  missing = λ level topics name p there. subst (IsUnlisted 3 p) (sym (ap (listed_by level p) there)) (unlisted_partition p);
-  end = λ level topics name p log there minus. ap (listed_by level p) there ∙ ap (λ (z : ℤ). cond (int_eq z (negsuc 0)) (listed_at (limit_of level log) p) (cond (int_eq z (negsuc 1)) (listed_at (pos 0) p) (listed_error codes.InvalidRequest p))) minus;
-  start = λ level topics name p log there minus. ap (listed_by level p) there ∙ ap (λ (z : ℤ). cond (int_eq z (negsuc 0)) (listed_at (limit_of level log) p) (cond (int_eq z (negsuc 1)) (listed_at (pos 0) p) (listed_error codes.InvalidRequest p))) minus;
+  missing = λ level topics name p there. subst (IsUnlisted 3 p) (sym (ap (listed_offset_by level p) there)) (unlisted_partition p);
+  end = λ level topics name p log there minus. ap (listed_offset_by level p) there ∙ ap (λ (z : ℤ). cond (int_eq z (negsuc 0)) (listed_at (limit_of level log) p) (cond (int_eq z (negsuc 1)) (listed_at (pos 0) p) (listed_error codes.InvalidRequest p))) minus;
+  start = λ level topics name p log there minus. ap (listed_offset_by level p) there ∙ ap (λ (z : ℤ). cond (int_eq z (negsuc 0)) (listed_at (limit_of level log) p) (cond (int_eq z (negsuc 1)) (listed_at (pos 0) p) (listed_error codes.InvalidRequest p))) minus;
 }
 
 -- ---- Produce: the log that was appended to
@@ -110,7 +110,7 @@ same_code c d r p q = cc
 abbrev IsCalled : Result BatchData ErrorCode → Type 0
 IsCalled r = r ≡ Err codes.None → ⊥
 
-refused_called : (code other : ErrorCode) → refused_by code ≡ Some other → other ≡ codes.None → ⊥
+refused_called : (code other : ErrorCode) → code_unless_none code ≡ Some other → other ≡ codes.None → ⊥
 refused_called codes.None other is none = let clash : None ≡ Some other = is in cc
 refused_called codes.OffsetOutOfRange other is none = let same : codes.OffsetOutOfRange ≡ other = cc in let clash : codes.OffsetOutOfRange ≡ codes.None = same ∙ none in cc
 refused_called codes.CorruptMessage other is none = let same : codes.CorruptMessage ≡ other = cc in let clash : codes.CorruptMessage ≡ codes.None = same ∙ none in cc
@@ -148,7 +148,7 @@ refused_called codes.ProducerFenced other is none = let same : codes.ProducerFen
 
 producer_called : (c : CoordinatorValue) (id : Option (List ℕ)) (target : Target) (h : BatchHeader) (code : ErrorCode) → producer_code c id target h ≡ Some code → code ≡ codes.None → ⊥
 producer_called c id target h code is none = by_transactional (is_transactional h) is where
-  by_given : (g : Given) → given_code g ≡ Some code → ⊥
+  by_given : (g : ProducerIdOwner) → given_code g ≡ Some code → ⊥
   by_given Never e = let clash : codes.InvalidProducerIdMapping ≡ code = cc in let other : codes.InvalidProducerIdMapping ≡ codes.None = clash ∙ none in cc
   by_given Free e = let clash : None ≡ Some code = e in cc
   by_given Owned e = let clash : codes.InvalidTxnState ≡ code = cc in let other : codes.InvalidTxnState ≡ codes.None = clash ∙ none in cc
@@ -157,29 +157,29 @@ producer_called c id target h code is none = by_transactional (is_transactional 
   by_id true e = let clash : None ≡ Some code = e in cc
   by_id false e = by_given (given_by (owner c h.producer_id)) e
 
-  by_held : (o : Option (List ℕ)) → held_code c o (pair_of h) target ≡ Some code → ⊥
+  by_held : (o : Option (List ℕ)) → held_code c o (id_and_epoch_of h) target ≡ Some code → ⊥
   by_held None e = let clash : codes.InvalidTxnState ≡ code = cc in let other : codes.InvalidTxnState ≡ codes.None = clash ∙ none in cc
-  by_held (Some name) e = refused_called (holds c name (pair_of h) target) code e none
+  by_held (Some name) e = refused_called (holding_code c name (id_and_epoch_of h) target) code e none
 
-  by_transactional : (t : Bool) → cond t (held_code c id (pair_of h) target) (cond (int_lt h.producer_id (pos 0)) None (given_code (given_by (owner c h.producer_id)))) ≡ Some code → ⊥
+  by_transactional : (t : Bool) → cond t (held_code c id (id_and_epoch_of h) target) (cond (int_lt h.producer_id (pos 0)) None (given_code (given_by (owner c h.producer_id)))) ≡ Some code → ⊥
   by_transactional true e = by_held id e
   by_transactional false e = by_id (int_lt h.producer_id (pos 0)) e
 
-passed_called : (c : CoordinatorValue) (id : Option (List ℕ)) (target : Target) (r : Result BatchData BatchFault) → IsCalled (passed c id target r)
+passed_called : (c : CoordinatorValue) (id : Option (List ℕ)) (target : Target) (r : Result BatchData BatchFault) → IsCalled (batch_or_error c id target r)
 passed_called c id target (Err fault) e = fault_code fault (same_code (code_of fault) codes.None (Err (code_of fault)) refl e)
 passed_called c id target (Ok b) e = by_code (producer_code c id target b.header) refl e where
-  by_code : (o : Option ErrorCode) → producer_code c id target b.header ≡ o → passed_by o b ≡ Err codes.None → ⊥
+  by_code : (o : Option ErrorCode) → producer_code c id target b.header ≡ o → batch_or_error_by o b ≡ Err codes.None → ⊥
   by_code None is h = cc
   by_code (Some code) is h = producer_called c id target b.header code is (same_code code codes.None (Err code) refl h)
 
 batch_called : (most : ℕ) (c : CoordinatorValue) (id : Option (List ℕ)) (target : Target) (records : Option (List ℕ)) → IsCalled (batch_in most c id target records)
 batch_called most c id target None e = cc
 batch_called most c id target (Some records) e = by_length (eqb (length records) 0) e where
-  by_length : (b : Bool) → cond b (Err codes.InvalidRecord) (passed c id target (sent most records)) ≡ Err codes.None → ⊥
+  by_length : (b : Bool) → cond b (Err codes.InvalidRecord) (batch_or_error c id target (batch_or_fault most records)) ≡ Err codes.None → ⊥
   by_length true h = let clash : Err codes.InvalidRecord ≡ Err codes.None = h in cc
-  by_length false h = passed_called c id target (sent most records) h
+  by_length false h = passed_called c id target (batch_or_fault most records) h
 
-pub judged_called : (most : ℕ) (c : CoordinatorValue) (id : Option (List ℕ)) (acks : ℤ) (target : Target) (records : Option (List ℕ)) → IsCalled (judged most c id acks target records)
+pub judged_called : (most : ℕ) (c : CoordinatorValue) (id : Option (List ℕ)) (acks : ℤ) (target : Target) (records : Option (List ℕ)) → IsCalled (batch_to_append most c id acks target records)
 judged_called most c id acks target records e = by_acks (are_acks acks) e where
   by_acks : (b : Bool) → cond b (batch_in most c id target records) (Err codes.InvalidRequiredAcks) ≡ Err codes.None → ⊥
   by_acks true h = batch_called most c id target records h
@@ -194,24 +194,24 @@ test_called : (t : Bool) → NotCalled (cond t Next (Refused codes.OutOfOrderSeq
 test_called true e = cc
 test_called false e = cc
 
-gone_on_called : (expected : ℤ) (b : BatchData) (again : Option BatchData) → NotCalled (gone_on expected b again)
+gone_on_called : (expected : ℤ) (b : BatchData) (again : Option BatchData) → NotCalled (judgment_by_repeat expected b again)
 gone_on_called expected b (Some old) e = cc
 gone_on_called expected b None e = test_called (int_eq b.header.base_sequence expected) e
 
-sequence_called : (s : Option Sequence) (b : BatchData) (again : Option BatchData) → NotCalled (judged_in s b again)
+sequence_called : (s : Option Sequence) (b : BatchData) (again : Option BatchData) → NotCalled (judgment_in s b again)
 sequence_called None b again e = test_called (int_eq b.header.base_sequence (pos 0)) e
 sequence_called (Some s) b again e = by_older (int_lt b.header.producer_epoch s.epoch) e where
-  by_newer : (t : Bool) → NotCalled (cond t (begun b) (gone_on s.expected b again))
+  by_newer : (t : Bool) → NotCalled (cond t (first_judgment b) (judgment_by_repeat s.expected b again))
   by_newer true h = test_called (int_eq b.header.base_sequence (pos 0)) h
   by_newer false h = gone_on_called s.expected b again h
 
-  by_older : (t : Bool) → NotCalled (cond t (Refused codes.InvalidProducerEpoch) (cond (int_lt s.epoch b.header.producer_epoch) (begun b) (gone_on s.expected b again)))
+  by_older : (t : Bool) → NotCalled (cond t (Refused codes.InvalidProducerEpoch) (cond (int_lt s.epoch b.header.producer_epoch) (first_judgment b) (judgment_by_repeat s.expected b again)))
   by_older true h = cc
   by_older false h = by_newer (int_lt s.epoch b.header.producer_epoch) h
 
 log_called : (log : LogValue) (b : BatchData) → NotCalled (judged_by_log log b)
 log_called log b e = by_producer (is_of_producer b) e where
-  by_producer : (t : Bool) → NotCalled (cond t (judged_in (sequence log b.header.producer_id) b (repeat log b)) Next)
+  by_producer : (t : Bool) → NotCalled (cond t (judgment_in (sequence log b.header.producer_id) b (repeat log b)) Next)
   by_producer true h = sequence_called (sequence log b.header.producer_id) b (repeat log b) h
   by_producer false h = let clash : Next ≡ Refused codes.None = h in cc
 
@@ -244,10 +244,10 @@ module _ (topics : List TopicValue) (name : List ℕ) (p : ProducedRecords) wher
 
   -- the same of a partition that may be missing
   Answered : Result BatchData ErrorCode → Option LogValue → Type 0
-  Answered (Err code) o = IsAppended topics topics name p (produced_by (Err code) p o) ⊎ IsRepeated topics topics name p (produced_by (Err code) p o)
-  Answered (Ok b) o = IsAppended topics (appended_by topics name p.index b o) name p (produced_by (Ok b) p o) ⊎ IsRepeated topics (appended_by topics name p.index b o) name p (produced_by (Ok b) p o)
+  Answered (Err code) o = IsAppended topics topics name p (produce_answer_by (Err code) p o) ⊎ IsRepeated topics topics name p (produce_answer_by (Err code) p o)
+  Answered (Ok b) o = IsAppended topics (topics_with_batch_by topics name p.index b o) name p (produce_answer_by (Ok b) p o) ⊎ IsRepeated topics (topics_with_batch_by topics name p.index b o) name p (produce_answer_by (Ok b) p o)
 
-  appends : (r : Result BatchData ErrorCode) (o : Option LogValue) → ((b : BatchData) → r ≡ Ok b → IsGoodBatch p.records b) → IsCalled r → log_at topics name p.index ≡ o → (produced_by r p o).error ≡ codes.None → Answered r o
+  appends : (r : Result BatchData ErrorCode) (o : Option LogValue) → ((b : BatchData) → r ≡ Ok b → IsGoodBatch p.records b) → IsCalled r → log_at topics name p.index ≡ o → (produce_answer_by r p o).error ≡ codes.None → Answered r o
   unfolding Answered
   appends (Err code) None good called there none = absurd (let clash : codes.UnknownTopicOrPartition ≡ codes.None = none in cc)
   appends (Err code) (Some log) good called there none = absurd (called (ap Err none))
@@ -255,32 +255,32 @@ module _ (topics : List TopicValue) (name : List ℕ) (p : ProducedRecords) wher
   appends (Ok b) (Some log) good called there none = left_by b log (judged_by_log log b) (good b refl) there refl none
 
   at_log : (r : Result BatchData ErrorCode) (o : Option LogValue) → log_at topics name p.index ≡ o → Answered r o
-      → IsAppended topics (topics_produced r topics name p.index) name p (produced r topics name p) ⊎ IsRepeated topics (topics_produced r topics name p.index) name p (produced r topics name p)
+      → IsAppended topics (topics_produced r topics name p.index) name p (produce_answer r topics name p) ⊎ IsRepeated topics (topics_produced r topics name p.index) name p (produce_answer r topics name p)
   unfolding Answered
-  at_log (Err code) o there answered = subst (λ (x : Option LogValue). IsAppended topics topics name p (produced_by (Err code) p x) ⊎ IsRepeated topics topics name p (produced_by (Err code) p x)) (sym there) answered
+  at_log (Err code) o there answered = subst (λ (x : Option LogValue). IsAppended topics topics name p (produce_answer_by (Err code) p x) ⊎ IsRepeated topics topics name p (produce_answer_by (Err code) p x)) (sym there) answered
   at_log (Ok b) o there answered =
-      subst (λ (x : Option LogValue). IsAppended topics (appended_by topics name p.index b x) name p (produced_by (Ok b) p x) ⊎ IsRepeated topics (appended_by topics name p.index b x) name p (produced_by (Ok b) p x)) (sym there) answered
+      subst (λ (x : Option LogValue). IsAppended topics (topics_with_batch_by topics name p.index b x) name p (produce_answer_by (Ok b) p x) ⊎ IsRepeated topics (topics_with_batch_by topics name p.index b x) name p (produce_answer_by (Ok b) p x)) (sym there) answered
 
   Unchanged : Result BatchData ErrorCode → Option LogValue → Type 0
-  Unchanged (Err code) o = IsUnchanged topics topics (produced_by (Err code) p o)
-  Unchanged (Ok b) o = IsUnchanged topics (appended_by topics name p.index b o) (produced_by (Ok b) p o)
+  Unchanged (Err code) o = IsUnchanged topics topics (produce_answer_by (Err code) p o)
+  Unchanged (Ok b) o = IsUnchanged topics (topics_with_batch_by topics name p.index b o) (produce_answer_by (Ok b) p o)
 
-  refuses : (r : Result BatchData ErrorCode) (o : Option LogValue) → log_at topics name p.index ≡ o → ((produced_by r p o).error ≡ codes.None → ⊥) → Unchanged r o
+  refuses : (r : Result BatchData ErrorCode) (o : Option LogValue) → log_at topics name p.index ≡ o → ((produce_answer_by r p o).error ≡ codes.None → ⊥) → Unchanged r o
   unfolding Unchanged
   refuses (Err code) None there some = record { same = refl; offset = refl }
   refuses (Err code) (Some log) there some = record { same = refl; offset = refl }
   refuses (Ok b) None there some = record { same = refl; offset = refl }
   refuses (Ok b) (Some log) there some = refused_part b log (judged_by_log log b) there some
 
-  kept_at : (r : Result BatchData ErrorCode) (o : Option LogValue) → log_at topics name p.index ≡ o → Unchanged r o → IsUnchanged topics (topics_produced r topics name p.index) (produced r topics name p)
+  kept_at : (r : Result BatchData ErrorCode) (o : Option LogValue) → log_at topics name p.index ≡ o → Unchanged r o → IsUnchanged topics (topics_produced r topics name p.index) (produce_answer r topics name p)
   unfolding Unchanged
-  kept_at (Err code) o there kept = subst (λ (x : Option LogValue). IsUnchanged topics topics (produced_by (Err code) p x)) (sym there) kept
-  kept_at (Ok b) o there kept = subst (λ (x : Option LogValue). IsUnchanged topics (appended_by topics name p.index b x) (produced_by (Ok b) p x)) (sym there) kept
+  kept_at (Err code) o there kept = subst (λ (x : Option LogValue). IsUnchanged topics topics (produce_answer_by (Err code) p x)) (sym there) kept
+  kept_at (Ok b) o there kept = subst (λ (x : Option LogValue). IsUnchanged topics (topics_with_batch_by topics name p.index b x) (produce_answer_by (Ok b) p x)) (sym there) kept
 
   -- ---- where the log decides
 
   abbrev Appended : Result BatchData ErrorCode → Type 0
-  Appended r = ((produced r topics name p).error ≡ codes.None) × IsAppended topics (topics_produced r topics name p.index) name p (produced r topics name p)
+  Appended r = ((produce_answer r topics name p).error ≡ codes.None) × IsAppended topics (topics_produced r topics name p.index) name p (produce_answer r topics name p)
 
   next_by : (b : BatchData) (log : LogValue) (j : Judgment) → IsGoodBatch p.records b → log_at topics name p.index ≡ Some log → judged_by_log log b ≡ j → j ≡ Next
       → ((produced_to p (offset_by j log)).error ≡ codes.None) × IsAppended topics (with_log topics name p.index (log_by j log b)) name p (produced_to p (offset_by j log))
@@ -302,7 +302,7 @@ module _ (topics : List TopicValue) (name : List ℕ) (p : ProducedRecords) wher
 
   next_appended : (r : Result BatchData ErrorCode) (b : BatchData) (log : LogValue) → IsGoodBatch p.records b → log_at topics name p.index ≡ Some log → r ≡ Ok b → judged_by_log log b ≡ Next → Appended r
   next_appended r b log good there is next = subst Appended (sym is)
-      (subst (λ (o : Option LogValue). ((produced_by (Ok b) p o).error ≡ codes.None) × IsAppended topics (appended_by topics name p.index b o) name p (produced_by (Ok b) p o)) (sym there)
+      (subst (λ (o : Option LogValue). ((produce_answer_by (Ok b) p o).error ≡ codes.None) × IsAppended topics (topics_with_batch_by topics name p.index b o) name p (produce_answer_by (Ok b) p o)) (sym there)
       (next_by b log (judged_by_log log b) good there refl next))
 
   again_by : (b : BatchData) (log : LogValue) (j : Judgment) (offset : ℤ) → log_at topics name p.index ≡ Some log → j ≡ Repeat offset → IsAgain topics (with_log topics name p.index (log_by j log b)) offset (produced_to p (offset_by j log))
@@ -310,21 +310,21 @@ module _ (topics : List TopicValue) (name : List ℕ) (p : ProducedRecords) wher
   again_by b log (Repeat at) offset there again = record { error = refl; at = let same : at ≡ offset = cc in same; same = log_again topics name p.index log there }
   again_by b log (Refused code) offset there again = absurd (let clash : Refused code ≡ Repeat offset = again in cc)
 
-  repeat_again : (r : Result BatchData ErrorCode) (b : BatchData) (log : LogValue) (offset : ℤ) → log_at topics name p.index ≡ Some log → r ≡ Ok b → judged_by_log log b ≡ Repeat offset → IsAgain topics (topics_produced r topics name p.index) offset (produced r topics name p)
-  repeat_again r b log offset there is again = subst (λ (x : Result BatchData ErrorCode). IsAgain topics (topics_produced x topics name p.index) offset (produced x topics name p)) (sym is)
-      (subst (λ (o : Option LogValue). IsAgain topics (appended_by topics name p.index b o) offset (produced_by (Ok b) p o)) (sym there)
+  repeat_again : (r : Result BatchData ErrorCode) (b : BatchData) (log : LogValue) (offset : ℤ) → log_at topics name p.index ≡ Some log → r ≡ Ok b → judged_by_log log b ≡ Repeat offset → IsAgain topics (topics_produced r topics name p.index) offset (produce_answer r topics name p)
+  repeat_again r b log offset there is again = subst (λ (x : Result BatchData ErrorCode). IsAgain topics (topics_produced x topics name p.index) offset (produce_answer x topics name p)) (sym is)
+      (subst (λ (o : Option LogValue). IsAgain topics (topics_with_batch_by topics name p.index b o) offset (produce_answer_by (Ok b) p o)) (sym there)
       (again_by b log (judged_by_log log b) offset there again))
 
 pub produces_as_answered : ProducesAsAnswered
 produces_as_answered = record {
   appends = λ most c id acks topics name p none.
-      at_log topics name p (judged most c id acks (partition_at name p.index) p.records) (log_at topics name p.index) refl
-      (appends topics name p (judged most c id acks (partition_at name p.index) p.records) (log_at topics name p.index) (λ b is. judged_batch most c id acks (partition_at name p.index) p.records b is) (judged_called most c id acks (partition_at name p.index) p.records) refl none);
+      at_log topics name p (batch_to_append most c id acks (partition_at name p.index) p.records) (log_at topics name p.index) refl
+      (appends topics name p (batch_to_append most c id acks (partition_at name p.index) p.records) (log_at topics name p.index) (λ b is. judged_batch most c id acks (partition_at name p.index) p.records b is) (judged_called most c id acks (partition_at name p.index) p.records) refl none);
   refuses = λ most c id acks topics name p some.
-      kept_at topics name p (judged most c id acks (partition_at name p.index) p.records) (log_at topics name p.index) refl
-      (refuses topics name p (judged most c id acks (partition_at name p.index) p.records) (log_at topics name p.index) refl some);
+      kept_at topics name p (batch_to_append most c id acks (partition_at name p.index) p.records) (log_at topics name p.index) refl
+      (refuses topics name p (batch_to_append most c id acks (partition_at name p.index) p.records) (log_at topics name p.index) refl some);
   next = λ most c id acks topics name p log batch there is next.
-      next_appended topics name p (judged most c id acks (partition_at name p.index) p.records) batch log (judged_batch most c id acks (partition_at name p.index) p.records batch is) there is next;
+      next_appended topics name p (batch_to_append most c id acks (partition_at name p.index) p.records) batch log (judged_batch most c id acks (partition_at name p.index) p.records batch is) there is next;
   repeat = λ most c id acks topics name p log batch offset there is again.
-      repeat_again topics name p (judged most c id acks (partition_at name p.index) p.records) batch log offset there is again;
+      repeat_again topics name p (batch_to_append most c id acks (partition_at name p.index) p.records) batch log offset there is again;
 }

@@ -7,49 +7,49 @@ use Rattle.wire_types.specs.declared.error_code.ErrorCode.{ErrorCode}
 use Rattle.wire_types.specs.declared.error_code.ErrorCode.TheVariants as codes
 use Rattle.record_batch.specs.Batch.{BatchData, next_offset}
 use Rattle.partition_log.specs.declared.served.Served.{Served}
-use Rattle.partition_log.specs.Fetch.{reaching, below, fitting, at_least_one, limit_of, served_of, run_of}
+use Rattle.partition_log.specs.Fetch.{batches_from, batches_below, fitting_batches, at_least_one, limit_of, served_of, run_of}
 use Rattle.partition_log.specs.Laws.{total_bytes}
 use Rattle.msg_data.specs.declared.isolation.Isolation.{Isolation}
 use Rattle.msg_data.specs.declared.fetch.FetchPartition.{FetchPartition}
-use Rattle.data_handlers.specs.declared.room.Room.{Room}
+use Rattle.data_handlers.specs.declared.fetch_budget.FetchBudget.{FetchBudget}
 use Rattle.broker_world.specs.World.{TopicValue, LogValue}
 use Rattle.broker_world.specs.Logs.{log_at}
-use Rattle.data_handlers.specs.Fetch.{room_for, is_outside, served_by, served_at, fetched, room_after}
+use Rattle.data_handlers.specs.Fetch.{budget_for, is_outside, served_by, served_at, fetched_partition, room_after}
 use Rattle.api_laws.specs.DataLaws.{IsServed, IsFetched, IsUnserved, FetchesRuns}
 
 -- ---- beginnings and ends of a log
 
 -- the batches before the one that holds the offset
-record Behind (offset : ℤ) (log : List BatchData) : Type 0 where
+record After (offset : ℤ) (log : List BatchData) : Type 0 where
   before : List BatchData
-  whole : log ≡ before ++ reaching offset log
+  whole : log ≡ before ++ batches_from offset log
   all : AllByRecursion (λ (b : BatchData). int_le (next_offset b) offset ≡ true) before
 
-behind : (offset : ℤ) (log : List BatchData) → Behind offset log
+behind : (offset : ℤ) (log : List BatchData) → After offset log
 behind offset [] = record { before = []; whole = refl; all = tt }
 behind offset (b ∷ rest) = by_test (int_le (next_offset b) offset) refl (behind offset rest) where
-  by_test : (t : Bool) → int_le (next_offset b) offset ≡ t → Behind offset rest → Behind offset (b ∷ rest)
-  by_test true e r = record { before = b ∷ r.before; whole = ap (λ l. b ∷ l) r.whole ∙ ap (λ x. b ∷ (r.before ++ cond x (reaching offset rest) (b ∷ rest))) (sym e); all = (e, r.all) }
-  by_test false e r = record { before = []; whole = ap (λ x. cond x (reaching offset rest) (b ∷ rest)) (sym e); all = tt }
+  by_test : (t : Bool) → int_le (next_offset b) offset ≡ t → After offset rest → After offset (b ∷ rest)
+  by_test true e r = record { before = b ∷ r.before; whole = ap (λ l. b ∷ l) r.whole ∙ ap (λ x. b ∷ (r.before ++ cond x (batches_from offset rest) (b ∷ rest))) (sym e); all = (e, r.all) }
+  by_test false e r = record { before = []; whole = ap (λ x. cond x (batches_from offset rest) (b ∷ rest)) (sym e); all = tt }
 
-below_first : (limit : ℤ) (l : List BatchData) → (after : List BatchData) × (l ≡ below limit l ++ after)
+below_first : (limit : ℤ) (l : List BatchData) → (after : List BatchData) × (l ≡ batches_below limit l ++ after)
 below_first limit [] = ([], refl)
 below_first limit (b ∷ rest) = by_test (int_le (next_offset b) limit) (below_first limit rest) where
-  by_test : (t : Bool) → (after : List BatchData) × (rest ≡ below limit rest ++ after) → (after : List BatchData) × (b ∷ rest ≡ cond t (b ∷ below limit rest) [] ++ after)
+  by_test : (t : Bool) → (after : List BatchData) × (rest ≡ batches_below limit rest ++ after) → (after : List BatchData) × (b ∷ rest ≡ cond t (b ∷ batches_below limit rest) [] ++ after)
   by_test true r = (r.0, ap (λ l. b ∷ l) r.1)
   by_test false r = (b ∷ rest, refl)
 
-fitting_first : (room : ℕ) (l : List BatchData) → (after : List BatchData) × (l ≡ fitting room l ++ after)
+fitting_first : (room : ℕ) (l : List BatchData) → (after : List BatchData) × (l ≡ fitting_batches room l ++ after)
 fitting_first room [] = ([], refl)
 fitting_first room (b ∷ rest) = by_test (nat_le (length b.bytes) room) (fitting_first (room - length b.bytes) rest) where
-  by_test : (t : Bool) → (after : List BatchData) × (rest ≡ fitting (room - length b.bytes) rest ++ after) → (after : List BatchData) × (b ∷ rest ≡ cond t (b ∷ fitting (room - length b.bytes) rest) [] ++ after)
+  by_test : (t : Bool) → (after : List BatchData) × (rest ≡ fitting_batches (room - length b.bytes) rest ++ after) → (after : List BatchData) × (b ∷ rest ≡ cond t (b ∷ fitting_batches (room - length b.bytes) rest) [] ++ after)
   by_test true r = (r.0, ap (λ l. b ∷ l) r.1)
   by_test false r = (b ∷ rest, refl)
 
-fitting_small : (room : ℕ) (l : List BatchData) → total_bytes (fitting room l) ≤ room
+fitting_small : (room : ℕ) (l : List BatchData) → total_bytes (fitting_batches room l) ≤ room
 fitting_small room [] = omega arith
 fitting_small room (b ∷ rest) = by_test (nat_le (length b.bytes) room) refl (fitting_small (room - length b.bytes) rest) where
-  by_test : (t : Bool) → nat_le (length b.bytes) room ≡ t → total_bytes (fitting (room - length b.bytes) rest) ≤ room - length b.bytes → total_bytes (cond t (b ∷ fitting (room - length b.bytes) rest) []) ≤ room
+  by_test : (t : Bool) → nat_le (length b.bytes) room ≡ t → total_bytes (fitting_batches (room - length b.bytes) rest) ≤ room - length b.bytes → total_bytes (cond t (b ∷ fitting_batches (room - length b.bytes) rest) []) ≤ room
   by_test true e more = omega (arith, leb-true (length b.bytes) room e)
   by_test false e more = omega arith
 
@@ -76,34 +76,34 @@ three_parts log before reach bel run more later p q r = p ∙ ap (λ l. before +
 
 run_served : (level : Isolation) (log : List BatchData) (offset : ℤ) (room : ℕ) (given : Bool) → IsServed log offset room given (run_of log offset level room (not given))
 run_served level log offset room given =
-    let candidates : List BatchData = below (limit_of level log) (reaching offset log) in
-    let run : List BatchData = fitting room candidates in
+    let candidates : List BatchData = batches_below (limit_of level log) (batches_from offset log) in
+    let run : List BatchData = fitting_batches room candidates in
     let b = behind offset log in
-    let later = below_first (limit_of level log) (reaching offset log) in
+    let later = below_first (limit_of level log) (batches_from offset log) in
     let more = least_first (not given) candidates run (fitting_first room candidates) in
     record {
       before = b.before;
       after = more.0 ++ later.0;
-      in_order = three_parts log b.before (reaching offset log) candidates (at_least_one (not given) candidates run) more.0 later.0 b.whole later.1 more.1;
+      in_order = three_parts log b.before (batches_from offset log) candidates (at_least_one (not given) candidates run) more.0 later.0 b.whole later.1 more.1;
       from = b.all;
       small = least_small given room candidates run (fitting_small room candidates);
     }
 
 -- ---- what is answered
 
-inside_served : (level : Isolation) (topics : List TopicValue) (room : Room) (name : List ℕ) (p : FetchPartition) (log : LogValue) → log_at topics name p.index ≡ Some log → is_outside log p.offset ≡ false
-    → served_at level topics room name p ≡ Ok (served_of log p.offset level (room_for room p) (not room.given))
+inside_served : (level : Isolation) (topics : List TopicValue) (room : FetchBudget) (name : List ℕ) (p : FetchPartition) (log : LogValue) → log_at topics name p.index ≡ Some log → is_outside log p.offset ≡ false
+    → served_at level topics room name p ≡ Ok (served_of log p.offset level (budget_for room p) (not room.given))
 inside_served level topics room name p log there inside =
-    ap (served_by level room p) there ∙ ap (λ x. cond x (Err codes.OffsetOutOfRange) (Ok (served_of log p.offset level (room_for room p) (not room.given)))) inside
+    ap (served_by level room p) there ∙ ap (λ x. cond x (Err codes.OffsetOutOfRange) (Ok (served_of log p.offset level (budget_for room p) (not room.given)))) inside
 
-outside_served : (level : Isolation) (topics : List TopicValue) (room : Room) (name : List ℕ) (p : FetchPartition) (log : LogValue) → log_at topics name p.index ≡ Some log → is_outside log p.offset ≡ true → served_at level topics room name p ≡ Err codes.OffsetOutOfRange
+outside_served : (level : Isolation) (topics : List TopicValue) (room : FetchBudget) (name : List ℕ) (p : FetchPartition) (log : LogValue) → log_at topics name p.index ≡ Some log → is_outside log p.offset ≡ true → served_at level topics room name p ≡ Err codes.OffsetOutOfRange
 outside_served level topics room name p log there outside =
-    ap (served_by level room p) there ∙ ap (λ x. cond x (Err codes.OffsetOutOfRange) (Ok (served_of log p.offset level (room_for room p) (not room.given)))) outside
+    ap (served_by level room p) there ∙ ap (λ x. cond x (Err codes.OffsetOutOfRange) (Ok (served_of log p.offset level (budget_for room p) (not room.given)))) outside
 
-within : (level : Isolation) (log : LogValue) (room : Room) (p : FetchPartition) → IsFetched log room p (fetched level p (Ok (served_of log p.offset level (room_for room p) (not room.given)))) (room_after room (Ok (served_of log p.offset level (room_for room p) (not room.given))))
+within : (level : Isolation) (log : LogValue) (room : FetchBudget) (p : FetchPartition) → IsFetched log room p (fetched_partition level p (Ok (served_of log p.offset level (budget_for room p) (not room.given)))) (room_after room (Ok (served_of log p.offset level (budget_for room p) (not room.given))))
 within level log room p = record {
-  batches = run_of log p.offset level (room_for room p) (not room.given);
-  served = run_served level log p.offset (room_for room p) room.given;
+  batches = run_of log p.offset level (budget_for room p) (not room.given);
+  served = run_served level log p.offset (budget_for room p) room.given;
   error = refl;
   records = refl;
   high = refl;
@@ -111,12 +111,12 @@ within level log room p = record {
   left = refl;
 }
 
-unserved : (level : Isolation) (room : Room) (p : FetchPartition) (code : ErrorCode) (s : Result Served ErrorCode) → s ≡ Err code → ((fetched level p s).error ≡ code) × IsUnserved room (fetched level p s) (room_after room s)
-unserved level room p code s is = subst (λ (x : Result Served ErrorCode). ((fetched level p x).error ≡ code) × IsUnserved room (fetched level p x) (room_after room x)) (sym is) (refl, record { records = refl; high = refl; left = refl })
+unserved : (level : Isolation) (room : FetchBudget) (p : FetchPartition) (code : ErrorCode) (s : Result Served ErrorCode) → s ≡ Err code → ((fetched_partition level p s).error ≡ code) × IsUnserved room (fetched_partition level p s) (room_after room s)
+unserved level room p code s is = subst (λ (x : Result Served ErrorCode). ((fetched_partition level p x).error ≡ code) × IsUnserved room (fetched_partition level p x) (room_after room x)) (sym is) (refl, record { records = refl; high = refl; left = refl })
 
 pub fetches_runs : FetchesRuns
 fetches_runs = record {
-  within = λ level topics room name p log there inside. subst (λ (x : Result Served ErrorCode). IsFetched log room p (fetched level p x) (room_after room x)) (sym (inside_served level topics room name p log there inside)) (within level log room p);
+  within = λ level topics room name p log there inside. subst (λ (x : Result Served ErrorCode). IsFetched log room p (fetched_partition level p x) (room_after room x)) (sym (inside_served level topics room name p log there inside)) (within level log room p);
   outside = λ level topics room name p log there outside. unserved level room p codes.OffsetOutOfRange (served_at level topics room name p) (outside_served level topics room name p log there outside);
   missing = λ level topics room name p none. unserved level room p codes.UnknownTopicOrPartition (served_at level topics room name p) (ap (served_by level room p) none);
 }

@@ -15,11 +15,11 @@ use Rattle.walk.specs.Alike.{AllParts, AllTopics}
 use Rattle.walk.specs.Steps.{world_by, part_world, parts_world, topics_world}
 use Rattle.walk.proofs.Weaving.{woven}
 use Rattle.broker_world.specs.World.{TopicValue, LogValue, rules_of, find_topic}
-use Rattle.broker_world.specs.First.{magnitude}
-use Rattle.broker_world.specs.Logs.{log_after, log_in, log_of, log_at, logs_with, with_log, appended_by}
-use Rattle.transactions.specs.Coordinator.{CoordinatorValue}
-use Rattle.data_handlers.specs.Judged.{partition_at, judged, topics_produced}
-use Rattle.data_handlers.specs.Produce.{produce_questions, produce_rule, producing}
+use Rattle.broker_world.specs.First.{non_negative}
+use Rattle.broker_world.specs.Logs.{log_after, log_in, log_of, log_at, logs_with, with_log, topics_with_batch_by}
+use Rattle.txn_coordinator.specs.Coordinator.{CoordinatorValue}
+use Rattle.data_handlers.specs.Judged.{partition_at, batch_to_append, topics_produced}
+use Rattle.data_handlers.specs.Produce.{produce_questions, produce_rule, producing_rule}
 use Rattle.api_laws.specs.DataTenants.{IsAnother, ProduceKeepsOtherPartitions}
 use Rattle.api_laws.proofs.DataGrants.{find_same, find_other}
 
@@ -55,7 +55,7 @@ set_kept topics n name i j log differ = by_test (bytes_eq n name) refl where
       ∙ found_kept (find_topic topics name) i j log (differ same)
   by_test false e = ap (option_and_then (log_of j)) (find_other topics n name i log e)
 
-append_kept : (topics : List TopicValue) (n name : List ℕ) (i j : ℤ) (b : BatchData) (o : Option LogValue) → (n ≡ name → i ≡ j → ⊥) → log_at (appended_by topics n i b o) name j ≡ log_at topics name j
+append_kept : (topics : List TopicValue) (n name : List ℕ) (i j : ℤ) (b : BatchData) (o : Option LogValue) → (n ≡ name → i ≡ j → ⊥) → log_at (topics_with_batch_by topics n i b o) name j ≡ log_at topics name j
 append_kept topics n name i j b None differ = refl
 append_kept topics n name i j b (Some log) differ = set_kept topics n name i j (log_after log b) differ
 
@@ -70,7 +70,7 @@ module _ (rules : Rules) (caller : Caller) (most : ℕ) (c : CoordinatorValue) (
   part_kept topics n p another = by_refusal (part_refusal rules (produce_questions caller id n)) refl where
     by_refusal : (r : Option Refusal) → part_refusal rules (produce_questions caller id n) ≡ r → log_at (world_by (produce_rule caller most c id acks) r topics n p) name index ≡ log_at topics name index
     by_refusal (Some r) e = refl
-    by_refusal None e = batch_kept (judged most c id acks (partition_at n p.index) p.records) topics n name p.index index (another e)
+    by_refusal None e = batch_kept (batch_to_append most c id acks (partition_at n p.index) p.records) topics n name p.index index (another e)
 
   parts_kept : (topics : List TopicValue) (n : List ℕ) (ps : List ProducedRecords) → AllParts (IsAnother rules caller id name index) n ps → log_at (parts_world (produce_rule caller most c id acks) rules topics n ps) name index ≡ log_at topics name index
   parts_kept topics n [] others = refl
@@ -84,5 +84,5 @@ module _ (rules : Rules) (caller : Caller) (most : ℕ) (c : CoordinatorValue) (
 
 pub produce_keeps_partitions : ProduceKeepsOtherPartitions
 produce_keeps_partitions w caller r name index others =
-    ap (λ (topics : List TopicValue). log_at topics name index) (sym (woven (producing w caller r) (rules_of w) w.topics r.topics).world)
-    ∙ topics_kept (rules_of w) caller (magnitude w.node.max_batch) w.coordinator r.transactional_id r.acks name index w.topics r.topics others
+    ap (λ (topics : List TopicValue). log_at topics name index) (sym (woven (producing_rule w caller r) (rules_of w) w.topics r.topics).world)
+    ∙ topics_kept (rules_of w) caller (non_negative w.node.max_batch) w.coordinator r.transactional_id r.acks name index w.topics r.topics others

@@ -11,11 +11,11 @@ use Rattle.acl_binding.specs.declared.words.Permission.TheVariants as permission
 use Rattle.acl_binding.specs.WireNumbers.{kind_code, pattern_code, operation_code, permission_code, filter_pattern_code, kind_at, pattern_at, operation_at, permission_at, filter_pattern_at}
 use Rattle.wire_types.specs.declared.topic.Topic.{Topic}
 use Rattle.wire_types.specs.ErrorCode.{number_of}
-use Rattle.record_batch.specs.Crc.{shifted_by, crc_after}
+use Rattle.record_batch.specs.Crc.{bit_shift_by, crc_after}
 use Rattle.record_batch.specs.Faults.{has_records, is_valid, first_fault}
 use Rattle.record_batch.specs.Record.{records_at}
-use Rattle.record_batch.specs.CombinatorLaws.{fixed_at, whole, sized_at}
-use Rattle.wire_types.specs.Reading.{nat_at, int_at, front_at, many_at, items_at, behind_at, null_or, null_behind_at, varint_at, null_or_count, null_count_at, not_null, required_at, counted_at}
+use Rattle.record_batch.specs.CombinatorLaws.{fixed_at, whole_value, sized_at}
+use Rattle.wire_types.specs.Reading.{nat_at, int_at, front_at, many_at, items_at, after_count_at, null_or, after_null_count_at, varint_at, null_or_count, null_count_at, not_null, required_at, counted_at}
 use Rattle.msg_data.specs.declared.isolation.Isolation.TheVariants as levels
 use Rattle.msg_txn.specs.declared.end_txn.EndTxn.{EndTxn}
 use Rattle.msg_txn.specs.declared.end_txn.EndTxnRequest.{EndTxnRequest}
@@ -25,11 +25,11 @@ use Rattle.msg_acl.specs.declared.entries.FilterEntry.{FilterEntry}
 use Rattle.msg_admin.specs.declared.request.Request.{Request}
 use Rattle.msg_admin.specs.declared.request.Request.TheVariants as requests
 use Rattle.audit_trail.specs.declared.event.Event.TheVariants.{Ask}
-use Rattle.transactions.specs.declared.transaction.Phase.{Phase}
-use Rattle.transactions.specs.declared.transaction.Phase.TheVariants.{Empty, Ongoing, PrepareCommit}
-use Rattle.transactions.specs.Coordinator.{CoordinatorValue, no_transactions}
-use Rattle.offset_tables.specs.declared.event.OffsetEvent.TheVariants.{Stage}
-use Rattle.offset_tables.specs.declared.group.Group.{Group}
+use Rattle.txn_coordinator.specs.declared.transaction.TransactionState.{TransactionState}
+use Rattle.txn_coordinator.specs.declared.transaction.TransactionState.TheVariants.{Empty, Ongoing, PrepareCommit}
+use Rattle.txn_coordinator.specs.Coordinator.{CoordinatorValue, no_transactions}
+use Rattle.group_offsets.specs.declared.event.OffsetEvent.TheVariants.{Stage}
+use Rattle.group_offsets.specs.declared.group.Group.{Group}
 use Rattle.broker_world.specs.World.{World, TopicValue}
 use Rattle.api_dispatch.specs.Step.{reply_to}
 use Rattle.api_laws.specs.ToldErrors.{all_errors}
@@ -85,14 +85,14 @@ abbrev staged_group : Group
 staged_group = record { name = 103 ∷ []; member = None; generation = pos 1; assignment = None; offsets = Stage (pos 0) (record { topic = 116 ∷ []; index = pos 0; offset = pos 0; metadata = [] }) ∷ [] }
 
 -- the transactional id `x` with producer 0 in epoch 0, and with partition 0 of `t` and these groups in its transaction
-abbrev in_phase : Phase → List (List ℕ) → CoordinatorValue
-in_phase phase groups = record {
+abbrev in_state : TransactionState → List (List ℕ) → CoordinatorValue
+in_state state groups = record {
   transactions = record {
     id = 120 ∷ [];
     pair = record { producer = pos 0; epoch = pos 0 };
     timeout = 10;
     start = 0;
-    phase = phase;
+    state = state;
     partitions = record { topic = 116 ∷ []; index = pos 0 } ∷ [];
     groups = groups;
     kept = None;
@@ -149,7 +149,7 @@ abbrev other_batch : List ℕ
 other_batch = batch (184 ∷ 195 ∷ 78 ∷ 157 ∷ []) 16 (replicate 9 0 ++ 1 ∷ replicate 4 0)
 
 produces_2 : IsToldFor 0 2
-unfolding number_of shifted_by crc_after has_records is_valid first_fault records_at fixed_at whole sized_at nat_at int_at front_at many_at items_at behind_at null_or null_behind_at varint_at null_or_count null_count_at not_null required_at counted_at
+unfolding number_of bit_shift_by crc_after has_records is_valid first_fault records_at fixed_at whole_value sized_at nat_at int_at front_at many_at items_at after_count_at null_or after_null_count_at varint_at null_or_count null_count_at not_null required_at counted_at
 produces_2 = told_for (free there no_transactions []) (producing None (pos 1) (Some (0 ∷ []))) refl refl
 
 produces_3 : IsToldFor 0 3
@@ -157,7 +157,7 @@ unfolding number_of
 produces_3 = told_for (free [] no_transactions []) (producing None (pos 1) None) refl refl
 
 produces_10 : IsToldFor 0 10
-unfolding number_of shifted_by crc_after has_records is_valid first_fault records_at fixed_at whole sized_at nat_at int_at front_at many_at items_at behind_at null_or null_behind_at varint_at null_or_count null_count_at not_null required_at counted_at
+unfolding number_of bit_shift_by crc_after has_records is_valid first_fault records_at fixed_at whole_value sized_at nat_at int_at front_at many_at items_at after_count_at null_or after_null_count_at varint_at null_or_count null_count_at not_null required_at counted_at
 produces_10 = told_for (narrow there) (producing None (pos 1) (Some plain_batch)) refl refl
 
 produces_21 : IsToldFor 0 21
@@ -169,23 +169,23 @@ unfolding number_of
 produces_29 = told_for closed (producing None (pos 1) None) refl refl
 
 produces_32 : IsToldFor 0 32
-unfolding number_of shifted_by crc_after has_records is_valid first_fault records_at fixed_at whole sized_at nat_at int_at front_at many_at items_at behind_at null_or null_behind_at varint_at null_or_count null_count_at not_null required_at counted_at
+unfolding number_of bit_shift_by crc_after has_records is_valid first_fault records_at fixed_at whole_value sized_at nat_at int_at front_at many_at items_at after_count_at null_or after_null_count_at varint_at null_or_count null_count_at not_null required_at counted_at
 produces_32 = told_for (free there no_transactions []) (producing None (pos 1) (Some timed_batch)) refl refl
 
 produces_45 : IsToldFor 0 45
-unfolding number_of shifted_by crc_after has_records is_valid first_fault records_at fixed_at whole sized_at nat_at int_at front_at many_at items_at behind_at null_or null_behind_at varint_at null_or_count null_count_at not_null required_at counted_at
+unfolding number_of bit_shift_by crc_after has_records is_valid first_fault records_at fixed_at whole_value sized_at nat_at int_at front_at many_at items_at after_count_at null_or after_null_count_at varint_at null_or_count null_count_at not_null required_at counted_at
 produces_45 = told_for (free there (given_out (None ∷ [])) []) (producing None (pos 1) (Some gapped_batch)) refl refl
 
 produces_47 : IsToldFor 0 47
-unfolding number_of shifted_by crc_after has_records is_valid first_fault records_at fixed_at whole sized_at nat_at int_at front_at many_at items_at behind_at null_or null_behind_at varint_at null_or_count null_count_at not_null required_at counted_at
-produces_47 = told_for (free there (in_phase Ongoing []) []) (producing (Some (120 ∷ [])) (pos 1) (Some other_batch)) refl refl
+unfolding number_of bit_shift_by crc_after has_records is_valid first_fault records_at fixed_at whole_value sized_at nat_at int_at front_at many_at items_at after_count_at null_or after_null_count_at varint_at null_or_count null_count_at not_null required_at counted_at
+produces_47 = told_for (free there (in_state Ongoing []) []) (producing (Some (120 ∷ [])) (pos 1) (Some other_batch)) refl refl
 
 produces_48 : IsToldFor 0 48
-unfolding number_of shifted_by crc_after has_records is_valid first_fault records_at fixed_at whole sized_at nat_at int_at front_at many_at items_at behind_at null_or null_behind_at varint_at null_or_count null_count_at not_null required_at counted_at
+unfolding number_of bit_shift_by crc_after has_records is_valid first_fault records_at fixed_at whole_value sized_at nat_at int_at front_at many_at items_at after_count_at null_or after_null_count_at varint_at null_or_count null_count_at not_null required_at counted_at
 produces_48 = told_for (free there (given_out (Some (120 ∷ []) ∷ [])) []) (producing None (pos 1) (Some first_batch)) refl refl
 
 produces_49 : IsToldFor 0 49
-unfolding number_of shifted_by crc_after has_records is_valid first_fault records_at fixed_at whole sized_at nat_at int_at front_at many_at items_at behind_at null_or null_behind_at varint_at null_or_count null_count_at not_null required_at counted_at
+unfolding number_of bit_shift_by crc_after has_records is_valid first_fault records_at fixed_at whole_value sized_at nat_at int_at front_at many_at items_at after_count_at null_or after_null_count_at varint_at null_or_count null_count_at not_null required_at counted_at
 produces_49 = told_for (free there no_transactions []) (producing None (pos 1) (Some first_batch)) refl refl
 
 produces_53 : IsToldFor 0 53
@@ -193,7 +193,7 @@ unfolding number_of
 produces_53 = told_for closed (producing (Some (120 ∷ [])) (pos 1) None) refl refl
 
 produces_76 : IsToldFor 0 76
-unfolding number_of shifted_by crc_after has_records is_valid first_fault records_at fixed_at whole sized_at nat_at int_at front_at many_at items_at behind_at null_or null_behind_at varint_at null_or_count null_count_at not_null required_at counted_at
+unfolding number_of bit_shift_by crc_after has_records is_valid first_fault records_at fixed_at whole_value sized_at nat_at int_at front_at many_at items_at after_count_at null_or after_null_count_at varint_at null_or_count null_count_at not_null required_at counted_at
 produces_76 = told_for (free there no_transactions []) (producing None (pos 1) (Some packed_batch)) refl refl
 
 produces_87 : IsToldFor 0 87
@@ -423,7 +423,7 @@ inits_50 = told_for (free [] no_transactions []) (initializing (Some (120 ∷ []
 
 inits_51 : IsToldFor 22 51
 unfolding number_of
-inits_51 = told_for (free [] (in_phase Ongoing []) []) (initializing (Some (120 ∷ [])) (pos 10)) refl refl
+inits_51 = told_for (free [] (in_state Ongoing []) []) (initializing (Some (120 ∷ [])) (pos 10)) refl refl
 
 inits_53 : IsToldFor 22 53
 unfolding number_of
@@ -448,7 +448,7 @@ adds_42 = told_for (free there no_transactions []) (adding [] (pos 0) (pos 0 ∷
 
 adds_47 : IsToldFor 24 47
 unfolding number_of
-adds_47 = told_for (free there (in_phase Ongoing []) []) (adding (120 ∷ []) (pos 1) (pos 0 ∷ [])) refl refl
+adds_47 = told_for (free there (in_state Ongoing []) []) (adding (120 ∷ []) (pos 1) (pos 0 ∷ [])) refl refl
 
 adds_49 : IsToldFor 24 49
 unfolding number_of
@@ -456,7 +456,7 @@ adds_49 = told_for (free there no_transactions []) (adding (120 ∷ []) (pos 0) 
 
 adds_51 : IsToldFor 24 51
 unfolding number_of
-adds_51 = told_for (free there (in_phase PrepareCommit []) []) (adding (120 ∷ []) (pos 0) (pos 0 ∷ [])) refl refl
+adds_51 = told_for (free there (in_state PrepareCommit []) []) (adding (120 ∷ []) (pos 0) (pos 0 ∷ [])) refl refl
 
 adds_53 : IsToldFor 24 53
 unfolding number_of
@@ -481,7 +481,7 @@ groups_42 = told_for (free [] no_transactions []) (adding_group [] (pos 0)) refl
 
 groups_47 : IsToldFor 25 47
 unfolding number_of
-groups_47 = told_for (free [] (in_phase Ongoing []) []) (adding_group (120 ∷ []) (pos 1)) refl refl
+groups_47 = told_for (free [] (in_state Ongoing []) []) (adding_group (120 ∷ []) (pos 1)) refl refl
 
 groups_49 : IsToldFor 25 49
 unfolding number_of
@@ -489,7 +489,7 @@ groups_49 = told_for (free [] no_transactions []) (adding_group (120 ∷ []) (po
 
 groups_51 : IsToldFor 25 51
 unfolding number_of
-groups_51 = told_for (free [] (in_phase PrepareCommit []) []) (adding_group (120 ∷ []) (pos 0)) refl refl
+groups_51 = told_for (free [] (in_state PrepareCommit []) []) (adding_group (120 ∷ []) (pos 0)) refl refl
 
 groups_53 : IsToldFor 25 53
 unfolding number_of
@@ -506,11 +506,11 @@ ends_42 = told_for (free [] no_transactions []) (requests.EndTxn (versions.Versi
 
 ends_47 : IsToldFor 26 47
 unfolding number_of
-ends_47 = told_for (free [] (in_phase Ongoing []) []) (requests.EndTxn (versions.Version0 (committing_with (120 ∷ []) (pos 1)))) refl refl
+ends_47 = told_for (free [] (in_state Ongoing []) []) (requests.EndTxn (versions.Version0 (committing_with (120 ∷ []) (pos 1)))) refl refl
 
 ends_48 : IsToldFor 26 48
 unfolding number_of
-ends_48 = told_for (free [] (in_phase Empty []) []) (requests.EndTxn (versions.Version0 (committing_with (120 ∷ []) (pos 0)))) refl refl
+ends_48 = told_for (free [] (in_state Empty []) []) (requests.EndTxn (versions.Version0 (committing_with (120 ∷ []) (pos 0)))) refl refl
 
 ends_49 : IsToldFor 26 49
 unfolding number_of
@@ -518,7 +518,7 @@ ends_49 = told_for (free [] no_transactions []) (requests.EndTxn (versions.Versi
 
 ends_51 : IsToldFor 26 51
 unfolding number_of
-ends_51 = told_for (free [] (in_phase PrepareCommit []) []) (requests.EndTxn (versions.Version0 (committing_with (120 ∷ []) (pos 0)))) refl refl
+ends_51 = told_for (free [] (in_state PrepareCommit []) []) (requests.EndTxn (versions.Version0 (committing_with (120 ∷ []) (pos 0)))) refl refl
 
 ends_53 : IsToldFor 26 53
 unfolding number_of
@@ -526,7 +526,7 @@ ends_53 = told_for closed (requests.EndTxn (versions.Version0 (committing_with (
 
 ends_90 : IsToldFor 26 90
 unfolding number_of
-ends_90 = told_for (free [] (in_phase Ongoing []) []) (requests.EndTxn (versions.Version2 (committing_with (120 ∷ []) (pos 1)))) refl refl
+ends_90 = told_for (free [] (in_state Ongoing []) []) (requests.EndTxn (versions.Version2 (committing_with (120 ∷ []) (pos 1)))) refl refl
 
 -- ---- TxnOffsetCommit
 
@@ -539,11 +539,11 @@ stages_3 = told_for (free [] no_transactions []) (staging (pos 0) (pos 1) (109 �
 
 stages_22 : IsToldFor 28 22
 unfolding number_of
-stages_22 = told_for (free there (in_phase Ongoing ((103 ∷ []) ∷ [])) (joined_group (Some []) ∷ [])) (staging (pos 0) (pos 2) (109 ∷ [])) refl refl
+stages_22 = told_for (free there (in_state Ongoing ((103 ∷ []) ∷ [])) (joined_group (Some []) ∷ [])) (staging (pos 0) (pos 2) (109 ∷ [])) refl refl
 
 stages_25 : IsToldFor 28 25
 unfolding number_of
-stages_25 = told_for (free there (in_phase Ongoing ((103 ∷ []) ∷ [])) (joined_group (Some []) ∷ [])) (staging (pos 0) (pos 1) (120 ∷ [])) refl refl
+stages_25 = told_for (free there (in_state Ongoing ((103 ∷ []) ∷ [])) (joined_group (Some []) ∷ [])) (staging (pos 0) (pos 1) (120 ∷ [])) refl refl
 
 stages_29 : IsToldFor 28 29
 unfolding number_of
@@ -555,11 +555,11 @@ stages_30 = told_for (granting (writes_id ∷ [])) (staging (pos 0) (pos 1) (109
 
 stages_47 : IsToldFor 28 47
 unfolding number_of
-stages_47 = told_for (free there (in_phase Ongoing ((103 ∷ []) ∷ [])) (joined_group (Some []) ∷ [])) (staging (pos 1) (pos 1) (109 ∷ [])) refl refl
+stages_47 = told_for (free there (in_state Ongoing ((103 ∷ []) ∷ [])) (joined_group (Some []) ∷ [])) (staging (pos 1) (pos 1) (109 ∷ [])) refl refl
 
 stages_48 : IsToldFor 28 48
 unfolding number_of
-stages_48 = told_for (free there (in_phase Empty []) (joined_group (Some []) ∷ [])) (staging (pos 0) (pos 1) (109 ∷ [])) refl refl
+stages_48 = told_for (free there (in_state Empty []) (joined_group (Some []) ∷ [])) (staging (pos 0) (pos 1) (109 ∷ [])) refl refl
 
 stages_49 : IsToldFor 28 49
 unfolding number_of

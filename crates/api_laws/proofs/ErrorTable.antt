@@ -14,7 +14,7 @@ use Rattle.acl_binding.specs.declared.binding.Binding.{Binding}
 use Rattle.acl_binding.specs.declared.filter.Filter.{Filter}
 use Rattle.acl_binding.specs.Book.{BookValue}
 use Rattle.acl_binding.specs.Entries.{binding_of, filter_of}
-use Rattle.acl_binding.specs.Filter.{matching}
+use Rattle.acl_binding.specs.Filter.{matching_bindings}
 use Rattle.authorizer.specs.declared.answer.Refusal.{Refusal}
 use Rattle.authorizer.specs.AnyTopic.{any_topic}
 use Rattle.authorizer.specs.Policy.{verdict}
@@ -61,42 +61,42 @@ use Rattle.msg_admin.specs.declared.request.Request.{Request}
 use Rattle.msg_admin.specs.declared.request.Request.TheVariants as requests
 use Rattle.msg_admin.specs.declared.reply.Reply.{Reply}
 use Rattle.msg_admin.specs.declared.reply.Reply.TheVariants as replies
-use Rattle.transactions.specs.declared.pair.PairAnswer.{PairAnswer}
-use Rattle.transactions.specs.declared.target.Target.TheVariants.{Group as group_target}
-use Rattle.transactions.specs.Words.{no_pair}
-use Rattle.transactions.specs.Coordinator.{CoordinatorValue, recorded, turn_code, turn_answer}
-use Rattle.transactions.specs.EndTxn.{other_epoch}
-use Rattle.offset_tables.specs.declared.group.Group.{Group}
-use Rattle.offset_tables.specs.Groups.{group_of}
+use Rattle.txn_coordinator.specs.declared.producer_id.ProducerIdAnswer.{ProducerIdAnswer}
+use Rattle.txn_coordinator.specs.declared.target.Target.TheVariants.{Group as group_target}
+use Rattle.txn_coordinator.specs.Words.{no_producer}
+use Rattle.txn_coordinator.specs.Coordinator.{CoordinatorValue, id_record, transition_code, transition_answer}
+use Rattle.txn_coordinator.specs.EndTxn.{other_epoch}
+use Rattle.group_offsets.specs.declared.group.Group.{Group}
+use Rattle.group_offsets.specs.Groups.{group_of}
 use Rattle.walk.specs.Codes.{permission_code, refusal_code}
 use Rattle.walk.specs.Rule.{PartRule, refusal_of}
 use Rattle.walk.specs.Steps.{answer_by, part_world, parts_world, parts_answers, topics_answers}
 use Rattle.walk.specs.Walk.{answers}
 use Rattle.walk.proofs.Weaving.{woven}
 use Rattle.broker_world.specs.World.{World, TopicValue, rules_of, find_topic, topic_names}
-use Rattle.broker_world.specs.First.{magnitude}
+use Rattle.broker_world.specs.First.{non_negative}
 use Rattle.broker_world.specs.Logs.{log_at}
 use Rattle.broker_world.specs.Partitions.{partitions_from}
 use Rattle.broker_world.specs.Questions.{read_question, topic_part, topic_refusal}
-use Rattle.broker_world.specs.Whole.{Served, whole_by, whole}
-use Rattle.data_handlers.specs.declared.room.Room.{Room}
+use Rattle.broker_world.specs.Whole.{Served, whole_outcome_by, whole_outcome}
+use Rattle.data_handlers.specs.declared.fetch_budget.FetchBudget.{FetchBudget}
 use Rattle.data_handlers.specs.Judged.{partition_at}
-use Rattle.data_handlers.specs.Produce.{produce_questions, producing, produce_outcome}
-use Rattle.data_handlers.specs.Fetch.{fetch_rule, whole_room}
+use Rattle.data_handlers.specs.Produce.{produce_questions, producing_rule, produce_outcome}
+use Rattle.data_handlers.specs.Fetch.{fetch_rule, whole_budget}
 use Rattle.data_handlers.specs.ListOffsets.{list_rule}
 use Rattle.data_handlers.specs.Metadata.{topic_found, plain_topic, plain_topics as plain_infos, describable, metadata_topics, answer_by as topic_by, topic_answer}
 use Rattle.group_handlers.specs.FindCoordinator.{find_questions, find_error, find_reply}
-use Rattle.group_handlers.specs.Members.{join_error, joined, sync_reply, synced, beat_reply, heard, leave_reply, left}
-use Rattle.group_handlers.specs.OffsetCommit.{committing, committing_rule}
-use Rattle.group_handlers.specs.OffsetFetch.{group_question, offset_rule, told_topics, offsets_of, fetched_outcome, offset_fetch_by}
-use Rattle.txn_handlers.specs.InitProducerId.{init_question, init_questions, init_error, reply_for, initialized}
-use Rattle.txn_handlers.specs.AddPartitions.{cut_rule, told_for, is_cut, partitions_of, add_turn, cut_outcome, added_outcome}
-use Rattle.txn_handlers.specs.AddOffsets.{add_offsets_questions, add_offsets_reply, offsets_added}
-use Rattle.txn_handlers.specs.EndTxn.{form_of, ending_id, ending_pair, ending_outcome, end_questions, end_reply, end_error, end_turn, ended}
-use Rattle.txn_handlers.specs.TxnOffsetCommit.{staging, offset_staged, staging_refusal, staging_rule}
+use Rattle.group_handlers.specs.Members.{join_error, served_join, sync_reply, served_sync, beat_reply, served_heartbeat, leave_reply, served_leave}
+use Rattle.group_handlers.specs.OffsetCommit.{committing_of, committing_rule}
+use Rattle.group_handlers.specs.OffsetFetch.{group_question, offset_rule, listed_topics, offsets_of, fetched_outcome, offset_fetch_by}
+use Rattle.txn_handlers.specs.InitProducerId.{init_question, init_questions, init_error, reply_for, served_init}
+use Rattle.txn_handlers.specs.AddPartitions.{cut_rule, code_rule_for, is_cut, partitions_of, add_transition, cut_outcome, added_outcome}
+use Rattle.txn_handlers.specs.AddOffsets.{add_offsets_questions, add_offsets_reply, served_add_offsets}
+use Rattle.txn_handlers.specs.EndTxn.{form_of, ending_id, ending_id_and_epoch, ending_outcome, end_questions, end_reply, end_error, end_transition, served_end}
+use Rattle.txn_handlers.specs.TxnOffsetCommit.{staging_of, offset_staged, staging_refusal, staging_rule}
 use Rattle.acl_handlers.specs.DescribeAcls.{describe_acls_questions, describe_acls_error, describe_acls_reply}
-use Rattle.acl_handlers.specs.CreateAcls.{alter_questions, book_created, created_with, created_by, created, create_acls_reply}
-use Rattle.acl_handlers.specs.DeleteAcls.{book_without, book_deleted, deleted_acl, deleted_error, deleted_by, deleted, delete_acls_reply}
+use Rattle.acl_handlers.specs.CreateAcls.{alter_questions, book_created, creation_result_with, creation_result_by, creation_result, create_acls_reply}
+use Rattle.acl_handlers.specs.DeleteAcls.{book_without, book_deleted, deleted_acl, deletion_error, deletion_result, deletion_results, delete_acls_reply}
 use Rattle.api_dispatch.specs.Step.{request_outcome}
 use Rattle.api_laws.specs.ToldErrors.{partition_errors, info_errors, deleted_errors, all_errors}
 use Rattle.api_laws.specs.ErrorTable.{id_errors, metadata_errors, named_errors, init_errors, errors_of, IsAmong, ErrorsByTable}
@@ -125,11 +125,11 @@ refused_by_kind Q rules (q ∷ qs) all = by_verdict (verdict rules.book rules.su
 
 -- ---- a request that is answered whole
 
-whole_by_refusal : (numbers : List ℕ) (o : Option Refusal) (w : World) (refused : ErrorCode → Reply) (served : Served) → IfSome o (λ (r : Refusal). AreAmong numbers (refused (refusal_code r))) → AreAmong numbers served.reply → AreAmong numbers (whole_by o w refused served).reply
+whole_by_refusal : (numbers : List ℕ) (o : Option Refusal) (w : World) (refused : ErrorCode → Reply) (served : Served) → IfSome o (λ (r : Refusal). AreAmong numbers (refused (refusal_code r))) → AreAmong numbers served.reply → AreAmong numbers (whole_outcome_by o w refused served).reply
 whole_by_refusal numbers None w refused served is plain = plain
 whole_by_refusal numbers (Some r) w refused served is plain = is
 
-whole_among : (numbers : List ℕ) (w : World) (qs : List Question) (refused : ErrorCode → Reply) (served : Served) → AllByRecursion (λ (q : Question). AreAmong numbers (refused (permission_code q.kind))) qs → AreAmong numbers served.reply → AreAmong numbers (whole w qs refused served).reply
+whole_among : (numbers : List ℕ) (w : World) (qs : List Question) (refused : ErrorCode → Reply) (served : Served) → AllByRecursion (λ (q : Question). AreAmong numbers (refused (permission_code q.kind))) qs → AreAmong numbers served.reply → AreAmong numbers (whole_outcome w qs refused served).reply
 whole_among numbers w qs refused served asks plain =
     whole_by_refusal numbers (part_refusal (rules_of w) qs) w refused served (refused_by_kind (λ (code : ErrorCode). AreAmong numbers (refused code)) (rules_of w) qs asks) plain
 
@@ -189,16 +189,16 @@ module _ (w : World) (caller : Caller) where
   unfolding number_of
   produce_among r =
       let numbers : List ℕ = errors_of (requests.Produce r) in
-      sent_or_not numbers (int_eq r.acks (pos 0)) (record { topics = answers (producing w caller r) (rules_of w) w.topics r.topics; throttle = pos 0 })
-      (walk_among ProducedRecords ProducedOffset (List TopicValue) (producing w caller r) (λ (p : ProducedOffset). p.error) numbers (rules_of w) (λ code name p. refl) (λ name p. produce_asked r.transactional_id name)
-      (λ topics name p. produced_codes (Among numbers) refl refl refl refl refl refl refl refl refl refl refl refl (magnitude w.node.max_batch) w.coordinator r.transactional_id r.acks (partition_at name p.index) p (log_at topics name p.index)) w.topics r.topics)
+      sent_or_not numbers (int_eq r.acks (pos 0)) (record { topics = answers (producing_rule w caller r) (rules_of w) w.topics r.topics; throttle = pos 0 })
+      (walk_among ProducedRecords ProducedOffset (List TopicValue) (producing_rule w caller r) (λ (p : ProducedOffset). p.error) numbers (rules_of w) (λ code name p. refl) (λ name p. produce_asked r.transactional_id name)
+      (λ topics name p. produced_codes (Among numbers) refl refl refl refl refl refl refl refl refl refl refl refl (non_negative w.node.max_batch) w.coordinator r.transactional_id r.acks (partition_at name p.index) p (log_at topics name p.index)) w.topics r.topics)
 
   fetch_among : (r : FetchRequest) → AreAmong (errors_of (requests.Fetch r)) (request_outcome w caller (requests.Fetch r)).reply
   unfolding number_of
   fetch_among r =
       let numbers : List ℕ = errors_of (requests.Fetch r) in
-      walk_among FetchPartition FetchedRecords Room (fetch_rule caller r.isolation w.topics) (λ (p : FetchedRecords). p.error) numbers (rules_of w) (λ code name p. refl) (λ name p. (refl, tt))
-      (λ room name p. fetched_codes (Among numbers) refl refl refl r.isolation room p (log_at w.topics name p.index)) (whole_room r) r.topics
+      walk_among FetchPartition FetchedRecords FetchBudget (fetch_rule caller r.isolation w.topics) (λ (p : FetchedRecords). p.error) numbers (rules_of w) (λ code name p. refl) (λ name p. (refl, tt))
+      (λ room name p. fetched_codes (Among numbers) refl refl refl r.isolation room p (log_at w.topics name p.index)) (whole_budget r) r.topics
 
   list_among : (r : ListOffsetsRequest) → AreAmong (errors_of (requests.ListOffsets r)) (request_outcome w caller (requests.ListOffsets r)).reply
   unfolding number_of
@@ -284,14 +284,14 @@ module _ (w : World) (caller : Caller) where
   commit_among r =
       let numbers : List ℕ = errors_of (requests.OffsetCommit r) in
       walk_among OffsetToCommit CommittedOffset (List Group) (committing_rule w caller r) (λ (p : CommittedOffset). p.error) numbers (rules_of w) (λ code name p. refl) (λ name p. (refl, (refl, tt)))
-      (λ gs name p. committed_codes (Among numbers) refl refl refl refl refl (committing r) gs name p (log_at w.topics name p.index)) w.groups r.topics
+      (λ gs name p. committed_codes (Among numbers) refl refl refl refl refl (committing_of r) gs name p (log_at w.topics name p.index)) w.groups r.topics
 
   offsets_among : (r : OffsetFetchRequest) (topics : Option (List (Topic ℤ))) → AreAmong (30 ∷ 88 ∷ named_errors topics) (fetched_outcome w caller (offsets_of w r.group) r.require_stable topics).reply
   unfolding number_of
   offsets_among r None =
       let numbers : List ℕ = 30 ∷ 88 ∷ [] in
       let es = offsets_of w r.group in
-      (refl, flat FetchedOffset (λ (p : FetchedOffset). p.error) numbers (told_topics (rules_of w) caller es r.require_stable w.topics) (told_slots (Among numbers) refl refl (rules_of w) caller es r.require_stable w.topics))
+      (refl, flat FetchedOffset (λ (p : FetchedOffset). p.error) numbers (listed_topics (rules_of w) caller es r.require_stable w.topics) (told_slots (Among numbers) refl refl (rules_of w) caller es r.require_stable w.topics))
   offsets_among r (Some ts) =
       let numbers : List ℕ = 30 ∷ 88 ∷ 29 ∷ [] in
       let es = offsets_of w r.group in (
@@ -312,11 +312,11 @@ module _ (w : World) (caller : Caller) where
   unfolding number_of
   find_among r = by_tests (int_eq r.key_type (pos 0)) (int_eq r.key_type (pos 1)) where
     by_kind : (numbers : List ℕ) (kind : Option Kind) → AllByRecursion (λ (q : Question). AreAmong numbers (replies.FindCoordinator (find_error (permission_code q.kind)))) (find_questions caller kind r.key) → Among numbers (find_reply kind w.node).error
-        → AreAmong numbers (whole w (find_questions caller kind r.key) (λ code. replies.FindCoordinator (find_error code)) (record { world = w; reply = replies.FindCoordinator (find_reply kind w.node) })).reply
+        → AreAmong numbers (whole_outcome w (find_questions caller kind r.key) (λ code. replies.FindCoordinator (find_error code)) (record { world = w; reply = replies.FindCoordinator (find_reply kind w.node) })).reply
     by_kind numbers kind asks plain = whole_among numbers w (find_questions caller kind r.key) (λ code. replies.FindCoordinator (find_error code)) (record { world = w; reply = replies.FindCoordinator (find_reply kind w.node) }) asks (plain, tt)
 
     by_tests : (a b : Bool) → AreAmong (cond a (30 ∷ []) (cond b (53 ∷ []) (42 ∷ [])))
-        (whole w (find_questions caller (cond a (Some kinds.Group) (cond b (Some kinds.TransactionalId) None)) r.key) (λ code. replies.FindCoordinator (find_error code))
+        (whole_outcome w (find_questions caller (cond a (Some kinds.Group) (cond b (Some kinds.TransactionalId) None)) r.key) (λ code. replies.FindCoordinator (find_error code))
         (record { world = w; reply = replies.FindCoordinator (find_reply (cond a (Some kinds.Group) (cond b (Some kinds.TransactionalId) None)) w.node) })).reply
     by_tests true b = by_kind (30 ∷ []) (Some kinds.Group) ((refl, tt), tt) refl
     by_tests false true = by_kind (53 ∷ []) (Some kinds.TransactionalId) ((refl, tt), tt) refl
@@ -339,7 +339,7 @@ module _ (w : World) (caller : Caller) where
 
   init_among : (r : InitProducerIdRequest) → AreAmong (errors_of (requests.InitProducerId r)) (request_outcome w caller (requests.InitProducerId r)).reply
   init_among r =
-      whole_among (init_errors r.transactional_id) w (init_questions (rules_of w) caller r.transactional_id) (λ code. replies.InitProducerId (init_error code)) (initialized w r) (init_asked r.transactional_id)
+      whole_among (init_errors r.transactional_id) w (init_questions (rules_of w) caller r.transactional_id) (λ code. replies.InitProducerId (init_error code)) (served_init w r) (init_asked r.transactional_id)
       (init_answered r.transactional_id w.coordinator w.node.max_txn_timeout r.timeout, tt)
 
   adds_by : (r : AddPartitionsToTxnRequest) (b : Bool) → is_cut caller r.transactional_id w.topics (rules_of w) r.topics ≡ b → AreAmong (errors_of (requests.AddPartitionsToTxn r)) (cond b (cut_outcome w caller r) (added_outcome w r)).reply
@@ -350,9 +350,9 @@ module _ (w : World) (caller : Caller) where
       (λ v name index. cut_codes (Among numbers) refl refl (log_at w.topics name index)) tt r.topics
   adds_by r false is =
       let numbers : List ℕ = errors_of (requests.AddPartitionsToTxn r) in
-      let code : ErrorCode = turn_code (add_turn w.coordinator w.moment r) in
+      let code : ErrorCode = transition_code (add_transition w.coordinator w.moment r) in
       subst (λ (l : List (Topic AddedPartition)). AllByRecursion (IsAmong numbers) (partition_errors (λ (p : AddedPartition). p.error) l)) (told_all caller r.transactional_id code w.topics (rules_of w) r.topics is)
-      (walk_among ℤ AddedPartition (Unit {0}) (told_for caller r.transactional_id code) (λ (p : AddedPartition). p.error) numbers (rules_of w) (λ c name index. refl) (λ name index. (refl, (refl, tt)))
+      (walk_among ℤ AddedPartition (Unit {0}) (code_rule_for caller r.transactional_id code) (λ (p : AddedPartition). p.error) numbers (rules_of w) (λ c name index. refl) (λ name index. (refl, (refl, tt)))
       (λ v name index. added_codes (Among numbers) refl refl refl refl refl w.coordinator r.transactional_id (record { producer = r.producer; epoch = r.epoch }) w.moment (partitions_of r.topics)) tt r.topics)
 
   -- in its version
@@ -365,31 +365,31 @@ module _ (w : World) (caller : Caller) where
   other_among (versions.Version4 r) = refl
   other_among (versions.Version5 r) = refl
 
-  end_reply_among : (r : EndTxnRequest) (a : PairAnswer) → Among (errors_of (requests.EndTxn r)) a.code → AreAmong (errors_of (requests.EndTxn r)) (replies.EndTxn (end_reply r a))
+  end_reply_among : (r : EndTxnRequest) (a : ProducerIdAnswer) → Among (errors_of (requests.EndTxn r)) a.code → AreAmong (errors_of (requests.EndTxn r)) (replies.EndTxn (end_reply r a))
   end_reply_among r a is = (subst (Among (errors_of (requests.EndTxn r))) (sym (end_told r a)) is, tt)
 
   end_among : (r : EndTxnRequest) → AreAmong (errors_of (requests.EndTxn r)) (request_outcome w caller (requests.EndTxn r)).reply
   unfolding number_of
   end_among r =
       let numbers : List ℕ = errors_of (requests.EndTxn r) in
-      whole_among numbers w (end_questions caller r) (λ code. replies.EndTxn (end_error r code)) (ended w r) (end_reply_among r (record { code = codes.TransactionalIdAuthorizationFailed; pair = no_pair }) refl, tt)
-      (end_reply_among r (turn_answer w.coordinator (ending_id r) (end_turn w.coordinator r)) (ended_codes (Among numbers) refl refl refl refl refl w.coordinator (form_of r) (ending_id r) (ending_pair r) (ending_outcome r) (other_among r)))
+      whole_among numbers w (end_questions caller r) (λ code. replies.EndTxn (end_error r code)) (served_end w r) (end_reply_among r (record { code = codes.TransactionalIdAuthorizationFailed; pair = no_producer }) refl, tt)
+      (end_reply_among r (transition_answer w.coordinator (ending_id r) (end_transition w.coordinator r)) (ended_codes (Among numbers) refl refl refl refl refl w.coordinator (form_of r) (ending_id r) (ending_id_and_epoch r) (ending_outcome r) (other_among r)))
 
   stage_among : (r : TxnOffsetCommitRequest) → AreAmong (errors_of (requests.TxnOffsetCommit r)) (request_outcome w caller (requests.TxnOffsetCommit r)).reply
   unfolding number_of
   stage_among r =
       let numbers : List ℕ = errors_of (requests.TxnOffsetCommit r) in
       walk_among OffsetToStage StagedOffset (List Group) (staging_rule w caller r) (λ (p : StagedOffset). p.error) numbers (rules_of w) (λ code name p. refl) (λ name p. (refl, (refl, (refl, tt))))
-      (λ gs name p. staged_codes (Among numbers) refl refl refl refl (staging_refusal w.coordinator (staging r)) (staging r) gs (offset_staged name p) (log_at w.topics name p.index)
-      (held (Among numbers) refl refl refl (recorded w.coordinator.transactions r.transactional_id) (staging r).pair (group_target r.group))) w.groups r.topics
+      (λ gs name p. staged_codes (Among numbers) refl refl refl refl (staging_refusal w.coordinator (staging_of r)) (staging_of r) gs (offset_staged name p) (log_at w.topics name p.index)
+      (held (Among numbers) refl refl refl (id_record w.coordinator.transactions r.transactional_id) (staging_of r).pair (group_target r.group))) w.groups r.topics
 
   -- ---- bindings
 
-  created_refused : (numbers : List ℕ) (es : List BindingEntry) (code : ErrorCode) → Among numbers code → AllByRecursion (IsAmong numbers) (map (λ (c : CreatedAcl). number_of c.error) (map (λ (e : BindingEntry). created_with code) es))
+  created_refused : (numbers : List ℕ) (es : List BindingEntry) (code : ErrorCode) → Among numbers code → AllByRecursion (IsAmong numbers) (map (λ (c : CreatedAcl). number_of c.error) (map (λ (e : BindingEntry). creation_result_with code) es))
   created_refused numbers [] code is = tt
   created_refused numbers (e ∷ es) code is = (is, created_refused numbers es code is)
 
-  created_each : (numbers : List ℕ) → ((b : Option Binding) → Among numbers (created_by b).error) → (es : List BindingEntry) → AllByRecursion (IsAmong numbers) (map (λ (c : CreatedAcl). number_of c.error) (map created es))
+  created_each : (numbers : List ℕ) → ((b : Option Binding) → Among numbers (creation_result_by b).error) → (es : List BindingEntry) → AllByRecursion (IsAmong numbers) (map (λ (c : CreatedAcl). number_of c.error) (map creation_result es))
   created_each numbers is [] = tt
   created_each numbers is (e ∷ es) = (is (binding_of e), created_each numbers is es)
 
@@ -397,11 +397,11 @@ module _ (w : World) (caller : Caller) where
   unfolding number_of
   create_among r =
       let numbers : List ℕ = errors_of (requests.CreateAcls r) in
-      whole_among numbers w (alter_questions caller) (λ code. replies.CreateAcls (create_acls_reply (map (λ (e : BindingEntry). created_with code) r.creations)))
-      (record { world = record w { book = book_created w.book r.creations }; reply = replies.CreateAcls (create_acls_reply (map created r.creations)) })
+      whole_among numbers w (alter_questions caller) (λ code. replies.CreateAcls (create_acls_reply (map (λ (e : BindingEntry). creation_result_with code) r.creations)))
+      (record { world = record w { book = book_created w.book r.creations }; reply = replies.CreateAcls (create_acls_reply (map creation_result r.creations)) })
       (created_refused numbers r.creations codes.ClusterAuthorizationFailed refl, tt) (created_each numbers (created_codes (Among numbers) refl refl) r.creations)
 
-  deleted_refused : (numbers : List ℕ) (es : List FilterEntry) (code : ErrorCode) → Among numbers code → AllByRecursion (IsAmong numbers) (deleted_errors (map (λ (e : FilterEntry). deleted_error code) es))
+  deleted_refused : (numbers : List ℕ) (es : List FilterEntry) (code : ErrorCode) → Among numbers code → AllByRecursion (IsAmong numbers) (deleted_errors (map (λ (e : FilterEntry). deletion_error code) es))
   deleted_refused numbers [] code is = tt
   deleted_refused numbers (e ∷ es) code is = (is, deleted_refused numbers es code is)
 
@@ -409,24 +409,24 @@ module _ (w : World) (caller : Caller) where
   taken_out numbers none [] = tt
   taken_out numbers none (b ∷ bs) = (none, taken_out numbers none bs)
 
-  deleted_one : (numbers : List ℕ) → Among numbers codes.None → Among numbers codes.InvalidRequest → (book : BookValue) (f : Option Filter) → Among numbers (deleted_by book f).error × AllByRecursion (λ (m : DeletedAcl). Among numbers m.error) (deleted_by book f).matches
+  deleted_one : (numbers : List ℕ) → Among numbers codes.None → Among numbers codes.InvalidRequest → (book : BookValue) (f : Option Filter) → Among numbers (deletion_result book f).error × AllByRecursion (λ (m : DeletedAcl). Among numbers m.error) (deletion_result book f).matches
   deleted_one numbers none request book None = (request, tt)
-  deleted_one numbers none request book (Some f) = (none, taken_out numbers none (matching book.entries f))
+  deleted_one numbers none request book (Some f) = (none, taken_out numbers none (matching_bindings book.entries f))
 
-  deleted_each : (numbers : List ℕ) → Among numbers codes.None → Among numbers codes.InvalidRequest → (book : BookValue) (es : List FilterEntry) → AllByRecursion (IsAmong numbers) (deleted_errors (deleted book es))
+  deleted_each : (numbers : List ℕ) → Among numbers codes.None → Among numbers codes.InvalidRequest → (book : BookValue) (es : List FilterEntry) → AllByRecursion (IsAmong numbers) (deleted_errors (deletion_results book es))
   deleted_each numbers none request book [] = tt
   deleted_each numbers none request book (e ∷ es) =
-      let d : DeletedAcls = deleted_by book (filter_of e) in
+      let d : DeletedAcls = deletion_result book (filter_of e) in
       let one = deleted_one numbers none request book (filter_of e) in
-      all_append (IsAmong numbers) (number_of d.error ∷ map (λ (m : DeletedAcl). number_of m.error) d.matches) (deleted_errors (deleted (book_without book (filter_of e)) es))
+      all_append (IsAmong numbers) (number_of d.error ∷ map (λ (m : DeletedAcl). number_of m.error) d.matches) (deleted_errors (deletion_results (book_without book (filter_of e)) es))
       (one.0, flat_parts DeletedAcl (λ (m : DeletedAcl). m.error) numbers d.matches one.1) (deleted_each numbers none request (book_without book (filter_of e)) es)
 
   delete_among : (r : DeleteAclsRequest) → AreAmong (errors_of (requests.DeleteAcls r)) (request_outcome w caller (requests.DeleteAcls r)).reply
   unfolding number_of
   delete_among r =
       let numbers : List ℕ = errors_of (requests.DeleteAcls r) in
-      whole_among numbers w (alter_questions caller) (λ code. replies.DeleteAcls (delete_acls_reply (map (λ (e : FilterEntry). deleted_error code) r.filters)))
-      (record { world = record w { book = book_deleted w.book r.filters }; reply = replies.DeleteAcls (delete_acls_reply (deleted w.book r.filters)) })
+      whole_among numbers w (alter_questions caller) (λ code. replies.DeleteAcls (delete_acls_reply (map (λ (e : FilterEntry). deletion_error code) r.filters)))
+      (record { world = record w { book = book_deleted w.book r.filters }; reply = replies.DeleteAcls (delete_acls_reply (deletion_results w.book r.filters)) })
       (deleted_refused numbers r.filters codes.ClusterAuthorizationFailed refl, tt) (deleted_each numbers refl refl w.book r.filters)
 
   -- ---- any request
@@ -442,23 +442,23 @@ module _ (w : World) (caller : Caller) where
   answers_among (requests.FindCoordinator r) = find_among r
   answers_among (requests.JoinGroup r) =
       let numbers : List ℕ = errors_of (requests.JoinGroup r) in
-      whole_among numbers w (read_question caller r.group ∷ []) (λ code. replies.JoinGroup (join_error code r)) (joined w r) ((refl, tt), tt) (joined_codes (Among numbers) refl refl refl refl refl refl (group_of w.groups r.group) r w.events w.moment, tt)
+      whole_among numbers w (read_question caller r.group ∷ []) (λ code. replies.JoinGroup (join_error code r)) (served_join w r) ((refl, tt), tt) (joined_codes (Among numbers) refl refl refl refl refl refl (group_of w.groups r.group) r w.events w.moment, tt)
   answers_among (requests.Heartbeat r) =
       let numbers : List ℕ = errors_of (requests.Heartbeat r) in
-      whole_among numbers w (read_question caller r.group ∷ []) (λ code. replies.Heartbeat (beat_reply code)) (heard w r) ((refl, tt), tt) (beaten_codes (Among numbers) refl refl refl refl (group_of w.groups r.group) r w.moment, tt)
+      whole_among numbers w (read_question caller r.group ∷ []) (λ code. replies.Heartbeat (beat_reply code)) (served_heartbeat w r) ((refl, tt), tt) (beaten_codes (Among numbers) refl refl refl refl (group_of w.groups r.group) r w.moment, tt)
   answers_among (requests.LeaveGroup r) =
       let numbers : List ℕ = errors_of (requests.LeaveGroup r) in
-      whole_among numbers w (read_question caller r.group ∷ []) (λ code. replies.LeaveGroup (leave_reply code)) (left w r) ((refl, tt), tt) (left_codes (Among numbers) refl refl refl (group_of w.groups r.group) r, tt)
+      whole_among numbers w (read_question caller r.group ∷ []) (λ code. replies.LeaveGroup (leave_reply code)) (served_leave w r) ((refl, tt), tt) (left_codes (Among numbers) refl refl refl (group_of w.groups r.group) r, tt)
   answers_among (requests.SyncGroup r) =
       let numbers : List ℕ = errors_of (requests.SyncGroup r) in
-      whole_among numbers w (read_question caller r.group ∷ []) (λ code. replies.SyncGroup (sync_reply (Err code))) (synced w r) ((refl, tt), tt) (synced_codes (Among numbers) refl refl refl refl (group_of w.groups r.group) r w.moment, tt)
+      whole_among numbers w (read_question caller r.group ∷ []) (λ code. replies.SyncGroup (sync_reply (Err code))) (served_sync w r) ((refl, tt), tt) (synced_codes (Among numbers) refl refl refl refl (group_of w.groups r.group) r w.moment, tt)
   answers_among (requests.SaslHandshake r) = (refl, tt)
   answers_among requests.ApiVersions = (refl, tt)
   answers_among (requests.InitProducerId r) = init_among r
   answers_among (requests.AddPartitionsToTxn r) = adds_by r (is_cut caller r.transactional_id w.topics (rules_of w) r.topics) refl
   answers_among (requests.AddOffsetsToTxn r) =
       let numbers : List ℕ = errors_of (requests.AddOffsetsToTxn r) in
-      whole_among numbers w (add_offsets_questions caller r.transactional_id r.group) (λ code. replies.AddOffsetsToTxn (add_offsets_reply code)) (offsets_added w r) ((refl, tt), ((refl, tt), tt))
+      whole_among numbers w (add_offsets_questions caller r.transactional_id r.group) (λ code. replies.AddOffsetsToTxn (add_offsets_reply code)) (served_add_offsets w r) ((refl, tt), ((refl, tt), tt))
       (grouped_codes (Among numbers) refl refl refl refl refl w.coordinator r.transactional_id (record { producer = r.producer; epoch = r.epoch }) w.moment r.group, tt)
   answers_among (requests.EndTxn r) = end_among r
   answers_among (requests.TxnOffsetCommit r) = stage_among r

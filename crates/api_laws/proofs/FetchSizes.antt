@@ -19,14 +19,14 @@ use Rattle.msg_admin.specs.declared.reply.Reply.TheVariants as replies
 use Rattle.walk.specs.Rule.{refusal_of}
 use Rattle.walk.specs.Walk.{answers}
 use Rattle.walk.specs.Steps.{answer_by, world_by, parts_world, parts_answers, topics_world, topics_answers}
-use Rattle.walk.specs.Headline.{at}
+use Rattle.walk.specs.Headline.{element_at}
 use Rattle.walk.proofs.Weaving.{woven}
 use Rattle.walk.proofs.Headlines.{answers_each_part}
-use Rattle.data_handlers.specs.declared.room.Room.{Room}
+use Rattle.data_handlers.specs.declared.fetch_budget.FetchBudget.{FetchBudget}
 use Rattle.broker_world.specs.World.{World, LogValue, rules_of}
-use Rattle.broker_world.specs.First.{magnitude}
+use Rattle.broker_world.specs.First.{non_negative}
 use Rattle.broker_world.specs.Logs.{log_at}
-use Rattle.data_handlers.specs.Fetch.{room_for, less, is_outside, served_at, fetched, room_after, batch_bytes, fetch_rule, whole_room, fetch_outcome}
+use Rattle.data_handlers.specs.Fetch.{budget_for, room_after_batches, is_outside, served_at, fetched_partition, room_after, batch_bytes, fetch_rule, whole_budget, fetch_outcome}
 use Rattle.api_laws.specs.DataLaws.{IsFetched}
 use Rattle.api_laws.specs.FetchSizes.{bytes_of_topic, bytes_of, IsOneBatch, IsWithin, FetchIsWithin}
 use Rattle.api_laws.proofs.DataFetches.{fetches_runs}
@@ -34,23 +34,23 @@ use Rattle.api_laws.proofs.DataFetches.{fetches_runs}
 -- ---- what a part of an answer does with the room
 
 -- nothing was served
-record Same (room next : Room) (bytes : List ℕ) : Type 0 where
+record Same (room next : FetchBudget) (bytes : List ℕ) : Type 0 where
   empty : bytes ≡ []
   still : next ≡ room
 
 -- what was served was taken off
-record Fits (room next : Room) (bytes : List ℕ) : Type 0 where
+record Fits (room next : FetchBudget) (bytes : List ℕ) : Type 0 where
   given : next.given ≡ true
   small : length bytes + next.left ≤ room.left
 
 -- it is one batch, for which there was no room, and none is left
-record Forced (w : World) (room next : Room) (bytes : List ℕ) : Type 0 where
+record Forced (w : World) (room next : FetchBudget) (bytes : List ℕ) : Type 0 where
   fresh : room.given ≡ false
   given : next.given ≡ true
   none : next.left ≡ 0
   one : IsOneBatch w bytes
 
-abbrev Goes : World → Room → Room → List ℕ → Type 0
+abbrev Goes : World → FetchBudget → FetchBudget → List ℕ → Type 0
 Goes w room next bytes = Same room next bytes ⊎ (Fits room next bytes ⊎ Forced w room next bytes)
 
 -- ---- one part after the other
@@ -62,14 +62,14 @@ no_bytes : (bytes : List ℕ) → length bytes ≤ 0 → bytes ≡ []
 no_bytes [] small = refl
 no_bytes (b ∷ bs) small = absurd (omega (arith, small))
 
-then_same : (w : World) (a b c : Room) (x y : List ℕ) → Goes w a b x → Same b c y → Goes w a c (x ++ y)
-then_same w a b c x y g s = subst (λ (r : Room). Goes w a r (x ++ y)) (sym s.still) (subst (Goes w a b) (nothing_more x y s.empty) g)
+then_same : (w : World) (a b c : FetchBudget) (x y : List ℕ) → Goes w a b x → Same b c y → Goes w a c (x ++ y)
+then_same w a b c x y g s = subst (λ (r : FetchBudget). Goes w a r (x ++ y)) (sym s.still) (subst (Goes w a b) (nothing_more x y s.empty) g)
 
 clash : (b : Bool) → b ≡ true → b ≡ false → ⊥
 clash b is isnt = absurd (let wrong : true ≡ false = sym is ∙ isnt in cc)
 
-join : (w : World) (a b c : Room) (x y : List ℕ) → Goes w a b x → Goes w b c y → Goes w a c (x ++ y)
-join w a b c x y (inl s) g = subst (λ (r : Room). Goes w r c (x ++ y)) s.still (subst (λ (l : List ℕ). Goes w b c (l ++ y)) (sym s.empty) g)
+join : (w : World) (a b c : FetchBudget) (x y : List ℕ) → Goes w a b x → Goes w b c y → Goes w a c (x ++ y)
+join w a b c x y (inl s) g = subst (λ (r : FetchBudget). Goes w r c (x ++ y)) s.still (subst (λ (l : List ℕ). Goes w b c (l ++ y)) (sym s.empty) g)
 join w a b c x y (inr f) (inl s) = then_same w a b c x y (inr f) s
 join w a b c x y (inr (inl f)) (inr (inl g)) = inr (inl (record { given = g.given; small = omega (arith, f.small, g.small, length-append x y) }))
 join w a b c x y (inr (inl f)) (inr (inr h)) = absurd (clash b.given f.given h.fresh)
@@ -102,80 +102,80 @@ only_one w name index log before [] after there stands one = absurd (omega (arit
 only_one w name index log before (b ∷ []) after there stands one = record { name = name; index = index; log = log; before = before; batch = b; after = after; there = there; stands = stands; whole = append-nil b.bytes }
 only_one w name index log before (b ∷ next ∷ rest) after there stands one = absurd (omega (arith, one))
 
-run_goes : (w : World) (room : Room) (batches : List BatchData) → (total_bytes batches ≤ room.left) ⊎ ((room.given ≡ false) × IsOneBatch w (batch_bytes batches)) → Goes w room (less room batches) (batch_bytes batches)
+run_goes : (w : World) (room : FetchBudget) (batches : List BatchData) → (total_bytes batches ≤ room.left) ⊎ ((room.given ≡ false) × IsOneBatch w (batch_bytes batches)) → Goes w room (room_after_batches room batches) (batch_bytes batches)
 run_goes w room [] small =
     let left : room.left - 0 ≡ room.left = omega arith in
     inl (record { empty = refl; still = λ i. record { left = left i; given = or_false room.given i } })
 run_goes w room (b ∷ rest) (inl small) = inr (inl (record { given = or_true room.given; small = omega (arith, small, bytes_long (b ∷ rest)) }))
 run_goes w room (b ∷ rest) (inr (fresh, one)) = by_test (nat_le (total_bytes (b ∷ rest)) room.left) refl where
-  by_test : (t : Bool) → nat_le (total_bytes (b ∷ rest)) room.left ≡ t → Goes w room (less room (b ∷ rest)) (batch_bytes (b ∷ rest))
+  by_test : (t : Bool) → nat_le (total_bytes (b ∷ rest)) room.left ≡ t → Goes w room (room_after_batches room (b ∷ rest)) (batch_bytes (b ∷ rest))
   by_test true e = inr (inl (record { given = or_true room.given; small = omega (arith, leb-true (total_bytes (b ∷ rest)) room.left e, bytes_long (b ∷ rest)) }))
   by_test false e = inr (inr (record { fresh = fresh; given = or_true room.given; none = omega (arith, leb-false (total_bytes (b ∷ rest)) room.left e); one = one }))
 
 -- ---- a part
 
-small_by : (w : World) (name : List ℕ) (room : Room) (p : FetchPartition) (log : LogValue) (answer : FetchedRecords) (next : Room) (f : IsFetched log room p answer next) → log_at w.topics name p.index ≡ Some log
-    → (total_bytes f.batches ≤ room_for room p) ⊎ ((room.given ≡ false) × IsOneBatch w (batch_bytes f.batches))
+small_by : (w : World) (name : List ℕ) (room : FetchBudget) (p : FetchPartition) (log : LogValue) (answer : FetchedRecords) (next : FetchBudget) (f : IsFetched log room p answer next) → log_at w.topics name p.index ≡ Some log
+    → (total_bytes f.batches ≤ budget_for room p) ⊎ ((room.given ≡ false) × IsOneBatch w (batch_bytes f.batches))
 small_by w name room p log answer next f there = by_size f.served.small where
-  by_size : (total_bytes f.batches ≤ room_for room p) ⊎ ((room.given ≡ false) × (length f.batches ≡ 1)) → (total_bytes f.batches ≤ room_for room p) ⊎ ((room.given ≡ false) × IsOneBatch w (batch_bytes f.batches))
+  by_size : (total_bytes f.batches ≤ budget_for room p) ⊎ ((room.given ≡ false) × (length f.batches ≡ 1)) → (total_bytes f.batches ≤ budget_for room p) ⊎ ((room.given ≡ false) × IsOneBatch w (batch_bytes f.batches))
   by_size (inl small) = inl small
   by_size (inr (fresh, one)) = inr (fresh, only_one w name p.index log f.served.before f.batches f.served.after there f.served.in_order one)
 
-fetched_goes : (w : World) (name : List ℕ) (room : Room) (p : FetchPartition) (log : LogValue) (answer : FetchedRecords) (next : Room) → IsFetched log room p answer next → log_at w.topics name p.index ≡ Some log → Goes w room next answer.records
+fetched_goes : (w : World) (name : List ℕ) (room : FetchBudget) (p : FetchPartition) (log : LogValue) (answer : FetchedRecords) (next : FetchBudget) → IsFetched log room p answer next → log_at w.topics name p.index ≡ Some log → Goes w room next answer.records
 fetched_goes w name room p log answer next f there =
     let small = by_size (small_by w name room p log answer next f there) in
-    subst (λ (r : Room). Goes w room r answer.records) (sym f.left) (subst (Goes w room (less room f.batches)) (sym f.records) (run_goes w room f.batches small)) where
-      by_size : (total_bytes f.batches ≤ room_for room p) ⊎ ((room.given ≡ false) × IsOneBatch w (batch_bytes f.batches)) → (total_bytes f.batches ≤ room.left) ⊎ ((room.given ≡ false) × IsOneBatch w (batch_bytes f.batches))
-      by_size (inl small) = inl (min_right (magnitude p.max_bytes) room.left (total_bytes f.batches) small)
+    subst (λ (r : FetchBudget). Goes w room r answer.records) (sym f.left) (subst (Goes w room (room_after_batches room f.batches)) (sym f.records) (run_goes w room f.batches small)) where
+      by_size : (total_bytes f.batches ≤ budget_for room p) ⊎ ((room.given ≡ false) × IsOneBatch w (batch_bytes f.batches)) → (total_bytes f.batches ≤ room.left) ⊎ ((room.given ≡ false) × IsOneBatch w (batch_bytes f.batches))
+      by_size (inl small) = inl (min_right (non_negative p.max_bytes) room.left (total_bytes f.batches) small)
       by_size (inr one) = inr one
 
-fetched_within : (w : World) (name : List ℕ) (room : Room) (p : FetchPartition) (log : LogValue) (answer : FetchedRecords) (next : Room) → IsFetched log room p answer next → log_at w.topics name p.index ≡ Some log → IsWithin w p.max_bytes answer.records
+fetched_within : (w : World) (name : List ℕ) (room : FetchBudget) (p : FetchPartition) (log : LogValue) (answer : FetchedRecords) (next : FetchBudget) → IsFetched log room p answer next → log_at w.topics name p.index ≡ Some log → IsWithin w p.max_bytes answer.records
 fetched_within w name room p log answer next f there = subst (IsWithin w p.max_bytes) (sym f.records) (by_size (small_by w name room p log answer next f there)) where
-  by_size : (total_bytes f.batches ≤ room_for room p) ⊎ ((room.given ≡ false) × IsOneBatch w (batch_bytes f.batches)) → IsWithin w p.max_bytes (batch_bytes f.batches)
-  by_size (inl small) = inl (omega (arith, min_left (magnitude p.max_bytes) room.left (total_bytes f.batches) small, bytes_long f.batches))
+  by_size : (total_bytes f.batches ≤ budget_for room p) ⊎ ((room.given ≡ false) × IsOneBatch w (batch_bytes f.batches)) → IsWithin w p.max_bytes (batch_bytes f.batches)
+  by_size (inl small) = inl (omega (arith, min_left (non_negative p.max_bytes) room.left (total_bytes f.batches) small, bytes_long f.batches))
   by_size (inr (fresh, one)) = inr one
 
 -- what holds of each part, refused or not, in whatever room
-record IsPart (w : World) (room next : Room) (p : FetchPartition) (answer : FetchedRecords) : Type 0 where
+record IsPart (w : World) (room next : FetchBudget) (p : FetchPartition) (answer : FetchedRecords) : Type 0 where
   goes : Goes w room next answer.records
   within : IsWithin w p.max_bytes answer.records
 
-empty_part : (w : World) (room next : Room) (p : FetchPartition) (answer : FetchedRecords) → answer.records ≡ [] → next ≡ room → IsPart w room next p answer
+empty_part : (w : World) (room next : FetchBudget) (p : FetchPartition) (answer : FetchedRecords) → answer.records ≡ [] → next ≡ room → IsPart w room next p answer
 empty_part w room next p answer none still = record { goes = inl (record { empty = none; still = still }); within = inl (let no : length answer.records ≡ 0 = ap length none in omega (arith, no)) }
 
-plain_part : (w : World) (level : Isolation) (room : Room) (name : List ℕ) (p : FetchPartition) → IsPart w room (room_after room (served_at level w.topics room name p)) p (fetched level p (served_at level w.topics room name p))
+plain_part : (w : World) (level : Isolation) (room : FetchBudget) (name : List ℕ) (p : FetchPartition) → IsPart w room (room_after room (served_at level w.topics room name p)) p (fetched_partition level p (served_at level w.topics room name p))
 plain_part w level room name p = by_log (log_at w.topics name p.index) refl where
-  by_log : (o : Option LogValue) → log_at w.topics name p.index ≡ o → IsPart w room (room_after room (served_at level w.topics room name p)) p (fetched level p (served_at level w.topics room name p))
+  by_log : (o : Option LogValue) → log_at w.topics name p.index ≡ o → IsPart w room (room_after room (served_at level w.topics room name p)) p (fetched_partition level p (served_at level w.topics room name p))
   by_log None there = let u = (fetches_runs.missing level w.topics room name p there).1 in empty_part w room _ p _ u.records u.left
   by_log (Some log) there = by_place (is_outside log p.offset) refl where
-    by_place : (t : Bool) → is_outside log p.offset ≡ t → IsPart w room (room_after room (served_at level w.topics room name p)) p (fetched level p (served_at level w.topics room name p))
+    by_place : (t : Bool) → is_outside log p.offset ≡ t → IsPart w room (room_after room (served_at level w.topics room name p)) p (fetched_partition level p (served_at level w.topics room name p))
     by_place true e = let u = (fetches_runs.outside level w.topics room name p log there e).1 in empty_part w room _ p _ u.records u.left
     by_place false e = let f = fetches_runs.within level w.topics room name p log there e in record { goes = fetched_goes w name room p log _ _ f there; within = fetched_within w name room p log _ _ f there }
 
-part : (w : World) (caller : Caller) (level : Isolation) (room : Room) (name : List ℕ) (p : FetchPartition) (refusal : Option Refusal)
+part : (w : World) (caller : Caller) (level : Isolation) (room : FetchBudget) (name : List ℕ) (p : FetchPartition) (refusal : Option Refusal)
     → IsPart w room (world_by (fetch_rule caller level w.topics) refusal room name p) p (answer_by (fetch_rule caller level w.topics) refusal room name p)
 part w caller level room name p (Some r) = empty_part w room room p _ refl refl
 part w caller level room name p None = plain_part w level room name p
 
 -- ---- the whole answer
 
-parts_go : (w : World) (caller : Caller) (level : Isolation) (rules : Rules) (room : Room) (name : List ℕ) (ps : List FetchPartition)
+parts_go : (w : World) (caller : Caller) (level : Isolation) (rules : Rules) (room : FetchBudget) (name : List ℕ) (ps : List FetchPartition)
     → Goes w room (parts_world (fetch_rule caller level w.topics) rules room name ps) (flat_map (λ (p : FetchedRecords). p.records) (parts_answers (fetch_rule caller level w.topics) rules room name ps))
 parts_go w caller level rules room name [] = inl (record { empty = refl; still = refl })
 parts_go w caller level rules room name (p ∷ ps) =
     let api = fetch_rule caller level w.topics in
     let refusal = refusal_of api rules name p in
-    let next : Room = world_by api refusal room name p in
+    let next : FetchBudget = world_by api refusal room name p in
     join w room next _ _ _ (part w caller level room name p refusal).goes (parts_go w caller level rules next name ps)
 
-topics_go : (w : World) (caller : Caller) (level : Isolation) (rules : Rules) (room : Room) (ts : List (Topic FetchPartition))
+topics_go : (w : World) (caller : Caller) (level : Isolation) (rules : Rules) (room : FetchBudget) (ts : List (Topic FetchPartition))
     → Goes w room (topics_world (fetch_rule caller level w.topics) rules room ts) (bytes_of (topics_answers (fetch_rule caller level w.topics) rules room ts))
 topics_go w caller level rules room [] = inl (record { empty = refl; still = refl })
 topics_go w caller level rules room (t ∷ ts) =
-    let next : Room = parts_world (fetch_rule caller level w.topics) rules room t.name t.partitions in
+    let next : FetchBudget = parts_world (fetch_rule caller level w.topics) rules room t.name t.partitions in
     join w room next _ _ _ (parts_go w caller level rules room t.name t.partitions) (topics_go w caller level rules next ts)
 
-within_room : (w : World) (r : FetchRequest) (next : Room) (bytes : List ℕ) → Goes w (whole_room r) next bytes → IsWithin w r.max_bytes bytes
+within_room : (w : World) (r : FetchRequest) (next : FetchBudget) (bytes : List ℕ) → Goes w (whole_budget r) next bytes → IsWithin w r.max_bytes bytes
 within_room w r next bytes (inl s) = inl (let none : length bytes ≡ 0 = ap length s.empty in omega (arith, none))
 within_room w r next bytes (inr (inl f)) = inl (omega (arith, f.small))
 within_room w r next bytes (inr (inr h)) = inr h.one
@@ -186,24 +186,24 @@ same_reply x y h = cc
 same_element : {X : Type 0} (x y : X) → Some x ≡ Some y → x ≡ y
 same_element x y h = cc
 
-told_topics : (w : World) (caller : Caller) (r : FetchRequest) (reply : FetchReply) → (fetch_outcome w caller r).reply ≡ replies.Fetch reply → answers (fetch_rule caller r.isolation w.topics) (rules_of w) (whole_room r) r.topics ≡ reply.topics
+told_topics : (w : World) (caller : Caller) (r : FetchRequest) (reply : FetchReply) → (fetch_outcome w caller r).reply ≡ replies.Fetch reply → answers (fetch_rule caller r.isolation w.topics) (rules_of w) (whole_budget r) r.topics ≡ reply.topics
 told_topics w caller r reply is = ap (λ (x : FetchReply). x.topics) (same_reply _ reply is)
 
 whole : (w : World) (caller : Caller) (r : FetchRequest) (reply : FetchReply) → (fetch_outcome w caller r).reply ≡ replies.Fetch reply → IsWithin w r.max_bytes (bytes_of reply.topics)
 whole w caller r reply is =
     let api = fetch_rule caller r.isolation w.topics in
-    let told = (woven api (rules_of w) (whole_room r) r.topics).answers ∙ told_topics w caller r reply is in
-    subst (λ (ts : List (Topic FetchedRecords)). IsWithin w r.max_bytes (bytes_of ts)) told (within_room w r _ _ (topics_go w caller r.isolation (rules_of w) (whole_room r) r.topics))
+    let told = (woven api (rules_of w) (whole_budget r) r.topics).answers ∙ told_topics w caller r reply is in
+    subst (λ (ts : List (Topic FetchedRecords)). IsWithin w r.max_bytes (bytes_of ts)) told (within_room w r _ _ (topics_go w caller r.isolation (rules_of w) (whole_budget r) r.topics))
 
 each : (w : World) (caller : Caller) (r : FetchRequest) (reply : FetchReply) → (fetch_outcome w caller r).reply ≡ replies.Fetch reply
     → (i j : ℕ) (t : Topic FetchPartition) (a : Topic FetchedRecords) (p : FetchPartition) (answer : FetchedRecords)
-    → at r.topics i ≡ Some t → at t.partitions j ≡ Some p → at reply.topics i ≡ Some a → at a.partitions j ≡ Some answer → IsWithin w p.max_bytes answer.records
+    → element_at r.topics i ≡ Some t → element_at t.partitions j ≡ Some p → element_at reply.topics i ≡ Some a → element_at a.partitions j ≡ Some answer → IsWithin w p.max_bytes answer.records
 each w caller r reply is i j t a p answer asks names tells answers_it =
     let api = fetch_rule caller r.isolation w.topics in
-    let placed = answers_each_part.places api (rules_of w) (whole_room r) r.topics i t asks in
-    let same_topic : a ≡ placed.0 = same_element a placed.0 (sym tells ∙ ap (λ (l : List (Topic FetchedRecords)). at l i) (sym (told_topics w caller r reply is)) ∙ placed.1.0) in
+    let placed = answers_each_part.places api (rules_of w) (whole_budget r) r.topics i t asks in
+    let same_topic : a ≡ placed.0 = same_element a placed.0 (sym tells ∙ ap (λ (l : List (Topic FetchedRecords)). element_at l i) (sym (told_topics w caller r reply is)) ∙ placed.1.0) in
     let there = placed.1.1.places j p names in
-    let same_answer = same_element answer _ (sym answers_it ∙ ap (λ (x : Topic FetchedRecords). at x.partitions j) same_topic ∙ there) in
+    let same_answer = same_element answer _ (sym answers_it ∙ ap (λ (x : Topic FetchedRecords). element_at x.partitions j) same_topic ∙ there) in
     subst (λ (x : FetchedRecords). IsWithin w p.max_bytes x.records) (sym same_answer) (part w caller r.isolation _ t.name p (refusal_of api (rules_of w) t.name p)).within
 
 pub fetch_is_within : FetchIsWithin

@@ -3,13 +3,13 @@ use Rattle.std.proofs.Common.{◌≡◌, ℕ, ℤ, pos, negsuc, ◌<◌, ◌-◌
 use Rattle.std.specs.Prelude.{◌≤ℤ◌, ◌<ℤ◌}
 use Rattle.std.specs.Int.{to_be_bytes, cast_unsigned}
 use Rattle.std.proofs.lemmas.Int.{ints}
-use Rattle.wire_types.specs.Spelling.{int_written, varint_written, behind_written, many_written}
+use Rattle.wire_types.specs.Spelling.{int_written, varint_written, after_count_written, many_written}
 use Rattle.msg_admin.specs.declared.api.Api.{Api}
 use Rattle.msg_admin.specs.declared.reply.Reply.{Reply}
 use Rattle.msg_admin.specs.Api.{is_flexible}
-use Rattle.msg_admin.specs.Header.{headed}
+use Rattle.msg_admin.specs.Header.{with_header_tags}
 use Rattle.msg_admin.specs.Bodies.{reply_body}
-use Rattle.msg_admin.specs.Frame.{framed}
+use Rattle.msg_admin.specs.Frame.{frame_bytes}
 use Rattle.msg_admin.specs.Response.{response, response_as, response_text}
 use Rattle.wire_types.specs.Schema.{int32}
 use Rattle.api_laws.specs.Framing.{four_bytes, word_of, tags, after_size, ResponsesAreFramed}
@@ -25,11 +25,11 @@ written_is : (z : ℤ) → negsuc 2147483647 ≤ℤ z → z <ℤ pos 2147483648 
 unfolding int_written
 written_is z low high = ap four_bytes (word_is z low high)
 
-flexible_is : (z : ℤ) → (headed true int32).written z ≡ int_written w32 z ++ 0 ∷ []
-unfolding varint_written behind_written many_written
+flexible_is : (z : ℤ) → (with_header_tags true int32).written z ≡ int_written w32 z ++ 0 ∷ []
+unfolding varint_written after_count_written many_written
 flexible_is z = refl
 
-header_is : (b : Bool) (z : ℤ) → (headed b int32).written z ≡ int_written w32 z ++ tags b
+header_is : (b : Bool) (z : ℤ) → (with_header_tags b int32).written z ≡ int_written w32 z ++ tags b
 header_is true z = flexible_is z
 header_is false z = sym (append_nil (int_written w32 z)) where
   append_nil : (xs : List ℕ) → xs ++ [] ≡ xs
@@ -48,7 +48,7 @@ size_is n small = written_is (pos n) (omega (arith, ints)) (omega (arith, ints, 
 pub framed_are : ResponsesAreFramed
 framed_are z r api sent low high small =
     ap (λ (o : Option Api). response_as o z r) sent
-    ∙ ap framed (text_is z api r low high)
+    ∙ ap frame_bytes (text_is z api r low high)
     ∙ ap (λ (l : List ℕ). l ++ after_size z api r) (size_is (length (after_size z api r)) small)
 
 -- ---- worked cases

@@ -8,15 +8,16 @@ use Rattle.acl_binding.specs.declared.question.Verdict.{Verdict}
 use Rattle.acl_binding.specs.declared.question.Verdict.TheVariants.{Yes, Denied, Nothing}
 use Rattle.acl_binding.specs.declared.words.Kind.TheVariants.{Topic}
 use Rattle.acl_binding.specs.declared.words.Operation.TheVariants.{Describe}
-use Rattle.acl_binding.specs.Verdict.{asked}
-use Rattle.authorizer.specs.declared.answer.Why.TheVariants as why
+use Rattle.acl_binding.specs.Verdict.{question_of}
+use Rattle.authorizer.specs.declared.answer.DenyReason.TheVariants as why
 use Rattle.authorizer.specs.Policy.{verdict}
 use Rattle.authorizer.specs.Asking.{refusal_by, first_of}
 use Rattle.msg_data.specs.declared.metadata.TopicInfo.{TopicInfo}
+use Rattle.broker_world.specs.Brokers.{brokers_of}
 use Rattle.broker_world.specs.World.{World, rules_of, find_topic, topic_names}
 use Rattle.walk.specs.Codes.{refusal_code}
 use Rattle.walk.specs.Weave.{weave}
-use Rattle.data_handlers.specs.Metadata.{plain_topic, plain_topics, topic_found, topic_error, describable, refused_topics, metadata_topics, metadata_refusals, broker_info}
+use Rattle.data_handlers.specs.Metadata.{plain_topic, plain_topics, topic_found, topic_error, describable, refused_topics, metadata_topics, metadata_refusals}
 use Rattle.api_laws.specs.Tenants.{SameBase, SameGranted, SameForMetadata, SameTopics, DependsOnGrants, topic_questions}
 
 -- a topic that is the same in both worlds is answered the same
@@ -28,7 +29,7 @@ same_named : (v w : World) (caller : Caller) (names : List (List ℕ)) → v.nod
     → weave (refused_topics (rules_of w) caller (Some names)) (plain_topics v (describable (rules_of w) caller names)) ≡ weave (refused_topics (rules_of w) caller (Some names)) (plain_topics w (describable (rules_of w) caller names))
 same_named v w caller [] node h = refl
 same_named v w caller (name ∷ names) node h =
-    by_verdict (asked caller Describe Topic name) (refused_topics (rules_of w) caller (Some names)) (describable (rules_of w) caller names) (same_named v w caller names node h.1) (verdict w.book w.supers (asked caller Describe Topic name)) h.0 where
+    by_verdict (question_of caller Describe Topic name) (refused_topics (rules_of w) caller (Some names)) (describable (rules_of w) caller names) (same_named v w caller names node h.1) (verdict w.book w.supers (question_of caller Describe Topic name)) h.0 where
       by_verdict : (q : Question) (refused : List (Option TopicInfo)) (left : List (List ℕ)) → weave refused (plain_topics v left) ≡ weave refused (plain_topics w left) → (x : Verdict) → (x ≡ Yes → find_topic v.topics name ≡ find_topic w.topics name)
           → weave (option_map (λ r. topic_error (refusal_code r) name) (first_of (refusal_by x q) None) ∷ refused) (plain_topics v (cond (is_none (first_of (refusal_by x q) None)) (name ∷ left) left)) ≡ weave (option_map (λ r. topic_error (refusal_code r) name) (first_of (refusal_by x q) None) ∷ refused) (plain_topics w (cond (is_none (first_of (refusal_by x q) None)) (name ∷ left) left))
       by_verdict q refused left rest Yes h = let same = same_plain v w name node (h refl) in λ i. same i ∷ rest i
@@ -46,4 +47,4 @@ same_answers v w caller None base h = ap (plain_topics v) h.names ∙ same_liste
 pub depends_on_grants : DependsOnGrants
 depends_on_grants v w caller m base h =
     let node = base.node in let topics = same_answers v w caller m.topics base h in
-    (λ i. record { brokers = broker_info (node i) ∷ []; controller = (node i).node_id; topics = topics i }, ap (λ r. metadata_refusals r caller m) base.rules)
+    (λ i. record { brokers = brokers_of (node i); controller = (node i).node_id; topics = topics i }, ap (λ r. metadata_refusals r caller m) base.rules)

@@ -20,10 +20,10 @@ use Rattle.acl_binding.specs.Words.{kind_number, pattern_number, operation_numbe
 use Rattle.acl_binding.specs.WireNumbers.{kind_code, pattern_code, operation_code, permission_code}
 use Rattle.acl_binding.specs.Binding.{same_binding}
 use Rattle.acl_binding.specs.Book.{number_of, AreDistinct}
-use Rattle.acl_binding.specs.Filter.{matches, matching}
-use Rattle.acl_handlers.specs.DescribeAcls.{same_resource, described_acl, described_resource, firsts, described}
+use Rattle.acl_binding.specs.Filter.{matches, matching_bindings}
+use Rattle.acl_handlers.specs.DescribeAcls.{same_resource, described_acl, described_resource, first_of_each, described_resources}
 use Rattle.acl_handlers.specs.DeleteAcls.{entry_of_binding}
-use Rattle.api_laws.specs.DescribeLaws.{told_of, told, same_entry, same_group, DescribesEach}
+use Rattle.api_laws.specs.DescribeLaws.{described_entry, described_entries, same_entry, same_group, DescribesEach}
 
 -- ---- bindings of one resource
 
@@ -149,17 +149,17 @@ none_left front (b ∷ back) =
 abbrev group : List Binding → Binding → List Binding
 group all b = filter (same_resource b) all
 
-grouped : (all seen rest : List Binding) → all ≡ seen ++ rest → IsPermutation (filter (fresh seen) all) (flat_map (group all) (firsts seen rest))
+grouped : (all seen rest : List Binding) → all ≡ seen ++ rest → IsPermutation (filter (fresh seen) all) (flat_map (group all) (first_of_each seen rest))
 grouped all seen [] is =
     let whole : all ≡ seen = is ∙ append-nil seen in
     let none : filter (fresh seen) all ≡ [] = ap (filter (fresh seen)) whole ∙ none_left [] seen in
     subst (λ (l : List Binding). IsPermutation l []) (sym none) (IsPermutation-refl [])
 grouped all seen (b ∷ rest) is =
     by_seen (list_any (same_resource b) seen) refl (grouped all (seen ++ b ∷ []) rest (is ∙ sym (append_assoc seen (b ∷ []) rest))) where
-      by_seen : (t : Bool) → list_any (same_resource b) seen ≡ t → IsPermutation (filter (fresh (seen ++ b ∷ [])) all) (flat_map (group all) (firsts (seen ++ b ∷ []) rest))
-          → IsPermutation (filter (fresh seen) all) (flat_map (group all) (cond t (firsts (seen ++ b ∷ []) rest) (b ∷ firsts (seen ++ b ∷ []) rest)))
+      by_seen : (t : Bool) → list_any (same_resource b) seen ≡ t → IsPermutation (filter (fresh (seen ++ b ∷ [])) all) (flat_map (group all) (first_of_each (seen ++ b ∷ []) rest))
+          → IsPermutation (filter (fresh seen) all) (flat_map (group all) (cond t (first_of_each (seen ++ b ∷ []) rest) (b ∷ first_of_each (seen ++ b ∷ []) rest)))
       by_seen true there left =
-          subst (λ (l : List Binding). IsPermutation l (flat_map (group all) (firsts (seen ++ b ∷ []) rest))) (sym (filter_agree (fresh seen) (fresh (seen ++ b ∷ [])) (fresh_again seen b there) all)) left
+          subst (λ (l : List Binding). IsPermutation l (flat_map (group all) (first_of_each (seen ++ b ∷ []) rest))) (sym (filter_agree (fresh seen) (fresh (seen ++ b ∷ [])) (fresh_again seen b there) all)) left
       by_seen false none left =
           let own : filter (same_resource b) (filter (fresh seen) all) ≡ group all b = filter_filter (fresh seen) (same_resource b) all ∙ filter_agree _ (same_resource b) (fresh_own seen b none) all in
           let others : filter (λ c. not (same_resource b c)) (filter (fresh seen) all) ≡ filter (fresh (seen ++ b ∷ [])) all = filter_filter (fresh seen) (λ c. not (same_resource b c)) all ∙ filter_agree _ (fresh (seen ++ b ∷ [])) (fresh_rest seen b) all in
@@ -173,7 +173,7 @@ all_fresh (b ∷ bs) = ap (λ (l : List Binding). b ∷ l) (all_fresh bs)
 
 -- ---- what is told of a group
 
-told_one : (all : List Binding) (b c : Binding) → same_resource b c ≡ true → told_of (described_resource all b) (described_acl c) ≡ entry_of_binding c
+told_one : (all : List Binding) (b c : Binding) → same_resource b c ≡ true → described_entry (described_resource all b) (described_acl c) ≡ entry_of_binding c
 unfolding kind_code pattern_code
 told_one all b c same =
     let one = one_resource b c same in
@@ -181,27 +181,27 @@ told_one all b c same =
     let pattern : pos (pattern_number b.pattern) ≡ pos (pattern_number c.pattern) = ap (λ (n : ℕ). pos n) one.pattern in
     λ i. record { kind = kind i; name = one.name i; pattern = pattern i; principal = c.principal; host = c.host; operation = operation_code c.operation; permission = permission_code c.permission }
 
-told_group : (all : List Binding) (b : Binding) (bs : List Binding) → map (told_of (described_resource all b)) (map described_acl (filter (same_resource b) bs)) ≡ map entry_of_binding (filter (same_resource b) bs)
+told_group : (all : List Binding) (b : Binding) (bs : List Binding) → map (described_entry (described_resource all b)) (map described_acl (filter (same_resource b) bs)) ≡ map entry_of_binding (filter (same_resource b) bs)
 told_group all b [] = refl
 told_group all b (c ∷ bs) = by_same (same_resource b c) refl (told_group all b bs) where
-  by_same : (t : Bool) → same_resource b c ≡ t → map (told_of (described_resource all b)) (map described_acl (filter (same_resource b) bs)) ≡ map entry_of_binding (filter (same_resource b) bs)
-      → map (told_of (described_resource all b)) (map described_acl (cond t (c ∷ filter (same_resource b) bs) (filter (same_resource b) bs))) ≡ map entry_of_binding (cond t (c ∷ filter (same_resource b) bs) (filter (same_resource b) bs))
+  by_same : (t : Bool) → same_resource b c ≡ t → map (described_entry (described_resource all b)) (map described_acl (filter (same_resource b) bs)) ≡ map entry_of_binding (filter (same_resource b) bs)
+      → map (described_entry (described_resource all b)) (map described_acl (cond t (c ∷ filter (same_resource b) bs) (filter (same_resource b) bs))) ≡ map entry_of_binding (cond t (c ∷ filter (same_resource b) bs) (filter (same_resource b) bs))
   by_same true same rest =
-      ap (λ (e : BindingEntry). e ∷ map (told_of (described_resource all b)) (map described_acl (filter (same_resource b) bs))) (told_one all b c same)
+      ap (λ (e : BindingEntry). e ∷ map (described_entry (described_resource all b)) (map described_acl (filter (same_resource b) bs))) (told_one all b c same)
       ∙ ap (λ (l : List BindingEntry). entry_of_binding c ∷ l) rest
   by_same false same rest = rest
 
-told_groups : (all bs : List Binding) → told (map (described_resource all) bs) ≡ map entry_of_binding (flat_map (group all) bs)
+told_groups : (all bs : List Binding) → described_entries (map (described_resource all) bs) ≡ map entry_of_binding (flat_map (group all) bs)
 told_groups all [] = refl
 told_groups all (b ∷ bs) =
-    ap (λ (l : List BindingEntry). l ++ told (map (described_resource all) bs)) (told_group all b all)
+    ap (λ (l : List BindingEntry). l ++ described_entries (map (described_resource all) bs)) (told_group all b all)
     ∙ ap (λ (l : List BindingEntry). map entry_of_binding (group all b) ++ l) (told_groups all bs)
     ∙ sym (map-append entry_of_binding (group all b) (flat_map (group all) bs))
 
-told_all : (bs : List Binding) → IsPermutation (map entry_of_binding bs) (told (described bs))
+told_all : (bs : List Binding) → IsPermutation (map entry_of_binding bs) (described_entries (described_resources bs))
 told_all bs =
-    let parts : IsPermutation bs (flat_map (group bs) (firsts [] bs)) = subst (λ (l : List Binding). IsPermutation l (flat_map (group bs) (firsts [] bs))) (all_fresh bs) (grouped bs [] bs refl) in
-    subst (λ (l : List BindingEntry). IsPermutation (map entry_of_binding bs) l) (sym (told_groups bs (firsts [] bs))) (IsPermutation-map entry_of_binding _ _ parts)
+    let parts : IsPermutation bs (flat_map (group bs) (first_of_each [] bs)) = subst (λ (l : List Binding). IsPermutation l (flat_map (group bs) (first_of_each [] bs))) (all_fresh bs) (grouped bs [] bs refl) in
+    subst (λ (l : List BindingEntry). IsPermutation (map entry_of_binding bs) l) (sym (told_groups bs (first_of_each [] bs))) (IsPermutation-map entry_of_binding _ _ parts)
 
 -- ---- no two groups of one resource
 
@@ -209,14 +209,14 @@ weaker : {A : Type 0} (P Q : A → Type 0) → ((x : A) → P x → Q x) → (xs
 weaker P Q to [] h = tt
 weaker P Q to (x ∷ xs) h = (to x h.0, weaker P Q to xs h.1)
 
-unseen : (seen rest : List Binding) → AllByRecursion (λ c. list_any (same_resource c) seen ≡ false) (firsts seen rest)
+unseen : (seen rest : List Binding) → AllByRecursion (λ c. list_any (same_resource c) seen ≡ false) (first_of_each seen rest)
 unseen seen [] = tt
 unseen seen (b ∷ rest) =
-    by_seen (list_any (same_resource b) seen) refl (weaker (λ c. list_any (same_resource c) (seen ++ b ∷ []) ≡ false) (λ c. list_any (same_resource c) seen ≡ false) fewer (firsts (seen ++ b ∷ []) rest) (unseen (seen ++ b ∷ []) rest)) where
+    by_seen (list_any (same_resource b) seen) refl (weaker (λ c. list_any (same_resource c) (seen ++ b ∷ []) ≡ false) (λ c. list_any (same_resource c) seen ≡ false) fewer (first_of_each (seen ++ b ∷ []) rest) (unseen (seen ++ b ∷ []) rest)) where
       fewer : (c : Binding) → list_any (same_resource c) (seen ++ b ∷ []) ≡ false → list_any (same_resource c) seen ≡ false
       fewer c none = (or_parts (list_any (same_resource c) seen) (same_resource c b) (sym (seen_more seen b c) ∙ none)).0
 
-      by_seen : (t : Bool) → list_any (same_resource b) seen ≡ t → AllByRecursion (λ c. list_any (same_resource c) seen ≡ false) (firsts (seen ++ b ∷ []) rest) → AllByRecursion (λ c. list_any (same_resource c) seen ≡ false) (cond t (firsts (seen ++ b ∷ []) rest) (b ∷ firsts (seen ++ b ∷ []) rest))
+      by_seen : (t : Bool) → list_any (same_resource b) seen ≡ t → AllByRecursion (λ c. list_any (same_resource c) seen ≡ false) (first_of_each (seen ++ b ∷ []) rest) → AllByRecursion (λ c. list_any (same_resource c) seen ≡ false) (cond t (first_of_each (seen ++ b ∷ []) rest) (b ∷ first_of_each (seen ++ b ∷ []) rest))
       by_seen true there rest = rest
       by_seen false none rest = (none, rest)
 
@@ -227,7 +227,7 @@ groups_alike : (all : List Binding) (b c : Binding) → same_group (described_re
 unfolding kind_code pattern_code
 groups_alike all b c = rw (numbers_alike (kind_number b.kind) (kind_number c.kind), numbers_alike (pattern_number b.pattern) (pattern_number c.pattern))
 
-apart : (all seen rest : List Binding) → IsDistinct same_group (map (described_resource all) (firsts seen rest))
+apart : (all seen rest : List Binding) → IsDistinct same_group (map (described_resource all) (first_of_each seen rest))
 unfolding IsDistinct
 apart all seen [] = tt
 apart all seen (b ∷ rest) = by_seen (list_any (same_resource b) seen) (unseen (seen ++ b ∷ []) rest) (apart all (seen ++ b ∷ []) rest) where
@@ -235,10 +235,10 @@ apart all seen (b ∷ rest) = by_seen (list_any (same_resource b) seen) (unseen 
   others [] h = tt
   others (c ∷ bs) h = (groups_alike all b c ∙ either_way b c ∙ (or_parts (list_any (same_resource c) seen) (same_resource c b) (sym (seen_more seen b c) ∙ h.0)).1, others bs h.1)
 
-  by_seen : (t : Bool) → AllByRecursion (λ c. list_any (same_resource c) (seen ++ b ∷ []) ≡ false) (firsts (seen ++ b ∷ []) rest) → IsDistinct same_group (map (described_resource all) (firsts (seen ++ b ∷ []) rest))
-      → IsDistinct same_group (map (described_resource all) (cond t (firsts (seen ++ b ∷ []) rest) (b ∷ firsts (seen ++ b ∷ []) rest)))
+  by_seen : (t : Bool) → AllByRecursion (λ c. list_any (same_resource c) (seen ++ b ∷ []) ≡ false) (first_of_each (seen ++ b ∷ []) rest) → IsDistinct same_group (map (described_resource all) (first_of_each (seen ++ b ∷ []) rest))
+      → IsDistinct same_group (map (described_resource all) (cond t (first_of_each (seen ++ b ∷ []) rest) (b ∷ first_of_each (seen ++ b ∷ []) rest)))
   by_seen true new rest_apart = rest_apart
-  by_seen false new rest_apart = (others (firsts (seen ++ b ∷ []) rest) new, rest_apart)
+  by_seen false new rest_apart = (others (first_of_each (seen ++ b ∷ []) rest) new, rest_apart)
 
 -- ---- no group without a binding
 
@@ -256,15 +256,15 @@ map_some : (bs : List Binding) → bs ≢ [] → map described_acl bs ≢ []
 map_some [] some e = some refl
 map_some (b ∷ bs) some e = cc
 
-some_each : (all seen rest : List Binding) → all ≡ seen ++ rest → AllByRecursion (λ r. r.acls ≢ []) (map (described_resource all) (firsts seen rest))
+some_each : (all seen rest : List Binding) → all ≡ seen ++ rest → AllByRecursion (λ r. r.acls ≢ []) (map (described_resource all) (first_of_each seen rest))
 some_each all seen [] is = tt
 some_each all seen (b ∷ rest) is =
     by_seen (list_any (same_resource b) seen) (some_each all (seen ++ b ∷ []) rest (is ∙ sym (append_assoc seen (b ∷ []) rest))) where
       own : group all b ≢ []
       own e = kept_some b seen rest (ap (filter (same_resource b)) (sym is) ∙ e)
 
-      by_seen : (t : Bool) → AllByRecursion (λ r. r.acls ≢ []) (map (described_resource all) (firsts (seen ++ b ∷ []) rest))
-          → AllByRecursion (λ r. r.acls ≢ []) (map (described_resource all) (cond t (firsts (seen ++ b ∷ []) rest) (b ∷ firsts (seen ++ b ∷ []) rest)))
+      by_seen : (t : Bool) → AllByRecursion (λ r. r.acls ≢ []) (map (described_resource all) (first_of_each (seen ++ b ∷ []) rest))
+          → AllByRecursion (λ r. r.acls ≢ []) (map (described_resource all) (cond t (first_of_each (seen ++ b ∷ []) rest) (b ∷ first_of_each (seen ++ b ∷ []) rest)))
       by_seen true left = left
       by_seen false left = (map_some (group all b) own, left)
 
@@ -286,32 +286,32 @@ flips a b = rw (flip_int a.kind b.kind, flip_bytes a.name b.name, flip_int a.pat
 other_way : (a b : Binding) → same_binding b a ≡ false → same_entry (entry_of_binding a) (entry_of_binding b) ≡ false
 other_way a b none = flips (entry_of_binding a) (entry_of_binding b) ∙ entries_alike b a ∙ none
 
-absent : (b : Binding) (es : List Numbered) (f : Filter) → number_of es b ≡ None → AllByRecursion (λ e. same_entry (entry_of_binding b) e ≡ false) (map entry_of_binding (matching es f))
+absent : (b : Binding) (es : List Numbered) (f : Filter) → number_of es b ≡ None → AllByRecursion (λ e. same_entry (entry_of_binding b) e ≡ false) (map entry_of_binding (matching_bindings es f))
 absent b [] f none = tt
 absent b (e ∷ es) f none = by_same (same_binding e.binding b) refl none (λ later. absent b es f later) where
-  by_match : (t : Bool) → same_binding e.binding b ≡ false → AllByRecursion (λ e. same_entry (entry_of_binding b) e ≡ false) (map entry_of_binding (matching es f))
-      → AllByRecursion (λ e. same_entry (entry_of_binding b) e ≡ false) (map entry_of_binding (cond t (e.binding ∷ matching es f) (matching es f)))
+  by_match : (t : Bool) → same_binding e.binding b ≡ false → AllByRecursion (λ e. same_entry (entry_of_binding b) e ≡ false) (map entry_of_binding (matching_bindings es f))
+      → AllByRecursion (λ e. same_entry (entry_of_binding b) e ≡ false) (map entry_of_binding (cond t (e.binding ∷ matching_bindings es f) (matching_bindings es f)))
   by_match true other rest = (other_way b e.binding other, rest)
   by_match false other rest = rest
 
-  by_same : (t : Bool) → same_binding e.binding b ≡ t → cond t (Some e.number) (number_of es b) ≡ None → (number_of es b ≡ None → AllByRecursion (λ e. same_entry (entry_of_binding b) e ≡ false) (map entry_of_binding (matching es f)))
-      → AllByRecursion (λ e. same_entry (entry_of_binding b) e ≡ false) (map entry_of_binding (cond (matches f e.binding) (e.binding ∷ matching es f) (matching es f)))
+  by_same : (t : Bool) → same_binding e.binding b ≡ t → cond t (Some e.number) (number_of es b) ≡ None → (number_of es b ≡ None → AllByRecursion (λ e. same_entry (entry_of_binding b) e ≡ false) (map entry_of_binding (matching_bindings es f)))
+      → AllByRecursion (λ e. same_entry (entry_of_binding b) e ≡ false) (map entry_of_binding (cond (matches f e.binding) (e.binding ∷ matching_bindings es f) (matching_bindings es f)))
   by_same true same there rest = absurd (let clash : Some e.number ≡ None = there in cc)
   by_same false other later rest = by_match (matches f e.binding) other (rest later)
 
-distinct : (es : List Numbered) (f : Filter) → AreDistinct es → IsDistinct same_entry (map entry_of_binding (matching es f))
+distinct : (es : List Numbered) (f : Filter) → AreDistinct es → IsDistinct same_entry (map entry_of_binding (matching_bindings es f))
 unfolding IsDistinct
 distinct [] f apart = tt
 distinct (e ∷ es) f apart = by_match (matches f e.binding) (absent e.binding es f apart.0) (distinct es f apart.1) where
-  by_match : (t : Bool) → AllByRecursion (λ d. same_entry (entry_of_binding e.binding) d ≡ false) (map entry_of_binding (matching es f)) → IsDistinct same_entry (map entry_of_binding (matching es f))
-      → IsDistinct same_entry (map entry_of_binding (cond t (e.binding ∷ matching es f) (matching es f)))
+  by_match : (t : Bool) → AllByRecursion (λ d. same_entry (entry_of_binding e.binding) d ≡ false) (map entry_of_binding (matching_bindings es f)) → IsDistinct same_entry (map entry_of_binding (matching_bindings es f))
+      → IsDistinct same_entry (map entry_of_binding (cond t (e.binding ∷ matching_bindings es f) (matching_bindings es f)))
   by_match true none rest = (none, rest)
   by_match false none rest = rest
 
 pub describes_each : DescribesEach
 describes_each = record {
-  each = λ book f. told_all (matching book.entries f);
-  once = λ book f is. IsDistinct-IsPermutation same_entry flips _ _ (told_all (matching book.entries f)) (distinct book.entries f is.distinct);
-  apart = λ book f. apart (matching book.entries f) [] (matching book.entries f);
-  some = λ book f. some_each (matching book.entries f) [] (matching book.entries f) refl;
+  each = λ book f. told_all (matching_bindings book.entries f);
+  once = λ book f is. IsDistinct-IsPermutation same_entry flips _ _ (told_all (matching_bindings book.entries f)) (distinct book.entries f is.distinct);
+  apart = λ book f. apart (matching_bindings book.entries f) [] (matching_bindings book.entries f);
+  some = λ book f. some_each (matching_bindings book.entries f) [] (matching_bindings book.entries f) refl;
 }

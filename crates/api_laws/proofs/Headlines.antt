@@ -11,7 +11,7 @@ use Rattle.acl_binding.specs.declared.question.Verdict.{Verdict}
 use Rattle.acl_binding.specs.declared.question.Verdict.TheVariants.{Yes, Denied, Nothing}
 use Rattle.acl_binding.specs.declared.words.Kind.TheVariants as kinds
 use Rattle.acl_binding.specs.declared.words.Operation.TheVariants as operations
-use Rattle.acl_binding.specs.Verdict.{asked}
+use Rattle.acl_binding.specs.Verdict.{question_of}
 use Rattle.authorizer.specs.declared.answer.Refusal.{Refusal}
 use Rattle.authorizer.specs.Policy.{verdict}
 use Rattle.authorizer.specs.Asking.{Rules, refusal_by, first_of}
@@ -34,12 +34,12 @@ one_by_one w caller (name ∷ names) = by_refusal (one_by_one w caller names) (t
 
 at_place : (w : World) (caller : Caller) (names : List (List ℕ)) (i : ℕ) (name : List ℕ) → slice_get names i ≡ Some name
     → AnsweredBy (topic_refusal (rules_of w) caller name) (plain_topic w name) name (slice_get (metadata_topics w caller (Some names)) i)
-at_place w caller names i name here = by_verdict (verdict w.book w.supers (asked caller operations.Describe kinds.Topic name)) placed where
+at_place w caller names i name here = by_verdict (verdict w.book w.supers (question_of caller operations.Describe kinds.Topic name)) placed where
   placed : slice_get (metadata_topics w caller (Some names)) i ≡ Some (topic_answer w caller name)
   placed = ap (λ l. slice_get l i) (one_by_one w caller names) ∙ slice_get-map (topic_answer w caller) names i ∙ ap (option_map (topic_answer w caller)) here
 
-  by_verdict : (x : Verdict) → slice_get (metadata_topics w caller (Some names)) i ≡ Some (answer_by (first_of (refusal_by x (asked caller operations.Describe kinds.Topic name)) None) name (plain_topic w name))
-      → AnsweredBy (first_of (refusal_by x (asked caller operations.Describe kinds.Topic name)) None) (plain_topic w name) name (slice_get (metadata_topics w caller (Some names)) i)
+  by_verdict : (x : Verdict) → slice_get (metadata_topics w caller (Some names)) i ≡ Some (answer_by (first_of (refusal_by x (question_of caller operations.Describe kinds.Topic name)) None) name (plain_topic w name))
+      → AnsweredBy (first_of (refusal_by x (question_of caller operations.Describe kinds.Topic name)) None) (plain_topic w name) name (slice_get (metadata_topics w caller (Some names)) i)
   by_verdict Yes h = h
   by_verdict (Denied n) h = h
   by_verdict Nothing h = h
@@ -65,7 +65,7 @@ in_order rules caller (name ∷ names) more = by_refusal (topic_refusal rules ca
 
 pub refuses_each_topic : RefusesEachTopic
 refuses_each_topic = record {
-  verdict = λ rules caller name. by_the_verdict (verdict rules.book rules.supers (asked caller operations.Describe kinds.Topic name)) (asked caller operations.Describe kinds.Topic name);
+  verdict = λ rules caller name. by_the_verdict (verdict rules.book rules.supers (question_of caller operations.Describe kinds.Topic name)) (question_of caller operations.Describe kinds.Topic name);
   order = in_order;
   listed = λ rules caller. refl;
 }
@@ -79,7 +79,7 @@ described : (w : World) (caller : Caller) (names : List (List ℕ)) → plain_to
 described w caller [] = refl
 described w caller (name ∷ names) = by_verdict (verdict w.book w.supers q) (described w caller names) where
   q : Question
-  q = asked caller operations.Describe kinds.Topic name
+  q = question_of caller operations.Describe kinds.Topic name
 
   by_verdict : (x : Verdict) → plain_topics w (describable (rules_of w) caller names) ≡ flat_map (alone w caller) names
       → plain_topics w (cond (is_none (first_of (refusal_by x q) None)) (name ∷ describable (rules_of w) caller names) (describable (rules_of w) caller names))

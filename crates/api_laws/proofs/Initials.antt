@@ -7,23 +7,23 @@ use Rattle.acl_binding.specs.declared.question.Caller.{Caller}
 use Rattle.acl_binding.specs.declared.question.Question.{Question}
 use Rattle.acl_binding.specs.declared.question.Verdict.{Verdict}
 use Rattle.acl_binding.specs.declared.question.Verdict.TheVariants.{Yes, Denied, Nothing}
-use Rattle.acl_binding.specs.Verdict.{asked, verdict_of, IsDecided}
+use Rattle.acl_binding.specs.Verdict.{question_of, verdict_of, IsDecided}
 use Rattle.acl_binding.proofs.Decided.{verdict_right}
 use Rattle.authorizer.specs.declared.answer.Refusal.{Refusal}
-use Rattle.authorizer.specs.declared.answer.Why.TheVariants as why
+use Rattle.authorizer.specs.declared.answer.DenyReason.TheVariants as why
 use Rattle.authorizer.specs.Policy.{is_super, verdict}
 use Rattle.authorizer.specs.AnyTopic.{any_topic}
 use Rattle.authorizer.specs.Asking.{Rules, refusal_by, first_of, part_refusal, question_refusal}
 use Rattle.msg_txn.specs.declared.init_producer_id.InitProducerIdRequest.{InitProducerIdRequest}
 use Rattle.msg_admin.specs.declared.reply.Reply.TheVariants as replies
-use Rattle.transactions.specs.Turn.{Turn}
-use Rattle.transactions.specs.Coordinator.{CoordinatorValue, owner, given_by, given_free, fresh, turn_answer}
-use Rattle.transactions.specs.InitProducerId.{init}
+use Rattle.txn_coordinator.specs.Transition.{Transition}
+use Rattle.txn_coordinator.specs.Coordinator.{CoordinatorValue, owner, given_by, given_free, fresh_producer_id, transition_answer}
+use Rattle.txn_coordinator.specs.InitProducerId.{init}
 use Rattle.broker_world.specs.declared.node.Node.{Node}
 use Rattle.broker_world.specs.World.{World, rules_of}
-use Rattle.broker_world.specs.Outcome.{Outcome}
-use Rattle.broker_world.specs.Whole.{whole_by}
-use Rattle.txn_handlers.specs.InitProducerId.{init_question, init_questions, init_given, init_error, init_answered, coordinator_for, reply_for, initialized, init_producer_id_outcome}
+use Rattle.broker_world.specs.HandlerResult.{HandlerResult}
+use Rattle.broker_world.specs.Whole.{whole_outcome_by}
+use Rattle.txn_handlers.specs.InitProducerId.{init_question, init_questions, init_given, init_error, init_answered, coordinator_for, reply_for, served_init, init_producer_id_outcome}
 use Rattle.api_laws.specs.Tenants.{SameBase, SameGranted}
 use Rattle.api_laws.specs.DataTenants.{SameAnswer}
 use Rattle.api_laws.specs.AclLaws.{IsRefusedWhole}
@@ -51,24 +51,24 @@ others_at [] x (suc n) differ = refl
 others_at (y ∷ ys) x zero differ = refl
 others_at (y ∷ ys) x (suc n) differ = others_at ys x n (λ same. differ (ap suc same))
 
-others_as : (c : CoordinatorValue) (id : ℤ) → (id ≡ fresh c → ⊥) → owner (given_free c) id ≡ owner c id
+others_as : (c : CoordinatorValue) (id : ℤ) → (id ≡ fresh_producer_id c → ⊥) → owner (given_free c) id ≡ owner c id
 others_as c (pos n) differ = others_at c.given None n (λ same. differ (ap pos same))
 others_as c (negsuc n) differ = refl
 
 -- ---- where it is allowed, and where it is refused
 
-abbrev served_by : World → InitProducerIdRequest → Option Refusal → Outcome
-served_by w r o = whole_by o w (λ code. replies.InitProducerId (init_error code)) (initialized w r)
+abbrev served_by : World → InitProducerIdRequest → Option Refusal → HandlerResult
+served_by w r o = whole_outcome_by o w (λ code. replies.InitProducerId (init_error code)) (served_init w r)
 
-given_after : (w : World) (r : InitProducerIdRequest) → r.transactional_id ≡ None → (initialized w r).world.coordinator ≡ given_free w.coordinator
+given_after : (w : World) (r : InitProducerIdRequest) → r.transactional_id ≡ None → (served_init w r).world.coordinator ≡ given_free w.coordinator
 given_after w r is = ap (λ (id : Option (List ℕ)). coordinator_for id w.coordinator w.node.max_txn_timeout r.timeout) is
 
 gives_fresh : (w : World) (r : InitProducerIdRequest) → r.transactional_id ≡ None → GivesFresh w (served_by w r None)
 gives_fresh w r none = record {
-  producer = fresh w.coordinator;
+  producer = fresh_producer_id w.coordinator;
   reply = ap (λ (id : Option (List ℕ)). replies.InitProducerId (reply_for id w.coordinator w.node.max_txn_timeout r.timeout)) none;
   never = ap given_by (beyond w.coordinator.given);
-  now = ap (λ (c : CoordinatorValue). given_by (owner c (fresh w.coordinator))) (given_after w r none) ∙ ap given_by (last_at w.coordinator.given None);
+  now = ap (λ (c : CoordinatorValue). given_by (owner c (fresh_producer_id w.coordinator))) (given_after w r none) ∙ ap given_by (last_at w.coordinator.given None);
   others = λ id differ. ap (λ (c : CoordinatorValue). owner c id) (given_after w r none) ∙ others_as w.coordinator id differ;
 }
 
@@ -106,13 +106,13 @@ inits_once = record {
   yes_of (Denied n) q h = absurd (let clash : Some (record { question = q; why = why.Denied n }) ≡ None = h in cc)
   yes_of Nothing q h = absurd (let clash : Some (record { question = q; why = why.Nothing }) ≡ None = h in cc)
 
-  granted_by : (rules : Rules) (caller : Caller) (name : List ℕ) (super : Bool) → is_super rules.supers caller.who ≡ super → question_refusal rules (asked caller Write Topic name) ≡ None
+  granted_by : (rules : Rules) (caller : Caller) (name : List ℕ) (super : Bool) → is_super rules.supers caller.who ≡ super → question_refusal rules (question_of caller Write Topic name) ≡ None
       → part_refusal rules (init_questions rules caller None) ≡ None
   granted_by rules caller name true is allows =
       unrefused rules caller (any_topic rules.book.entries caller.who caller.host)
       (ap (λ (b : Bool). refusal_by (cond b Yes (verdict_of rules.book.entries (init_question caller None))) (init_question caller None)) is)
   granted_by rules caller name false is allows =
-      let q = asked caller Write Topic name in
+      let q = question_of caller Write Topic name in
       let granted : verdict_of rules.book.entries q ≡ Yes = yes_of (verdict_of rules.book.entries q) q (sym (ap (λ (b : Bool). refusal_by (cond b Yes (verdict_of rules.book.entries q)) q) is) ∙ allows) in
       waived_by rules caller (any_topic rules.book.entries caller.who caller.host) (question_refusal rules (init_question caller None)) refl
       (writes_any rules.book.entries caller name (subst (IsDecided rules.book.entries q) granted (verdict_right rules.book.entries q)))
@@ -134,7 +134,7 @@ module _ (v w : World) (caller : Caller) (timeout : ℤ) (base : SameBase v w) w
   same_reply (Some id) same none =
       let q = init_question caller (Some id) in
       let agree : AreSame v.coordinator w.coordinator id = record { given = base.given; recorded = same.0 (yes_alone (verdict w.book w.supers q) q none) } in
-      ap (λ (t : Turn). init_answered (turn_answer v.coordinator id t)) (same_init v.coordinator w.coordinator id timeout w.node.max_txn_timeout agree)
+      ap (λ (t : Transition). init_answered (transition_answer v.coordinator id t)) (same_init v.coordinator w.coordinator id timeout w.node.max_txn_timeout agree)
       ∙ ap init_answered (same_answer v.coordinator w.coordinator id (init w.coordinator id timeout w.node.max_txn_timeout) agree)
 
 same_by : (o : Option Refusal) (v w : World) (caller : Caller) (r : InitProducerIdRequest) → SameBase v w → SameGranted v w (init_questions (rules_of w) caller r.transactional_id)

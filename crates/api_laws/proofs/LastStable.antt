@@ -4,11 +4,11 @@ use Rattle.std.specs.Prelude.{◌&&◌, ◌≤ℤ◌, int_lt, is_none, is_some}
 use Rattle.std.specs.List.{AllByRecursion}
 use Rattle.std.proofs.lemmas.Bool.{and_parts}
 use Rattle.std.proofs.lemmas.Bool.Decides.{Decides-int_eq}
-use Rattle.record_batch.specs.declared.outcome.Outcome.{Outcome}
+use Rattle.record_batch.specs.declared.transaction_result.TransactionResult.{TransactionResult}
 use Rattle.record_batch.specs.BatchHeader.{is_control, is_transactional}
 use Rattle.record_batch.specs.Batch.{BatchData, IsBatch, IsMarked, next_offset}
 use Rattle.producer_state.specs.Sequences.{has_producer_id}
-use Rattle.partition_log.specs.Log.{IsGapless, end_of, is_transactional_data, first_marker, ended, is_open, open_bases, lesser, least, or_else}
+use Rattle.partition_log.specs.Log.{IsGapless, end_of, is_transactional_data, first_marker, transaction_outcome, is_open, open_bases, lesser_of, least_of, or_else}
 use Rattle.partition_log.proofs.Numbers.{IsLowest, lowest_here, lowest_there}
 use Rattle.api_laws.specs.LastStable.{IsUnended, HasUnendedAt, IsLastStable, LastStableIsExact}
 
@@ -25,7 +25,7 @@ gapless_after first (c ∷ before) b after h = gapless_after (next_offset c) bef
 -- a batch is a control batch exactly where it marks an outcome
 control_is : (b : BatchData) → IsBatch b → is_some b.marker ≡ is_control b.header
 control_is b is = by_marker b.marker is.marked where
-  by_marker : (m : Option Outcome) → IsMarked m b.header b.records → is_some m ≡ is_control b.header
+  by_marker : (m : Option TransactionResult) → IsMarked m b.header b.records → is_some m ≡ is_control b.header
   by_marker None h = sym h
   by_marker (Some o) h = sym h.0
 
@@ -57,8 +57,8 @@ none_ended p first (m ∷ xs) h none = by_test (is_some m.marker) (has_producer_
 pub stands_open : (before after : List BatchData) (b : BatchData) → IsGapless (pos 0) (before ++ b ∷ after) → IsUnended b after → is_open b after ≡ true
 stands_open before after b h is =
     let batch = batch_at (pos 0) before b after h in
-    ap (λ t. (t && is_none b.marker) && is_none (ended b after)) is.transactional
-    ∙ ap (λ t. t && is_none (ended b after)) (none_by b.marker (control_is b batch ∙ is.no_marker))
+    ap (λ t. (t && is_none b.marker) && is_none (transaction_outcome b after)) is.transactional
+    ∙ ap (λ t. t && is_none (transaction_outcome b after)) (none_by b.marker (control_is b batch ∙ is.no_marker))
     ∙ ap is_none (none_ended b.header.producer_id (next_offset b) after (gapless_after (pos 0) before b after h) is.unended)
 
 some_is_none : {A : Type 0} (o : Option A) → is_some o ≡ true → o ≡ None → ⊥
@@ -76,12 +76,12 @@ ended_none p first (m ∷ xs) h none = by_test (is_some m.marker) (has_producer_
 is_unended : (before after : List BatchData) (b : BatchData) → IsGapless (pos 0) (before ++ b ∷ after) → is_open b after ≡ true → IsUnended b after
 is_unended before after b h stands =
     let batch = batch_at (pos 0) before b after h in
-    let parts = and_parts (is_transactional_data b) (is_none (ended b after)) stands in
+    let parts = and_parts (is_transactional_data b) (is_none (transaction_outcome b after)) stands in
     let kinds = and_parts (is_transactional b.header) (is_none b.marker) parts.0 in
     record {
       transactional = kinds.0;
       no_marker = sym (control_is b batch) ∙ some_by b.marker kinds.1;
-      unended = ended_none b.header.producer_id (next_offset b) after (gapless_after (pos 0) before b after h) (none_is (ended b after) parts.1);
+      unended = ended_none b.header.producer_id (next_offset b) after (gapless_after (pos 0) before b after h) (none_is (transaction_outcome b after) parts.1);
     }
 
 -- ---- none stands below it
@@ -112,19 +112,19 @@ here b after m stands at = record { before = []; batch = b; after = after; parts
 some_is : (a b : ℤ) → Some a ≡ Some b → a ≡ b
 some_is a b h = cc
 
-found : (log : List BatchData) (m : ℤ) → least (open_bases log) ≡ Some m → HasOpenAt log m
+found : (log : List BatchData) (m : ℤ) → least_of (open_bases log) ≡ Some m → HasOpenAt log m
 found [] m h = absurd (let clash : None ≡ Some m = h in cc)
 found (b ∷ after) m h = by_test (is_open b after) refl h (found after) where
-  by_less : (k : ℤ) (t : Bool) → is_open b after ≡ true → least (open_bases after) ≡ Some k → cond t k b.header.base_offset ≡ m → ((n : ℤ) → least (open_bases after) ≡ Some n → HasOpenAt after n) → HasOpenAt (b ∷ after) m
+  by_less : (k : ℤ) (t : Bool) → is_open b after ≡ true → least_of (open_bases after) ≡ Some k → cond t k b.header.base_offset ≡ m → ((n : ℤ) → least_of (open_bases after) ≡ Some n → HasOpenAt after n) → HasOpenAt (b ∷ after) m
   by_less k true stands e is more = one_before b after m (more m (e ∙ ap (λ n. Some n) is))
   by_less k false stands e is more = here b after m stands is
 
-  by_rest : (o : Option ℤ) → least (open_bases after) ≡ o → is_open b after ≡ true → lesser b.header.base_offset o ≡ m → ((n : ℤ) → least (open_bases after) ≡ Some n → HasOpenAt after n) → HasOpenAt (b ∷ after) m
+  by_rest : (o : Option ℤ) → least_of (open_bases after) ≡ o → is_open b after ≡ true → lesser_of b.header.base_offset o ≡ m → ((n : ℤ) → least_of (open_bases after) ≡ Some n → HasOpenAt after n) → HasOpenAt (b ∷ after) m
   by_rest None e stands is more = here b after m stands is
   by_rest (Some k) e stands is more = by_less k (int_lt k b.header.base_offset) stands e is more
 
-  by_test : (t : Bool) → is_open b after ≡ t → least (cond t (b.header.base_offset ∷ open_bases after) (open_bases after)) ≡ Some m → ((n : ℤ) → least (open_bases after) ≡ Some n → HasOpenAt after n) → HasOpenAt (b ∷ after) m
-  by_test true stands e more = by_rest (least (open_bases after)) refl stands (some_is _ m e) more
+  by_test : (t : Bool) → is_open b after ≡ t → least_of (cond t (b.header.base_offset ∷ open_bases after) (open_bases after)) ≡ Some m → ((n : ℤ) → least_of (open_bases after) ≡ Some n → HasOpenAt after n) → HasOpenAt (b ∷ after) m
+  by_test true stands e more = by_rest (least_of (open_bases after)) refl stands (some_is _ m e) more
   by_test false stands e more = one_before b after m (more m e)
 
 unended_at : (log : List BatchData) (offset : ℤ) → IsGapless (pos 0) log → HasOpenAt log offset → HasUnendedAt log offset
@@ -142,9 +142,9 @@ unended_at log offset h o = record {
 pub last_stable : LastStableIsExact
 last_stable log h = record {
   below = λ before after b parts is.
-      subst (λ l. or_else (least (open_bases l)) (end_of log) ≤ℤ b.header.base_offset) (sym parts) (lowest before b after (stands_open before after b (subst (IsGapless (pos 0)) parts h.gapless) is) (end_of log));
-  reached = by_least (least (open_bases log)) refl;
+      subst (λ l. or_else (least_of (open_bases l)) (end_of log) ≤ℤ b.header.base_offset) (sym parts) (lowest before b after (stands_open before after b (subst (IsGapless (pos 0)) parts h.gapless) is) (end_of log));
+  reached = by_least (least_of (open_bases log)) refl;
 } where
-  by_least : (o : Option ℤ) → least (open_bases log) ≡ o → (or_else (least (open_bases log)) (end_of log) ≡ end_of log) ⊎ HasUnendedAt log (or_else (least (open_bases log)) (end_of log))
+  by_least : (o : Option ℤ) → least_of (open_bases log) ≡ o → (or_else (least_of (open_bases log)) (end_of log) ≡ end_of log) ⊎ HasUnendedAt log (or_else (least_of (open_bases log)) (end_of log))
   by_least None e = inl (ap (λ o. or_else o (end_of log)) e)
   by_least (Some m) e = inr (subst (HasUnendedAt log) (sym (ap (λ o. or_else o (end_of log)) e)) (unended_at log m h.gapless (found log m e)))

@@ -9,10 +9,10 @@ use Rattle.std.proofs.lemmas.Bool.{and_parts}
 use Rattle.std.proofs.lemmas.Int.{ints, clamps}
 use Rattle.std.proofs.lemmas.List.{reverse-append, reverse-reverse, length-reverse}
 use Rattle.std.proofs.lemmas.List.Elements.{filter-append}
-use Rattle.record_batch.specs.declared.outcome.Outcome.{Outcome}
+use Rattle.record_batch.specs.declared.transaction_result.TransactionResult.{TransactionResult}
 use Rattle.record_batch.specs.Batch.{BatchData}
 use Rattle.producer_state.specs.Laws.{IsInSequence, records_in}
-use Rattle.producer_state.specs.Sequences.{next_sequence, next_after, last_of, has_producer_id, is_written_by, epochs, greater, greatest, written_by, latest_by, expected_after, has_same_sequences, repeat, gone_on, judged}
+use Rattle.producer_state.specs.Sequences.{next_sequence, next_after, last_of, has_producer_id, is_written_by, epochs, greater_of, greatest_of, batches_written_by, latest_batches_by, expected_after, has_same_sequences, repeat, judgment_by_repeat, judgment_of}
 use Rattle.producer_state.proofs.Numbers.{between, same_is, same_refl}
 use Rattle.producer_state.proofs.Noting.{epoch_of}
 use Rattle.producer_state.proofs.Judging.{id_of, judged_at, gone_on_within}
@@ -25,11 +25,11 @@ abbrev pub Below : ℤ → Option ℤ → Type 0
 Below e None = Unit {0}
 Below e (Some m) = m ≤ℤ e
 
-greater_below : (e n : ℤ) (o : Option ℤ) → n ≤ℤ e → Below e o → greater n o ≤ℤ e
+greater_below : (e n : ℤ) (o : Option ℤ) → n ≤ℤ e → Below e o → greater_of n o ≤ℤ e
 greater_below e n None le below = le
 greater_below e n (Some m) le below = let most : m ≤ℤ e = below in omega (arith, ints, clamps)
 
-below_parts : (e n : ℤ) (o : Option ℤ) → greater n o ≤ℤ e → (n ≤ℤ e) × Below e o
+below_parts : (e n : ℤ) (o : Option ℤ) → greater_of n o ≤ℤ e → (n ≤ℤ e) × Below e o
 below_parts e n None le = (le, tt)
 below_parts e n (Some m) le = (omega (arith, ints, clamps), omega (arith, ints, clamps))
 
@@ -37,28 +37,28 @@ below_parts e n (Some m) le = (omega (arith, ints, clamps), omega (arith, ints, 
 abbrev pub AreWithin : ℤ → ℤ → List BatchData → Type 0
 AreWithin id e log = AllByRecursion (λ (x : BatchData). x.header.producer_id ≡ id → x.header.producer_epoch ≤ℤ e) log
 
-pub epochs_below : (id e : ℤ) (log : List BatchData) → AreWithin id e log → Below e (greatest (epochs id log))
+pub epochs_below : (id e : ℤ) (log : List BatchData) → AreWithin id e log → Below e (greatest_of (epochs id log))
 epochs_below id e [] all = tt
 epochs_below id e (x ∷ log) all = by_test (has_producer_id id x) refl (epochs_below id e log all.1) where
-  by_test : (t : Bool) → has_producer_id id x ≡ t → Below e (greatest (epochs id log)) → Below e (greatest (map epoch_of (cond t (x ∷ filter (has_producer_id id) log) (filter (has_producer_id id) log))))
-  by_test true own rest = greater_below e (epoch_of x) (greatest (epochs id log)) (all.0 (same_is x.header.producer_id id own)) rest
+  by_test : (t : Bool) → has_producer_id id x ≡ t → Below e (greatest_of (epochs id log)) → Below e (greatest_of (map epoch_of (cond t (x ∷ filter (has_producer_id id) log) (filter (has_producer_id id) log))))
+  by_test true own rest = greater_below e (epoch_of x) (greatest_of (epochs id log)) (all.0 (same_is x.header.producer_id id own)) rest
   by_test false other rest = rest
 
 pub is_own : (y : BatchData) (i : ℤ) → y.header.producer_id ≡ i → has_producer_id i y ≡ true
 is_own y i same = ap (λ (z : ℤ). int_eq z i) same ∙ same_refl i
 
-pub epochs_within : (id e : ℤ) (log : List BatchData) → Below e (greatest (epochs id log)) → AreWithin id e log
+pub epochs_within : (id e : ℤ) (log : List BatchData) → Below e (greatest_of (epochs id log)) → AreWithin id e log
 epochs_within id e [] below = tt
 epochs_within id e (x ∷ log) below = by_test (has_producer_id id x) refl below (epochs_within id e log) where
-  by_test : (t : Bool) → has_producer_id id x ≡ t → Below e (greatest (map epoch_of (cond t (x ∷ filter (has_producer_id id) log) (filter (has_producer_id id) log)))) → (Below e (greatest (epochs id log)) → AreWithin id e log) → AreWithin id e (x ∷ log)
-  by_test true own here more = let parts = below_parts e (epoch_of x) (greatest (epochs id log)) here in ((λ same. parts.0), more parts.1)
+  by_test : (t : Bool) → has_producer_id id x ≡ t → Below e (greatest_of (map epoch_of (cond t (x ∷ filter (has_producer_id id) log) (filter (has_producer_id id) log)))) → (Below e (greatest_of (epochs id log)) → AreWithin id e log) → AreWithin id e (x ∷ log)
+  by_test true own here more = let parts = below_parts e (epoch_of x) (greatest_of (epochs id log)) here in ((λ same. parts.0), more parts.1)
   by_test false other here more = ((λ same. absurd (let clash : true ≡ false = sym (is_own x id same) ∙ other in cc)), more here)
 
 -- this one is reached
 abbrev pub IsReached : ℤ → ℤ → List BatchData → Type 0
-IsReached id e log = (m : ℤ) × (greatest (epochs id log) ≡ Some m) × (e ≤ℤ m)
+IsReached id e log = (m : ℤ) × (greatest_of (epochs id log) ≡ Some m) × (e ≤ℤ m)
 
-at_least : (n : ℤ) (o : Option ℤ) → n ≤ℤ greater n o
+at_least : (n : ℤ) (o : Option ℤ) → n ≤ℤ greater_of n o
 at_least n None = omega (arith, ints)
 at_least n (Some m) = omega (arith, ints, clamps)
 
@@ -67,17 +67,17 @@ further e n m le = omega (arith, ints, clamps)
 
 pub epochs_reach : (id : ℤ) (before after : List BatchData) (b : BatchData) → has_producer_id id b ≡ true → IsReached id (epoch_of b) (before ++ b ∷ after)
 epochs_reach id [] after b own = (
-  greater (epoch_of b) (greatest (epochs id after)),
-  ap (λ (t : Bool). greatest (map epoch_of (cond t (b ∷ filter (has_producer_id id) after) (filter (has_producer_id id) after)))) own,
-  at_least (epoch_of b) (greatest (epochs id after)),
+  greater_of (epoch_of b) (greatest_of (epochs id after)),
+  ap (λ (t : Bool). greatest_of (map epoch_of (cond t (b ∷ filter (has_producer_id id) after) (filter (has_producer_id id) after)))) own,
+  at_least (epoch_of b) (greatest_of (epochs id after)),
 )
 epochs_reach id (x ∷ before) after b own = by_test (has_producer_id id x) (epochs_reach id before after b own) where
   by_test : (t : Bool) → IsReached id (epoch_of b) (before ++ b ∷ after)
-      → (m : ℤ) × (greatest (map epoch_of (cond t (x ∷ filter (has_producer_id id) (before ++ b ∷ after)) (filter (has_producer_id id) (before ++ b ∷ after)))) ≡ Some m) × (epoch_of b ≤ℤ m)
-  by_test true there = (int_max (epoch_of x) there.0, ap (λ (o : Option ℤ). Some (greater (epoch_of x) o)) there.1, further (epoch_of b) (epoch_of x) there.0 there.2)
+      → (m : ℤ) × (greatest_of (map epoch_of (cond t (x ∷ filter (has_producer_id id) (before ++ b ∷ after)) (filter (has_producer_id id) (before ++ b ∷ after)))) ≡ Some m) × (epoch_of b ≤ℤ m)
+  by_test true there = (int_max (epoch_of x) there.0, ap (λ (o : Option ℤ). Some (greater_of (epoch_of x) o)) there.1, further (epoch_of b) (epoch_of x) there.0 there.2)
   by_test false there = there
 
-pub greatest_at : (id e : ℤ) (log : List BatchData) → IsReached id e log → Below e (greatest (epochs id log)) → greatest (epochs id log) ≡ Some e
+pub greatest_at : (id e : ℤ) (log : List BatchData) → IsReached id e log → Below e (greatest_of (epochs id log)) → greatest_of (epochs id log) ≡ Some e
 greatest_at id e log there below =
     let most : there.0 ≤ℤ e = subst (Below e) there.1 below in
     there.1 ∙ ap (λ (n : ℤ). Some n) (between there.0 e most there.2)
@@ -89,7 +89,7 @@ pub record IsOwn (id epoch : ℤ) (b : BatchData) : Type 0 where
   pub producer : b.header.producer_id ≡ id
   pub same_epoch : b.header.producer_epoch ≡ epoch
 
-unmarked : (o : Option Outcome) → is_none o ≡ true → o ≡ None
+unmarked : (o : Option TransactionResult) → is_none o ≡ true → o ≡ None
 unmarked None h = refl
 unmarked (Some outcome) h = absurd (let clash : false ≡ true = h in cc)
 
@@ -101,25 +101,25 @@ own_is id epoch b h =
 
 pub is_written : (id epoch : ℤ) (b : BatchData) → IsOwn id epoch b → is_written_by id epoch b ≡ true
 is_written id epoch b own =
-    ap (λ (o : Option Outcome). is_none o && (has_producer_id id b && int_eq b.header.producer_epoch epoch)) own.no_marker
+    ap (λ (o : Option TransactionResult). is_none o && (has_producer_id id b && int_eq b.header.producer_epoch epoch)) own.no_marker
     ∙ ap (λ (z : ℤ). int_eq z id && int_eq b.header.producer_epoch epoch) own.producer
     ∙ ap (λ (t : Bool). t && int_eq b.header.producer_epoch epoch) (same_refl id)
     ∙ ap (λ (z : ℤ). int_eq z epoch) own.same_epoch
     ∙ same_refl epoch
 
 -- those of a log where one of them stands
-pub own_split : (id epoch : ℤ) (log before after : List BatchData) (b : BatchData) → log ≡ before ++ b ∷ after → IsOwn id epoch b → written_by id epoch log ≡ written_by id epoch before ++ b ∷ written_by id epoch after
+pub own_split : (id epoch : ℤ) (log before after : List BatchData) (b : BatchData) → log ≡ before ++ b ∷ after → IsOwn id epoch b → batches_written_by id epoch log ≡ batches_written_by id epoch before ++ b ∷ batches_written_by id epoch after
 own_split id epoch log before after b stands own =
-    ap (written_by id epoch) stands
+    ap (batches_written_by id epoch) stands
     ∙ filter-append (is_written_by id epoch) before (b ∷ after)
-    ∙ ap (λ (t : Bool). written_by id epoch before ++ cond t (b ∷ written_by id epoch after) (written_by id epoch after)) (is_written id epoch b own)
+    ∙ ap (λ (t : Bool). batches_written_by id epoch before ++ cond t (b ∷ batches_written_by id epoch after) (batches_written_by id epoch after)) (is_written id epoch b own)
 
 -- ---- judging
 
 pub le_refl : (a : ℤ) → a ≤ℤ a
 le_refl a = omega (arith, ints)
 
-pub judged_latest : (log : List BatchData) (b : BatchData) → pos 0 ≤ℤ id_of b → greatest (epochs (id_of b) log) ≡ Some (epoch_of b) → judged log b ≡ gone_on (expected_after (latest_by (id_of b) (epoch_of b) log)) b (repeat log b)
+pub judged_latest : (log : List BatchData) (b : BatchData) → pos 0 ≤ℤ id_of b → greatest_of (epochs (id_of b) log) ≡ Some (epoch_of b) → judgment_of log b ≡ judgment_by_repeat (expected_after (latest_batches_by (id_of b) (epoch_of b) log)) b (repeat log b)
 judged_latest log b low is =
     judged_at log b (Some (epoch_of b)) low is
     ∙ gone_on_within (place log (id_of b) (epoch_of b)) b (repeat log b) (le_refl (epoch_of b)) (le_refl (epoch_of b))
@@ -135,14 +135,14 @@ reversed xs ys b =
 alike : (b : BatchData) → has_same_sequences b b ≡ true
 alike b = ap (λ (t : Bool). t && int_eq (last_of b) (last_of b)) (same_refl b.header.base_sequence) ∙ same_refl (last_of b)
 
-pub found_again : (log earlier later : List BatchData) (b : BatchData) → written_by (id_of b) (epoch_of b) log ≡ earlier ++ b ∷ later → length later ≤ 4 → AllByRecursion (λ (x : BatchData). has_same_sequences b x ≡ false) later → repeat log b ≡ Some b
+pub found_again : (log earlier later : List BatchData) (b : BatchData) → batches_written_by (id_of b) (epoch_of b) log ≡ earlier ++ b ∷ later → length later ≤ 4 → AllByRecursion (λ (x : BatchData). has_same_sequences b x ≡ false) later → repeat log b ≡ Some b
 found_again log earlier later b own few differ =
     let short : length (reverse later) < 5 = omega (arith, length-reverse later, few) in
     ap (λ (l : List BatchData). find (has_same_sequences b) (take 5 (reverse l))) own
     ∙ ap (λ (l : List BatchData). find (has_same_sequences b) (take 5 l)) (reversed earlier later b)
     ∙ find_past (has_same_sequences b) 5 (reverse later) (reverse earlier) b short (all_reverse (λ (x : BatchData). has_same_sequences b x ≡ false) later differ) (alike b)
 
-pub not_found : (log earlier later : List BatchData) (b : BatchData) → written_by (id_of b) (epoch_of b) log ≡ earlier ++ b ∷ later → 5 ≤ length later → AllByRecursion (λ (x : BatchData). has_same_sequences b x ≡ false) later → repeat log b ≡ None
+pub not_found : (log earlier later : List BatchData) (b : BatchData) → batches_written_by (id_of b) (epoch_of b) log ≡ earlier ++ b ∷ later → 5 ≤ length later → AllByRecursion (λ (x : BatchData). has_same_sequences b x ≡ false) later → repeat log b ≡ None
 not_found log earlier later b own many differ =
     let long : 5 ≤ length (reverse later) = omega (arith, length-reverse later, many) in
     ap (λ (l : List BatchData). find (has_same_sequences b) (take 5 (reverse l))) own
@@ -153,18 +153,18 @@ not_found log earlier later b own many differ =
 pub record IsLate (log : List BatchData) (b old : BatchData) : Type 0 where
   pub earlier : List BatchData
   pub later : List BatchData
-  pub own : written_by (id_of b) (epoch_of b) log ≡ earlier ++ old ∷ later
+  pub own : batches_written_by (id_of b) (epoch_of b) log ≡ earlier ++ old ∷ later
   pub few : length later ≤ 4
   pub same : has_same_sequences b old ≡ true
 
 pub found_late : (log : List BatchData) (b old : BatchData) → repeat log b ≡ Some old → IsLate log b old
 found_late log b old h =
-    let f = found_among (has_same_sequences b) 5 (latest_by (id_of b) (epoch_of b) log) old h in
+    let f = found_among (has_same_sequences b) 5 (latest_batches_by (id_of b) (epoch_of b) log) old h in
     let short : length (reverse f.0) ≤ 4 = omega (arith, length-reverse f.0, f.3) in
     record {
       earlier = reverse f.1;
       later = reverse f.0;
-      own = sym (reverse-reverse (written_by (id_of b) (epoch_of b) log)) ∙ ap (λ (l : List BatchData). reverse l) f.2 ∙ reversed f.0 f.1 old;
+      own = sym (reverse-reverse (batches_written_by (id_of b) (epoch_of b) log)) ∙ ap (λ (l : List BatchData). reverse l) f.2 ∙ reversed f.0 f.1 old;
       few = short;
       same = f.4;
     }

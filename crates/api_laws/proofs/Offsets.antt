@@ -4,7 +4,7 @@ use Rattle.record_batch.specs.Batch.{BatchData, next_offset}
 use Rattle.producer_state.specs.Laws.{records_in}
 use Rattle.partition_log.specs.Log.{end_from, end_of, at_end}
 use Rattle.broker_world.specs.World.{LogValue}
-use Rattle.broker_world.specs.First.{magnitude}
+use Rattle.broker_world.specs.First.{non_negative}
 use Rattle.broker_world.specs.Markers.{marker_batch}
 use Rattle.broker_world.proofs.LogRoom.{next_at_end}
 use Rattle.api_laws.specs.CheckedLogs.{OffsetsCountRecords}
@@ -55,5 +55,5 @@ numbered most = record {
 
 pub offsets_count_records : OffsetsCountRecords
 offsets_count_records s es name index log before after b there stands =
-    let is = each_log s IsNumbered (numbered (magnitude s.max_batch)) es name index log there in
+    let is = each_log s IsNumbered (numbered (non_negative s.max_batch)) es name index log there in
     numbered_at 0 before after b (subst (AreNumbered 0) stands is.each) ∙ ap (λ (m : ℕ). pos m) (zero-add (records_in before))

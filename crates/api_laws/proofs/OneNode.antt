@@ -23,7 +23,7 @@ use Rattle.msg_admin.specs.declared.reply.Reply.TheVariants as replies
 use Rattle.walk.specs.Codes.{permission_code, refusal_code}
 use Rattle.walk.specs.Weave.{weave}
 use Rattle.broker_world.specs.World.{World, TopicValue, rules_of, find_topic}
-use Rattle.broker_world.specs.Whole.{whole_by}
+use Rattle.broker_world.specs.Whole.{whole_outcome_by}
 use Rattle.broker_world.specs.Questions.{topic_refusal}
 use Rattle.broker_world.specs.Partitions.{partitions_from}
 use Rattle.data_handlers.specs.Metadata.{topic_error, topic_found, plain_topic, plain_topics, allowed_topics, refused_topic, refused_topics, metadata_topics, metadata_answer}
@@ -111,7 +111,7 @@ answered w (Some x) k = find_error (refusal_code x)
 answered w None k = find_reply k w.node
 
 by_answer : (w : World) (o : Option Refusal) (k : Option Kind)
-    → (whole_by o w (λ code. replies.FindCoordinator (find_error code)) (record { world = w; reply = replies.FindCoordinator (find_reply k w.node) })).reply ≡ replies.FindCoordinator (answered w o k)
+    → (whole_outcome_by o w (λ code. replies.FindCoordinator (find_error code)) (record { world = w; reply = replies.FindCoordinator (find_reply k w.node) })).reply ≡ replies.FindCoordinator (answered w o k)
 by_answer w None k = refl
 by_answer w (Some x) k = refl
 

@@ -15,25 +15,25 @@ use Rattle.record_batch.specs.BatchHeader.{is_transactional}
 use Rattle.record_batch.specs.Batch.{BatchData, has_producer}
 use Rattle.record_batch.proofs.Lawful.{one_batch}
 use Rattle.producer_state.specs.declared.judgment.Judgment.TheVariants.{Next}
-use Rattle.producer_state.specs.Sequences.{judged as judged_by_log}
+use Rattle.producer_state.specs.Sequences.{judgment_of as judged_by_log}
 use Rattle.producer_state.proofs.Numbers.{lt_is_not, same_is}
 use Rattle.msg_data.specs.declared.produce.ProducedRecords.{ProducedRecords}
-use Rattle.transactions.specs.declared.target.TopicPartition.{TopicPartition}
-use Rattle.transactions.specs.declared.target.Target.{Target}
-use Rattle.transactions.specs.declared.target.Target.TheVariants.{Partition}
-use Rattle.transactions.specs.declared.transaction.Transaction.{Transaction}
-use Rattle.transactions.specs.declared.transaction.Phase.{Phase}
-use Rattle.transactions.specs.declared.transaction.Phase.TheVariants.{Empty, Ongoing, PrepareCommit, PrepareAbort, CompleteCommit, CompleteAbort}
-use Rattle.transactions.specs.Coordinator.{CoordinatorValue, owner, given_by, recorded}
-use Rattle.transactions.specs.Holding.{holds_found, holds}
-use Rattle.transactions.specs.Words.{is_same_partition, has_partition, is_ongoing}
-use Rattle.broker_world.specs.Codes.{refused_by}
+use Rattle.txn_coordinator.specs.declared.target.TopicPartition.{TopicPartition}
+use Rattle.txn_coordinator.specs.declared.target.Target.{Target}
+use Rattle.txn_coordinator.specs.declared.target.Target.TheVariants.{Partition}
+use Rattle.txn_coordinator.specs.declared.transaction.Transaction.{Transaction}
+use Rattle.txn_coordinator.specs.declared.transaction.TransactionState.{TransactionState}
+use Rattle.txn_coordinator.specs.declared.transaction.TransactionState.TheVariants.{Empty, Ongoing, PrepareCommit, PrepareAbort, CompleteCommit, CompleteAbort}
+use Rattle.txn_coordinator.specs.Coordinator.{CoordinatorValue, owner, given_by, id_record}
+use Rattle.txn_coordinator.specs.Holding.{holding_code_of, holding_code}
+use Rattle.txn_coordinator.specs.Words.{is_same_partition, has_partition, is_ongoing}
+use Rattle.broker_world.specs.Codes.{code_unless_none}
 use Rattle.broker_world.specs.World.{TopicValue, LogValue}
 use Rattle.broker_world.specs.Logs.{log_at}
-use Rattle.data_handlers.specs.Sent.{sent}
+use Rattle.data_handlers.specs.Sent.{batch_or_fault}
 use Rattle.data_handlers.specs.RoomLaws.{judged_batch}
-use Rattle.data_handlers.specs.Judged.{are_acks, pair_of, partition_at, held_code, given_code, producer_code, passed_by, passed, batch_in, judged, topics_produced}
-use Rattle.data_handlers.specs.Produce.{produced_by, produced}
+use Rattle.data_handlers.specs.Judged.{are_acks, id_and_epoch_of, partition_at, held_code, given_code, producer_code, batch_or_error_by, batch_or_error, batch_in, batch_to_append, topics_produced}
+use Rattle.data_handlers.specs.Produce.{produce_answer_by, produce_answer}
 use Rattle.api_laws.specs.DataLaws.{IsAppended, IsRepeated}
 use Rattle.api_laws.specs.Acceptance.{transactional_bit, IsOfNobody, IsOfFreeId, IsOfTransaction, IsProper, IsNextOf, IsRightlyAnswered, AcceptsNothingElse}
 use Rattle.api_laws.proofs.DataAnswers.{judged_called, produces_as_answered}
@@ -54,7 +54,7 @@ one_of acks false false false all none leader h = absurd (true≢false (sym h))
 known : (acks : ℤ) → are_acks acks ≡ true → AreKnown acks
 known acks h = one_of acks (int_eq acks (negsuc 0)) (int_eq acks (pos 0)) (int_eq acks (pos 1)) (same_is acks (negsuc 0)) (same_is acks (pos 0)) (same_is acks (pos 1)) h
 
-acks_known : (most : ℕ) (c : CoordinatorValue) (id : Option (List ℕ)) (acks : ℤ) (target : Target) (records : Option (List ℕ)) (b : BatchData) → judged most c id acks target records ≡ Ok b → AreKnown acks
+acks_known : (most : ℕ) (c : CoordinatorValue) (id : Option (List ℕ)) (acks : ℤ) (target : Target) (records : Option (List ℕ)) (b : BatchData) → batch_to_append most c id acks target records ≡ Ok b → AreKnown acks
 acks_known most c id acks target records b is = by_acks (are_acks acks) refl is where
   by_acks : (t : Bool) → are_acks acks ≡ t → cond t (batch_in most c id target records) (Err codes.InvalidRequiredAcks) ≡ Ok b → AreKnown acks
   by_acks true e h = known acks e
@@ -65,22 +65,22 @@ acks_known most c id acks target records b is = by_acks (are_acks acks) refl is 
 same_ok : (x b : BatchData) (r : Result BatchData ErrorCode) → r ≡ Ok x → r ≡ Ok b → x ≡ b
 same_ok x b r p q = cc
 
-unrefused : (c : CoordinatorValue) (id : Option (List ℕ)) (target : Target) (x b : BatchData) (o : Option ErrorCode) → producer_code c id target x.header ≡ o → passed_by o x ≡ Ok b → producer_code c id target b.header ≡ None
+unrefused : (c : CoordinatorValue) (id : Option (List ℕ)) (target : Target) (x b : BatchData) (o : Option ErrorCode) → producer_code c id target x.header ≡ o → batch_or_error_by o x ≡ Ok b → producer_code c id target b.header ≡ None
 unrefused c id target x b None e is = ap (λ (y : BatchData). producer_code c id target y.header) (sym (same_ok x b (Ok x) refl is)) ∙ e
 unrefused c id target x b (Some code) e is = absurd (let clash : Err code ≡ Ok b = is in cc)
 
-passed_code : (c : CoordinatorValue) (id : Option (List ℕ)) (target : Target) (r : Result BatchData BatchFault) (b : BatchData) → passed c id target r ≡ Ok b → producer_code c id target b.header ≡ None
+passed_code : (c : CoordinatorValue) (id : Option (List ℕ)) (target : Target) (r : Result BatchData BatchFault) (b : BatchData) → batch_or_error c id target r ≡ Ok b → producer_code c id target b.header ≡ None
 passed_code c id target (Err fault) b is = absurd cc
 passed_code c id target (Ok x) b is = unrefused c id target x b (producer_code c id target x.header) refl is
 
 batch_code : (most : ℕ) (c : CoordinatorValue) (id : Option (List ℕ)) (target : Target) (records : Option (List ℕ)) (b : BatchData) → batch_in most c id target records ≡ Ok b → producer_code c id target b.header ≡ None
 batch_code most c id target None b is = absurd cc
 batch_code most c id target (Some bytes) b is = by_length (eqb (length bytes) 0) is where
-  by_length : (t : Bool) → cond t (Err codes.InvalidRecord) (passed c id target (sent most bytes)) ≡ Ok b → producer_code c id target b.header ≡ None
+  by_length : (t : Bool) → cond t (Err codes.InvalidRecord) (batch_or_error c id target (batch_or_fault most bytes)) ≡ Ok b → producer_code c id target b.header ≡ None
   by_length true h = absurd cc
-  by_length false h = passed_code c id target (sent most bytes) b h
+  by_length false h = passed_code c id target (batch_or_fault most bytes) b h
 
-judged_code : (most : ℕ) (c : CoordinatorValue) (id : Option (List ℕ)) (acks : ℤ) (target : Target) (records : Option (List ℕ)) (b : BatchData) → judged most c id acks target records ≡ Ok b → producer_code c id target b.header ≡ None
+judged_code : (most : ℕ) (c : CoordinatorValue) (id : Option (List ℕ)) (acks : ℤ) (target : Target) (records : Option (List ℕ)) (b : BatchData) → batch_to_append most c id acks target records ≡ Ok b → producer_code c id target b.header ≡ None
 judged_code most c id acks target records b is = by_acks (are_acks acks) is where
   by_acks : (t : Bool) → cond t (batch_in most c id target records) (Err codes.InvalidRequiredAcks) ≡ Ok b → producer_code c id target b.header ≡ None
   by_acks true h = batch_code most c id target records b h
@@ -118,7 +118,7 @@ free_id c h (negsuc n) is low given epoch sequence bit = absurd (omega (arith, i
 
 -- ---- of a transaction
 
-refused_none : (code : ErrorCode) → refused_by code ≡ None → code ≡ codes.None
+refused_none : (code : ErrorCode) → code_unless_none code ≡ None → code ≡ codes.None
 refused_none codes.None h = refl
 refused_none code h = absurd cc
 
@@ -135,7 +135,7 @@ passes : (t : Bool) (x other : ErrorCode) → (other ≡ codes.None → ⊥) →
 passes true x other differ h = (refl, h)
 passes false x other differ h = absurd (differ h)
 
-is_open : (phase : Phase) → is_ongoing phase ≡ true → phase ≡ Ongoing
+is_open : (state : TransactionState) → is_ongoing state ≡ true → state ≡ Ongoing
 is_open Ongoing h = refl
 is_open Empty h = absurd (true≢false (sym h))
 is_open PrepareCommit h = absurd (true≢false (sym h))
@@ -166,10 +166,10 @@ IsRecorded ts id t = (before after : List Transaction) × (ts ≡ before ++ t �
 same_record : (x t : Transaction) → Some x ≡ Some t → x ≡ t
 same_record x t h = cc
 
-recorded_at : (ts : List Transaction) (id : List ℕ) (t : Transaction) → recorded ts id ≡ Some t → IsRecorded ts id t
+recorded_at : (ts : List Transaction) (id : List ℕ) (t : Transaction) → id_record ts id ≡ Some t → IsRecorded ts id t
 recorded_at [] id t h = absurd (let clash : None ≡ Some t = h in cc)
 recorded_at (x ∷ ts) id t h = by_test (bytes_eq x.id id) refl h (recorded_at ts id t) where
-  by_test : (b : Bool) → bytes_eq x.id id ≡ b → cond b (Some x) (recorded ts id) ≡ Some t → (recorded ts id ≡ Some t → IsRecorded ts id t) → IsRecorded (x ∷ ts) id t
+  by_test : (b : Bool) → bytes_eq x.id id ≡ b → cond b (Some x) (id_record ts id) ≡ Some t → (id_record ts id ≡ Some t → IsRecorded ts id t) → IsRecorded (x ∷ ts) id t
   by_test true e here more =
       let same : x ≡ t = same_record x t here in
       ([], ts, ap (λ (y : Transaction). y ∷ ts) same, ap (λ (y : Transaction). y.id) (sym same) ∙ (bytes_eq-Decides x.id id).0 e, tt)
@@ -181,12 +181,12 @@ module _ (c : CoordinatorValue) (asked : Option (List ℕ)) (name : List ℕ) (i
   abbrev place : TopicPartition
   place = record { topic = name; index = index }
 
-  held_by : (id : List ℕ) (t : Transaction) → asked ≡ Some id → recorded c.transactions id ≡ Some t → holds_found (Some t) (pair_of h) (Partition place) ≡ codes.None → IsOfTransaction c asked name index h
+  held_by : (id : List ℕ) (t : Transaction) → asked ≡ Some id → id_record c.transactions id ≡ Some t → holding_code_of (Some t) (id_and_epoch_of h) (Partition place) ≡ codes.None → IsOfTransaction c asked name index h
   held_by id t is found held =
-      let mapped = passes (int_eq t.pair.producer h.producer_id) (cond (int_eq t.pair.epoch h.producer_epoch && true) (cond (is_ongoing t.phase && has_partition t.partitions place) codes.None codes.InvalidTxnState) codes.InvalidProducerEpoch) codes.InvalidProducerIdMapping unmapped held in
-      let current = passes (int_eq t.pair.epoch h.producer_epoch && true) (cond (is_ongoing t.phase && has_partition t.partitions place) codes.None codes.InvalidTxnState) codes.InvalidProducerEpoch fenced mapped.1 in
-      let opened = passes (is_ongoing t.phase && has_partition t.partitions place) codes.None codes.InvalidTxnState not_open current.1 in
-      let both = and_parts (is_ongoing t.phase) (has_partition t.partitions place) opened.0 in
+      let mapped = passes (int_eq t.pair.producer h.producer_id) (cond (int_eq t.pair.epoch h.producer_epoch && true) (cond (is_ongoing t.state && has_partition t.partitions place) codes.None codes.InvalidTxnState) codes.InvalidProducerEpoch) codes.InvalidProducerIdMapping unmapped held in
+      let current = passes (int_eq t.pair.epoch h.producer_epoch && true) (cond (is_ongoing t.state && has_partition t.partitions place) codes.None codes.InvalidTxnState) codes.InvalidProducerEpoch fenced mapped.1 in
+      let opened = passes (is_ongoing t.state && has_partition t.partitions place) codes.None codes.InvalidTxnState not_open current.1 in
+      let both = and_parts (is_ongoing t.state) (has_partition t.partitions place) opened.0 in
       let r = recorded_at c.transactions id t found in
       let a = added_at t.partitions place both.1 in
       record {
@@ -198,7 +198,7 @@ module _ (c : CoordinatorValue) (asked : Option (List ℕ)) (name : List ℕ) (i
         asked_for = is ∙ ap (λ (x : List ℕ). Some x) (sym r.3);
         producer = sym (same_is t.pair.producer h.producer_id mapped.0);
         same_epoch = sym (same_is t.pair.epoch h.producer_epoch (and_parts (int_eq t.pair.epoch h.producer_epoch) true current.0).0);
-        ongoing = is_open t.phase both.0;
+        ongoing = is_open t.state both.0;
         earlier = a.0;
         later = a.1;
         added = a.2;
@@ -208,13 +208,13 @@ module _ (c : CoordinatorValue) (asked : Option (List ℕ)) (name : List ℕ) (i
         bit = bit;
       }
 
-  held_in : (id : List ℕ) (o : Option Transaction) → asked ≡ Some id → recorded c.transactions id ≡ o → holds_found o (pair_of h) (Partition place) ≡ codes.None → IsOfTransaction c asked name index h
+  held_in : (id : List ℕ) (o : Option Transaction) → asked ≡ Some id → id_record c.transactions id ≡ o → holding_code_of o (id_and_epoch_of h) (Partition place) ≡ codes.None → IsOfTransaction c asked name index h
   held_in id None is found held = absurd (unmapped held)
   held_in id (Some t) is found held = held_by id t is found held
 
-  held_as : (o : Option (List ℕ)) → asked ≡ o → held_code c o (pair_of h) (Partition place) ≡ None → IsOfTransaction c asked name index h
+  held_as : (o : Option (List ℕ)) → asked ≡ o → held_code c o (id_and_epoch_of h) (Partition place) ≡ None → IsOfTransaction c asked name index h
   held_as None is held = absurd (let clash : Some codes.InvalidTxnState ≡ None = held in cc)
-  held_as (Some id) is held = held_in id (recorded c.transactions id) is refl (refused_none (holds c id (pair_of h) (Partition place)) held)
+  held_as (Some id) is held = held_in id (id_record c.transactions id) is refl (refused_none (holding_code c id (id_and_epoch_of h) (Partition place)) held)
 
 -- ---- whose it is
 
@@ -224,7 +224,7 @@ Writer c id name index h = IsOfNobody h ⊎ (IsOfFreeId c h ⊎ IsOfTransaction 
 writer : (c : CoordinatorValue) (id : Option (List ℕ)) (name : List ℕ) (index : ℤ) (h : BatchHeader) → has_producer h ≡ true → producer_code c id (partition_at name index) h ≡ None → Writer c id name index h
 writer c id name index h names code = by_kind (is_transactional h) (int_lt h.producer_id (pos 0)) refl refl names code where
   by_kind : (t s : Bool) → is_transactional h ≡ t → int_lt h.producer_id (pos 0) ≡ s → cond s (int_eq h.producer_id (negsuc 0) && not t) (not (int_lt h.producer_epoch (pos 0)) && not (int_lt h.base_sequence (pos 0))) ≡ true
-      → cond t (held_code c id (pair_of h) (partition_at name index)) (cond s None (given_code (given_by (owner c h.producer_id)))) ≡ None → Writer c id name index h
+      → cond t (held_code c id (id_and_epoch_of h) (partition_at name index)) (cond s None (given_code (given_by (owner c h.producer_id)))) ≡ None → Writer c id name index h
   by_kind true true bit sign told found = absurd (true≢false (sym (and_parts (int_eq h.producer_id (negsuc 0)) false told).1))
   by_kind true false bit sign told found =
       let numbers = and_parts (not (int_lt h.producer_epoch (pos 0))) (not (int_lt h.base_sequence (pos 0))) told in
@@ -242,7 +242,7 @@ from_number n z is = omega (arith, ints, is)
 small_pos : (n m : ℕ) → n ≤ m → pos n ≤ℤ pos m
 small_pos n m le = omega (arith, ints, le)
 
-judged_proper : (most : ℕ) (c : CoordinatorValue) (id : Option (List ℕ)) (acks : ℤ) (name : List ℕ) (p : ProducedRecords) (b : BatchData) → judged most c id acks (partition_at name p.index) p.records ≡ Ok b → IsProper (pos most) c id acks name p b
+judged_proper : (most : ℕ) (c : CoordinatorValue) (id : Option (List ℕ)) (acks : ℤ) (name : List ℕ) (p : ProducedRecords) (b : BatchData) → batch_to_append most c id acks (partition_at name p.index) p.records ≡ Ok b → IsProper (pos most) c id acks name p b
 judged_proper most c id acks name p b is =
     let good = judged_sent most c id acks (partition_at name p.index) p.records b is in
     record {
@@ -257,7 +257,7 @@ judged_proper most c id acks name p b is =
 -- ---- and next, or nothing is changed
 
 next_by : (c : CoordinatorValue) (id : Option (List ℕ)) (name : List ℕ) (index : ℤ) (log : LogValue) (b : BatchData) → Writer c id name index b.header → judged_by_log log b ≡ Next → IsNextOf log b
-next_by c id name index log b (inl nobody) next = inl nobody.id
+next_by c id name index log b (inl unknown_group_error) next = inl unknown_group_error.id
 next_by c id name index log b (inr (inl free)) next = inr (only_next log b (from_number free.id b.header.producer_id free.is_id) next)
 next_by c id name index log b (inr (inr open_one)) next = inr (only_next log b open_one.id next)
 
@@ -269,26 +269,26 @@ same_code c d r p q = p ∙ ap Err q
 
 module _ (most : ℕ) (c : CoordinatorValue) (id : Option (List ℕ)) (acks : ℤ) (topics : List TopicValue) (name : List ℕ) (p : ProducedRecords) where
   abbrev Answered : Type 0
-  Answered = IsRightlyAnswered most c id acks topics (topics_produced (judged most c id acks (partition_at name p.index) p.records) topics name p.index) name p
+  Answered = IsRightlyAnswered most c id acks topics (topics_produced (batch_to_append most c id acks (partition_at name p.index) p.records) topics name p.index) name p
 
   abbrev Appends : Type 0
-  Appends = IsAppended topics (topics_produced (judged most c id acks (partition_at name p.index) p.records) topics name p.index) name p (produced (judged most c id acks (partition_at name p.index) p.records) topics name p)
+  Appends = IsAppended topics (topics_produced (batch_to_append most c id acks (partition_at name p.index) p.records) topics name p.index) name p (produce_answer (batch_to_append most c id acks (partition_at name p.index) p.records) topics name p)
 
   abbrev Repeats : Type 0
-  Repeats = IsRepeated topics (topics_produced (judged most c id acks (partition_at name p.index) p.records) topics name p.index) name p (produced (judged most c id acks (partition_at name p.index) p.records) topics name p)
+  Repeats = IsRepeated topics (topics_produced (batch_to_append most c id acks (partition_at name p.index) p.records) topics name p.index) name p (produce_answer (batch_to_append most c id acks (partition_at name p.index) p.records) topics name p)
 
-  by_answer : (b : BatchData) → judged most c id acks (partition_at name p.index) p.records ≡ Ok b → Appends ⊎ Repeats → Answered
+  by_answer : (b : BatchData) → batch_to_append most c id acks (partition_at name p.index) p.records ≡ Ok b → Appends ⊎ Repeats → Answered
   by_answer b is (inl a) =
       let proper = judged_proper most c id acks name p b is in
       let one : a.batch ≡ b = one_batch a.batch b a.is_batch proper.batch (same_bytes a.batch.bytes b.bytes (sym a.sent ∙ proper.sent)) in
       record { log = a.log; b = b; there = a.there; proper = proper; next = inl (next_by c id name p.index a.log b proper.writer (ap (judged_by_log a.log) (sym one) ∙ a.next)) }
   by_answer b is (inr a) = record { log = a.log; b = b; there = a.there; proper = judged_proper most c id acks name p b is; next = inr a.same }
 
-  by_result : (r : Result BatchData ErrorCode) (o : Option LogValue) → judged most c id acks (partition_at name p.index) p.records ≡ r → (produced_by r p o).error ≡ codes.None → Appends ⊎ Repeats → Answered
+  by_result : (r : Result BatchData ErrorCode) (o : Option LogValue) → batch_to_append most c id acks (partition_at name p.index) p.records ≡ r → (produce_answer_by r p o).error ≡ codes.None → Appends ⊎ Repeats → Answered
   by_result (Ok b) o is none answer = by_answer b is answer
   by_result (Err code) None is none answer = absurd (let clash : codes.UnknownTopicOrPartition ≡ codes.None = none in cc)
-  by_result (Err code) (Some log) is none answer = absurd (judged_called most c id acks (partition_at name p.index) p.records (same_code code codes.None (judged most c id acks (partition_at name p.index) p.records) is none))
+  by_result (Err code) (Some log) is none answer = absurd (judged_called most c id acks (partition_at name p.index) p.records (same_code code codes.None (batch_to_append most c id acks (partition_at name p.index) p.records) is none))
 
 pub accepts_nothing_else : AcceptsNothingElse
 accepts_nothing_else most c id acks topics name p none =
-    by_result most c id acks topics name p (judged most c id acks (partition_at name p.index) p.records) (log_at topics name p.index) refl none (produces_as_answered.appends most c id acks topics name p none)
+    by_result most c id acks topics name p (batch_to_append most c id acks (partition_at name p.index) p.records) (log_at topics name p.index) refl none (produces_as_answered.appends most c id acks topics name p none)

@@ -17,7 +17,7 @@ use Rattle.record_batch.specs.Batch.{BatchData, IsBatch}
 use Rattle.producer_state.specs.declared.judgment.Judgment.{Judgment}
 use Rattle.producer_state.specs.declared.judgment.Judgment.TheVariants.{Next, Repeat, Refused}
 use Rattle.producer_state.specs.Laws.{IsAccepted, IsInSequence, records_in}
-use Rattle.producer_state.specs.Sequences.{last_sequence, next_after, last_of, is_written_by, epochs, greatest, written_by, latest_by, expected_after, sequence, has_same_sequences, repeat, begun, gone_on, judged_in, judged as judged_by_log}
+use Rattle.producer_state.specs.Sequences.{last_sequence, next_after, last_of, is_written_by, epochs, greatest_of, batches_written_by, latest_batches_by, expected_after, sequence, has_same_sequences, repeat, first_judgment, judgment_by_repeat, judgment_in, judgment_of as judged_by_log}
 use Rattle.producer_state.proofs.Numbers.{lt_is, lt_is_not, between, same_is}
 use Rattle.producer_state.proofs.Noting.{epoch_of}
 use Rattle.producer_state.proofs.Judging.{id_of, judged_at, fenced_below, begun_above}
@@ -29,14 +29,14 @@ use Rattle.msg_data.specs.declared.produce.ProduceRequest.{ProduceRequest}
 use Rattle.msg_data.specs.declared.produce.ProducedRecords.{ProducedRecords}
 use Rattle.msg_data.specs.declared.produce.ProducedOffset.{ProducedOffset}
 use Rattle.audit_trail.specs.declared.event.Event.{Event}
-use Rattle.transactions.specs.Coordinator.{CoordinatorValue}
+use Rattle.txn_coordinator.specs.Coordinator.{CoordinatorValue}
 use Rattle.broker_world.specs.World.{World, TopicValue, LogValue}
-use Rattle.broker_world.specs.First.{magnitude, first_world}
+use Rattle.broker_world.specs.First.{non_negative, first_world}
 use Rattle.broker_world.specs.Logs.{log_at, offset_by}
 use Rattle.broker_world.specs.Markers.{marker_batch}
-use Rattle.data_handlers.specs.Judged.{partition_at, judged, topics_produced}
-use Rattle.data_handlers.specs.Produce.{produced_error, produced_to, produced_by, produced}
-use Rattle.api_dispatch.specs.Step.{reached}
+use Rattle.data_handlers.specs.Judged.{partition_at, batch_to_append, topics_produced}
+use Rattle.data_handlers.specs.Produce.{produced_error, produced_to, produce_answer_by, produce_answer}
+use Rattle.api_dispatch.specs.Step.{world_after_events}
 use Rattle.api_laws.specs.Acceptance.{IsProper, same_writer, HasPart}
 use Rattle.api_laws.specs.Repeats.{IsRefusedBy, IsOneOfFive, IsUnchangedBy, IsAnsweredAs, LastFiveRepeat}
 use Rattle.api_laws.proofs.DataAnswers.{produces_as_answered}
@@ -67,35 +67,35 @@ held most = record {
   };
 }
 
-held_in : (s : Settings) (es : List Event) (name : List ℕ) (index : ℤ) (log : LogValue) → log_at (reached (first_world s) es).topics name index ≡ Some log → IsHeld (magnitude s.max_batch) log
-held_in s es name index log there = each_log s (IsHeld (magnitude s.max_batch)) (held (magnitude s.max_batch)) es name index log there
+held_in : (s : Settings) (es : List Event) (name : List ℕ) (index : ℤ) (log : LogValue) → log_at (world_after_events (first_world s) es).topics name index ≡ Some log → IsHeld (non_negative s.max_batch) log
+held_in s es name index log there = each_log s (IsHeld (non_negative s.max_batch)) (held (non_negative s.max_batch)) es name index log there
 
 -- ---- so each of them tells how many records it has
 
 counted_one : (most : ℕ) (b : BatchData) → IsPlaced most b → IsCounted b
 counted_one most b is = subst IsCounted (sym is.stands) (record { counted = is.good.batch.counted; some = is.good.batch.some })
 
-own_counted : (most : ℕ) (id epoch : ℤ) (log : LogValue) → AllByRecursion (IsPlacedData most) log → AllByRecursion IsCounted (written_by id epoch log)
+own_counted : (most : ℕ) (id epoch : ℤ) (log : LogValue) → AllByRecursion (IsPlacedData most) log → AllByRecursion IsCounted (batches_written_by id epoch log)
 own_counted most id epoch log all = all_kept (IsPlacedData most) (is_written_by id epoch) IsCounted (λ x passes is. counted_one most x (is (own_is id epoch x passes).no_marker)) log all
 
 -- ---- one of them sent again
 
 module _ (most : ℕ) (log before after : LogValue) (b : BatchData) (is : IsHeld most log) (stands : log ≡ before ++ b ∷ after) (no_marker : b.marker ≡ None) (low : pos 0 ≤ℤ id_of b) (latest : AllByRecursion (λ (x : BatchData). x.header.producer_id ≡ id_of b → x.header.producer_epoch ≤ℤ epoch_of b) log) where
   abbrev earlier : List BatchData
-  earlier = written_by (id_of b) (epoch_of b) before
+  earlier = batches_written_by (id_of b) (epoch_of b) before
 
   abbrev later : List BatchData
-  later = written_by (id_of b) (epoch_of b) after
+  later = batches_written_by (id_of b) (epoch_of b) after
 
   mine : IsOwn (id_of b) (epoch_of b) b
   mine = record { no_marker = no_marker; producer = refl; same_epoch = refl }
 
-  split : written_by (id_of b) (epoch_of b) log ≡ earlier ++ b ∷ later
+  split : batches_written_by (id_of b) (epoch_of b) log ≡ earlier ++ b ∷ later
   split = own_split (id_of b) (epoch_of b) log before after b stands mine
 
-  found : greatest (epochs (id_of b) log) ≡ Some (epoch_of b)
+  found : greatest_of (epochs (id_of b) log) ≡ Some (epoch_of b)
   found = greatest_at (id_of b) (epoch_of b) log
-      (subst (λ (l : LogValue). (m : ℤ) × (greatest (epochs (id_of b) l) ≡ Some m) × (epoch_of b ≤ℤ m)) (sym stands) (epochs_reach (id_of b) before after b (is_own b (id_of b) refl)))
+      (subst (λ (l : LogValue). (m : ℤ) × (greatest_of (epochs (id_of b) l) ≡ Some m) × (epoch_of b ≤ℤ m)) (sym stands) (epochs_reach (id_of b) before after b (is_own b (id_of b) refl)))
       (epochs_below (id_of b) (epoch_of b) log latest)
 
   all_counted : AllByRecursion IsCounted earlier × IsCounted b × AllByRecursion IsCounted later
@@ -119,7 +119,7 @@ module _ (most : ℕ) (log before after : LogValue) (b : BatchData) (is : IsHeld
   repeats_here : length later ≤ 4 → records_in (b ∷ later) ≤ 2147483648 → judged_by_log log b ≡ Repeat b.header.base_offset
   repeats_here short few =
       judged_latest log b low found
-      ∙ ap (gone_on (expected_after (latest_by (id_of b) (epoch_of b) log)) b) (found_again log earlier later b split short (no_later few))
+      ∙ ap (judgment_by_repeat (expected_after (latest_batches_by (id_of b) (epoch_of b) log)) b) (found_again log earlier later b split short (no_later few))
 
   -- were it the next one, it would begin where the log's records of its producer end
   not_next : records_in (b ∷ later) < 2147483648 → judged_by_log log b ≡ Next → ⊥
@@ -127,7 +127,7 @@ module _ (most : ℕ) (log before after : LogValue) (b : BatchData) (is : IsHeld
     some : 0 < records_in (b ∷ later)
     some = let c = all_counted.1 in omega (arith, c.some)
 
-    more : written_by (id_of b) (epoch_of b) (log ++ b ∷ []) ≡ (earlier ++ b ∷ later) ++ b ∷ []
+    more : batches_written_by (id_of b) (epoch_of b) (log ++ b ∷ []) ≡ (earlier ++ b ∷ later) ++ b ∷ []
     more = own_split (id_of b) (epoch_of b) (log ++ b ∷ []) log [] b refl mine ∙ ap (λ (l : List BatchData). l ++ b ∷ []) split
 
     longer : IsInSequence (pos 0) ((earlier ++ b ∷ later) ++ b ∷ [])
@@ -146,11 +146,11 @@ module _ (most : ℕ) (log before after : LogValue) (b : BatchData) (is : IsHeld
     ends = second.0 ∙ ap (λ (n : ℕ). pos (n % 2147483648)) (add_assoc (0 + records_in earlier) (length b.records) (records_in later))
 
   late_here : 5 ≤ length later → records_in (b ∷ later) < 2147483648 → judged_by_log log b ≡ Refused codes.OutOfOrderSequenceNumber
-  late_here many few = by_test (int_eq b.header.base_sequence (expected_after (latest_by (id_of b) (epoch_of b) log))) refl where
-    judgment : judged_by_log log b ≡ cond (int_eq b.header.base_sequence (expected_after (latest_by (id_of b) (epoch_of b) log))) Next (Refused codes.OutOfOrderSequenceNumber)
-    judgment = judged_latest log b low found ∙ ap (gone_on (expected_after (latest_by (id_of b) (epoch_of b) log)) b) (not_found log earlier later b split many (no_later (omega (arith, few))))
+  late_here many few = by_test (int_eq b.header.base_sequence (expected_after (latest_batches_by (id_of b) (epoch_of b) log))) refl where
+    judgment : judged_by_log log b ≡ cond (int_eq b.header.base_sequence (expected_after (latest_batches_by (id_of b) (epoch_of b) log))) Next (Refused codes.OutOfOrderSequenceNumber)
+    judgment = judged_latest log b low found ∙ ap (judgment_by_repeat (expected_after (latest_batches_by (id_of b) (epoch_of b) log)) b) (not_found log earlier later b split many (no_later (omega (arith, few))))
 
-    by_test : (t : Bool) → int_eq b.header.base_sequence (expected_after (latest_by (id_of b) (epoch_of b) log)) ≡ t → judged_by_log log b ≡ Refused codes.OutOfOrderSequenceNumber
+    by_test : (t : Bool) → int_eq b.header.base_sequence (expected_after (latest_batches_by (id_of b) (epoch_of b) log)) ≡ t → judged_by_log log b ≡ Refused codes.OutOfOrderSequenceNumber
     by_test true e = absurd (not_next few (judgment ∙ ap (λ (t : Bool). cond t Next (Refused codes.OutOfOrderSequenceNumber)) e))
     by_test false e = judgment ∙ ap (λ (t : Bool). cond t Next (Refused codes.OutOfOrderSequenceNumber)) e
 
@@ -162,44 +162,44 @@ test_repeats false offset h = cc
 
 pub record IsRepeated (log : LogValue) (b : BatchData) (offset : ℤ) : Type 0 where
   pub low : pos 0 ≤ℤ id_of b
-  pub latest : greatest (epochs (id_of b) log) ≡ Some (epoch_of b)
+  pub latest : greatest_of (epochs (id_of b) log) ≡ Some (epoch_of b)
   pub old : BatchData
   pub found : repeat log b ≡ Some old
   pub told : old.header.base_offset ≡ offset
 
 repeat_of : (log : LogValue) (b : BatchData) (offset : ℤ) → judged_by_log log b ≡ Repeat offset → IsRepeated log b offset
 repeat_of log b offset h = by_sign (int_lt (id_of b) (pos 0)) refl where
-  not_begun : begun b ≡ Repeat offset → ⊥
+  not_begun : first_judgment b ≡ Repeat offset → ⊥
   not_begun e = test_repeats (int_eq b.header.base_sequence (pos 0)) offset e
 
-  by_repeat : (expected : ℤ) (o : Option BatchData) → pos 0 ≤ℤ id_of b → greatest (epochs (id_of b) log) ≡ Some (epoch_of b) → repeat log b ≡ o → gone_on expected b o ≡ Repeat offset → IsRepeated log b offset
+  by_repeat : (expected : ℤ) (o : Option BatchData) → pos 0 ≤ℤ id_of b → greatest_of (epochs (id_of b) log) ≡ Some (epoch_of b) → repeat log b ≡ o → judgment_by_repeat expected b o ≡ Repeat offset → IsRepeated log b offset
   by_repeat expected None low latest is e = absurd (test_repeats (int_eq b.header.base_sequence expected) offset e)
   by_repeat expected (Some old) low latest is e = record { low = low; latest = latest; old = old; found = is; told = let same : old.header.base_offset ≡ offset = cc in same }
 
-  within : (m : ℤ) → pos 0 ≤ℤ id_of b → greatest (epochs (id_of b) log) ≡ Some m → m ≤ℤ epoch_of b → epoch_of b ≤ℤ m → IsRepeated log b offset
+  within : (m : ℤ) → pos 0 ≤ℤ id_of b → greatest_of (epochs (id_of b) log) ≡ Some m → m ≤ℤ epoch_of b → epoch_of b ≤ℤ m → IsRepeated log b offset
   within m low is le ge =
-      let latest : greatest (epochs (id_of b) log) ≡ Some (epoch_of b) = is ∙ ap (λ (n : ℤ). Some n) (between m (epoch_of b) le ge) in
-      by_repeat (expected_after (latest_by (id_of b) (epoch_of b) log)) (repeat log b) low latest refl (sym (judged_latest log b low latest) ∙ h)
+      let latest : greatest_of (epochs (id_of b) log) ≡ Some (epoch_of b) = is ∙ ap (λ (n : ℤ). Some n) (between m (epoch_of b) le ge) in
+      by_repeat (expected_after (latest_batches_by (id_of b) (epoch_of b) log)) (repeat log b) low latest refl (sym (judged_latest log b low latest) ∙ h)
 
-  above : (m : ℤ) → pos 0 ≤ℤ id_of b → greatest (epochs (id_of b) log) ≡ Some m → m <ℤ epoch_of b → m ≤ℤ epoch_of b → ⊥
+  above : (m : ℤ) → pos 0 ≤ℤ id_of b → greatest_of (epochs (id_of b) log) ≡ Some m → m <ℤ epoch_of b → m ≤ℤ epoch_of b → ⊥
   above m low is lt le = not_begun (sym (judged_at log b (Some m) low is ∙ begun_above (place log (id_of b) m) b (repeat log b) lt le) ∙ h)
 
-  by_newer : (m : ℤ) (t : Bool) → int_lt m (epoch_of b) ≡ t → pos 0 ≤ℤ id_of b → greatest (epochs (id_of b) log) ≡ Some m → m ≤ℤ epoch_of b → IsRepeated log b offset
+  by_newer : (m : ℤ) (t : Bool) → int_lt m (epoch_of b) ≡ t → pos 0 ≤ℤ id_of b → greatest_of (epochs (id_of b) log) ≡ Some m → m ≤ℤ epoch_of b → IsRepeated log b offset
   by_newer m true e low is le = absurd (above m low is (lt_is m (epoch_of b) e) le)
   by_newer m false e low is le = within m low is le (lt_is_not m (epoch_of b) e)
 
-  by_older : (m : ℤ) (t : Bool) → int_lt (epoch_of b) m ≡ t → pos 0 ≤ℤ id_of b → greatest (epochs (id_of b) log) ≡ Some m → IsRepeated log b offset
+  by_older : (m : ℤ) (t : Bool) → int_lt (epoch_of b) m ≡ t → pos 0 ≤ℤ id_of b → greatest_of (epochs (id_of b) log) ≡ Some m → IsRepeated log b offset
   by_older m true e low is =
       absurd (let clash : Refused codes.InvalidProducerEpoch ≡ Repeat offset = sym (judged_at log b (Some m) low is ∙ fenced_below (place log (id_of b) m) b (repeat log b) (lt_is (epoch_of b) m e)) ∙ h in cc)
   by_older m false e low is = by_newer m (int_lt m (epoch_of b)) refl low is (lt_is_not (epoch_of b) m e)
 
-  by_found : (o : Option ℤ) → pos 0 ≤ℤ id_of b → greatest (epochs (id_of b) log) ≡ o → IsRepeated log b offset
+  by_found : (o : Option ℤ) → pos 0 ≤ℤ id_of b → greatest_of (epochs (id_of b) log) ≡ o → IsRepeated log b offset
   by_found None low is = absurd (not_begun (sym (judged_at log b None low is) ∙ h))
   by_found (Some m) low is = by_older m (int_lt (epoch_of b) m) refl low is
 
   by_sign : (t : Bool) → int_lt (id_of b) (pos 0) ≡ t → IsRepeated log b offset
-  by_sign true e = absurd (let clash : Next ≡ Repeat offset = sym (ap (λ (t : Bool). cond (not t) (judged_in (sequence log (id_of b)) b (repeat log b)) Next) e) ∙ h in cc)
-  by_sign false e = by_found (greatest (epochs (id_of b) log)) (lt_is_not (id_of b) (pos 0) e) refl
+  by_sign true e = absurd (let clash : Next ≡ Repeat offset = sym (ap (λ (t : Bool). cond (not t) (judgment_in (sequence log (id_of b)) b (repeat log b)) Next) e) ∙ h in cc)
+  by_sign false e = by_found (greatest_of (epochs (id_of b) log)) (lt_is_not (id_of b) (pos 0) e) refl
 
 -- ---- and so it is one of the last five
 
@@ -236,7 +236,7 @@ few_records b is = let spelled = is.headed.4.4.4.4.4.4.4.4.4.4.4.4 in small_coun
 few_placed : (most : ℕ) (b : BatchData) → IsPlaced most b → length b.records < 2147483648
 few_placed most b is = subst (λ (x : BatchData). length x.records < 2147483648) (sym is.stands) (few_records is.sent is.good.batch)
 
-whole : (z : ℤ) → pos 0 <ℤ z → z ≡ pos (magnitude z)
+whole : (z : ℤ) → pos 0 <ℤ z → z ≡ pos (non_negative z)
 whole (pos n) some = refl
 whole (negsuc n) some = absurd (omega (arith, ints, some))
 
@@ -246,7 +246,7 @@ one_less z n is some = omega (arith, ints, is, some)
 same_count : (old again : BatchData) (x n : ℕ) → n < 2147483648 → 0 < n → old.header.record_count ≡ pos n → old.header.base_sequence ≡ pos x → old.header.base_sequence ≡ again.header.base_sequence
     → pos 0 <ℤ again.header.record_count → again.header.record_count ≤ℤ pos 2147483647 → last_of old ≡ last_of again → again.header.record_count ≡ old.header.record_count
 same_count old again x n few some counted starts begins more most lasts =
-    let m = magnitude again.header.record_count in
+    let m = non_negative again.header.record_count in
     let is_m : again.header.record_count ≡ pos m = whole again.header.record_count more in
     let above : 0 < m = omega (arith, ints, more, is_m) in
     let below : m ≤ 2147483647 = omega (arith, ints, most, is_m) in
@@ -257,10 +257,10 @@ same_count old again x n few some counted starts begins more most lasts =
     let one : m ≡ n = omega (arith, less, some, above) in
     is_m ∙ ap (λ (k : ℕ). pos k) one ∙ sym counted
 
-alone : (s : Settings) (es : List Event) (name : List ℕ) (index : ℤ) (log : LogValue) (again : BatchData) (offset : ℤ) → log_at (reached (first_world s) es).topics name index ≡ Some log → pos 0 <ℤ again.header.record_count → again.header.record_count ≤ℤ pos 2147483647
+alone : (s : Settings) (es : List Event) (name : List ℕ) (index : ℤ) (log : LogValue) (again : BatchData) (offset : ℤ) → log_at (world_after_events (first_world s) es).topics name index ≡ Some log → pos 0 <ℤ again.header.record_count → again.header.record_count ≤ℤ pos 2147483647
     → judged_by_log log again ≡ Repeat offset → IsOneOfFive s es name index log again offset
 alone s es name index log again offset there more most h =
-    let limit = magnitude s.max_batch in
+    let limit = non_negative s.max_batch in
     let is = held_in s es name index log there in
     let r = repeat_of log again offset h in
     let id = id_of again in
@@ -268,7 +268,7 @@ alone s es name index log again offset there more most h =
     let late = found_late log again r.old r.found in
     let k = kept_at (is_written_by id e) log late.earlier late.later r.old late.own in
     let own = own_is id e r.old k.4 in
-    let after_it : same_writer r.old k.1 ≡ late.later = ap (λ (i : ℤ). written_by i r.old.header.producer_epoch k.1) own.producer ∙ ap (λ (x : ℤ). written_by id x k.1) own.same_epoch ∙ k.3 in
+    let after_it : same_writer r.old k.1 ≡ late.later = ap (λ (i : ℤ). batches_written_by i r.old.header.producer_epoch k.1) own.producer ∙ ap (λ (x : ℤ). batches_written_by id x k.1) own.same_epoch ∙ k.3 in
     let placed = (all_parts (IsPlacedData limit) k.0 k.1 r.old (subst (AllByRecursion (IsPlacedData limit)) k.2 is.placed)).1 own.no_marker in
     let counted = all_parts IsCounted late.earlier late.later r.old (subst (AllByRecursion IsCounted) late.own (own_counted limit id e log is.placed)) in
     let starts = (placed_at 0 late.earlier late.later r.old counted.0 (subst (IsInSequence (pos 0)) late.own (accepted_once log is.accepted id e r.low))).0 in
@@ -307,24 +307,24 @@ pub record IsAnswered (number : ℕ) (offset : ℤ) (topics after : List TopicVa
 
 abbrev Answers : ℕ → ℤ → ℤ → CoordinatorValue → Option (List ℕ) → ℤ → List TopicValue → List ℕ → ProducedRecords → Type 0
 Answers number offset most c id acks topics name p =
-    IsAnswered number offset topics (topics_produced (judged (magnitude most) c id acks (partition_at name p.index) p.records) topics name p.index) (produced (judged (magnitude most) c id acks (partition_at name p.index) p.records) topics name p)
+    IsAnswered number offset topics (topics_produced (batch_to_append (non_negative most) c id acks (partition_at name p.index) p.records) topics name p.index) (produce_answer (batch_to_append (non_negative most) c id acks (partition_at name p.index) p.records) topics name p)
 
 answered_again : (most : ℤ) (c : CoordinatorValue) (id : Option (List ℕ)) (acks : ℤ) (topics : List TopicValue) (name : List ℕ) (p : ProducedRecords) (log : LogValue) (b : BatchData) (offset : ℤ)
     → log_at topics name p.index ≡ Some log → IsProper most c id acks name p b → judged_by_log log b ≡ Repeat offset → Answers 0 offset most c id acks topics name p
 unfolding number_of
 answered_again most c id acks topics name p log b offset there proper h =
-    let a = produces_as_answered.repeat (magnitude most) c id acks topics name p log b offset there (proper_judged most c id acks name p b proper) h in
+    let a = produces_as_answered.repeat (non_negative most) c id acks topics name p log b offset there (proper_judged most c id acks name p b proper) h in
     record { error = ap number_of a.error; at = a.at; unchanged = a.same }
 
 answered_late : (most : ℤ) (c : CoordinatorValue) (id : Option (List ℕ)) (acks : ℤ) (topics : List TopicValue) (name : List ℕ) (p : ProducedRecords) (log : LogValue) (b : BatchData)
     → log_at topics name p.index ≡ Some log → IsProper most c id acks name p b → judged_by_log log b ≡ Refused codes.OutOfOrderSequenceNumber → Answers 45 (negsuc 0) most c id acks topics name p
 unfolding number_of
 answered_late most c id acks topics name p log b there proper h =
-    let r = judged (magnitude most) c id acks (partition_at name p.index) p.records in
-    let told : produced r topics name p ≡ produced_error codes.OutOfOrderSequenceNumber p =
-    ap (λ (x : Result BatchData ErrorCode). produced x topics name p) (proper_judged most c id acks name p b proper) ∙ ap (produced_by (Ok b) p) there ∙ ap (λ (j : Judgment). produced_to p (offset_by j log)) h in
-    let error : (produced r topics name p).error ≡ codes.OutOfOrderSequenceNumber = ap (λ (a : ProducedOffset). a.error) told in
-    let kept = produces_as_answered.refuses (magnitude most) c id acks topics name p (λ none. let clash : codes.OutOfOrderSequenceNumber ≡ codes.None = sym error ∙ none in cc) in
+    let r = batch_to_append (non_negative most) c id acks (partition_at name p.index) p.records in
+    let told : produce_answer r topics name p ≡ produced_error codes.OutOfOrderSequenceNumber p =
+    ap (λ (x : Result BatchData ErrorCode). produce_answer x topics name p) (proper_judged most c id acks name p b proper) ∙ ap (produce_answer_by (Ok b) p) there ∙ ap (λ (j : Judgment). produced_to p (offset_by j log)) h in
+    let error : (produce_answer r topics name p).error ≡ codes.OutOfOrderSequenceNumber = ap (λ (a : ProducedOffset). a.error) told in
+    let kept = produces_as_answered.refuses (non_negative most) c id acks topics name p (λ none. let clash : codes.OutOfOrderSequenceNumber ≡ codes.None = sym error ∙ none in cc) in
     record { error = ap number_of error; at = kept.offset; unchanged = kept.same }
 
 -- so it is in a request
@@ -337,21 +337,21 @@ unchanged_by number offset w caller r name p log asked there part =
     record {
       answer = answer_to w caller r name p asked;
       told = is_told w caller r name p asked;
-      same_index = (is_for (judged (magnitude w.node.max_batch) w.coordinator r.transactional_id r.acks (partition_at name p.index) p.records) (at_part w caller r name p asked) name p).index;
+      same_index = (is_for (batch_to_append (non_negative w.node.max_batch) w.coordinator r.transactional_id r.acks (partition_at name p.index) p.records) (at_part w caller r name p asked) name p).index;
       error = a.error;
       at = a.at;
       same = kept_after w caller r name p asked ∙ ap (λ (l : List TopicValue). log_at l name p.index) a.unchanged ∙ here;
     }
 
-request_again : (s : Settings) (es : List Event) (name : List ℕ) (index : ℤ) (log : LogValue) (b : BatchData) (offset : ℤ) → log_at (reached (first_world s) es).topics name index ≡ Some log → judged_by_log log b ≡ Repeat offset → IsAnsweredAs 0 offset s es name index log b
+request_again : (s : Settings) (es : List Event) (name : List ℕ) (index : ℤ) (log : LogValue) (b : BatchData) (offset : ℤ) → log_at (world_after_events (first_world s) es).topics name index ≡ Some log → judged_by_log log b ≡ Repeat offset → IsAnsweredAs 0 offset s es name index log b
 request_again s es name index log b offset there h caller r p asked same proper =
-    let w = reached (first_world s) es in
+    let w = world_after_events (first_world s) es in
     unchanged_by 0 offset w caller r name p log asked (ap (log_at w.topics name) same ∙ there)
     (λ here. answered_again w.node.max_batch w.coordinator r.transactional_id r.acks (at_part w caller r name p asked) name p log b offset here proper h)
 
-request_late : (s : Settings) (es : List Event) (name : List ℕ) (index : ℤ) (log : LogValue) (b : BatchData) → log_at (reached (first_world s) es).topics name index ≡ Some log → judged_by_log log b ≡ Refused codes.OutOfOrderSequenceNumber → IsAnsweredAs 45 (negsuc 0) s es name index log b
+request_late : (s : Settings) (es : List Event) (name : List ℕ) (index : ℤ) (log : LogValue) (b : BatchData) → log_at (world_after_events (first_world s) es).topics name index ≡ Some log → judged_by_log log b ≡ Refused codes.OutOfOrderSequenceNumber → IsAnsweredAs 45 (negsuc 0) s es name index log b
 request_late s es name index log b there h caller r p asked same proper =
-    let w = reached (first_world s) es in
+    let w = world_after_events (first_world s) es in
     unchanged_by 45 (negsuc 0) w caller r name p log asked (ap (log_at w.topics name) same ∙ there)
     (λ here. answered_late w.node.max_batch w.coordinator r.transactional_id r.acks (at_part w caller r name p asked) name p log b here proper h)
 
@@ -364,10 +364,10 @@ out_of_order j is = record { code = codes.OutOfOrderSequenceNumber; refused = is
 pub last_five_repeat : LastFiveRepeat
 last_five_repeat = record {
   repeats = λ s es name index log before after b again is same few small.
-      let h = same_judged log b again same ∙ repeats_here (magnitude s.max_batch) log before after b (held_in s es name index log is.there) is.place is.no_marker is.producer is.latest few small in
+      let h = same_judged log b again same ∙ repeats_here (non_negative s.max_batch) log before after b (held_in s es name index log is.there) is.place is.no_marker is.producer is.latest few small in
       (h, request_again s es name index log again b.header.base_offset is.there h);
   too_old = λ s es name index log before after b again is same many small.
-      let h = same_judged log b again same ∙ late_here (magnitude s.max_batch) log before after b (held_in s es name index log is.there) is.place is.no_marker is.producer is.latest many small in
+      let h = same_judged log b again same ∙ late_here (non_negative s.max_batch) log before after b (held_in s es name index log is.there) is.place is.no_marker is.producer is.latest many small in
       (out_of_order (judged_by_log log again) h, request_late s es name index log again is.there h);
   alone = alone;
   gaps = λ s es name index log b there gap.

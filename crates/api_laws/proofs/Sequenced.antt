@@ -12,7 +12,7 @@ use Rattle.settings.specs.declared.settings.TopicSetting.{TopicSetting}
 use Rattle.record_batch.specs.Batch.{BatchData}
 use Rattle.producer_state.specs.declared.judgment.Judgment.{Judgment}
 use Rattle.producer_state.specs.declared.judgment.Judgment.TheVariants.{Next, Repeat, Refused}
-use Rattle.producer_state.specs.Sequences.{judged as judged_by_log}
+use Rattle.producer_state.specs.Sequences.{judgment_of as judged_by_log}
 use Rattle.producer_state.specs.Laws.{IsAccepted}
 use Rattle.producer_state.proofs.Accepting.{accepted_once}
 use Rattle.partition_log.specs.Log.{end_of, at_end}
@@ -24,25 +24,25 @@ use Rattle.audit_trail.specs.declared.event.Event.TheVariants.{Ask, Mark, Tick}
 use Rattle.walk.specs.Steps.{world_by, part_world, parts_world, topics_world}
 use Rattle.walk.proofs.Weaving.{woven}
 use Rattle.broker_world.specs.World.{World, TopicValue, LogValue, rules_of, find_topic}
-use Rattle.broker_world.specs.First.{magnitude, empty_logs, first_topics, first_world}
-use Rattle.broker_world.specs.Logs.{log_in, log_of, log_at, logs_with, with_log, log_by, log_after, appended_by}
-use Rattle.transactions.specs.Coordinator.{CoordinatorValue}
-use Rattle.data_handlers.specs.Judged.{partition_at, judged, topics_produced}
-use Rattle.data_handlers.specs.Produce.{produce_questions, produce_rule, producing}
+use Rattle.broker_world.specs.First.{non_negative, empty_logs, first_topics, first_world}
+use Rattle.broker_world.specs.Logs.{log_in, log_of, log_at, logs_with, with_log, log_by, log_after, topics_with_batch_by}
+use Rattle.txn_coordinator.specs.Coordinator.{CoordinatorValue}
+use Rattle.data_handlers.specs.Judged.{partition_at, batch_to_append, topics_produced}
+use Rattle.data_handlers.specs.Produce.{produce_questions, produce_rule, producing_rule}
 use Rattle.acl_handlers.specs.DescribeAcls.{describe_acls_questions}
 use Rattle.acl_handlers.specs.CreateAcls.{alter_questions}
 use Rattle.txn_handlers.specs.EndTxn.{end_questions}
 use Rattle.txn_handlers.specs.InitProducerId.{init_questions}
-use Rattle.api_dispatch.specs.Step.{outcome, step, reached}
+use Rattle.api_dispatch.specs.Step.{outcome, step, world_after_events}
 use Rattle.api_laws.specs.ProducerLaws.{HoldsOnce}
 use Rattle.acl_handlers.proofs.BookBounds.{whole_topics}
-use Rattle.transactions.specs.declared.marker.OwedMarker.{OwedMarker}
-use Rattle.transactions.specs.declared.target.Target.{Target}
-use Rattle.transactions.specs.declared.target.Target.TheVariants.{Partition, Group}
-use Rattle.transactions.specs.Warrants.{next_warrant}
+use Rattle.txn_coordinator.specs.declared.marker.PendingMarker.{PendingMarker}
+use Rattle.txn_coordinator.specs.declared.target.Target.{Target}
+use Rattle.txn_coordinator.specs.declared.target.Target.TheVariants.{Partition, Group}
+use Rattle.txn_coordinator.specs.Warrants.{next_warrant}
 use Rattle.txn_handlers.specs.AddOffsets.{add_offsets_questions}
-use Rattle.broker_world.specs.Markers.{marker_batch, log_marked, marked_by}
-use Rattle.txn_handlers.specs.Marks.{marked_at, mark_by}
+use Rattle.broker_world.specs.Markers.{marker_batch, log_with_marker, topics_with_marker_by}
+use Rattle.txn_handlers.specs.Marks.{topics_with_marker_at, mark_by}
 use Rattle.api_dispatch.proofs.Wholes.{offsets_keep}
 use Rattle.broker_world.specs.Questions.{read_question}
 use Rattle.group_handlers.specs.FindCoordinator.{kind_of, find_questions}
@@ -105,19 +105,19 @@ goes_on log b Next all is = accepted_push log (at_end log b) all (follows_writte
 goes_on log b (Repeat offset) all is = all
 goes_on log b (Refused code) all is = all
 
-appended_all : (topics : List TopicValue) (name : List ℕ) (index : ℤ) (b : BatchData) (o : Option LogValue) → AllLogs topics → log_at topics name index ≡ o → AllLogs (appended_by topics name index b o)
+appended_all : (topics : List TopicValue) (name : List ℕ) (index : ℤ) (b : BatchData) (o : Option LogValue) → AllLogs topics → log_at topics name index ≡ o → AllLogs (topics_with_batch_by topics name index b o)
 appended_all topics name index b None all there = all
 appended_all topics name index b (Some log) all there =
     all_with topics name index (log_after log b) all (goes_on log b (judged_by_log log b) (log_accepted topics name index log all there) refl)
 
-marker_all : (log : LogValue) (m : OwedMarker) (moment : ℕ) → IsAccepted log → IsAccepted (log_marked log (marker_batch m moment))
+marker_all : (log : LogValue) (m : PendingMarker) (moment : ℕ) → IsAccepted log → IsAccepted (log_with_marker log (marker_batch m moment))
 marker_all log m moment all =
     accepted_push log (at_end log (marker_batch m moment)) all (follows_written log (marker_batch m moment) (end_of log) (λ told. absurd (let clash : false ≡ true = told in cc)))
 
-marked_all : (topics : List TopicValue) (name : List ℕ) (index : ℤ) (m : OwedMarker) (moment : ℕ) (o : Option LogValue) → AllLogs topics → log_at topics name index ≡ o → AllLogs (marked_by topics name index (marker_batch m moment) o)
+marked_all : (topics : List TopicValue) (name : List ℕ) (index : ℤ) (m : PendingMarker) (moment : ℕ) (o : Option LogValue) → AllLogs topics → log_at topics name index ≡ o → AllLogs (topics_with_marker_by topics name index (marker_batch m moment) o)
 marked_all topics name index m moment None all there = all
 marked_all topics name index m moment (Some log) all there =
-    all_with topics name index (log_marked log (marker_batch m moment)) all (marker_all log m moment (log_accepted topics name index log all there))
+    all_with topics name index (log_with_marker log (marker_batch m moment)) all (marker_all log m moment (log_accepted topics name index log all there))
 
 produced_all : (batch : Result BatchData ErrorCode) (topics : List TopicValue) (name : List ℕ) (index : ℤ) → AllLogs topics → AllLogs (topics_produced batch topics name index)
 produced_all (Err code) topics name index all = all
@@ -130,7 +130,7 @@ module _ (rules : Rules) (caller : Caller) (most : ℕ) (c : CoordinatorValue) (
   part_all topics n p all = by_refusal (part_refusal rules (produce_questions caller id n)) where
     by_refusal : (r : Option Refusal) → AllLogs (world_by (produce_rule caller most c id acks) r topics n p)
     by_refusal (Some r) = all
-    by_refusal None = produced_all (judged most c id acks (partition_at n p.index) p.records) topics n p.index all
+    by_refusal None = produced_all (batch_to_append most c id acks (partition_at n p.index) p.records) topics n p.index all
 
   parts_all : (topics : List TopicValue) (n : List ℕ) (ps : List ProducedRecords) → AllLogs topics → AllLogs (parts_world (produce_rule caller most c id acks) rules topics n ps)
   parts_all topics n [] all = all
@@ -145,7 +145,7 @@ module _ (rules : Rules) (caller : Caller) (most : ℕ) (c : CoordinatorValue) (
 
 outcome_all : (w : World) (e : Event) → AllLogs w.topics → AllLogs (outcome w e).world.topics
 outcome_all w (Ask caller client (Produce r)) all =
-    subst AllLogs (woven (producing w caller r) (rules_of w) w.topics r.topics).world (topics_all (rules_of w) caller (magnitude w.node.max_batch) w.coordinator r.transactional_id r.acks w.topics r.topics all)
+    subst AllLogs (woven (producing_rule w caller r) (rules_of w) w.topics r.topics).world (topics_all (rules_of w) caller (non_negative w.node.max_batch) w.coordinator r.transactional_id r.acks w.topics r.topics all)
 outcome_all w (Ask caller client (Fetch r)) all = all
 outcome_all w (Ask caller client (ListOffsets r)) all = all
 outcome_all w (Ask caller client (Metadata r)) all = all
@@ -168,16 +168,16 @@ outcome_all w (Ask caller client (DescribeAcls r)) all = subst AllLogs (sym (who
 outcome_all w (Ask caller client (CreateAcls r)) all = subst AllLogs (sym (whole_topics (part_refusal (rules_of w) (alter_questions caller)) w _ _ refl)) all
 outcome_all w (Ask caller client (DeleteAcls r)) all = subst AllLogs (sym (whole_topics (part_refusal (rules_of w) (alter_questions caller)) w _ _ refl)) all
 outcome_all w Mark all = by_front (next_warrant w.coordinator) where
-  by_target : (m : OwedMarker) (t : Target) → AllLogs (marked_at w.topics t (marker_batch m w.moment))
+  by_target : (m : PendingMarker) (t : Target) → AllLogs (topics_with_marker_at w.topics t (marker_batch m w.moment))
   by_target m (Partition p) = marked_all w.topics p.topic p.index m w.moment (log_at w.topics p.topic p.index) all refl
   by_target m (Group g) = all
 
-  by_front : (o : Option OwedMarker) → AllLogs (mark_by w o).world.topics
+  by_front : (o : Option PendingMarker) → AllLogs (mark_by w o).world.topics
   by_front None = all
   by_front (Some m) = by_target m m.target
 outcome_all w (Tick told) all = all
 
-reached_all : (w : World) (es : List Event) → AllLogs w.topics → AllLogs (reached w es).topics
+reached_all : (w : World) (es : List Event) → AllLogs w.topics → AllLogs (world_after_events w es).topics
 reached_all w [] all = all
 reached_all w (e ∷ es) all = reached_all (step w e) es (outcome_all w e all)
 
@@ -191,8 +191,8 @@ none_in (suc n) = (accepted_none, none_in n)
 none_of : (topics : List TopicSetting) → AllLogs (first_topics topics)
 unfolding AllLogs
 none_of [] = tt
-none_of (t ∷ ts) = (none_in (magnitude t.partitions), none_of ts)
+none_of (t ∷ ts) = (none_in (non_negative t.partitions), none_of ts)
 
 pub holds_once : HoldsOnce
 holds_once s es name index log id epoch there low =
-    accepted_once log (log_accepted (reached (first_world s) es).topics name index log (reached_all (first_world s) es (none_of s.topics)) there) id epoch low
+    accepted_once log (log_accepted (world_after_events (first_world s) es).topics name index log (reached_all (first_world s) es (none_of s.topics)) there) id epoch low

@@ -4,7 +4,7 @@ use Rattle.acl_binding.specs.declared.question.Caller.{Caller}
 use Rattle.acl_binding.specs.declared.question.Verdict.TheVariants.{Yes}
 use Rattle.acl_binding.specs.declared.words.Kind.TheVariants as kinds
 use Rattle.acl_binding.specs.declared.words.Operation.TheVariants as operations
-use Rattle.acl_binding.specs.Verdict.{asked}
+use Rattle.acl_binding.specs.Verdict.{question_of}
 use Rattle.authorizer.specs.declared.answer.Refusal.{Refusal}
 use Rattle.authorizer.specs.Policy.{verdict}
 use Rattle.authorizer.specs.Asking.{Rules, first_of, part_refusal, question_refusal}
@@ -20,27 +20,27 @@ use Rattle.walk.specs.Alike.{AllParts, AllTopics, AreAlike}
 use Rattle.walk.specs.Steps.{world_by, part_world, parts_world, topics_world}
 use Rattle.walk.proofs.Alikeness.{answer_alike}
 use Rattle.walk.proofs.Weaving.{woven}
-use Rattle.transactions.specs.declared.pair.Pair.{Pair}
-use Rattle.transactions.specs.declared.target.Target.TheVariants as targets
-use Rattle.transactions.specs.declared.transaction.Transaction.{Transaction}
-use Rattle.transactions.specs.Turn.{Turn as CoordinatorTurn}
-use Rattle.transactions.specs.Coordinator.{turn_code}
-use Rattle.transactions.specs.Holding.{holds_found}
-use Rattle.offset_tables.specs.declared.event.PartitionOffset.{PartitionOffset}
-use Rattle.offset_tables.specs.declared.group.Group.{Group}
-use Rattle.offset_tables.specs.Turn.{answered}
-use Rattle.offset_tables.specs.Group.{stage_group}
-use Rattle.offset_tables.specs.Groups.{find_group, turned}
-use Rattle.offset_tables.specs.Laws.{Call as calls}
+use Rattle.txn_coordinator.specs.declared.producer_id.ProducerIdAndEpoch.{ProducerIdAndEpoch}
+use Rattle.txn_coordinator.specs.declared.target.Target.TheVariants as targets
+use Rattle.txn_coordinator.specs.declared.transaction.Transaction.{Transaction}
+use Rattle.txn_coordinator.specs.Transition.{Transition}
+use Rattle.txn_coordinator.specs.Coordinator.{transition_code}
+use Rattle.txn_coordinator.specs.Holding.{holding_code_of}
+use Rattle.group_offsets.specs.declared.event.PartitionOffset.{PartitionOffset}
+use Rattle.group_offsets.specs.declared.group.Group.{Group}
+use Rattle.group_offsets.specs.GroupTransition.{answer_of}
+use Rattle.group_offsets.specs.Group.{stage_group}
+use Rattle.group_offsets.specs.Groups.{find_group, groups_after}
+use Rattle.group_offsets.specs.Laws.{Call as calls}
 use Rattle.broker_world.specs.World.{World, TopicValue, LogValue, rules_of}
 use Rattle.broker_world.specs.Logs.{log_at}
-use Rattle.broker_world.specs.Whole.{whole_by}
-use Rattle.broker_world.specs.Codes.{refused_by}
+use Rattle.broker_world.specs.Whole.{whole_outcome_by}
+use Rattle.broker_world.specs.Codes.{code_unless_none}
 use Rattle.broker_world.specs.Questions.{read_question}
 use Rattle.broker_world.specs.Codes.{code_in}
 use Rattle.broker_world.specs.Questions.{id_question}
-use Rattle.txn_handlers.specs.AddOffsets.{add_offsets_questions, add_offsets_reply, add_offsets_turn, offsets_added, add_offsets_outcome}
-use Rattle.txn_handlers.specs.TxnOffsetCommit.{Staging, staging, stage_questions, offset_staged, staged_code, turn_by, staging_refusal, stage_rule, staging_rule, txn_offset_commit_outcome}
+use Rattle.txn_handlers.specs.AddOffsets.{add_offsets_questions, add_offsets_reply, add_offsets_transition, served_add_offsets, add_offsets_outcome}
+use Rattle.txn_handlers.specs.TxnOffsetCommit.{Staging, staging_of, stage_questions, offset_staged, staged_code, transition_by, staging_refusal, stage_rule, staging_rule, txn_offset_commit_outcome}
 use Rattle.api_laws.specs.Tenants.{SameBase, SameGranted}
 use Rattle.api_laws.specs.DataTenants.{SameForParts, SameAnswer}
 use Rattle.api_laws.specs.AclLaws.{IsRefusedWhole}
@@ -59,12 +59,12 @@ adds : (v w : World) (caller : Caller) (r : AddOffsetsToTxnRequest) → SameBase
 adds v w caller r base same =
     let first = id_question caller r.transactional_id in
     let qs = add_offsets_questions caller r.transactional_id r.group in
-    let pair : Pair = record { producer = r.producer; epoch = r.epoch } in
-    subst (λ (o : Option Refusal). SameAnswer (whole_by o v (λ code. replies.AddOffsetsToTxn (add_offsets_reply code)) (offsets_added v r)) (add_offsets_outcome w caller r)) (ap (λ (rules : Rules). part_refusal rules qs) (sym base.rules))
-    (whole_same (part_refusal (rules_of w) qs) v w _ (offsets_added v r) (offsets_added w r) (λ none.
+    let pair : ProducerIdAndEpoch = record { producer = r.producer; epoch = r.epoch } in
+    subst (λ (o : Option Refusal). SameAnswer (whole_outcome_by o v (λ code. replies.AddOffsetsToTxn (add_offsets_reply code)) (served_add_offsets v r)) (add_offsets_outcome w caller r)) (ap (λ (rules : Rules). part_refusal rules qs) (sym base.rules))
+    (whole_same (part_refusal (rules_of w) qs) v w _ (served_add_offsets v r) (served_add_offsets w r) (λ none.
     let agree : AreSame v.coordinator w.coordinator r.transactional_id = record { given = base.given; recorded = same.0 (yes_of (verdict w.book w.supers first) first (part_refusal (rules_of w) (read_question caller r.group ∷ [])) none) } in
-    ap (λ (m : ℕ). replies.AddOffsetsToTxn (add_offsets_reply (turn_code (add_offsets_turn v.coordinator m r)))) base.moment
-    ∙ ap (λ (t : CoordinatorTurn). replies.AddOffsetsToTxn (add_offsets_reply (turn_code t))) (same_add_group v.coordinator w.coordinator r.transactional_id pair w.moment r.group agree)))
+    ap (λ (m : ℕ). replies.AddOffsetsToTxn (add_offsets_reply (transition_code (add_offsets_transition v.coordinator m r)))) base.moment
+    ∙ ap (λ (t : Transition). replies.AddOffsetsToTxn (add_offsets_reply (transition_code t))) (same_add_group v.coordinator w.coordinator r.transactional_id pair w.moment r.group agree)))
 
 -- ---- TxnOffsetCommit: what its answers depend on
 
@@ -76,36 +76,36 @@ module _ (v w : World) (caller : Caller) (s : Staging) where
   abbrev AgreeOn : List Group → List Group → Type 0
   AgreeOn us vs = verdict w.book w.supers (read_question caller s.group) ≡ Yes → find_group us s.group ≡ find_group vs s.group
 
-  abbrev behind_id : List ℕ → Option Refusal
-  behind_id name = part_refusal (rules_of w) (read_question caller s.group ∷ asked caller operations.Read kinds.Topic name ∷ [])
+  abbrev after_id : List ℕ → Option Refusal
+  after_id name = part_refusal (rules_of w) (read_question caller s.group ∷ question_of caller operations.Read kinds.Topic name ∷ [])
 
-  abbrev behind_group : List ℕ → Option Refusal
-  behind_group name = part_refusal (rules_of w) (asked caller operations.Read kinds.Topic name ∷ [])
+  abbrev after_group : List ℕ → Option Refusal
+  after_group name = part_refusal (rules_of w) (question_of caller operations.Read kinds.Topic name ∷ [])
 
   id_passed : (name : List ℕ) → part_refusal (rules_of w) (stage_questions caller s name) ≡ None → verdict w.book w.supers (id_question caller s.id) ≡ Yes
-  id_passed name none = yes_of (verdict w.book w.supers (id_question caller s.id)) (id_question caller s.id) (behind_id name) none
+  id_passed name none = yes_of (verdict w.book w.supers (id_question caller s.id)) (id_question caller s.id) (after_id name) none
 
-  group_asked : (name : List ℕ) → part_refusal (rules_of w) (stage_questions caller s name) ≡ None → behind_id name ≡ None
-  group_asked name none = rest_of (verdict w.book w.supers (id_question caller s.id)) (id_question caller s.id) (behind_id name) none
+  group_asked : (name : List ℕ) → part_refusal (rules_of w) (stage_questions caller s name) ≡ None → after_id name ≡ None
+  group_asked name none = rest_of (verdict w.book w.supers (id_question caller s.id)) (id_question caller s.id) (after_id name) none
 
   group_passed : (name : List ℕ) → part_refusal (rules_of w) (stage_questions caller s name) ≡ None → verdict w.book w.supers (read_question caller s.group) ≡ Yes
-  group_passed name none = yes_of (verdict w.book w.supers (read_question caller s.group)) (read_question caller s.group) (behind_group name) (group_asked name none)
+  group_passed name none = yes_of (verdict w.book w.supers (read_question caller s.group)) (read_question caller s.group) (after_group name) (group_asked name none)
 
-  topic_asked : (name : List ℕ) → part_refusal (rules_of w) (stage_questions caller s name) ≡ None → behind_group name ≡ None
-  topic_asked name none = rest_of (verdict w.book w.supers (read_question caller s.group)) (read_question caller s.group) (behind_group name) (group_asked name none)
+  topic_asked : (name : List ℕ) → part_refusal (rules_of w) (stage_questions caller s name) ≡ None → after_group name ≡ None
+  topic_asked name none = rest_of (verdict w.book w.supers (read_question caller s.group)) (read_question caller s.group) (after_group name) (group_asked name none)
 
   part_log : (name : List ℕ) (p : OffsetToStage) → SamePart name p → part_refusal (rules_of w) (stage_questions caller s name) ≡ None → log_at v.topics name p.index ≡ log_at w.topics name p.index
-  part_log name p same none = same_log v.topics w.topics name p.index (same_topic v w (asked caller operations.Read kinds.Topic name) same.1.1 (topic_asked name none))
+  part_log name p same none = same_log v.topics w.topics name p.index (same_topic v w (question_of caller operations.Read kinds.Topic name) same.1.1 (topic_asked name none))
 
   part_refusal_same : (name : List ℕ) (p : OffsetToStage) → SamePart name p → part_refusal (rules_of w) (stage_questions caller s name) ≡ None → staging_refusal v.coordinator s ≡ staging_refusal w.coordinator s
-  part_refusal_same name p same none = ap (λ (o : Option Transaction). refused_by (holds_found o s.pair (targets.Group s.group))) (same.0 (id_passed name none))
+  part_refusal_same name p same none = ap (λ (o : Option Transaction). code_unless_none (holding_code_of o s.pair (targets.Group s.group))) (same.0 (id_passed name none))
 
-  same_code : (us vs : List Group) (o : PartitionOffset) (x : Option ErrorCode) (log : Option LogValue) → find_group us s.group ≡ find_group vs s.group → code_in (answered (turn_by x s us o log)) ≡ code_in (answered (turn_by x s vs o log))
+  same_code : (us vs : List Group) (o : PartitionOffset) (x : Option ErrorCode) (log : Option LogValue) → find_group us s.group ≡ find_group vs s.group → code_in (answer_of (transition_by x s us o log)) ≡ code_in (answer_of (transition_by x s vs o log))
   same_code us vs o x None same = refl
   same_code us vs o (Some code) (Some log) same = refl
-  same_code us vs o None (Some log) same = ap (λ (g : Group). code_in (answered (stage_group g s.pair.producer s.generation s.member o))) (same_group us vs s.group same)
+  same_code us vs o None (Some log) same = ap (λ (g : Group). code_in (answer_of (stage_group g s.pair.producer s.generation s.member o))) (same_group us vs s.group same)
 
-  same_after : (us vs : List Group) (o : PartitionOffset) (x : Option ErrorCode) (log : Option LogValue) → find_group us s.group ≡ find_group vs s.group → find_group (turned us (turn_by x s us o log)) s.group ≡ find_group (turned vs (turn_by x s vs o log)) s.group
+  same_after : (us vs : List Group) (o : PartitionOffset) (x : Option ErrorCode) (log : Option LogValue) → find_group us s.group ≡ find_group vs s.group → find_group (groups_after us (transition_by x s us o log)) s.group ≡ find_group (groups_after vs (transition_by x s vs o log)) s.group
   same_after us vs o x None same = same
   same_after us vs o (Some code) (Some log) same = same
   same_after us vs o None (Some log) same = same_call us vs (calls.Stages s.group s.pair.producer s.generation s.member o) s.group (own_name s.group) same
@@ -115,12 +115,12 @@ module _ (v w : World) (caller : Caller) (s : Staging) where
     questions = λ name p. refl;
     refused = λ code name p. refl;
     plain = λ us vs name p is agree none.
-        ap (λ (x : Option ErrorCode). staged_code (code_in (answered (turn_by x s us (offset_staged name p) (log_at v.topics name p.index)))) p) (part_refusal_same name p is none)
-        ∙ ap (λ (log : Option LogValue). staged_code (code_in (answered (turn_by (staging_refusal w.coordinator s) s us (offset_staged name p) log))) p) (part_log name p is none)
+        ap (λ (x : Option ErrorCode). staged_code (code_in (answer_of (transition_by x s us (offset_staged name p) (log_at v.topics name p.index)))) p) (part_refusal_same name p is none)
+        ∙ ap (λ (log : Option LogValue). staged_code (code_in (answer_of (transition_by (staging_refusal w.coordinator s) s us (offset_staged name p) log))) p) (part_log name p is none)
         ∙ ap (λ (code : ErrorCode). staged_code code p) (same_code us vs (offset_staged name p) (staging_refusal w.coordinator s) (log_at w.topics name p.index) (agree (group_passed name none)));
     after = λ us vs name p is agree none yes.
-        ap (λ (x : Option ErrorCode). find_group (turned us (turn_by x s us (offset_staged name p) (log_at v.topics name p.index))) s.group) (part_refusal_same name p is none)
-        ∙ ap (λ (log : Option LogValue). find_group (turned us (turn_by (staging_refusal w.coordinator s) s us (offset_staged name p) log)) s.group) (part_log name p is none)
+        ap (λ (x : Option ErrorCode). find_group (groups_after us (transition_by x s us (offset_staged name p) (log_at v.topics name p.index))) s.group) (part_refusal_same name p is none)
+        ∙ ap (λ (log : Option LogValue). find_group (groups_after us (transition_by (staging_refusal w.coordinator s) s us (offset_staged name p) log)) s.group) (part_log name p is none)
         ∙ same_after us vs (offset_staged name p) (staging_refusal w.coordinator s) (log_at w.topics name p.index) (agree yes);
   }
 
@@ -163,7 +163,7 @@ module _ (v w : World) (caller : Caller) (s : Staging) where
 
 stages : (v w : World) (caller : Caller) (r : TxnOffsetCommitRequest) → SameBase v w → SameForParts v w (staging_rule w caller r) r.topics → SameAnswer (txn_offset_commit_outcome v caller r) (txn_offset_commit_outcome w caller r)
 stages v w caller r base same =
-    let told = same_stages v w caller (staging r) r.topics same in
+    let told = same_stages v w caller (staging_of r) r.topics same in
     record {
       reply = ap (λ (topics : List (Topic StagedOffset)). replies.TxnOffsetCommit (record { throttle = pos 0; topics = topics })) (ap (λ (rules : Rules). answers (staging_rule v caller r) rules v.groups r.topics) base.rules ∙ told.0);
       refusals = ap (λ (rules : Rules). refusals (staging_rule v caller r) rules r.topics) base.rules ∙ told.1;
@@ -174,21 +174,21 @@ staging_depends = record { adds = adds; stages = stages }
 
 -- ---- what stays as it was
 
-whole_groups : (o : Option Refusal) (w : World) (r : AddOffsetsToTxnRequest) → (whole_by o w (λ code. replies.AddOffsetsToTxn (add_offsets_reply code)) (offsets_added w r)).world.groups ≡ w.groups
+whole_groups : (o : Option Refusal) (w : World) (r : AddOffsetsToTxnRequest) → (whole_outcome_by o w (λ code. replies.AddOffsetsToTxn (add_offsets_reply code)) (served_add_offsets w r)).world.groups ≡ w.groups
 whole_groups None w r = refl
 whole_groups (Some refusal) w r = refl
 
 adds_kept : (w : World) (caller : Caller) (r : AddOffsetsToTxnRequest) → KeepsOtherIds w r.transactional_id (add_offsets_outcome w caller r)
 adds_kept w caller r =
     let o = part_refusal (rules_of w) (add_offsets_questions caller r.transactional_id r.group) in
-    let pair : Pair = record { producer = r.producer; epoch = r.epoch } in
+    let pair : ProducerIdAndEpoch = record { producer = r.producer; epoch = r.epoch } in
     record {
-      others = λ other differ. whole_kept o w _ (offsets_added w r) other (other_kept w.coordinator r.transactional_id other (add_offsets_turn w.coordinator w.moment r) (add_group_id w.coordinator r.transactional_id pair w.moment r.group) differ);
+      others = λ other differ. whole_kept o w _ (served_add_offsets w r) other (other_kept w.coordinator r.transactional_id other (add_offsets_transition w.coordinator w.moment r) (add_group_id w.coordinator r.transactional_id pair w.moment r.group) differ);
       topics = whole_topics o w _ _ refl;
     }
 
 module _ (rules : Rules) (caller : Caller) (s : Staging) (refusal : Option ErrorCode) (topics : List TopicValue) (other : List ℕ) (differ : other ≡ s.group → ⊥) where
-  stage_kept : (gs : List Group) (o : PartitionOffset) (x : Option ErrorCode) (log : Option LogValue) → find_group (turned gs (turn_by x s gs o log)) other ≡ find_group gs other
+  stage_kept : (gs : List Group) (o : PartitionOffset) (x : Option ErrorCode) (log : Option LogValue) → find_group (groups_after gs (transition_by x s gs o log)) other ≡ find_group gs other
   stage_kept gs o x None = refl
   stage_kept gs o (Some code) (Some log) = refl
   stage_kept gs o None (Some log) = kept_call gs (calls.Stages s.group s.pair.producer s.generation s.member o) other (other_name s.group other differ)
@@ -210,7 +210,7 @@ module _ (rules : Rules) (caller : Caller) (s : Staging) (refusal : Option Error
 stages_kept : (w : World) (caller : Caller) (r : TxnOffsetCommitRequest) → KeepsOtherGroups w r.group (txn_offset_commit_outcome w caller r)
 stages_kept w caller r = record {
   others = λ other differ. ap (λ (gs : List Group). find_group gs other) (sym (woven (staging_rule w caller r) (rules_of w) w.groups r.topics).world)
-      ∙ topics_kept (rules_of w) caller (staging r) (staging_refusal w.coordinator (staging r)) w.topics other differ w.groups r.topics;
+      ∙ topics_kept (rules_of w) caller (staging_of r) (staging_refusal w.coordinator (staging_of r)) w.topics other differ w.groups r.topics;
   topics = refl;
   coordinator = refl;
 }
@@ -224,7 +224,7 @@ refused_before None None c r is = absurd (let clash : None ≡ Some r = is in cc
 module _ (rules : Rules) (caller : Caller) (s : Staging) (refusal : Option ErrorCode) (topics : List TopicValue) (r : Refusal) (refused : part_refusal rules (id_question caller s.id ∷ read_question caller s.group ∷ []) ≡ Some r) where
   part_still : (gs : List Group) (name : List ℕ) (p : OffsetToStage) → part_world (stage_rule caller s refusal topics) rules gs name p ≡ gs
   part_still gs name p = ap (λ (o : Option Refusal). world_by (stage_rule caller s refusal topics) o gs name p)
-      (refused_before (question_refusal rules (id_question caller s.id)) (question_refusal rules (read_question caller s.group)) (part_refusal rules (asked caller operations.Read kinds.Topic name ∷ [])) r refused)
+      (refused_before (question_refusal rules (id_question caller s.id)) (question_refusal rules (read_question caller s.group)) (part_refusal rules (question_of caller operations.Read kinds.Topic name ∷ [])) r refused)
 
   parts_still : (gs : List Group) (name : List ℕ) (ps : List OffsetToStage) → parts_world (stage_rule caller s refusal topics) rules gs name ps ≡ gs
   parts_still gs name [] = refl
@@ -239,8 +239,8 @@ staging_keeps = record {
   adds = adds_kept;
   adds_groups = λ w caller r. whole_groups (part_refusal (rules_of w) (add_offsets_questions caller r.transactional_id r.group)) w r;
   stages = stages_kept;
-  refused_add = λ w caller q r is. subst (IsRefusedWhole w r) (ap (λ (o : Option Refusal). whole_by o w (λ code. replies.AddOffsetsToTxn (add_offsets_reply code)) (offsets_added w q)) (sym is)) (record { world = refl; refusals = refl });
+  refused_add = λ w caller q r is. subst (IsRefusedWhole w r) (ap (λ (o : Option Refusal). whole_outcome_by o w (λ code. replies.AddOffsetsToTxn (add_offsets_reply code)) (served_add_offsets w q)) (sym is)) (record { world = refl; refusals = refl });
   refused_stage = λ w caller q r is.
       sym (woven (staging_rule w caller q) (rules_of w) w.groups q.topics).world
-      ∙ topics_still (rules_of w) caller (staging q) (staging_refusal w.coordinator (staging q)) w.topics r is w.groups q.topics;
+      ∙ topics_still (rules_of w) caller (staging_of q) (staging_refusal w.coordinator (staging_of q)) w.topics r is w.groups q.topics;
 }

@@ -7,7 +7,7 @@ use Rattle.std.proofs.lemmas.Slice.Eq.{bytes_eq-Decides}
 use Rattle.acl_binding.specs.declared.question.Caller.{Caller}
 use Rattle.acl_binding.specs.declared.words.Kind.TheVariants as kinds
 use Rattle.acl_binding.specs.declared.words.Operation.TheVariants as operations
-use Rattle.acl_binding.specs.Verdict.{asked}
+use Rattle.acl_binding.specs.Verdict.{question_of}
 use Rattle.authorizer.specs.declared.answer.Refusal.{Refusal}
 use Rattle.authorizer.specs.Policy.{verdict}
 use Rattle.authorizer.specs.Asking.{Rules, first_of, part_refusal, question_refusal}
@@ -23,31 +23,31 @@ use Rattle.walk.specs.Walk.{plain_topics, answers, parts_refused, refusals}
 use Rattle.walk.specs.Woven.{has_any}
 use Rattle.walk.specs.Alike.{AllParts, AllTopics, AreAlike, AnswerAlike}
 use Rattle.walk.proofs.Alikeness.{answer_alike}
-use Rattle.transactions.specs.declared.pair.Pair.{Pair}
-use Rattle.transactions.specs.declared.target.TopicPartition.{TopicPartition}
-use Rattle.transactions.specs.declared.transaction.Phase.{Phase}
-use Rattle.transactions.specs.declared.transaction.Phase.TheVariants.{Empty, Ongoing, PrepareCommit, PrepareAbort, CompleteCommit, CompleteAbort}
-use Rattle.transactions.specs.declared.transaction.Transaction.{Transaction}
-use Rattle.record_batch.specs.declared.outcome.Outcome.{Outcome as Ending}
-use Rattle.record_batch.specs.declared.outcome.Outcome.TheVariants.{Commit, Abort}
-use Rattle.transactions.specs.declared.ending.EndForm.{EndForm}
-use Rattle.transactions.specs.declared.ending.EndForm.TheVariants.{Plain, Fencing, Raising}
-use Rattle.transactions.specs.Turn.{Turn, Stays, Puts}
-use Rattle.transactions.specs.Words.{is_empty}
-use Rattle.transactions.specs.Preparing.{pair_refusal}
-use Rattle.transactions.specs.Coordinator.{CoordinatorValue, recorded, fresh, turned, turn_code, turn_answer}
-use Rattle.transactions.specs.InitProducerId.{timeout_within, init_in, init_for, init}
-use Rattle.transactions.specs.Adding.{open_in, open_by, open_found, open_transaction, grown, with_partitions, with_group, add_partitions, add_group}
-use Rattle.transactions.specs.EndTxn.{other_epoch, end_ongoing, end_closed, end_in, is_again, end_again, end_by, end_found, end}
-use Rattle.transactions.proofs.Table.{recorded_id}
+use Rattle.txn_coordinator.specs.declared.producer_id.ProducerIdAndEpoch.{ProducerIdAndEpoch}
+use Rattle.txn_coordinator.specs.declared.target.TopicPartition.{TopicPartition}
+use Rattle.txn_coordinator.specs.declared.transaction.TransactionState.{TransactionState}
+use Rattle.txn_coordinator.specs.declared.transaction.TransactionState.TheVariants.{Empty, Ongoing, PrepareCommit, PrepareAbort, CompleteCommit, CompleteAbort}
+use Rattle.txn_coordinator.specs.declared.transaction.Transaction.{Transaction}
+use Rattle.record_batch.specs.declared.transaction_result.TransactionResult.{TransactionResult}
+use Rattle.record_batch.specs.declared.transaction_result.TransactionResult.TheVariants.{Commit, Abort}
+use Rattle.txn_coordinator.specs.declared.ending.EndForm.{EndForm}
+use Rattle.txn_coordinator.specs.declared.ending.EndForm.TheVariants.{Plain, Fencing, Raising}
+use Rattle.txn_coordinator.specs.Transition.{Transition, Stays, Puts}
+use Rattle.txn_coordinator.specs.Words.{is_empty}
+use Rattle.txn_coordinator.specs.Preparing.{producer_refusal}
+use Rattle.txn_coordinator.specs.Coordinator.{CoordinatorValue, id_record, fresh_producer_id, apply_transition, transition_code, transition_answer}
+use Rattle.txn_coordinator.specs.InitProducerId.{timeout_within, init_in, init_for, init}
+use Rattle.txn_coordinator.specs.Adding.{open_in, open_by, open_found, open_transaction, growth_transition, with_partitions, with_group, add_partitions, add_group}
+use Rattle.txn_coordinator.specs.EndTxn.{other_epoch, end_ongoing, end_closed, end_in, is_again, end_again, end_by, end_found, end}
+use Rattle.txn_coordinator.proofs.Table.{recorded_id}
 use Rattle.broker_world.specs.World.{World, LogValue, rules_of, find_topic}
-use Rattle.broker_world.specs.Outcome.{Outcome}
+use Rattle.broker_world.specs.HandlerResult.{HandlerResult}
 use Rattle.broker_world.specs.Logs.{log_at}
-use Rattle.broker_world.specs.Whole.{Served, whole_by}
-use Rattle.txn_handlers.specs.InitProducerId.{init_questions, initialized, coordinator_for, init_producer_id_outcome}
+use Rattle.broker_world.specs.Whole.{Served, whole_outcome_by}
+use Rattle.txn_handlers.specs.InitProducerId.{init_questions, served_init, coordinator_for, init_producer_id_outcome}
 use Rattle.broker_world.specs.Questions.{id_question}
-use Rattle.txn_handlers.specs.EndTxn.{end_reply, end_turn, ended, end_txn_outcome, end_questions, end_error, ending_id, ending_pair, ending_outcome, form_of}
-use Rattle.txn_handlers.specs.AddPartitions.{add_questions, added_partition, cut_code, cut_rule, told_rule, is_missing_in, is_missing, is_cut, add_turn, add_reply, cut_outcome, added_outcome, add_partitions_outcome, partitions_in, partitions_of}
+use Rattle.txn_handlers.specs.EndTxn.{end_reply, end_transition, served_end, end_txn_outcome, end_questions, end_error, ending_id, ending_id_and_epoch, ending_outcome, form_of}
+use Rattle.txn_handlers.specs.AddPartitions.{add_questions, added_partition, cut_code, cut_rule, code_rule, is_missing_in, is_missing, is_cut, add_transition, add_reply, cut_outcome, added_outcome, add_partitions_outcome, partitions_in, partitions_of}
 use Rattle.api_laws.specs.Tenants.{SameBase, SameGranted}
 use Rattle.api_laws.specs.DataTenants.{SameForParts, SameAnswer}
 use Rattle.api_laws.specs.AclLaws.{IsRefusedWhole}
@@ -70,7 +70,7 @@ or_right : (a b : Bool) → (a || b) ≡ false → b ≡ false
 or_right true b h = absurd (let clash : true ≡ false = h in cc)
 or_right false b h = h
 
--- no refusal in front, and none behind
+-- no refusal in front, and none after
 none_first : (xs ys : List Refusal) → has_any (xs ++ ys) ≡ false → has_any xs ≡ false
 none_first [] ys h = refl
 none_first (x ∷ xs) ys h = h
@@ -84,9 +84,9 @@ module _ (w : World) (caller : Caller) (id : List ℕ) where
   part_addable name index None rest is none there = record { granted = is; there = there }
   part_addable name index (Some r) rest is none there = absurd (let clash : true ≡ false = none in cc)
 
-  none_behind : (o : Option Refusal) (rest : List Refusal) → has_any (cons_option o rest) ≡ false → has_any rest ≡ false
-  none_behind None rest none = none
-  none_behind (Some r) rest none = absurd (let clash : true ≡ false = none in cc)
+  none_later : (o : Option Refusal) (rest : List Refusal) → has_any (cons_option o rest) ≡ false → has_any rest ≡ false
+  none_later None rest none = none
+  none_later (Some r) rest none = absurd (let clash : true ≡ false = none in cc)
 
   parts_addable : (name : List ℕ) (indices : List ℤ) → has_any (parts_refused (cut_rule caller id w.topics) (rules_of w) name indices) ≡ false → is_missing_in w.topics name indices ≡ false → AllParts (IsAddable w caller id) name indices
   parts_addable name [] none there = tt
@@ -94,7 +94,7 @@ module _ (w : World) (caller : Caller) (id : List ℕ) where
       let o = part_refusal (rules_of w) (add_questions caller id name) in
       let rest = parts_refused (cut_rule caller id w.topics) (rules_of w) name indices in (
         part_addable name index o rest refl none (or_left (is_none (log_at w.topics name index)) (is_missing_in w.topics name indices) there),
-        parts_addable name indices (none_behind o rest none) (or_right (is_none (log_at w.topics name index)) (is_missing_in w.topics name indices) there),
+        parts_addable name indices (none_later o rest none) (or_right (is_none (log_at w.topics name index)) (is_missing_in w.topics name indices) there),
       )
 
   topics_addable : (ts : List (Topic ℤ)) → has_any (refusals (cut_rule caller id w.topics) (rules_of w) ts) ≡ false → is_missing w.topics ts ≡ false → AllTopics (IsAddable w caller id) ts
@@ -147,11 +147,11 @@ adds_all_or_none = record {
 
 -- ---- a call puts the record of its id, or none
 
-pub OfId : List ℕ → Turn → Type 0
+pub OfId : List ℕ → Transition → Type 0
 OfId id (Stays code) = Unit {0}
 OfId id (Puts code t given owed) = t.id ≡ id
 
-inited_id : (p : Phase) (t : Transaction) (next : ℤ) (timeout : ℕ) (id : List ℕ) → t.id ≡ id → OfId id (init_in p t next timeout)
+inited_id : (p : TransactionState) (t : Transaction) (next : ℤ) (timeout : ℕ) (id : List ℕ) → t.id ≡ id → OfId id (init_in p t next timeout)
 unfolding OfId
 inited_id Empty t next timeout id own = own
 inited_id CompleteCommit t next timeout id own = own
@@ -163,29 +163,29 @@ inited_id PrepareAbort t next timeout id own = tt
 init_id : (c : CoordinatorValue) (id : List ℕ) (timeout greatest : ℤ) → OfId id (init c id timeout greatest)
 unfolding OfId
 init_id c id timeout greatest = by_empty (is_empty id) where
-  by_found : (o : Option ℕ) (found : Option Transaction) → recorded c.transactions id ≡ found → OfId id (init_for o found id (fresh c))
+  by_found : (o : Option ℕ) (found : Option Transaction) → id_record c.transactions id ≡ found → OfId id (init_for o found id (fresh_producer_id c))
   by_found None found is = tt
   by_found (Some n) None is = refl
-  by_found (Some n) (Some t) is = inited_id t.phase t (fresh c) n id (recorded_id c.transactions id t is)
+  by_found (Some n) (Some t) is = inited_id t.state t (fresh_producer_id c) n id (recorded_id c.transactions id t is)
 
-  by_empty : (b : Bool) → OfId id (cond b (Stays codes.InvalidRequest) (init_for (timeout_within timeout greatest) (recorded c.transactions id) id (fresh c)))
+  by_empty : (b : Bool) → OfId id (cond b (Stays codes.InvalidRequest) (init_for (timeout_within timeout greatest) (id_record c.transactions id) id (fresh_producer_id c)))
   by_empty true = tt
-  by_empty false = by_found (timeout_within timeout greatest) (recorded c.transactions id) refl
+  by_empty false = by_found (timeout_within timeout greatest) (id_record c.transactions id) refl
 
-closed_id : (form : EndForm) (t : Transaction) (next : ℤ) (o : Ending) (code : ErrorCode) (id : List ℕ) → t.id ≡ id → OfId id (end_closed form t next o code)
+closed_id : (form : EndForm) (t : Transaction) (next : ℤ) (o : TransactionResult) (code : ErrorCode) (id : List ℕ) → t.id ≡ id → OfId id (end_closed form t next o code)
 unfolding OfId
 closed_id Plain t next o code id own = tt
 closed_id Fencing t next o code id own = tt
 closed_id Raising t next Commit code id own = tt
 closed_id Raising t next Abort code id own = own
 
-ongoing_id : (form : EndForm) (t : Transaction) (next : ℤ) (o : Ending) (id : List ℕ) → t.id ≡ id → OfId id (end_ongoing form t next o)
+ongoing_id : (form : EndForm) (t : Transaction) (next : ℤ) (o : TransactionResult) (id : List ℕ) → t.id ≡ id → OfId id (end_ongoing form t next o)
 unfolding OfId
 ongoing_id Plain t next o id own = own
 ongoing_id Fencing t next o id own = own
 ongoing_id Raising t next o id own = own
 
-ended_id : (p : Phase) (form : EndForm) (t : Transaction) (next : ℤ) (o : Ending) (id : List ℕ) → t.id ≡ id → OfId id (end_in p form t next o)
+ended_id : (p : TransactionState) (form : EndForm) (t : Transaction) (next : ℤ) (o : TransactionResult) (id : List ℕ) → t.id ≡ id → OfId id (end_in p form t next o)
 unfolding OfId
 ended_id Ongoing form t next o id own = ongoing_id form t next o id own
 ended_id PrepareCommit form t next Commit id own = tt
@@ -198,26 +198,26 @@ ended_id CompleteCommit form t next Abort id own = closed_id form t next Abort c
 ended_id CompleteAbort form t next Commit id own = closed_id form t next Commit codes.InvalidTxnState id own
 ended_id CompleteAbort form t next Abort id own = closed_id form t next Abort codes.None id own
 
-end_id : (c : CoordinatorValue) (form : EndForm) (id : List ℕ) (pair : Pair) (o : Ending) → OfId id (end c form id pair o)
+end_id : (c : CoordinatorValue) (form : EndForm) (id : List ℕ) (pair : ProducerIdAndEpoch) (o : TransactionResult) → OfId id (end c form id pair o)
 unfolding OfId
 end_id c form id pair o = by_empty (is_empty id) where
-  by_refusal : (x : Option ErrorCode) (t : Transaction) → t.id ≡ id → OfId id (end_by x form t (fresh c) o)
+  by_refusal : (x : Option ErrorCode) (t : Transaction) → t.id ≡ id → OfId id (end_by x form t (fresh_producer_id c) o)
   by_refusal (Some code) t own = tt
-  by_refusal None t own = ended_id t.phase form t (fresh c) o id own
+  by_refusal None t own = ended_id t.state form t (fresh_producer_id c) o id own
 
-  by_again : (b : Bool) (t : Transaction) → t.id ≡ id → OfId id (cond b (Stays (end_again t.phase o)) (end_by (pair_refusal (other_epoch form) t pair) form t (fresh c) o))
+  by_again : (b : Bool) (t : Transaction) → t.id ≡ id → OfId id (cond b (Stays (end_again t.state o)) (end_by (producer_refusal (other_epoch form) t pair) form t (fresh_producer_id c) o))
   by_again true t own = tt
-  by_again false t own = by_refusal (pair_refusal (other_epoch form) t pair) t own
+  by_again false t own = by_refusal (producer_refusal (other_epoch form) t pair) t own
 
-  by_found : (found : Option Transaction) → recorded c.transactions id ≡ found → OfId id (end_found found form (fresh c) pair o)
+  by_found : (found : Option Transaction) → id_record c.transactions id ≡ found → OfId id (end_found found form (fresh_producer_id c) pair o)
   by_found None is = tt
   by_found (Some t) is = by_again (is_again form t pair) t (recorded_id c.transactions id t is)
 
-  by_empty : (b : Bool) → OfId id (cond b (Stays codes.InvalidRequest) (end_found (recorded c.transactions id) form (fresh c) pair o))
+  by_empty : (b : Bool) → OfId id (cond b (Stays codes.InvalidRequest) (end_found (id_record c.transactions id) form (fresh_producer_id c) pair o))
   by_empty true = tt
-  by_empty false = by_found (recorded c.transactions id) refl
+  by_empty false = by_found (id_record c.transactions id) refl
 
-opened_id : (grow : Transaction → Transaction) → ((t : Transaction) → (grow t).id ≡ t.id) → (p : Phase) (t : Transaction) (moment : ℕ) (id : List ℕ) → t.id ≡ id → OfId id (grown grow (open_in p t moment))
+opened_id : (grow : Transaction → Transaction) → ((t : Transaction) → (grow t).id ≡ t.id) → (p : TransactionState) (t : Transaction) (moment : ℕ) (id : List ℕ) → t.id ≡ id → OfId id (growth_transition grow (open_in p t moment))
 unfolding OfId
 opened_id grow keeps Ongoing t moment id own = keeps _ ∙ own
 opened_id grow keeps Empty t moment id own = keeps _ ∙ own
@@ -226,41 +226,41 @@ opened_id grow keeps CompleteAbort t moment id own = keeps _ ∙ own
 opened_id grow keeps PrepareCommit t moment id own = tt
 opened_id grow keeps PrepareAbort t moment id own = tt
 
-grown_id : (grow : Transaction → Transaction) → ((t : Transaction) → (grow t).id ≡ t.id) → (c : CoordinatorValue) (id : List ℕ) (pair : Pair) (moment : ℕ) → OfId id (grown grow (open_transaction c id pair moment))
+grown_id : (grow : Transaction → Transaction) → ((t : Transaction) → (grow t).id ≡ t.id) → (c : CoordinatorValue) (id : List ℕ) (pair : ProducerIdAndEpoch) (moment : ℕ) → OfId id (growth_transition grow (open_transaction c id pair moment))
 unfolding OfId
 grown_id grow keeps c id pair moment = by_empty (is_empty id) where
-  by_refusal : (x : Option ErrorCode) (t : Transaction) → t.id ≡ id → OfId id (grown grow (open_by x t moment))
+  by_refusal : (x : Option ErrorCode) (t : Transaction) → t.id ≡ id → OfId id (growth_transition grow (open_by x t moment))
   by_refusal (Some code) t own = tt
-  by_refusal None t own = opened_id grow keeps t.phase t moment id own
+  by_refusal None t own = opened_id grow keeps t.state t moment id own
 
-  by_found : (found : Option Transaction) → recorded c.transactions id ≡ found → OfId id (grown grow (open_found found pair moment))
+  by_found : (found : Option Transaction) → id_record c.transactions id ≡ found → OfId id (growth_transition grow (open_found found pair moment))
   by_found None is = tt
-  by_found (Some t) is = by_refusal (pair_refusal codes.InvalidProducerEpoch t pair) t (recorded_id c.transactions id t is)
+  by_found (Some t) is = by_refusal (producer_refusal codes.InvalidProducerEpoch t pair) t (recorded_id c.transactions id t is)
 
-  by_empty : (b : Bool) → OfId id (grown grow (cond b (Err codes.InvalidRequest) (open_found (recorded c.transactions id) pair moment)))
+  by_empty : (b : Bool) → OfId id (growth_transition grow (cond b (Err codes.InvalidRequest) (open_found (id_record c.transactions id) pair moment)))
   by_empty true = tt
-  by_empty false = by_found (recorded c.transactions id) refl
+  by_empty false = by_found (id_record c.transactions id) refl
 
-add_id : (c : CoordinatorValue) (id : List ℕ) (pair : Pair) (moment : ℕ) (ps : List TopicPartition) → OfId id (add_partitions c id pair moment ps)
+add_id : (c : CoordinatorValue) (id : List ℕ) (pair : ProducerIdAndEpoch) (moment : ℕ) (ps : List TopicPartition) → OfId id (add_partitions c id pair moment ps)
 unfolding OfId
 add_id c id pair moment [] = tt
 add_id c id pair moment (p ∷ ps) = grown_id (with_partitions (p ∷ ps)) (λ t. refl) c id pair moment
 
-pub add_group_id : (c : CoordinatorValue) (id : List ℕ) (pair : Pair) (moment : ℕ) (group : List ℕ) → OfId id (add_group c id pair moment group)
+pub add_group_id : (c : CoordinatorValue) (id : List ℕ) (pair : ProducerIdAndEpoch) (moment : ℕ) (group : List ℕ) → OfId id (add_group c id pair moment group)
 add_group_id c id pair moment group = grown_id (with_group group) (λ t. refl) c id pair moment
 
 -- another id keeps its record
-pub other_kept : (c : CoordinatorValue) (id other : List ℕ) (turn : Turn) → OfId id turn → (other ≡ id → ⊥) → recorded (turned c turn).transactions other ≡ recorded c.transactions other
+pub other_kept : (c : CoordinatorValue) (id other : List ℕ) (transition : Transition) → OfId id transition → (other ≡ id → ⊥) → id_record (apply_transition c transition).transactions other ≡ id_record c.transactions other
 unfolding OfId
 other_kept c id other (Stays code) own differ = refl
 other_kept c id other (Puts code t given owed) own differ = recorded_put c.transactions t other ∙ by_same (bytes_eq t.id other) refl where
-  by_same : (b : Bool) → bytes_eq t.id other ≡ b → cond b (Some t) (recorded c.transactions other) ≡ recorded c.transactions other
+  by_same : (b : Bool) → bytes_eq t.id other ≡ b → cond b (Some t) (id_record c.transactions other) ≡ id_record c.transactions other
   by_same true e = absurd (differ (sym ((bytes_eq-Decides t.id other).0 e) ∙ own))
   by_same false e = refl
 
 -- a request that is one part: where it is refused nothing changes
 pub whole_kept : (o : Option Refusal) (w : World) (refused : ErrorCode → Reply) (served : Served) (other : List ℕ)
-    → recorded served.world.coordinator.transactions other ≡ recorded w.coordinator.transactions other → recorded (whole_by o w refused served).world.coordinator.transactions other ≡ recorded w.coordinator.transactions other
+    → id_record served.world.coordinator.transactions other ≡ id_record w.coordinator.transactions other → id_record (whole_outcome_by o w refused served).world.coordinator.transactions other ≡ id_record w.coordinator.transactions other
 whole_kept None w refused served other same = same
 whole_kept (Some r) w refused served other same = refl
 
@@ -268,7 +268,7 @@ whole_kept (Some r) w refused served other same = refl
 
 module _ (w : World) (caller : Caller) (id : List ℕ) (r : Refusal) (refused : question_refusal (rules_of w) (id_question caller id) ≡ Some r) where
   part_is_refused : (name : List ℕ) → part_refusal (rules_of w) (add_questions caller id name) ≡ Some r
-  part_is_refused name = ap (λ (o : Option Refusal). first_of o (part_refusal (rules_of w) (asked caller operations.Write kinds.Topic name ∷ []))) refused
+  part_is_refused name = ap (λ (o : Option Refusal). first_of o (part_refusal (rules_of w) (question_of caller operations.Write kinds.Topic name ∷ []))) refused
 
   refused_or_empty : (ts : List (Topic ℤ)) → (has_any (refusals (cut_rule caller id w.topics) (rules_of w) ts) ≡ true) ⊎ (partitions_of ts ≡ [])
   refused_or_empty [] = inr refl
@@ -290,25 +290,25 @@ refused_add w caller q r is = by_case (refused_or_empty w caller q.transactional
 
 -- ---- what stays as it was
 
-abbrev ended_by : World → EndTxnRequest → Option Refusal → Outcome
-ended_by w r o = whole_by o w (λ code. replies.EndTxn (end_error r code)) (ended w r)
+abbrev ended_by : World → EndTxnRequest → Option Refusal → HandlerResult
+ended_by w r o = whole_outcome_by o w (λ code. replies.EndTxn (end_error r code)) (served_end w r)
 
-add_others : (w : World) (caller : Caller) (r : AddPartitionsToTxnRequest) (other : List ℕ) → (other ≡ r.transactional_id → ⊥) → recorded (add_partitions_outcome w caller r).world.coordinator.transactions other ≡ recorded w.coordinator.transactions other
+add_others : (w : World) (caller : Caller) (r : AddPartitionsToTxnRequest) (other : List ℕ) → (other ≡ r.transactional_id → ⊥) → id_record (add_partitions_outcome w caller r).world.coordinator.transactions other ≡ id_record w.coordinator.transactions other
 add_others w caller r other differ = by_cut (is_cut caller r.transactional_id w.topics (rules_of w) r.topics) where
-  by_cut : (b : Bool) → recorded (cond b (cut_outcome w caller r) (added_outcome w r)).world.coordinator.transactions other ≡ recorded w.coordinator.transactions other
+  by_cut : (b : Bool) → id_record (cond b (cut_outcome w caller r) (added_outcome w r)).world.coordinator.transactions other ≡ id_record w.coordinator.transactions other
   by_cut true = refl
-  by_cut false = other_kept w.coordinator r.transactional_id other (add_turn w.coordinator w.moment r) (add_id w.coordinator r.transactional_id _ w.moment (partitions_of r.topics)) differ
+  by_cut false = other_kept w.coordinator r.transactional_id other (add_transition w.coordinator w.moment r) (add_id w.coordinator r.transactional_id _ w.moment (partitions_of r.topics)) differ
 
-init_others : (w : World) (caller : Caller) (r : InitProducerIdRequest) (id other : List ℕ) → r.transactional_id ≡ Some id → (other ≡ id → ⊥) → recorded (init_producer_id_outcome w caller r).world.coordinator.transactions other ≡ recorded w.coordinator.transactions other
+init_others : (w : World) (caller : Caller) (r : InitProducerIdRequest) (id other : List ℕ) → r.transactional_id ≡ Some id → (other ≡ id → ⊥) → id_record (init_producer_id_outcome w caller r).world.coordinator.transactions other ≡ id_record w.coordinator.transactions other
 init_others w caller r id other is differ =
-    whole_kept (part_refusal (rules_of w) (init_questions (rules_of w) caller r.transactional_id)) w _ (initialized w r) other
-    (ap (λ (o : Option (List ℕ)). recorded (coordinator_for o w.coordinator w.node.max_txn_timeout r.timeout).transactions other) is
+    whole_kept (part_refusal (rules_of w) (init_questions (rules_of w) caller r.transactional_id)) w _ (served_init w r) other
+    (ap (λ (o : Option (List ℕ)). id_record (coordinator_for o w.coordinator w.node.max_txn_timeout r.timeout).transactions other) is
     ∙ other_kept w.coordinator id other (init w.coordinator id r.timeout w.node.max_txn_timeout) (init_id w.coordinator id r.timeout w.node.max_txn_timeout) differ)
 
-end_others : (w : World) (caller : Caller) (r : EndTxnRequest) (other : List ℕ) → (other ≡ ending_id r → ⊥) → recorded (end_txn_outcome w caller r).world.coordinator.transactions other ≡ recorded w.coordinator.transactions other
+end_others : (w : World) (caller : Caller) (r : EndTxnRequest) (other : List ℕ) → (other ≡ ending_id r → ⊥) → id_record (end_txn_outcome w caller r).world.coordinator.transactions other ≡ id_record w.coordinator.transactions other
 end_others w caller r other differ =
-    whole_kept (part_refusal (rules_of w) (end_questions caller r)) w _ (ended w r) other
-    (other_kept w.coordinator (ending_id r) other (end_turn w.coordinator r) (end_id w.coordinator (form_of r) (ending_id r) _ (ending_outcome r)) differ)
+    whole_kept (part_refusal (rules_of w) (end_questions caller r)) w _ (served_end w r) other
+    (other_kept w.coordinator (ending_id r) other (end_transition w.coordinator r) (end_id w.coordinator (form_of r) (ending_id r) _ (ending_outcome r)) differ)
 
 pub keep_the_rest : TransactionsKeepTheRest
 keep_the_rest = record {
@@ -338,8 +338,8 @@ same_ended None v w caller r base same is =
     let agree : AreSame v.coordinator w.coordinator (ending_id r) = record { given = base.given; recorded = same.0 (yes_alone (verdict w.book w.supers q) q is) } in
     record {
       reply =
-          ap (λ (t : Turn). replies.EndTxn (end_reply r (turn_answer v.coordinator (ending_id r) t))) (same_end v.coordinator w.coordinator (form_of r) (ending_id r) (ending_pair r) (ending_outcome r) agree)
-          ∙ ap (λ a. replies.EndTxn (end_reply r a)) (same_answer v.coordinator w.coordinator (ending_id r) (end_turn w.coordinator r) agree);
+          ap (λ (t : Transition). replies.EndTxn (end_reply r (transition_answer v.coordinator (ending_id r) t))) (same_end v.coordinator w.coordinator (form_of r) (ending_id r) (ending_id_and_epoch r) (ending_outcome r) agree)
+          ∙ ap (λ a. replies.EndTxn (end_reply r a)) (same_answer v.coordinator w.coordinator (ending_id r) (end_transition w.coordinator r) agree);
       refusals = refl;
     }
 
@@ -357,13 +357,13 @@ module _ (v w : World) (caller : Caller) (id : List ℕ) where
   part_topic : (name : List ℕ) (index : ℤ) → SamePart name index → part_refusal (rules_of w) (add_questions caller id name) ≡ None → find_topic v.topics name ≡ find_topic w.topics name
   part_topic name index same none =
       let first = id_question caller id in
-      let last = asked caller operations.Write kinds.Topic name in
+      let last = question_of caller operations.Write kinds.Topic name in
       same_topic v w last same.1 (rest_of (verdict w.book w.supers first) first (part_refusal (rules_of w) (last ∷ [])) none)
 
-  part_id : (name : List ℕ) (index : ℤ) → SamePart name index → part_refusal (rules_of w) (add_questions caller id name) ≡ None → recorded v.coordinator.transactions id ≡ recorded w.coordinator.transactions id
+  part_id : (name : List ℕ) (index : ℤ) → SamePart name index → part_refusal (rules_of w) (add_questions caller id name) ≡ None → id_record v.coordinator.transactions id ≡ id_record w.coordinator.transactions id
   part_id name index same none =
       let first = id_question caller id in
-      let last = asked caller operations.Write kinds.Topic name in
+      let last = question_of caller operations.Write kinds.Topic name in
       same.0 (yes_of (verdict w.book w.supers first) first (part_refusal (rules_of w) (last ∷ [])) none)
 
   cut_alike : AreAlike (cut_rule caller id v.topics) (cut_rule caller id w.topics) (rules_of w) SamePart (λ a b. a ≡ b)
@@ -385,7 +385,7 @@ module _ (v w : World) (caller : Caller) (id : List ℕ) where
       let rest = parts_refused (cut_rule caller id w.topics) (rules_of w) name indices in
       let here : log_at v.topics name index ≡ log_at w.topics name index = same_log v.topics w.topics name index (part_topic name index same.0 (no_refusal name index o rest refl none)) in
       ap (λ (l : Option LogValue). is_none l || is_missing_in v.topics name indices) here
-      ∙ ap (λ (b : Bool). is_none (log_at w.topics name index) || b) (missing_parts name indices same.1 (none_behind w caller id o rest none))
+      ∙ ap (λ (b : Bool). is_none (log_at w.topics name index) || b) (missing_parts name indices same.1 (none_later w caller id o rest none))
 
   missing_topics : (ts : List (Topic ℤ)) → AllTopics SamePart ts → has_any (refusals (cut_rule caller id w.topics) (rules_of w) ts) ≡ false → is_missing v.topics ts ≡ is_missing w.topics ts
   missing_topics [] same none = refl
@@ -395,30 +395,30 @@ module _ (v w : World) (caller : Caller) (id : List ℕ) where
       ap (λ (b : Bool). b || is_missing v.topics ts) (missing_parts t.name t.partitions same.0 (none_first first rest none))
       ∙ ap (λ (b : Bool). is_missing_in w.topics t.name t.partitions || b) (missing_topics ts same.1 (none_rest first rest none))
 
-  same_or_empty : (ts : List (Topic ℤ)) → AllTopics SamePart ts → has_any (refusals (cut_rule caller id w.topics) (rules_of w) ts) ≡ false → (partitions_of ts ≡ []) ⊎ (recorded v.coordinator.transactions id ≡ recorded w.coordinator.transactions id)
+  same_or_empty : (ts : List (Topic ℤ)) → AllTopics SamePart ts → has_any (refusals (cut_rule caller id w.topics) (rules_of w) ts) ≡ false → (partitions_of ts ≡ []) ⊎ (id_record v.coordinator.transactions id ≡ id_record w.coordinator.transactions id)
   same_or_empty [] same none = inl refl
   same_or_empty (t ∷ ts) same none = by_parts t.name t.partitions (same_or_empty ts same.1) same.0 none where
-    by_parts : (name : List ℕ) (indices : List ℤ) → (has_any (refusals (cut_rule caller id w.topics) (rules_of w) ts) ≡ false → (partitions_of ts ≡ []) ⊎ (recorded v.coordinator.transactions id ≡ recorded w.coordinator.transactions id)) → AllParts SamePart name indices → has_any (parts_refused (cut_rule caller id w.topics) (rules_of w) name indices ++ refusals (cut_rule caller id w.topics) (rules_of w) ts) ≡ false
-        → (partitions_in name indices ++ partitions_of ts ≡ []) ⊎ (recorded v.coordinator.transactions id ≡ recorded w.coordinator.transactions id)
+    by_parts : (name : List ℕ) (indices : List ℤ) → (has_any (refusals (cut_rule caller id w.topics) (rules_of w) ts) ≡ false → (partitions_of ts ≡ []) ⊎ (id_record v.coordinator.transactions id ≡ id_record w.coordinator.transactions id)) → AllParts SamePart name indices → has_any (parts_refused (cut_rule caller id w.topics) (rules_of w) name indices ++ refusals (cut_rule caller id w.topics) (rules_of w) ts) ≡ false
+        → (partitions_in name indices ++ partitions_of ts ≡ []) ⊎ (id_record v.coordinator.transactions id ≡ id_record w.coordinator.transactions id)
     by_parts name [] behind here none = behind none
     by_parts name (index ∷ indices) behind here none =
         let o = part_refusal (rules_of w) (add_questions caller id name) in
         let rest = parts_refused (cut_rule caller id w.topics) (rules_of w) name indices in
         inr (part_id name index here.0 (no_refusal name index o rest refl (none_first (cons_option o rest) (refusals (cut_rule caller id w.topics) (rules_of w) ts) none)))
 
-abbrev add_outcome_by : Rules → World → Caller → AddPartitionsToTxnRequest → Outcome
+abbrev add_outcome_by : Rules → World → Caller → AddPartitionsToTxnRequest → HandlerResult
 add_outcome_by rules w caller r = cond (is_cut caller r.transactional_id w.topics rules r.topics)
     (record { world = w; reply = add_reply (answers (cut_rule caller r.transactional_id w.topics) rules tt r.topics); refusals = refusals (cut_rule caller r.transactional_id w.topics) rules r.topics })
     (added_outcome w r)
 
-same_turn : (v w : World) (r : AddPartitionsToTxnRequest) → SameBase v w → (partitions_of r.topics ≡ []) ⊎ (recorded v.coordinator.transactions r.transactional_id ≡ recorded w.coordinator.transactions r.transactional_id)
-    → turn_code (add_turn v.coordinator v.moment r) ≡ turn_code (add_turn w.coordinator w.moment r)
-same_turn v w r base (inl none) =
-    ap (λ (ps : List TopicPartition). turn_code (add_partitions v.coordinator r.transactional_id (record { producer = r.producer; epoch = r.epoch }) v.moment ps)) none
-    ∙ sym (ap (λ (ps : List TopicPartition). turn_code (add_partitions w.coordinator r.transactional_id (record { producer = r.producer; epoch = r.epoch }) w.moment ps)) none)
-same_turn v w r base (inr same) =
-    ap (λ (m : ℕ). turn_code (add_turn v.coordinator m r)) base.moment
-    ∙ ap turn_code (same_add v.coordinator w.coordinator r.transactional_id (record { producer = r.producer; epoch = r.epoch }) w.moment (partitions_of r.topics) (record { given = base.given; recorded = same }))
+same_transition : (v w : World) (r : AddPartitionsToTxnRequest) → SameBase v w → (partitions_of r.topics ≡ []) ⊎ (id_record v.coordinator.transactions r.transactional_id ≡ id_record w.coordinator.transactions r.transactional_id)
+    → transition_code (add_transition v.coordinator v.moment r) ≡ transition_code (add_transition w.coordinator w.moment r)
+same_transition v w r base (inl none) =
+    ap (λ (ps : List TopicPartition). transition_code (add_partitions v.coordinator r.transactional_id (record { producer = r.producer; epoch = r.epoch }) v.moment ps)) none
+    ∙ sym (ap (λ (ps : List TopicPartition). transition_code (add_partitions w.coordinator r.transactional_id (record { producer = r.producer; epoch = r.epoch }) w.moment ps)) none)
+same_transition v w r base (inr same) =
+    ap (λ (m : ℕ). transition_code (add_transition v.coordinator m r)) base.moment
+    ∙ ap transition_code (same_add v.coordinator w.coordinator r.transactional_id (record { producer = r.producer; epoch = r.epoch }) w.moment (partitions_of r.topics) (record { given = base.given; recorded = same }))
 
 add_depends : (v w : World) (caller : Caller) (r : AddPartitionsToTxnRequest) → SameBase v w → SameForParts v w (cut_rule caller r.transactional_id w.topics) r.topics → SameAnswer (add_partitions_outcome v caller r) (add_partitions_outcome w caller r)
 add_depends v w caller r base same = subst (λ (rules : Rules). SameAnswer (add_outcome_by rules v caller r) (add_partitions_outcome w caller r)) (sym base.rules) (by_any (has_any (refusals (cut_rule caller r.transactional_id w.topics) (rules_of w) r.topics)) refl) where
@@ -428,8 +428,8 @@ add_depends v w caller r base same = subst (λ (rules : Rules). SameAnswer (add_
   cut_same : SameAnswer (record { world = v; reply = add_reply (answers (cut_rule caller r.transactional_id v.topics) (rules_of w) tt r.topics); refusals = refusals (cut_rule caller r.transactional_id v.topics) (rules_of w) r.topics }) (cut_outcome w caller r)
   cut_same = record { reply = ap add_reply alike.answers; refusals = alike.refusals }
 
-  added_same : (partitions_of r.topics ≡ []) ⊎ (recorded v.coordinator.transactions r.transactional_id ≡ recorded w.coordinator.transactions r.transactional_id) → SameAnswer (added_outcome v r) (added_outcome w r)
-  added_same case = record { reply = ap (λ (code : ErrorCode). add_reply (plain_topics (told_rule code) tt r.topics)) (same_turn v w r base case); refusals = refl }
+  added_same : (partitions_of r.topics ≡ []) ⊎ (id_record v.coordinator.transactions r.transactional_id ≡ id_record w.coordinator.transactions r.transactional_id) → SameAnswer (added_outcome v r) (added_outcome w r)
+  added_same case = record { reply = ap (λ (code : ErrorCode). add_reply (plain_topics (code_rule code) tt r.topics)) (same_transition v w r base case); refusals = refl }
 
   by_missing : (b : Bool) → SameAnswer (added_outcome v r) (added_outcome w r)
       → SameAnswer (cond b (record { world = v; reply = add_reply (answers (cut_rule caller r.transactional_id v.topics) (rules_of w) tt r.topics); refusals = refusals (cut_rule caller r.transactional_id v.topics) (rules_of w) r.topics }) (added_outcome v r)) (cond b (cut_outcome w caller r) (added_outcome w r))

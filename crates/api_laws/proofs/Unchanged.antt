@@ -18,19 +18,19 @@ use Rattle.msg_txn.specs.declared.add_partitions.AddPartitionsToTxnRequest.{AddP
 use Rattle.msg_txn.specs.declared.txn_offset_commit.OffsetToStage.{OffsetToStage}
 use Rattle.msg_txn.specs.declared.txn_offset_commit.StagedOffset.{StagedOffset}
 use Rattle.msg_txn.specs.declared.txn_offset_commit.TxnOffsetCommitRequest.{TxnOffsetCommitRequest}
-use Rattle.transactions.specs.declared.target.TopicPartition.{TopicPartition}
-use Rattle.walk.specs.Headline.{at}
+use Rattle.txn_coordinator.specs.declared.target.TopicPartition.{TopicPartition}
+use Rattle.walk.specs.Headline.{element_at}
 use Rattle.walk.specs.Rule.{PartRule, refusal_of}
 use Rattle.walk.specs.Steps.{answer_by, world_by, part_world, parts_world, parts_answers, topics_world, topics_answers}
 use Rattle.walk.specs.Walk.{plain_parts_world, plain_parts, plain_topics, world_after, answers}
 use Rattle.walk.proofs.Weaving.{woven}
-use Rattle.offset_tables.specs.declared.group.Group.{Group}
-use Rattle.broker_world.specs.First.{magnitude}
+use Rattle.group_offsets.specs.declared.group.Group.{Group}
+use Rattle.broker_world.specs.First.{non_negative}
 use Rattle.broker_world.specs.Logs.{log_at}
-use Rattle.data_handlers.specs.Produce.{producing}
-use Rattle.group_handlers.specs.OffsetCommit.{Committing, committing, offset_of, code_by, groups_by, committing_rule}
-use Rattle.txn_handlers.specs.AddPartitions.{told_rule, is_cut, partitions_of, add_turn, cut_outcome, added_outcome}
-use Rattle.txn_handlers.specs.TxnOffsetCommit.{staging, staging_refusal, stage_turn, staging_rule}
+use Rattle.data_handlers.specs.Produce.{producing_rule}
+use Rattle.group_handlers.specs.OffsetCommit.{Committing, committing_of, offset_of, code_by, groups_by, committing_rule}
+use Rattle.txn_handlers.specs.AddPartitions.{code_rule, is_cut, partitions_of, add_transition, cut_outcome, added_outcome}
+use Rattle.txn_handlers.specs.TxnOffsetCommit.{staging_of, staging_refusal, stage_transition, staging_rule}
 use Rattle.api_laws.proofs.DataAnswers.{produces_as_answered}
 use Rattle.wire_types.specs.declared.error_code.ErrorCode.{ErrorCode}
 use Rattle.wire_types.specs.declared.error_code.ErrorCode.TheVariants as codes
@@ -42,40 +42,40 @@ use Rattle.msg_admin.specs.declared.request.Request.{Request}
 use Rattle.msg_admin.specs.declared.request.Request.TheVariants as requests
 use Rattle.msg_admin.specs.declared.reply.Reply.{Reply}
 use Rattle.msg_admin.specs.declared.reply.Reply.TheVariants as replies
-use Rattle.record_batch.specs.declared.outcome.Outcome.{Outcome}
-use Rattle.record_batch.specs.declared.outcome.Outcome.TheVariants.{Commit, Abort}
-use Rattle.transactions.specs.declared.ending.EndForm.{EndForm}
-use Rattle.transactions.specs.declared.ending.EndForm.TheVariants.{Plain, Fencing, Raising}
-use Rattle.transactions.specs.declared.pair.Pair.{Pair}
-use Rattle.transactions.specs.declared.transaction.Phase.{Phase}
-use Rattle.transactions.specs.declared.transaction.Phase.TheVariants.{Empty, Ongoing, PrepareCommit, PrepareAbort, CompleteCommit, CompleteAbort}
-use Rattle.transactions.specs.declared.transaction.Transaction.{Transaction}
-use Rattle.transactions.specs.Turn.{Turn, Stays, Puts}
-use Rattle.transactions.specs.Words.{is_empty}
-use Rattle.transactions.specs.Coordinator.{CoordinatorValue, recorded, fresh, turned, turn_code, turn_answer}
-use Rattle.transactions.specs.Preparing.{pair_refusal}
-use Rattle.transactions.specs.Adding.{open_transaction, grown, with_partitions, with_group, add_partitions}
-use Rattle.transactions.specs.InitProducerId.{timeout_within, init_in, init_for, init}
-use Rattle.transactions.specs.EndTxn.{other_epoch, end_ongoing, end_closed, end_in, is_again, end_again, end_by, end_found, end}
-use Rattle.offset_tables.specs.declared.member.Joined.{Joined}
-use Rattle.offset_tables.specs.Turn.{Turn as GroupTurn, Stays as GroupStays, Puts as GroupPuts, answered}
-use Rattle.offset_tables.specs.Groups.{turned as groups_turned, join, sync, beat, leave, commit}
+use Rattle.record_batch.specs.declared.transaction_result.TransactionResult.{TransactionResult}
+use Rattle.record_batch.specs.declared.transaction_result.TransactionResult.TheVariants.{Commit, Abort}
+use Rattle.txn_coordinator.specs.declared.ending.EndForm.{EndForm}
+use Rattle.txn_coordinator.specs.declared.ending.EndForm.TheVariants.{Plain, Fencing, Raising}
+use Rattle.txn_coordinator.specs.declared.producer_id.ProducerIdAndEpoch.{ProducerIdAndEpoch}
+use Rattle.txn_coordinator.specs.declared.transaction.TransactionState.{TransactionState}
+use Rattle.txn_coordinator.specs.declared.transaction.TransactionState.TheVariants.{Empty, Ongoing, PrepareCommit, PrepareAbort, CompleteCommit, CompleteAbort}
+use Rattle.txn_coordinator.specs.declared.transaction.Transaction.{Transaction}
+use Rattle.txn_coordinator.specs.Transition.{Transition, Stays, Puts}
+use Rattle.txn_coordinator.specs.Words.{is_empty}
+use Rattle.txn_coordinator.specs.Coordinator.{CoordinatorValue, id_record, fresh_producer_id, apply_transition, transition_code, transition_answer}
+use Rattle.txn_coordinator.specs.Preparing.{producer_refusal}
+use Rattle.txn_coordinator.specs.Adding.{open_transaction, growth_transition, with_partitions, with_group, add_partitions}
+use Rattle.txn_coordinator.specs.InitProducerId.{timeout_within, init_in, init_for, init}
+use Rattle.txn_coordinator.specs.EndTxn.{other_epoch, end_ongoing, end_closed, end_in, is_again, end_again, end_by, end_found, end}
+use Rattle.group_offsets.specs.declared.member.Joined.{Joined}
+use Rattle.group_offsets.specs.GroupTransition.{GroupTransition, Stays as GroupStays, Puts as GroupPuts, answer_of}
+use Rattle.group_offsets.specs.Groups.{groups_after as groups_turned, join, sync, beat, leave, commit}
 use Rattle.broker_world.specs.World.{World, TopicValue, LogValue, rules_of}
 use Rattle.broker_world.specs.Codes.{code_in}
 use Rattle.broker_world.specs.Questions.{read_question}
-use Rattle.broker_world.specs.Whole.{Served, whole_by}
-use Rattle.group_handlers.specs.Members.{join_error, join_reply, joined, sync_reply, synced, beat_reply, heard, leave_reply, left}
-use Rattle.txn_handlers.specs.InitProducerId.{init_questions, init_error, coordinator_for, reply_for, initialized}
-use Rattle.txn_handlers.specs.AddOffsets.{add_offsets_questions, add_offsets_reply, add_offsets_turn, offsets_added}
-use Rattle.txn_handlers.specs.EndTxn.{form_of, ending_id, ending_pair, ending_outcome, end_questions, end_error, end_turn, ended}
+use Rattle.broker_world.specs.Whole.{Served, whole_outcome_by}
+use Rattle.group_handlers.specs.Members.{join_error, join_reply, served_join, sync_reply, served_sync, beat_reply, served_heartbeat, leave_reply, served_leave}
+use Rattle.txn_handlers.specs.InitProducerId.{init_questions, init_error, coordinator_for, reply_for, served_init}
+use Rattle.txn_handlers.specs.AddOffsets.{add_offsets_questions, add_offsets_reply, add_offsets_transition, served_add_offsets}
+use Rattle.txn_handlers.specs.EndTxn.{form_of, ending_id, ending_id_and_epoch, ending_outcome, end_questions, end_error, end_transition, served_end}
 use Rattle.api_dispatch.specs.Step.{request_outcome}
-use Rattle.api_laws.specs.ToldErrors.{errors_itself, Place, TopicAt, PartitionAt, told, told_in, partition_told, error_at, partition_errors, all_errors}
+use Rattle.api_laws.specs.ToldErrors.{errors_itself, Place, TopicAt, PartitionAt, error_number, error_number_in, partition_error_at, error_at, partition_errors, all_errors}
 use Rattle.api_laws.specs.Unchanged.{is_all_or_nothing, is_by_parts, IsError, ErrorsChangeNothing}
 use Rattle.api_laws.proofs.AskedTable.{end_told}
 
 -- refused, it changes nothing; and else what was served is as it was
-whole_unchanged : (o : Option Refusal) (w : World) (refused : ErrorCode → Reply) (served : Served) → (errors_itself (whole_by o w refused served).reply ≡ pos 0 ∷ [] → ⊥) → ((errors_itself served.reply ≡ pos 0 ∷ [] → ⊥) → served.world ≡ w)
-    → (whole_by o w refused served).world ≡ w
+whole_unchanged : (o : Option Refusal) (w : World) (refused : ErrorCode → Reply) (served : Served) → (errors_itself (whole_outcome_by o w refused served).reply ≡ pos 0 ∷ [] → ⊥) → ((errors_itself served.reply ≡ pos 0 ∷ [] → ⊥) → served.world ≡ w)
+    → (whole_outcome_by o w refused served).world ≡ w
 whole_unchanged None w refused served bad kept = kept bad
 whole_unchanged (Some r) w refused served bad kept = refl
 
@@ -85,45 +85,45 @@ none_number = refl
 
 -- ---- groups
 
-member_unchanged : (w : World) (t : GroupTurn (Unit {0})) → (number_of (code_in (answered t)) ∷ [] ≡ pos 0 ∷ [] → ⊥) → record w { groups = groups_turned w.groups t } ≡ w
+member_unchanged : (w : World) (t : GroupTransition (Unit {0})) → (number_of (code_in (answer_of t)) ∷ [] ≡ pos 0 ∷ [] → ⊥) → record w { groups = groups_turned w.groups t } ≡ w
 member_unchanged w (GroupStays code) bad = refl
 member_unchanged w (GroupPuts answer g) bad = absurd (bad none_number)
 
-sync_unchanged : (w : World) (t : GroupTurn (List ℕ)) → (number_of (sync_reply (answered t)).error ∷ [] ≡ pos 0 ∷ [] → ⊥) → record w { groups = groups_turned w.groups t } ≡ w
+sync_unchanged : (w : World) (t : GroupTransition (List ℕ)) → (number_of (sync_reply (answer_of t)).error ∷ [] ≡ pos 0 ∷ [] → ⊥) → record w { groups = groups_turned w.groups t } ≡ w
 sync_unchanged w (GroupStays code) bad = refl
 sync_unchanged w (GroupPuts answer g) bad = absurd (bad none_number)
 
-join_unchanged : (w : World) (r : JoinGroupRequest) (t : GroupTurn Joined) → (number_of (join_reply (answered t) r).error ∷ [] ≡ pos 0 ∷ [] → ⊥) → record w { groups = groups_turned w.groups t } ≡ w
+join_unchanged : (w : World) (r : JoinGroupRequest) (t : GroupTransition Joined) → (number_of (join_reply (answer_of t) r).error ∷ [] ≡ pos 0 ∷ [] → ⊥) → record w { groups = groups_turned w.groups t } ≡ w
 join_unchanged w r (GroupStays code) bad = refl
 join_unchanged w r (GroupPuts answer g) bad = absurd (bad none_number)
 
 -- ---- transactions
 
 -- what is put is answered no error
-abbrev PutsWell : Turn → Type 0
+abbrev PutsWell : Transition → Type 0
 PutsWell (Stays code) = Unit {0}
 PutsWell (Puts code t given owed) = code ≡ codes.None
 
-turn_unchanged : (w : World) (t : Turn) → PutsWell t → (number_of (turn_code t) ∷ [] ≡ pos 0 ∷ [] → ⊥) → record w { coordinator = turned w.coordinator t } ≡ w
-turn_unchanged w (Stays code) well bad = refl
-turn_unchanged w (Puts code t given owed) well bad = absurd (bad (ap (λ (c : ErrorCode). number_of c ∷ []) well ∙ none_number))
+transition_unchanged : (w : World) (t : Transition) → PutsWell t → (number_of (transition_code t) ∷ [] ≡ pos 0 ∷ [] → ⊥) → record w { coordinator = apply_transition w.coordinator t } ≡ w
+transition_unchanged w (Stays code) well bad = refl
+transition_unchanged w (Puts code t given owed) well bad = absurd (bad (ap (λ (c : ErrorCode). number_of c ∷ []) well ∙ none_number))
 
-grown_well : (grow : Transaction → Transaction) (r : Result Transaction ErrorCode) → PutsWell (grown grow r)
+grown_well : (grow : Transaction → Transaction) (r : Result Transaction ErrorCode) → PutsWell (growth_transition grow r)
 grown_well grow (Ok t) = refl
 grown_well grow (Err code) = tt
 
-ongoing_well : (form : EndForm) (t : Transaction) (next : ℤ) (o : Outcome) → PutsWell (end_ongoing form t next o)
+ongoing_well : (form : EndForm) (t : Transaction) (next : ℤ) (o : TransactionResult) → PutsWell (end_ongoing form t next o)
 ongoing_well Plain t next o = refl
 ongoing_well Fencing t next o = refl
 ongoing_well Raising t next o = refl
 
-closed_well : (form : EndForm) (t : Transaction) (next : ℤ) (o : Outcome) (code : ErrorCode) → PutsWell (end_closed form t next o code)
+closed_well : (form : EndForm) (t : Transaction) (next : ℤ) (o : TransactionResult) (code : ErrorCode) → PutsWell (end_closed form t next o code)
 closed_well Plain t next o code = tt
 closed_well Fencing t next o code = tt
 closed_well Raising t next Commit code = tt
 closed_well Raising t next Abort code = refl
 
-ended_well : (p : Phase) (form : EndForm) (t : Transaction) (next : ℤ) (o : Outcome) → PutsWell (end_in p form t next o)
+ended_well : (p : TransactionState) (form : EndForm) (t : Transaction) (next : ℤ) (o : TransactionResult) → PutsWell (end_in p form t next o)
 ended_well Ongoing form t next o = ongoing_well form t next o
 ended_well PrepareCommit form t next Commit = tt
 ended_well PrepareCommit form t next Abort = tt
@@ -135,31 +135,31 @@ ended_well CompleteCommit form t next Abort = closed_well form t next Abort code
 ended_well CompleteAbort form t next Commit = closed_well form t next Commit codes.InvalidTxnState
 ended_well CompleteAbort form t next Abort = closed_well form t next Abort codes.None
 
-end_well : (c : CoordinatorValue) (form : EndForm) (id : List ℕ) (pair : Pair) (o : Outcome) → PutsWell (end c form id pair o)
+end_well : (c : CoordinatorValue) (form : EndForm) (id : List ℕ) (pair : ProducerIdAndEpoch) (o : TransactionResult) → PutsWell (end c form id pair o)
 end_well c form id pair o = by_name (is_empty id) where
-  by_refusal : (x : Option ErrorCode) (t : Transaction) → PutsWell (end_by x form t (fresh c) o)
+  by_refusal : (x : Option ErrorCode) (t : Transaction) → PutsWell (end_by x form t (fresh_producer_id c) o)
   by_refusal (Some code) t = tt
-  by_refusal None t = ended_well t.phase form t (fresh c) o
+  by_refusal None t = ended_well t.state form t (fresh_producer_id c) o
 
-  by_again : (b : Bool) (t : Transaction) → PutsWell (cond b (Stays (end_again t.phase o)) (end_by (pair_refusal (other_epoch form) t pair) form t (fresh c) o))
+  by_again : (b : Bool) (t : Transaction) → PutsWell (cond b (Stays (end_again t.state o)) (end_by (producer_refusal (other_epoch form) t pair) form t (fresh_producer_id c) o))
   by_again true t = tt
-  by_again false t = by_refusal (pair_refusal (other_epoch form) t pair) t
+  by_again false t = by_refusal (producer_refusal (other_epoch form) t pair) t
 
-  by_found : (found : Option Transaction) → PutsWell (end_found found form (fresh c) pair o)
+  by_found : (found : Option Transaction) → PutsWell (end_found found form (fresh_producer_id c) pair o)
   by_found None = tt
   by_found (Some t) = by_again (is_again form t pair) t
 
-  by_name : (b : Bool) → PutsWell (cond b (Stays codes.InvalidRequest) (end_found (recorded c.transactions id) form (fresh c) pair o))
+  by_name : (b : Bool) → PutsWell (cond b (Stays codes.InvalidRequest) (end_found (id_record c.transactions id) form (fresh_producer_id c) pair o))
   by_name true = tt
-  by_name false = by_found (recorded c.transactions id)
+  by_name false = by_found (id_record c.transactions id)
 
 -- ---- InitProducerId
 
-abbrev PutsOrWaits : Turn → Type 0
+abbrev PutsOrWaits : Transition → Type 0
 PutsOrWaits (Stays code) = Unit {0}
 PutsOrWaits (Puts code t given owed) = (code ≡ codes.None) ⊎ (code ≡ codes.ConcurrentTransactions)
 
-inited_so : (p : Phase) (t : Transaction) (next : ℤ) (n : ℕ) → PutsOrWaits (init_in p t next n)
+inited_so : (p : TransactionState) (t : Transaction) (next : ℤ) (n : ℕ) → PutsOrWaits (init_in p t next n)
 inited_so Empty t next n = inl refl
 inited_so CompleteCommit t next n = inl refl
 inited_so CompleteAbort t next n = inl refl
@@ -169,20 +169,20 @@ inited_so PrepareAbort t next n = tt
 
 init_so : (c : CoordinatorValue) (id : List ℕ) (asked greatest : ℤ) → PutsOrWaits (init c id asked greatest)
 init_so c id asked greatest = by_name (is_empty id) where
-  by_found : (o : Option ℕ) (found : Option Transaction) → PutsOrWaits (init_for o found id (fresh c))
+  by_found : (o : Option ℕ) (found : Option Transaction) → PutsOrWaits (init_for o found id (fresh_producer_id c))
   by_found None found = tt
   by_found (Some n) None = inl refl
-  by_found (Some n) (Some t) = inited_so t.phase t (fresh c) n
+  by_found (Some n) (Some t) = inited_so t.state t (fresh_producer_id c) n
 
-  by_name : (b : Bool) → PutsOrWaits (cond b (Stays codes.InvalidRequest) (init_for (timeout_within asked greatest) (recorded c.transactions id) id (fresh c)))
+  by_name : (b : Bool) → PutsOrWaits (cond b (Stays codes.InvalidRequest) (init_for (timeout_within asked greatest) (id_record c.transactions id) id (fresh_producer_id c)))
   by_name true = tt
-  by_name false = by_found (timeout_within asked greatest) (recorded c.transactions id)
+  by_name false = by_found (timeout_within asked greatest) (id_record c.transactions id)
 
 concurrent_number : number_of codes.ConcurrentTransactions ∷ [] ≡ pos 51 ∷ []
 unfolding number_of
 concurrent_number = refl
 
-wait_unchanged : (w : World) (t : Turn) → PutsOrWaits t → (number_of (turn_code t) ∷ [] ≡ pos 0 ∷ [] → ⊥) → (number_of (turn_code t) ∷ [] ≡ pos 51 ∷ [] → ⊥) → record w { coordinator = turned w.coordinator t } ≡ w
+wait_unchanged : (w : World) (t : Transition) → PutsOrWaits t → (number_of (transition_code t) ∷ [] ≡ pos 0 ∷ [] → ⊥) → (number_of (transition_code t) ∷ [] ≡ pos 51 ∷ [] → ⊥) → record w { coordinator = apply_transition w.coordinator t } ≡ w
 wait_unchanged w (Stays code) so bad worse = refl
 wait_unchanged w (Puts code t given owed) (inl none) bad worse = absurd (bad (ap (λ (c : ErrorCode). number_of c ∷ []) none ∙ none_number))
 wait_unchanged w (Puts code t given owed) (inr wait) bad worse = absurd (worse (ap (λ (c : ErrorCode). number_of c ∷ []) wait ∙ concurrent_number))
@@ -192,32 +192,32 @@ init_unchanged : (w : World) (id : Option (List ℕ)) (asked : ℤ) → (number_
 init_unchanged w None asked bad worse = absurd (bad none_number)
 init_unchanged w (Some id) asked bad worse = wait_unchanged w (init w.coordinator id asked w.node.max_txn_timeout) (init_so w.coordinator id asked w.node.max_txn_timeout) bad worse
 
-init_whole : (o : Option Refusal) (w : World) (r : InitProducerIdRequest) → (errors_itself (whole_by o w (λ code. replies.InitProducerId (init_error code)) (initialized w r)).reply ≡ pos 0 ∷ [] → ⊥)
-    → (errors_itself (whole_by o w (λ code. replies.InitProducerId (init_error code)) (initialized w r)).reply ≡ pos 51 ∷ [] → ⊥) → (whole_by o w (λ code. replies.InitProducerId (init_error code)) (initialized w r)).world ≡ w
+init_whole : (o : Option Refusal) (w : World) (r : InitProducerIdRequest) → (errors_itself (whole_outcome_by o w (λ code. replies.InitProducerId (init_error code)) (served_init w r)).reply ≡ pos 0 ∷ [] → ⊥)
+    → (errors_itself (whole_outcome_by o w (λ code. replies.InitProducerId (init_error code)) (served_init w r)).reply ≡ pos 51 ∷ [] → ⊥) → (whole_outcome_by o w (λ code. replies.InitProducerId (init_error code)) (served_init w r)).world ≡ w
 init_whole None w r bad worse = init_unchanged w r.transactional_id r.timeout bad worse
 init_whole (Some refusal) w r bad worse = refl
 
 -- ---- each of them
 
 module _ (w : World) (caller : Caller) where
-  end_unchanged : (r : EndTxnRequest) → (errors_itself (ended w r).reply ≡ pos 0 ∷ [] → ⊥) → (ended w r).world ≡ w
+  end_unchanged : (r : EndTxnRequest) → (errors_itself (served_end w r).reply ≡ pos 0 ∷ [] → ⊥) → (served_end w r).world ≡ w
   end_unchanged r bad =
-      turn_unchanged w (end_turn w.coordinator r) (end_well w.coordinator (form_of r) (ending_id r) (ending_pair r) (ending_outcome r))
-      (λ none. bad (ap (λ (c : ErrorCode). number_of c ∷ []) (end_told r (turn_answer w.coordinator (ending_id r) (end_turn w.coordinator r))) ∙ none))
+      transition_unchanged w (end_transition w.coordinator r) (end_well w.coordinator (form_of r) (ending_id r) (ending_id_and_epoch r) (ending_outcome r))
+      (λ none. bad (ap (λ (c : ErrorCode). number_of c ∷ []) (end_told r (transition_answer w.coordinator (ending_id r) (end_transition w.coordinator r))) ∙ none))
 
   unchanged : (request : Request) → is_all_or_nothing request ≡ true → (errors_itself (request_outcome w caller request).reply ≡ pos 0 ∷ [] → ⊥) → (request_outcome w caller request).world ≡ w
   unchanged (requests.JoinGroup r) one bad =
-      whole_unchanged (part_refusal (rules_of w) (read_question caller r.group ∷ [])) w (λ code. replies.JoinGroup (join_error code r)) (joined w r) bad (join_unchanged w r (join w.groups r w.events w.moment))
+      whole_unchanged (part_refusal (rules_of w) (read_question caller r.group ∷ [])) w (λ code. replies.JoinGroup (join_error code r)) (served_join w r) bad (join_unchanged w r (join w.groups r w.events w.moment))
   unchanged (requests.Heartbeat r) one bad =
-      whole_unchanged (part_refusal (rules_of w) (read_question caller r.group ∷ [])) w (λ code. replies.Heartbeat (beat_reply code)) (heard w r) bad (member_unchanged w (beat w.groups r w.moment))
+      whole_unchanged (part_refusal (rules_of w) (read_question caller r.group ∷ [])) w (λ code. replies.Heartbeat (beat_reply code)) (served_heartbeat w r) bad (member_unchanged w (beat w.groups r w.moment))
   unchanged (requests.LeaveGroup r) one bad =
-      whole_unchanged (part_refusal (rules_of w) (read_question caller r.group ∷ [])) w (λ code. replies.LeaveGroup (leave_reply code)) (left w r) bad (member_unchanged w (leave w.groups r))
+      whole_unchanged (part_refusal (rules_of w) (read_question caller r.group ∷ [])) w (λ code. replies.LeaveGroup (leave_reply code)) (served_leave w r) bad (member_unchanged w (leave w.groups r))
   unchanged (requests.SyncGroup r) one bad =
-      whole_unchanged (part_refusal (rules_of w) (read_question caller r.group ∷ [])) w (λ code. replies.SyncGroup (sync_reply (Err code))) (synced w r) bad (sync_unchanged w (sync w.groups r w.moment))
+      whole_unchanged (part_refusal (rules_of w) (read_question caller r.group ∷ [])) w (λ code. replies.SyncGroup (sync_reply (Err code))) (served_sync w r) bad (sync_unchanged w (sync w.groups r w.moment))
   unchanged (requests.AddOffsetsToTxn r) one bad =
-      whole_unchanged (part_refusal (rules_of w) (add_offsets_questions caller r.transactional_id r.group)) w (λ code. replies.AddOffsetsToTxn (add_offsets_reply code)) (offsets_added w r) bad
-      (turn_unchanged w (add_offsets_turn w.coordinator w.moment r) (grown_well (with_group r.group) (open_transaction w.coordinator r.transactional_id (record { producer = r.producer; epoch = r.epoch }) w.moment)))
-  unchanged (requests.EndTxn r) one bad = whole_unchanged (part_refusal (rules_of w) (end_questions caller r)) w (λ code. replies.EndTxn (end_error r code)) (ended w r) bad (end_unchanged r)
+      whole_unchanged (part_refusal (rules_of w) (add_offsets_questions caller r.transactional_id r.group)) w (λ code. replies.AddOffsetsToTxn (add_offsets_reply code)) (served_add_offsets w r) bad
+      (transition_unchanged w (add_offsets_transition w.coordinator w.moment r) (grown_well (with_group r.group) (open_transaction w.coordinator r.transactional_id (record { producer = r.producer; epoch = r.epoch }) w.moment)))
+  unchanged (requests.EndTxn r) one bad = whole_unchanged (part_refusal (rules_of w) (end_questions caller r)) w (λ code. replies.EndTxn (end_error r code)) (served_end w r) bad (end_unchanged r)
   unchanged (requests.Produce r) one bad = absurd (let clash : false ≡ true = one in cc)
   unchanged (requests.Fetch r) one bad = absurd (let clash : false ≡ true = one in cc)
   unchanged (requests.ListOffsets r) one bad = absurd (let clash : false ≡ true = one in cc)
@@ -273,13 +273,13 @@ module _ (P A W : Type 0) (api : PartRule P A W) (error : A → ErrorCode) (rule
   walk_still v ts all =
       sym (woven api rules v ts).world ∙ topics_still v ts (subst (λ (l : List (Topic A)). AllByRecursion IsError (partition_errors error l)) (sym (woven api rules v ts).answers) all)
 
-turn_still : (gs : List Group) (t : GroupTurn (Unit {0})) → IsError (number_of (code_in (answered t))) → groups_turned gs t ≡ gs
-turn_still gs (GroupStays code) bad = refl
-turn_still gs (GroupPuts answer g) bad = absurd (bad zero_number)
+transition_still : (gs : List Group) (t : GroupTransition (Unit {0})) → IsError (number_of (code_in (answer_of t))) → groups_turned gs t ≡ gs
+transition_still gs (GroupStays code) bad = refl
+transition_still gs (GroupPuts answer g) bad = absurd (bad zero_number)
 
 commit_still : (c : Committing) (gs : List Group) (name : List ℕ) (p : OffsetToCommit) (log : Option LogValue) → IsError (number_of (code_by c gs name p log)) → groups_by c gs name p log ≡ gs
 commit_still c gs name p None bad = refl
-commit_still c gs name p (Some log) bad = turn_still gs (commit gs c.group c.generation c.member (offset_of name p)) bad
+commit_still c gs name p (Some log) bad = transition_still gs (commit gs c.group c.generation c.member (offset_of name p)) bad
 
 sent_or_not : (b : Bool) (a : ProduceReply) → AllByRecursion IsError (all_errors (cond b (replies.SilentProduce a) (replies.Produce a))) → AllByRecursion IsError (partition_errors (λ (p : ProducedOffset). p.error) a.topics)
 sent_or_not true a all = all
@@ -289,20 +289,20 @@ module _ (w : World) (caller : Caller) where
   produce_still : (r : ProduceRequest) → AllByRecursion IsError (all_errors (request_outcome w caller (requests.Produce r)).reply) → (request_outcome w caller (requests.Produce r)).world ≡ w
   produce_still r all =
       ap (λ (topics : List TopicValue). record w { topics = topics })
-      (walk_still ProducedRecords ProducedOffset (List TopicValue) (producing w caller r) (λ (p : ProducedOffset). p.error) (rules_of w)
-      (λ topics name p bad. (produces_as_answered.refuses (magnitude w.node.max_batch) w.coordinator r.transactional_id r.acks topics name p (λ is. bad (ap number_of is ∙ zero_number))).same)
-      w.topics r.topics (sent_or_not (int_eq r.acks (pos 0)) (record { topics = answers (producing w caller r) (rules_of w) w.topics r.topics; throttle = pos 0 }) all))
+      (walk_still ProducedRecords ProducedOffset (List TopicValue) (producing_rule w caller r) (λ (p : ProducedOffset). p.error) (rules_of w)
+      (λ topics name p bad. (produces_as_answered.refuses (non_negative w.node.max_batch) w.coordinator r.transactional_id r.acks topics name p (λ is. bad (ap number_of is ∙ zero_number))).same)
+      w.topics r.topics (sent_or_not (int_eq r.acks (pos 0)) (record { topics = answers (producing_rule w caller r) (rules_of w) w.topics r.topics; throttle = pos 0 }) all))
 
   commits_still : (r : OffsetCommitRequest) → AllByRecursion IsError (all_errors (request_outcome w caller (requests.OffsetCommit r)).reply) → (request_outcome w caller (requests.OffsetCommit r)).world ≡ w
   commits_still r all =
       ap (λ (gs : List Group). record w { groups = gs })
-      (walk_still OffsetToCommit CommittedOffset (List Group) (committing_rule w caller r) (λ (p : CommittedOffset). p.error) (rules_of w) (λ gs name p bad. commit_still (committing r) gs name p (log_at w.topics name p.index) bad) w.groups r.topics all)
+      (walk_still OffsetToCommit CommittedOffset (List Group) (committing_rule w caller r) (λ (p : CommittedOffset). p.error) (rules_of w) (λ gs name p bad. commit_still (committing_of r) gs name p (log_at w.topics name p.index) bad) w.groups r.topics all)
 
   stages_still : (r : TxnOffsetCommitRequest) → AllByRecursion IsError (all_errors (request_outcome w caller (requests.TxnOffsetCommit r)).reply) → (request_outcome w caller (requests.TxnOffsetCommit r)).world ≡ w
   stages_still r all =
       ap (λ (gs : List Group). record w { groups = gs })
       (walk_still OffsetToStage StagedOffset (List Group) (staging_rule w caller r) (λ (p : StagedOffset). p.error) (rules_of w)
-      (λ gs name p bad. turn_still gs (stage_turn (staging_refusal w.coordinator (staging r)) w.topics (staging r) gs name p) bad) w.groups r.topics all)
+      (λ gs name p bad. transition_still gs (stage_transition (staging_refusal w.coordinator (staging_of r)) w.topics (staging_of r) gs name p) bad) w.groups r.topics all)
 
   by_parts : (request : Request) → is_by_parts request ≡ true → AllByRecursion IsError (all_errors (request_outcome w caller request).reply) → (request_outcome w caller request).world ≡ w
   by_parts (requests.Produce r) one all = produce_still r all
@@ -334,21 +334,21 @@ same_number : (a b : ℤ) → Some a ≡ Some b → a ≡ b
 same_number a b h = cc
 
 -- all are told one code
-one_code : (code : ErrorCode) (name : List ℕ) (v : Unit {0}) (ps : List ℤ) (j : ℕ) (error : ℤ) → told (λ (p : AddedPartition). p.error) (at (plain_parts (told_rule code) v name ps) j) ≡ Some error → number_of code ≡ error
+one_code : (code : ErrorCode) (name : List ℕ) (v : Unit {0}) (ps : List ℤ) (j : ℕ) (error : ℤ) → error_number (λ (p : AddedPartition). p.error) (element_at (plain_parts (code_rule code) v name ps) j) ≡ Some error → number_of code ≡ error
 one_code code name v [] j error h = absurd (let clash : None ≡ Some error = h in cc)
 one_code code name v (p ∷ ps) zero error h = same_number (number_of code) error h
 one_code code name v (p ∷ ps) (suc j) error h = one_code code name v ps j error h
 
-one_code_in : (code : ErrorCode) (v : Unit {0}) (ts : List (Topic ℤ)) (i j : ℕ) (error : ℤ) → told_in (λ (p : AddedPartition). p.error) (at (plain_topics (told_rule code) v ts) i) j ≡ Some error → number_of code ≡ error
+one_code_in : (code : ErrorCode) (v : Unit {0}) (ts : List (Topic ℤ)) (i j : ℕ) (error : ℤ) → error_number_in (λ (p : AddedPartition). p.error) (element_at (plain_topics (code_rule code) v ts) i) j ≡ Some error → number_of code ≡ error
 one_code_in code v [] i j error h = absurd (let clash : None ≡ Some error = h in cc)
 one_code_in code v (t ∷ ts) zero j error h = one_code code t.name v t.partitions j error h
-one_code_in code v (t ∷ ts) (suc i) j error h = one_code_in code (plain_parts_world (told_rule code) v t.name t.partitions) ts i j error h
+one_code_in code v (t ∷ ts) (suc i) j error h = one_code_in code (plain_parts_world (code_rule code) v t.name t.partitions) ts i j error h
 
-one_code_at : (code : ErrorCode) (ts : List (Topic ℤ)) (place : Place) (error : ℤ) → partition_told (λ (p : AddedPartition). p.error) (plain_topics (told_rule code) tt ts) place ≡ Some error → number_of code ≡ error
+one_code_at : (code : ErrorCode) (ts : List (Topic ℤ)) (place : Place) (error : ℤ) → partition_error_at (λ (p : AddedPartition). p.error) (plain_topics (code_rule code) tt ts) place ≡ Some error → number_of code ≡ error
 one_code_at code ts (TopicAt i) error h = absurd (let clash : None ≡ Some error = h in cc)
 one_code_at code ts (PartitionAt i j) error h = one_code_in code tt ts i j error h
 
-add_well : (c : CoordinatorValue) (id : List ℕ) (pair : Pair) (moment : ℕ) (ps : List TopicPartition) → PutsWell (add_partitions c id pair moment ps)
+add_well : (c : CoordinatorValue) (id : List ℕ) (pair : ProducerIdAndEpoch) (moment : ℕ) (ps : List TopicPartition) → PutsWell (add_partitions c id pair moment ps)
 add_well c id pair moment [] = tt
 add_well c id pair moment (p ∷ ps) = grown_well (with_partitions (p ∷ ps)) (open_transaction c id pair moment)
 
@@ -358,8 +358,8 @@ head_of a b h = cc
 adds_still : (w : World) (caller : Caller) (r : AddPartitionsToTxnRequest) (place : Place) (error : ℤ) (b : Bool) → error_at (cond b (cut_outcome w caller r) (added_outcome w r)).reply place ≡ Some error → IsError error → (cond b (cut_outcome w caller r) (added_outcome w r)).world ≡ w
 adds_still w caller r place error true is bad = refl
 adds_still w caller r place error false is bad =
-    turn_unchanged w (add_turn w.coordinator w.moment r) (add_well w.coordinator r.transactional_id (record { producer = r.producer; epoch = r.epoch }) w.moment (partitions_of r.topics))
-    (λ zeroes. bad (sym (one_code_at (turn_code (add_turn w.coordinator w.moment r)) r.topics place error is) ∙ head_of (number_of (turn_code (add_turn w.coordinator w.moment r))) (pos 0) zeroes))
+    transition_unchanged w (add_transition w.coordinator w.moment r) (add_well w.coordinator r.transactional_id (record { producer = r.producer; epoch = r.epoch }) w.moment (partitions_of r.topics))
+    (λ zeroes. bad (sym (one_code_at (transition_code (add_transition w.coordinator w.moment r)) r.topics place error is) ∙ head_of (number_of (transition_code (add_transition w.coordinator w.moment r))) (pos 0) zeroes))
 
 pub errors_change_nothing : ErrorsChangeNothing
 errors_change_nothing = record {

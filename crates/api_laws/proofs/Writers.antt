@@ -15,8 +15,8 @@ use Rattle.acl_binding.specs.declared.binding.Numbered.{Numbered}
 use Rattle.acl_binding.specs.declared.question.Caller.{Caller}
 use Rattle.acl_binding.specs.Words.{pattern_number}
 use Rattle.acl_binding.specs.Binding.{name_covers, applies, denies, star}
-use Rattle.acl_binding.specs.Verdict.{asked, is_denial, IsAllowed}
-use Rattle.authorizer.specs.AnyTopic.{is_topics, lets_write, stands_over, is_barred, any_topic}
+use Rattle.acl_binding.specs.Verdict.{question_of, is_denial, IsAllowed}
+use Rattle.authorizer.specs.AnyTopic.{is_topics, lets_write, stands_over, is_overridden_by_deny, any_topic}
 
 or_true : (a : Bool) → (a || true) ≡ true
 or_true true = refl
@@ -89,15 +89,15 @@ let_in true true false b h free = absurd (true≢false (sym h))
 let_in true false w b h free = absurd (true≢false (sym h))
 let_in false n w b h free = absurd (true≢false (sym h))
 
-module _ (es : List Numbered) (caller : Caller) (name : List ℕ) (allowed : IsAllowed es (asked caller Write Topic name)) where
-  undenied : list_any (λ (e : Numbered). is_denial (asked caller Write Topic name) e.binding) es ≡ false
-  undenied = list_any_none (λ (e : Numbered). is_denial (asked caller Write Topic name) e.binding) es allowed.undenied
+module _ (es : List Numbered) (caller : Caller) (name : List ℕ) (allowed : IsAllowed es (question_of caller Write Topic name)) where
+  undenied : list_any (λ (e : Numbered). is_denial (question_of caller Write Topic name) e.binding) es ≡ false
+  undenied = list_any_none (λ (e : Numbered). is_denial (question_of caller Write Topic name) e.binding) es allowed.undenied
 
-  unbarred : (allow : Binding) → name_covers allow.pattern allow.name name ≡ true → is_barred es caller.who caller.host allow ≡ false
-  unbarred allow covers = by (is_barred es caller.who caller.host allow) refl where
-    by : (b : Bool) → is_barred es caller.who caller.host allow ≡ b → b ≡ false
+  unbarred : (allow : Binding) → name_covers allow.pattern allow.name name ≡ true → is_overridden_by_deny es caller.who caller.host allow ≡ false
+  unbarred allow covers = by (is_overridden_by_deny es caller.who caller.host allow) refl where
+    by : (b : Bool) → is_overridden_by_deny es caller.who caller.host allow ≡ b → b ≡ false
     by false h = refl
-    by true h = sym (any_weaker _ (λ (e : Numbered). is_denial (asked caller Write Topic name) e.binding) es
+    by true h = sym (any_weaker _ (λ (e : Numbered). is_denial (question_of caller Write Topic name) e.binding) es
         (λ e. denied (is_topics e.binding) (applies e.binding caller.who caller.host) (denies e.binding Write) (stands_over e.binding allow) (name_covers e.binding.pattern e.binding.name name)
         (over_name e.binding.pattern allow.pattern e.binding.name allow.name name covers)) h) ∙ undenied
 
@@ -105,5 +105,5 @@ module _ (es : List Numbered) (caller : Caller) (name : List ℕ) (allowed : IsA
   writes_any =
       let it = allowed.allows in
       let e = it.1 in
-      list_any-from_Any (λ (e : Numbered). is_topics e.binding && (lets_write caller.who caller.host e.binding && not (is_barred es caller.who caller.host e.binding))) es
-      (it.0, e, it.2, it.3, let_in (is_topics e.binding) (name_covers e.binding.pattern e.binding.name name) (lets_write caller.who caller.host e.binding) (is_barred es caller.who caller.host e.binding) it.4 (unbarred e.binding))
+      list_any-from_Any (λ (e : Numbered). is_topics e.binding && (lets_write caller.who caller.host e.binding && not (is_overridden_by_deny es caller.who caller.host e.binding))) es
+      (it.0, e, it.2, it.3, let_in (is_topics e.binding) (name_covers e.binding.pattern e.binding.name name) (lets_write caller.who caller.host e.binding) (is_overridden_by_deny es caller.who caller.host e.binding) it.4 (unbarred e.binding))

@@ -7,7 +7,7 @@ use Rattle.acl_binding.specs.declared.words.Kind.TheVariants as kinds
 use Rattle.acl_binding.specs.declared.words.Operation.TheVariants.{Write}
 use Rattle.acl_binding.specs.declared.question.Caller.{Caller}
 use Rattle.acl_binding.specs.declared.question.Verdict.TheVariants.{Yes}
-use Rattle.acl_binding.specs.Verdict.{asked}
+use Rattle.acl_binding.specs.Verdict.{question_of}
 use Rattle.authorizer.specs.Policy.{verdict}
 use Rattle.wire_types.specs.declared.error_code.ErrorCode.TheVariants as codes
 use Rattle.wire_types.specs.ErrorCode.{number_of}
@@ -19,14 +19,14 @@ use Rattle.msg_data.specs.declared.produce.ProducedRecords.{ProducedRecords}
 use Rattle.msg_data.specs.declared.produce.ProducedOffset.{ProducedOffset}
 use Rattle.msg_admin.specs.declared.reply.Reply.TheVariants as replies
 use Rattle.walk.specs.Alike.{AllTopics}
-use Rattle.transactions.specs.declared.target.TopicPartition.{TopicPartition}
-use Rattle.transactions.specs.declared.transaction.Transaction.{Transaction}
-use Rattle.transactions.specs.declared.transaction.Phase.TheVariants.{Ongoing}
-use Rattle.transactions.specs.Coordinator.{CoordinatorValue}
+use Rattle.txn_coordinator.specs.declared.target.TopicPartition.{TopicPartition}
+use Rattle.txn_coordinator.specs.declared.transaction.Transaction.{Transaction}
+use Rattle.txn_coordinator.specs.declared.transaction.TransactionState.TheVariants.{Ongoing}
+use Rattle.txn_coordinator.specs.Coordinator.{CoordinatorValue}
 use Rattle.broker_world.specs.World.{World, TopicValue, LogValue}
 use Rattle.broker_world.specs.Logs.{log_at}
-use Rattle.data_handlers.specs.Judged.{partition_at, judged, topics_produced}
-use Rattle.data_handlers.specs.Produce.{produced, produce_outcome}
+use Rattle.data_handlers.specs.Judged.{partition_at, batch_to_append, topics_produced}
+use Rattle.data_handlers.specs.Produce.{produce_answer, produce_outcome}
 
 -- ---- whose batch it is
 
@@ -59,7 +59,7 @@ pub record IsOfTransaction (c : CoordinatorValue) (named : Option (List ℕ)) (n
   pub asked_for : named ≡ Some transaction.id
   pub producer : h.producer_id ≡ transaction.pair.producer
   pub same_epoch : h.producer_epoch ≡ transaction.pair.epoch
-  pub ongoing : transaction.phase ≡ Ongoing
+  pub ongoing : transaction.state ≡ Ongoing
   pub earlier : List TopicPartition
   pub later : List TopicPartition
   pub added : transaction.partitions ≡ earlier ++ record { topic = name; index = index } ∷ later
@@ -152,8 +152,8 @@ pub record HasPart (w : World) (caller : Caller) (r : ProduceRequest) (name : Li
   pub after : List (Topic ProducedRecords)
   pub asks : r.topics ≡ before ++ record { name = name; partitions = parts ++ p ∷ rest } ∷ after
   pub others : AllTopics (λ (n : List ℕ) (q : ProducedRecords). n ≡ name → q.index ≡ p.index → ⊥) (before ++ record { name = name; partitions = parts ++ rest } ∷ after)
-  pub topic_granted : verdict w.book w.supers (asked caller Write kinds.Topic name) ≡ Yes
-  pub id_granted : (id : List ℕ) → r.transactional_id ≡ Some id → verdict w.book w.supers (asked caller Write kinds.TransactionalId id) ≡ Yes
+  pub topic_granted : verdict w.book w.supers (question_of caller Write kinds.Topic name) ≡ Yes
+  pub id_granted : (id : List ℕ) → r.transactional_id ≡ Some id → verdict w.book w.supers (question_of caller Write kinds.TransactionalId id) ≡ Yes
 
 -- its reply has this answer at these places of the topic and of the partition; with acks 0 it isn't sent
 pub record IsTold (w : World) (caller : Caller) (r : ProduceRequest) (i j : ℕ) (name : List ℕ) (answer : ProducedOffset) : Type 0 where
@@ -177,7 +177,7 @@ pub record AcceptsWhatItOught : Type 0 where
   -- a partition that is there takes in what is proper and next
   pub part : (most : ℕ) (c : CoordinatorValue) (id : Option (List ℕ)) (acks : ℤ) (topics : List TopicValue) (name : List ℕ) (p : ProducedRecords) (log : LogValue) (b : BatchData)
       → IsProper (pos most) c id acks name p b → log_at topics name p.index ≡ Some log → IsNextOf log b
-      → IsTakenIn (topics_produced (judged most c id acks (partition_at name p.index) p.records) topics name p.index) name p.index log b (produced (judged most c id acks (partition_at name p.index) p.records) topics name p)
+      → IsTakenIn (topics_produced (batch_to_append most c id acks (partition_at name p.index) p.records) topics name p.index) name p.index log b (produce_answer (batch_to_append most c id acks (partition_at name p.index) p.records) topics name p)
   -- and so it does wherever the part stands in a request
   pub request : (w : World) (caller : Caller) (r : ProduceRequest) (name : List ℕ) (p : ProducedRecords) (log : LogValue) (b : BatchData) (part : HasPart w caller r name p)
       → IsProper w.node.max_batch w.coordinator r.transactional_id r.acks name p b → log_at w.topics name p.index ≡ Some log → IsNextOf log b
@@ -193,5 +193,5 @@ pub record IsRightlyAnswered (most : ℕ) (c : CoordinatorValue) (id : Option (L
 
 -- no error is answered but for that
 abbrev pub AcceptsNothingElse : Type 0
-AcceptsNothingElse = (most : ℕ) (c : CoordinatorValue) (id : Option (List ℕ)) (acks : ℤ) (topics : List TopicValue) (name : List ℕ) (p : ProducedRecords) → (produced (judged most c id acks (partition_at name p.index) p.records) topics name p).error ≡ codes.None
-    → IsRightlyAnswered most c id acks topics (topics_produced (judged most c id acks (partition_at name p.index) p.records) topics name p.index) name p
+AcceptsNothingElse = (most : ℕ) (c : CoordinatorValue) (id : Option (List ℕ)) (acks : ℤ) (topics : List TopicValue) (name : List ℕ) (p : ProducedRecords) → (produce_answer (batch_to_append most c id acks (partition_at name p.index) p.records) topics name p).error ≡ codes.None
+    → IsRightlyAnswered most c id acks topics (topics_produced (batch_to_append most c id acks (partition_at name p.index) p.records) topics name p.index) name p

@@ -7,11 +7,11 @@ use Rattle.msg_acl.specs.declared.describe_acls.DescribeAclsRequest.{DescribeAcl
 use Rattle.acl_binding.specs.declared.question.Caller.{Caller}
 use Rattle.acl_binding.specs.Entries.{binding_of, filter_of}
 use Rattle.acl_binding.specs.Book.{number_of}
-use Rattle.acl_binding.specs.Filter.{matching}
+use Rattle.acl_binding.specs.Filter.{matching_bindings}
 use Rattle.authorizer.specs.declared.answer.Refusal.{Refusal}
 use Rattle.authorizer.specs.Asking.{part_refusal}
 use Rattle.broker_world.specs.World.{World, rules_of}
-use Rattle.broker_world.specs.Outcome.{Outcome}
+use Rattle.broker_world.specs.HandlerResult.{HandlerResult}
 use Rattle.acl_handlers.specs.CreateAcls.{alter_questions, create_acls_outcome}
 use Rattle.acl_handlers.specs.DeleteAcls.{delete_acls_outcome}
 use Rattle.acl_handlers.specs.DescribeAcls.{describe_acls_outcome}
@@ -26,10 +26,10 @@ CreatesEach = (w : World) (caller : Caller) (r : CreateAclsRequest) → part_ref
 -- after a DeleteAcls that is granted none of its filters picks anything any more
 abbrev pub DeletesEach : Type 0
 DeletesEach = (w : World) (caller : Caller) (r : DeleteAclsRequest) → part_refusal (rules_of w) (alter_questions caller) ≡ None
-    → AllByRecursion (λ e. IfSome (filter_of e) (λ f. matching (delete_acls_outcome w caller r).world.book.entries f ≡ [])) r.filters
+    → AllByRecursion (λ e. IfSome (filter_of e) (λ f. matching_bindings (delete_acls_outcome w caller r).world.book.entries f ≡ [])) r.filters
 
 -- a request that is refused by the book of before changes nothing, and its refusal is the only one
-pub record IsRefusedWhole (w : World) (r : Refusal) (outcome : Outcome) : Type 0 where
+pub record IsRefusedWhole (w : World) (r : Refusal) (outcome : HandlerResult) : Type 0 where
   pub world : outcome.world ≡ w
   pub refusals : outcome.refusals ≡ r ∷ []
 
@@ -38,7 +38,7 @@ pub record RefusedEditNothing : Type 0 where
   pub delete : (w : World) (caller : Caller) (q : DeleteAclsRequest) (r : Refusal) → part_refusal (rules_of w) (alter_questions caller) ≡ Some r → IsRefusedWhole w r (delete_acls_outcome w caller q)
 
 -- worlds of one book give the same answer, and leave one book
-pub record SameEdit (a b : Outcome) : Type 0 where
+pub record SameEdit (a b : HandlerResult) : Type 0 where
   pub answer : SameAnswer a b
   pub book : a.world.book ≡ b.world.book
 

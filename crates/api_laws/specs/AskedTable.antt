@@ -14,11 +14,11 @@ use Rattle.authorizer.specs.Policy.{verdict}
 use Rattle.authorizer.specs.AnyTopic.{any_topic}
 use Rattle.authorizer.specs.Asking.{part_refusal}
 use Rattle.wire_types.specs.declared.topic.Topic.{Topic}
-use Rattle.msg_txn.specs.EndTxn.{asked as ending}
+use Rattle.msg_txn.specs.EndTxn.{end_txn_of as ending}
 use Rattle.msg_admin.specs.declared.request.Request.{Request}
 use Rattle.msg_admin.specs.declared.request.Request.TheVariants as requests
 use Rattle.audit_trail.specs.declared.event.Event.TheVariants.{Ask}
-use Rattle.walk.specs.Headline.{at}
+use Rattle.walk.specs.Headline.{element_at}
 use Rattle.walk.specs.Woven.{has_any}
 use Rattle.broker_world.specs.World.{World, rules_of}
 use Rattle.api_dispatch.specs.Questions.{asks_itself, asks_at}
@@ -37,8 +37,8 @@ abbrev pub row : Operation → Kind → List ℕ → Row
 row operation kind name = record { operation = operation; kind = kind; name = name }
 
 -- may the caller at its host do that?
-abbrev pub asking : Caller → Row → Question
-asking caller r = record { who = caller.who; host = caller.host; op = r.operation; kind = r.kind; name = r.name }
+abbrev pub row_question : Caller → Row → Question
+row_question caller r = record { who = caller.who; host = caller.host; op = r.operation; kind = r.kind; name = r.name }
 
 -- ---- the table: what the request itself asks
 
@@ -91,11 +91,11 @@ rows_for rows name (Some p) = rows name
 
 abbrev pub rows_in : {P : Type 0} → (List ℕ → List Row) → Option (Topic P) → ℕ → List Row
 rows_in rows None j = []
-rows_in rows (Some t) j = rows_for rows t.name (at t.partitions j)
+rows_in rows (Some t) j = rows_for rows t.name (element_at t.partitions j)
 
 abbrev pub partition_rows : {P : Type 0} → (List ℕ → List Row) → List (Topic P) → Place → List Row
 partition_rows rows ts (TopicAt i) = []
-partition_rows rows ts (PartitionAt i j) = rows_in rows (at ts i) j
+partition_rows rows ts (PartitionAt i j) = rows_in rows (element_at ts i) j
 
 abbrev pub rows_of : (List ℕ → List Row) → Option (List ℕ) → List Row
 rows_of rows None = []
@@ -103,7 +103,7 @@ rows_of rows (Some name) = rows name
 
 abbrev pub name_rows : (List ℕ → List Row) → Option (List (List ℕ)) → Place → List Row
 name_rows rows None place = []
-name_rows rows (Some names) (TopicAt i) = rows_of rows (at names i)
+name_rows rows (Some names) (TopicAt i) = rows_of rows (element_at names i)
 name_rows rows (Some names) (PartitionAt i j) = []
 
 abbrev pub offset_rows : (List ℕ → List Row) → Option (List (Topic ℤ)) → Place → List Row
@@ -124,13 +124,13 @@ rows_at request place = []
 -- ---- what is told
 
 -- the verdict on it is Yes
-abbrev pub may : World → Caller → Row → Bool
-may w caller r = is_yes (verdict w.book w.supers (asking caller r))
+abbrev pub is_row_granted : World → Caller → Row → Bool
+is_row_granted w caller r = is_yes (verdict w.book w.supers (row_question caller r))
 
 -- the first row that isn't granted, if one isn't
 abbrev pub first_refused : World → Caller → List Row → Option Row
 first_refused w caller [] = None
-first_refused w caller (r ∷ rows) = if may w caller r then first_refused w caller rows else Some r
+first_refused w caller (r ∷ rows) = if is_row_granted w caller r then first_refused w caller rows else Some r
 
 abbrev pub refusal_number : Kind → ℤ
 refusal_number kinds.Topic = pos 29
@@ -152,10 +152,10 @@ TellsAt (Some r) error = error ≡ Some (refusal_number r.kind)
 TellsAt None error = IfSome error IsNoRefusal
 
 -- CreateAcls and DeleteAcls tell it in each result
-abbrev pub told_times : Request → ℕ
-told_times (requests.CreateAcls r) = length r.creations
-told_times (requests.DeleteAcls r) = length r.filters
-told_times request = 1
+abbrev pub result_count : Request → ℕ
+result_count (requests.CreateAcls r) = length r.creations
+result_count (requests.DeleteAcls r) = length r.filters
+result_count request = 1
 
 -- ---- the law
 
@@ -164,12 +164,12 @@ told_times request = 1
 -- alone both the request and its parts ask.)
 pub record AsksByTable : Type 0 where
   pub itself : (w : World) (caller : Caller) (client : Option (List ℕ)) (request : Request)
-      → TellsItself (first_refused w caller (request_rows w caller request)) (told_times request) (errors_itself (reply_to w (Ask caller client request)))
+      → TellsItself (first_refused w caller (request_rows w caller request)) (result_count request) (errors_itself (reply_to w (Ask caller client request)))
   pub parts : (w : World) (caller : Caller) (client : Option (List ℕ)) (request : Request) (place : Place) → first_refused w caller (request_rows w caller request) ≡ None
       → TellsAt (first_refused w caller (rows_at request place)) (error_at (reply_to w (Ask caller client request)) place)
   -- each part is told one or the other
   pub answered : (w : World) (caller : Caller) (client : Option (List ℕ)) (request : Request) (place : Place) → first_refused w caller (request_rows w caller request) ≡ None → has_any (rows_at request place) ≡ true
       → is_some (error_at (reply_to w (Ask caller client request)) place) ≡ true
   -- and the definitions from which the audit's refusals are made ask the same
-  pub refused_itself : (w : World) (caller : Caller) (request : Request) → part_refusal (rules_of w) (asks_itself (rules_of w) caller request) ≡ part_refusal (rules_of w) (map (asking caller) (request_rows w caller request))
-  pub asked_of_topic : (caller : Caller) (request : Request) (name : List ℕ) → asks_at caller request name ≡ map (asking caller) (topic_rows request name)
+  pub refused_itself : (w : World) (caller : Caller) (request : Request) → part_refusal (rules_of w) (asks_itself (rules_of w) caller request) ≡ part_refusal (rules_of w) (map (row_question caller) (request_rows w caller request))
+  pub asked_of_topic : (caller : Caller) (request : Request) (name : List ℕ) → asks_at caller request name ≡ map (row_question caller) (topic_rows request name)

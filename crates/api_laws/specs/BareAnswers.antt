@@ -40,7 +40,7 @@ use Rattle.msg_admin.specs.declared.request.Request.TheVariants as requests
 use Rattle.msg_admin.specs.declared.reply.Reply.{Reply}
 use Rattle.msg_admin.specs.declared.reply.Reply.TheVariants as replies
 use Rattle.audit_trail.specs.declared.event.Event.TheVariants.{Ask}
-use Rattle.walk.specs.Headline.{at}
+use Rattle.walk.specs.Headline.{element_at}
 use Rattle.broker_world.specs.World.{World}
 use Rattle.api_dispatch.specs.Step.{reply_to}
 use Rattle.api_laws.specs.AskedTable.{Row, request_rows, topic_rows, first_refused}
@@ -149,11 +149,11 @@ staged_in reply = []
 
 abbrev pub part_at : {A : Type 0} → Option (Topic A) → ℕ → Option A
 part_at None j = None
-part_at (Some t) j = at t.partitions j
+part_at (Some t) j = element_at t.partitions j
 
 -- each partition of these topics that is refused is answered so, at its place in those
 abbrev pub RefusesBarely : {P A : Type 0} → World → Caller → (List ℕ → List Row) → (ErrorCode → P → A) → List (Topic P) → List (Topic A) → Type 0
-RefusesBarely {P} w caller rows bare ts answered = (i j : ℕ) (t : Topic P) (p : P) (x : Row) → at ts i ≡ Some t → at t.partitions j ≡ Some p → first_refused w caller (rows t.name) ≡ Some x → part_at (at answered i) j ≡ Some (bare (refusal_error x.kind) p)
+RefusesBarely {P} w caller rows bare ts answered = (i j : ℕ) (t : Topic P) (p : P) (x : Row) → element_at ts i ≡ Some t → element_at t.partitions j ≡ Some p → first_refused w caller (rows t.name) ≡ Some x → part_at (element_at answered i) j ≡ Some (bare (refusal_error x.kind) p)
 
 -- a request that is refused itself, and each refused part at its place, is answered as above, whatever there is
 pub record RefusalsTellNothing : Type 0 where
@@ -161,8 +161,8 @@ pub record RefusalsTellNothing : Type 0 where
   pub produce : (w : World) (caller : Caller) (client : Option (List ℕ)) (r : ProduceRequest) → RefusesBarely w caller (topic_rows (requests.Produce r)) bare_produced r.topics (produced_in (reply_to w (Ask caller client (requests.Produce r))))
   pub fetch : (w : World) (caller : Caller) (client : Option (List ℕ)) (r : FetchRequest) → RefusesBarely w caller (topic_rows (requests.Fetch r)) bare_fetched r.topics (fetched_in (reply_to w (Ask caller client (requests.Fetch r))))
   pub list : (w : World) (caller : Caller) (client : Option (List ℕ)) (r : ListOffsetsRequest) → RefusesBarely w caller (topic_rows (requests.ListOffsets r)) bare_listed r.topics (listed_in (reply_to w (Ask caller client (requests.ListOffsets r))))
-  pub metadata : (w : World) (caller : Caller) (client : Option (List ℕ)) (r : MetadataRequest) (names : List (List ℕ)) (i : ℕ) (name : List ℕ) (x : Row) → r.topics ≡ Some names → at names i ≡ Some name → first_refused w caller (topic_rows (requests.Metadata r) name) ≡ Some x
-      → at (infos_in (reply_to w (Ask caller client (requests.Metadata r)))) i ≡ Some (bare_info (refusal_error x.kind) name)
+  pub metadata : (w : World) (caller : Caller) (client : Option (List ℕ)) (r : MetadataRequest) (names : List (List ℕ)) (i : ℕ) (name : List ℕ) (x : Row) → r.topics ≡ Some names → element_at names i ≡ Some name → first_refused w caller (topic_rows (requests.Metadata r) name) ≡ Some x
+      → element_at (infos_in (reply_to w (Ask caller client (requests.Metadata r)))) i ≡ Some (bare_info (refusal_error x.kind) name)
   pub commit : (w : World) (caller : Caller) (client : Option (List ℕ)) (r : OffsetCommitRequest) → RefusesBarely w caller (topic_rows (requests.OffsetCommit r)) bare_committed r.topics (committed_in (reply_to w (Ask caller client (requests.OffsetCommit r))))
   pub offsets : (w : World) (caller : Caller) (client : Option (List ℕ)) (r : OffsetFetchRequest) (ts : List (Topic ℤ)) → r.topics ≡ Some ts → first_refused w caller (request_rows w caller (requests.OffsetFetch r)) ≡ None
       → RefusesBarely w caller (topic_rows (requests.OffsetFetch r)) bare_offset ts (offsets_in (reply_to w (Ask caller client (requests.OffsetFetch r))))

@@ -6,8 +6,8 @@ use Rattle.wire_types.specs.ErrorCode.{number_of}
 use Rattle.std.specs.Ordering.{int_eq}
 use Rattle.record_batch.specs.Batch.{BatchData, IsBatch, next_offset}
 use Rattle.producer_state.specs.declared.judgment.Judgment.TheVariants.{Next, Repeat}
-use Rattle.producer_state.specs.Sequences.{judged as judged_by_log}
-use Rattle.partition_log.specs.Log.{end_of, at_end, stable}
+use Rattle.producer_state.specs.Sequences.{judgment_of as judged_by_log}
+use Rattle.partition_log.specs.Log.{end_of, at_end, last_stable_offset}
 use Rattle.partition_log.specs.Fetch.{limit_of}
 use Rattle.partition_log.specs.Laws.{total_bytes}
 use Rattle.msg_data.specs.declared.isolation.Isolation.{Isolation}
@@ -17,14 +17,14 @@ use Rattle.msg_data.specs.declared.fetch.FetchPartition.{FetchPartition}
 use Rattle.msg_data.specs.declared.fetch.FetchedRecords.{FetchedRecords}
 use Rattle.msg_data.specs.declared.list_offsets.FoundOffset.{FoundOffset}
 use Rattle.msg_data.specs.declared.list_offsets.WantedOffset.{WantedOffset}
-use Rattle.transactions.specs.Coordinator.{CoordinatorValue}
-use Rattle.data_handlers.specs.declared.room.Room.{Room}
+use Rattle.txn_coordinator.specs.Coordinator.{CoordinatorValue}
+use Rattle.data_handlers.specs.declared.fetch_budget.FetchBudget.{FetchBudget}
 use Rattle.broker_world.specs.World.{TopicValue, LogValue}
 use Rattle.broker_world.specs.Logs.{log_at}
-use Rattle.data_handlers.specs.Judged.{partition_at, judged, topics_produced}
-use Rattle.data_handlers.specs.Produce.{produced}
-use Rattle.data_handlers.specs.Fetch.{room_for, less, is_outside, served_at, fetched, room_after, batch_bytes}
-use Rattle.data_handlers.specs.ListOffsets.{listed, listed_at}
+use Rattle.data_handlers.specs.Judged.{partition_at, batch_to_append, topics_produced}
+use Rattle.data_handlers.specs.Produce.{produce_answer}
+use Rattle.data_handlers.specs.Fetch.{budget_for, room_after_batches, is_outside, served_at, fetched_partition, room_after, batch_bytes}
+use Rattle.data_handlers.specs.ListOffsets.{listed_offset, listed_at}
 
 -- ---- Produce
 
@@ -63,19 +63,19 @@ pub record IsUnchanged (topics after : List TopicValue) (answer : ProducedOffset
 -- other checks the log decides: one that is next is appended, and a repeat is answered the offset at which it stands.
 pub record ProducesAsAnswered : Type 0 where
   pub appends : (most : ℕ) (c : CoordinatorValue) (id : Option (List ℕ)) (acks : ℤ) (topics : List TopicValue) (name : List ℕ) (p : ProducedRecords)
-      → (produced (judged most c id acks (partition_at name p.index) p.records) topics name p).error ≡ codes.None
-      → IsAppended topics (topics_produced (judged most c id acks (partition_at name p.index) p.records) topics name p.index) name p (produced (judged most c id acks (partition_at name p.index) p.records) topics name p)
-      ⊎ IsRepeated topics (topics_produced (judged most c id acks (partition_at name p.index) p.records) topics name p.index) name p (produced (judged most c id acks (partition_at name p.index) p.records) topics name p)
+      → (produce_answer (batch_to_append most c id acks (partition_at name p.index) p.records) topics name p).error ≡ codes.None
+      → IsAppended topics (topics_produced (batch_to_append most c id acks (partition_at name p.index) p.records) topics name p.index) name p (produce_answer (batch_to_append most c id acks (partition_at name p.index) p.records) topics name p)
+      ⊎ IsRepeated topics (topics_produced (batch_to_append most c id acks (partition_at name p.index) p.records) topics name p.index) name p (produce_answer (batch_to_append most c id acks (partition_at name p.index) p.records) topics name p)
   pub refuses : (most : ℕ) (c : CoordinatorValue) (id : Option (List ℕ)) (acks : ℤ) (topics : List TopicValue) (name : List ℕ) (p : ProducedRecords)
-      → ((produced (judged most c id acks (partition_at name p.index) p.records) topics name p).error ≡ codes.None → ⊥)
-      → IsUnchanged topics (topics_produced (judged most c id acks (partition_at name p.index) p.records) topics name p.index) (produced (judged most c id acks (partition_at name p.index) p.records) topics name p)
+      → ((produce_answer (batch_to_append most c id acks (partition_at name p.index) p.records) topics name p).error ≡ codes.None → ⊥)
+      → IsUnchanged topics (topics_produced (batch_to_append most c id acks (partition_at name p.index) p.records) topics name p.index) (produce_answer (batch_to_append most c id acks (partition_at name p.index) p.records) topics name p)
   pub next : (most : ℕ) (c : CoordinatorValue) (id : Option (List ℕ)) (acks : ℤ) (topics : List TopicValue) (name : List ℕ) (p : ProducedRecords) (log : LogValue) (batch : BatchData)
-      → log_at topics name p.index ≡ Some log → judged most c id acks (partition_at name p.index) p.records ≡ Ok batch → judged_by_log log batch ≡ Next
-      → ((produced (judged most c id acks (partition_at name p.index) p.records) topics name p).error ≡ codes.None)
-      × IsAppended topics (topics_produced (judged most c id acks (partition_at name p.index) p.records) topics name p.index) name p (produced (judged most c id acks (partition_at name p.index) p.records) topics name p)
+      → log_at topics name p.index ≡ Some log → batch_to_append most c id acks (partition_at name p.index) p.records ≡ Ok batch → judged_by_log log batch ≡ Next
+      → ((produce_answer (batch_to_append most c id acks (partition_at name p.index) p.records) topics name p).error ≡ codes.None)
+      × IsAppended topics (topics_produced (batch_to_append most c id acks (partition_at name p.index) p.records) topics name p.index) name p (produce_answer (batch_to_append most c id acks (partition_at name p.index) p.records) topics name p)
   pub repeat : (most : ℕ) (c : CoordinatorValue) (id : Option (List ℕ)) (acks : ℤ) (topics : List TopicValue) (name : List ℕ) (p : ProducedRecords) (log : LogValue) (batch : BatchData) (offset : ℤ)
-      → log_at topics name p.index ≡ Some log → judged most c id acks (partition_at name p.index) p.records ≡ Ok batch → judged_by_log log batch ≡ Repeat offset
-      → IsAgain topics (topics_produced (judged most c id acks (partition_at name p.index) p.records) topics name p.index) offset (produced (judged most c id acks (partition_at name p.index) p.records) topics name p)
+      → log_at topics name p.index ≡ Some log → batch_to_append most c id acks (partition_at name p.index) p.records ≡ Ok batch → judged_by_log log batch ≡ Repeat offset
+      → IsAgain topics (topics_produced (batch_to_append most c id acks (partition_at name p.index) p.records) topics name p.index) offset (produce_answer (batch_to_append most c id acks (partition_at name p.index) p.records) topics name p)
 
 -- ---- ListOffsets
 
@@ -89,10 +89,10 @@ pub record IsUnlisted (number : ℕ) (p : WantedOffset) (answer : FoundOffset) :
 -- of a partition that is there: for -1 the end, as far as the reader sees, the start for -2, and for any other timestamp the code
 -- 42; of one that isn't there the code 3, whatever is wanted
 pub record ListsEnds : Type 0 where
-  pub end : (level : Isolation) (topics : List TopicValue) (name : List ℕ) (p : WantedOffset) (log : LogValue) → log_at topics name p.index ≡ Some log → p.timestamp ≡ negsuc 0 → listed level topics name p ≡ listed_at (limit_of level log) p
-  pub start : (level : Isolation) (topics : List TopicValue) (name : List ℕ) (p : WantedOffset) (log : LogValue) → log_at topics name p.index ≡ Some log → p.timestamp ≡ negsuc 1 → listed level topics name p ≡ listed_at (pos 0) p
-  pub other : (level : Isolation) (topics : List TopicValue) (name : List ℕ) (p : WantedOffset) (log : LogValue) → log_at topics name p.index ≡ Some log → int_eq p.timestamp (negsuc 0) ≡ false → int_eq p.timestamp (negsuc 1) ≡ false → IsUnlisted 42 p (listed level topics name p)
-  pub missing : (level : Isolation) (topics : List TopicValue) (name : List ℕ) (p : WantedOffset) → log_at topics name p.index ≡ None → IsUnlisted 3 p (listed level topics name p)
+  pub end : (level : Isolation) (topics : List TopicValue) (name : List ℕ) (p : WantedOffset) (log : LogValue) → log_at topics name p.index ≡ Some log → p.timestamp ≡ negsuc 0 → listed_offset level topics name p ≡ listed_at (limit_of level log) p
+  pub start : (level : Isolation) (topics : List TopicValue) (name : List ℕ) (p : WantedOffset) (log : LogValue) → log_at topics name p.index ≡ Some log → p.timestamp ≡ negsuc 1 → listed_offset level topics name p ≡ listed_at (pos 0) p
+  pub other : (level : Isolation) (topics : List TopicValue) (name : List ℕ) (p : WantedOffset) (log : LogValue) → log_at topics name p.index ≡ Some log → int_eq p.timestamp (negsuc 0) ≡ false → int_eq p.timestamp (negsuc 1) ≡ false → IsUnlisted 42 p (listed_offset level topics name p)
+  pub missing : (level : Isolation) (topics : List TopicValue) (name : List ℕ) (p : WantedOffset) → log_at topics name p.index ≡ None → IsUnlisted 3 p (listed_offset level topics name p)
 
 -- ---- Fetch
 
@@ -106,27 +106,27 @@ pub record IsServed (log : LogValue) (offset : ℤ) (room : ℕ) (given : Bool) 
   pub small : (total_bytes batches ≤ room) ⊎ ((given ≡ false) × (length batches ≡ 1))
 
 -- the answer tells these batches, and where the log ends
-pub record IsFetched (log : LogValue) (room : Room) (p : FetchPartition) (answer : FetchedRecords) (next : Room) : Type 0 where
+pub record IsFetched (log : LogValue) (room : FetchBudget) (p : FetchPartition) (answer : FetchedRecords) (next : FetchBudget) : Type 0 where
   pub batches : List BatchData
-  pub served : IsServed log p.offset (room_for room p) room.given batches
+  pub served : IsServed log p.offset (budget_for room p) room.given batches
   pub error : answer.error ≡ codes.None
   pub records : answer.records ≡ batch_bytes batches
   pub high : answer.high_watermark ≡ end_of log
-  pub stable : answer.last_stable_offset ≡ stable log
+  pub stable : answer.last_stable_offset ≡ last_stable_offset log
   -- what was served is no longer left for the partitions that follow
-  pub left : next ≡ less room batches
+  pub left : next ≡ room_after_batches room batches
 
 -- no batch, no offset, and the room is as it was
-pub record IsUnserved (room : Room) (answer : FetchedRecords) (next : Room) : Type 0 where
+pub record IsUnserved (room : FetchBudget) (answer : FetchedRecords) (next : FetchBudget) : Type 0 where
   pub records : answer.records ≡ []
   pub high : answer.high_watermark ≡ negsuc 0
   pub left : next ≡ room
 
 -- an offset within the log is served, and one outside it or of a partition that isn't there is not
 pub record FetchesRuns : Type 0 where
-  pub within : (level : Isolation) (topics : List TopicValue) (room : Room) (name : List ℕ) (p : FetchPartition) (log : LogValue) → log_at topics name p.index ≡ Some log → is_outside log p.offset ≡ false
-      → IsFetched log room p (fetched level p (served_at level topics room name p)) (room_after room (served_at level topics room name p))
-  pub outside : (level : Isolation) (topics : List TopicValue) (room : Room) (name : List ℕ) (p : FetchPartition) (log : LogValue) → log_at topics name p.index ≡ Some log → is_outside log p.offset ≡ true
-      → ((fetched level p (served_at level topics room name p)).error ≡ codes.OffsetOutOfRange) × IsUnserved room (fetched level p (served_at level topics room name p)) (room_after room (served_at level topics room name p))
-  pub missing : (level : Isolation) (topics : List TopicValue) (room : Room) (name : List ℕ) (p : FetchPartition) → log_at topics name p.index ≡ None
-      → ((fetched level p (served_at level topics room name p)).error ≡ codes.UnknownTopicOrPartition) × IsUnserved room (fetched level p (served_at level topics room name p)) (room_after room (served_at level topics room name p))
+  pub within : (level : Isolation) (topics : List TopicValue) (room : FetchBudget) (name : List ℕ) (p : FetchPartition) (log : LogValue) → log_at topics name p.index ≡ Some log → is_outside log p.offset ≡ false
+      → IsFetched log room p (fetched_partition level p (served_at level topics room name p)) (room_after room (served_at level topics room name p))
+  pub outside : (level : Isolation) (topics : List TopicValue) (room : FetchBudget) (name : List ℕ) (p : FetchPartition) (log : LogValue) → log_at topics name p.index ≡ Some log → is_outside log p.offset ≡ true
+      → ((fetched_partition level p (served_at level topics room name p)).error ≡ codes.OffsetOutOfRange) × IsUnserved room (fetched_partition level p (served_at level topics room name p)) (room_after room (served_at level topics room name p))
+  pub missing : (level : Isolation) (topics : List TopicValue) (room : FetchBudget) (name : List ℕ) (p : FetchPartition) → log_at topics name p.index ≡ None
+      → ((fetched_partition level p (served_at level topics room name p)).error ≡ codes.UnknownTopicOrPartition) × IsUnserved room (fetched_partition level p (served_at level topics room name p)) (room_after room (served_at level topics room name p))

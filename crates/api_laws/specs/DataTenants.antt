@@ -12,8 +12,8 @@ use Rattle.walk.specs.Rule.{PartRule}
 use Rattle.walk.specs.Alike.{AllTopics}
 use Rattle.broker_world.specs.World.{World, rules_of, find_topic}
 use Rattle.broker_world.specs.Logs.{log_at}
-use Rattle.broker_world.specs.Outcome.{Outcome}
-use Rattle.data_handlers.specs.Produce.{produce_questions, producing, produce_outcome}
+use Rattle.broker_world.specs.HandlerResult.{HandlerResult}
+use Rattle.data_handlers.specs.Produce.{produce_questions, producing_rule, produce_outcome}
 use Rattle.data_handlers.specs.Fetch.{fetch_rule, fetch_outcome}
 use Rattle.data_handlers.specs.ListOffsets.{list_rule, list_offsets_outcome}
 use Rattle.api_laws.specs.Tenants.{SameBase, SameGranted}
@@ -23,7 +23,7 @@ abbrev pub SameForParts : {P A W : Type 0} → World → World → PartRule P A 
 SameForParts v w api ts = AllTopics (λ name p. SameGranted v w (api.questions name p)) ts
 
 -- the same reply and the same refusals
-pub record SameAnswer (a b : Outcome) : Type 0 where
+pub record SameAnswer (a b : HandlerResult) : Type 0 where
   pub reply : a.reply ≡ b.reply
   pub refusals : a.refusals ≡ b.refusals
 
@@ -36,7 +36,7 @@ ListOffsetsDependsOnGrants = (v w : World) (caller : Caller) (r : ListOffsetsReq
     → SameAnswer (list_offsets_outcome v caller r) (list_offsets_outcome w caller r)
 
 abbrev pub ProduceDependsOnGrants : Type 0
-ProduceDependsOnGrants = (v w : World) (caller : Caller) (r : ProduceRequest) → SameBase v w → SameForParts v w (producing w caller r) r.topics → SameAnswer (produce_outcome v caller r) (produce_outcome w caller r)
+ProduceDependsOnGrants = (v w : World) (caller : Caller) (r : ProduceRequest) → SameBase v w → SameForParts v w (producing_rule w caller r) r.topics → SameAnswer (produce_outcome v caller r) (produce_outcome w caller r)
 
 -- a topic that a Produce was not granted is as before
 abbrev pub ProduceKeepsTheRest : Type 0

@@ -9,7 +9,7 @@ use Rattle.msg_acl.specs.declared.describe_acls.DescribedAcl.{DescribedAcl}
 use Rattle.msg_acl.specs.declared.describe_acls.DescribedResource.{DescribedResource}
 use Rattle.acl_binding.specs.declared.filter.Filter.{Filter}
 use Rattle.acl_binding.specs.Book.{BookValue, IsBook}
-use Rattle.acl_binding.specs.Filter.{matching}
+use Rattle.acl_binding.specs.Filter.{matching_bindings}
 use Rattle.acl_handlers.specs.DescribeAcls.{describe_acls_reply}
 use Rattle.acl_handlers.specs.DeleteAcls.{entry_of_binding}
 
@@ -18,12 +18,12 @@ abbrev pub groups_of : BookValue → Filter → List DescribedResource
 groups_of book f = (describe_acls_reply book (Some f)).resources
 
 -- one of a group's bindings, whole
-abbrev pub told_of : DescribedResource → DescribedAcl → BindingEntry
-told_of r a = record { kind = r.kind; name = r.name; pattern = r.pattern; principal = a.principal; host = a.host; operation = a.operation; permission = a.permission }
+abbrev pub described_entry : DescribedResource → DescribedAcl → BindingEntry
+described_entry r a = record { kind = r.kind; name = r.name; pattern = r.pattern; principal = a.principal; host = a.host; operation = a.operation; permission = a.permission }
 
 -- the bindings that are told, one group after the other
-abbrev pub told : List DescribedResource → List BindingEntry
-told rs = flat_map (λ r. map (told_of r) r.acls) rs
+abbrev pub described_entries : List DescribedResource → List BindingEntry
+described_entries rs = flat_map (λ r. map (described_entry r) r.acls) rs
 
 -- equal in all seven fields
 abbrev pub same_entry : BindingEntry → BindingEntry → Bool
@@ -36,9 +36,9 @@ same_group r s = int_eq r.kind s.kind && (int_eq r.pattern s.pattern && bytes_eq
 
 pub record DescribesEach : Type 0 where
   -- what is told is what the filter picks, each as often, in some order
-  pub each : (book : BookValue) (f : Filter) → IsPermutation (map entry_of_binding (matching book.entries f)) (told (groups_of book f))
+  pub each : (book : BookValue) (f : Filter) → IsPermutation (map entry_of_binding (matching_bindings book.entries f)) (described_entries (groups_of book f))
   -- no binding is told twice
-  pub once : (book : BookValue) (f : Filter) → IsBook book → IsDistinct same_entry (told (groups_of book f))
+  pub once : (book : BookValue) (f : Filter) → IsBook book → IsDistinct same_entry (described_entries (groups_of book f))
   -- no two groups have one kind, name and pattern
   pub apart : (book : BookValue) (f : Filter) → IsDistinct same_group (groups_of book f)
   -- no group is without a binding

@@ -9,9 +9,9 @@ use Rattle.msg_data.specs.declared.fetch.FetchPartition.{FetchPartition}
 use Rattle.msg_data.specs.declared.fetch.FetchedRecords.{FetchedRecords}
 use Rattle.msg_data.specs.declared.fetch.FetchReply.{FetchReply}
 use Rattle.msg_admin.specs.declared.reply.Reply.TheVariants as replies
-use Rattle.walk.specs.Headline.{at}
+use Rattle.walk.specs.Headline.{element_at}
 use Rattle.broker_world.specs.World.{World, LogValue}
-use Rattle.broker_world.specs.First.{magnitude}
+use Rattle.broker_world.specs.First.{non_negative}
 use Rattle.broker_world.specs.Logs.{log_at}
 use Rattle.data_handlers.specs.Fetch.{fetch_outcome}
 
@@ -36,7 +36,7 @@ pub record IsOneBatch (w : World) (bytes : List ℕ) : Type 0 where
 
 -- no more bytes than were asked for (a negative number asks for none), or one batch
 abbrev pub IsWithin : World → ℤ → List ℕ → Type 0
-IsWithin w most bytes = (length bytes ≤ magnitude most) ⊎ IsOneBatch w bytes
+IsWithin w most bytes = (length bytes ≤ non_negative most) ⊎ IsOneBatch w bytes
 
 -- Whatever is asked, and whatever of it is allowed: the batches of the whole answer have together at most the request's bytes, or
 -- are one batch; and those of each partition have at most its own, or are one batch.
@@ -44,4 +44,4 @@ pub record FetchIsWithin : Type 0 where
   pub whole : (w : World) (caller : Caller) (r : FetchRequest) (reply : FetchReply) → (fetch_outcome w caller r).reply ≡ replies.Fetch reply → IsWithin w r.max_bytes (bytes_of reply.topics)
   pub each : (w : World) (caller : Caller) (r : FetchRequest) (reply : FetchReply) → (fetch_outcome w caller r).reply ≡ replies.Fetch reply
       → (i j : ℕ) (t : Topic FetchPartition) (a : Topic FetchedRecords) (p : FetchPartition) (answer : FetchedRecords)
-      → at r.topics i ≡ Some t → at t.partitions j ≡ Some p → at reply.topics i ≡ Some a → at a.partitions j ≡ Some answer → IsWithin w p.max_bytes answer.records
+      → element_at r.topics i ≡ Some t → element_at t.partitions j ≡ Some p → element_at reply.topics i ≡ Some a → element_at a.partitions j ≡ Some answer → IsWithin w p.max_bytes answer.records

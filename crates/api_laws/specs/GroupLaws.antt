@@ -12,9 +12,9 @@ use Rattle.msg_group.specs.declared.heartbeat.HeartbeatRequest.{HeartbeatRequest
 use Rattle.msg_group.specs.declared.leave_group.LeaveGroupRequest.{LeaveGroupRequest}
 use Rattle.msg_group.specs.declared.offset_commit.OffsetCommitRequest.{OffsetCommitRequest}
 use Rattle.msg_group.specs.declared.offset_fetch.OffsetFetchRequest.{OffsetFetchRequest}
-use Rattle.offset_tables.specs.Groups.{find_group}
+use Rattle.group_offsets.specs.Groups.{find_group}
 use Rattle.broker_world.specs.World.{World, TopicValue, rules_of}
-use Rattle.broker_world.specs.Outcome.{Outcome}
+use Rattle.broker_world.specs.HandlerResult.{HandlerResult}
 use Rattle.broker_world.specs.Questions.{topic_refusal}
 use Rattle.broker_world.specs.Questions.{read_question}
 use Rattle.group_handlers.specs.Members.{join_group_outcome, sync_group_outcome, heartbeat_outcome, leave_group_outcome}
@@ -49,7 +49,7 @@ pub record GroupsDependOnGrants : Type 0 where
 -- ---- what stays as it was
 
 -- another group is as before, and no log and no transactional id is touched
-pub record KeepsOtherGroups (w : World) (group : List ℕ) (o : Outcome) : Type 0 where
+pub record KeepsOtherGroups (w : World) (group : List ℕ) (o : HandlerResult) : Type 0 where
   pub others : (other : List ℕ) → (other ≡ group → ⊥) → find_group o.world.groups other ≡ find_group w.groups other
   pub topics : o.world.topics ≡ w.topics
   pub coordinator : o.world.coordinator ≡ w.coordinator

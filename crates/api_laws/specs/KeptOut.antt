@@ -5,7 +5,7 @@ use Rattle.wire_types.specs.declared.topic.Topic.{Topic}
 use Rattle.msg_txn.specs.declared.add_partitions.AddPartitionsToTxnRequest.{AddPartitionsToTxnRequest}
 use Rattle.msg_admin.specs.declared.request.Request.TheVariants.{AddPartitionsToTxn}
 use Rattle.audit_trail.specs.declared.event.Event.TheVariants.{Ask}
-use Rattle.walk.specs.Headline.{at}
+use Rattle.walk.specs.Headline.{element_at}
 use Rattle.broker_world.specs.World.{World, LogValue}
 use Rattle.broker_world.specs.Logs.{log_at}
 use Rattle.api_dispatch.specs.Step.{outcome, reply_to}
@@ -13,14 +13,14 @@ use Rattle.api_laws.specs.ToldErrors.{Place, PartitionAt, error_at}
 use Rattle.api_laws.specs.AskedTable.{rows_at, first_refused}
 
 -- OPERATION_NOT_ATTEMPTED, or UNKNOWN_TOPIC_OR_PARTITION where there is no such partition
-abbrev pub untried : Option LogValue → ℤ
-untried (Some log) = pos 55
-untried None = pos 3
+abbrev pub not_attempted_code : Option LogValue → ℤ
+not_attempted_code (Some log) = pos 55
+not_attempted_code None = pos 3
 
 -- where the partition at some place is refused, nothing changes, and each one that isn't refused itself is told so
 pub record RefusedKeepsOut : Type 0 where
   pub unchanged : (w : World) (caller : Caller) (client : Option (List ℕ)) (r : AddPartitionsToTxnRequest) (place : Place) → is_some (first_refused w caller (rows_at (AddPartitionsToTxn r) place)) ≡ true
       → (outcome w (Ask caller client (AddPartitionsToTxn r))).world ≡ w
   pub others : (w : World) (caller : Caller) (client : Option (List ℕ)) (r : AddPartitionsToTxnRequest) (place : Place) → is_some (first_refused w caller (rows_at (AddPartitionsToTxn r) place)) ≡ true
-      → (i j : ℕ) (t : Topic ℤ) (index : ℤ) → at r.topics i ≡ Some t → at t.partitions j ≡ Some index → first_refused w caller (rows_at (AddPartitionsToTxn r) (PartitionAt i j)) ≡ None
-      → error_at (reply_to w (Ask caller client (AddPartitionsToTxn r))) (PartitionAt i j) ≡ Some (untried (log_at w.topics t.name index))
+      → (i j : ℕ) (t : Topic ℤ) (index : ℤ) → element_at r.topics i ≡ Some t → element_at t.partitions j ≡ Some index → first_refused w caller (rows_at (AddPartitionsToTxn r) (PartitionAt i j)) ≡ None
+      → error_at (reply_to w (Ask caller client (AddPartitionsToTxn r))) (PartitionAt i j) ≡ Some (not_attempted_code (log_at w.topics t.name index))

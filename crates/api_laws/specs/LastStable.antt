@@ -3,7 +3,7 @@ use Rattle.std.specs.Prelude.{◌≡◌, ◌⊎◌, ◌≤ℤ◌, ℤ, true, fal
 use Rattle.std.specs.List.{AllByRecursion}
 use Rattle.record_batch.specs.BatchHeader.{is_control, is_transactional}
 use Rattle.record_batch.specs.Batch.{BatchData}
-use Rattle.partition_log.specs.Log.{IsLog, end_of, stable}
+use Rattle.partition_log.specs.Log.{IsLog, end_of, last_stable_offset}
 
 -- records of a transaction that no control batch of its producer has ended
 pub record IsUnended (b : BatchData) (after : List BatchData) : Type 0 where
@@ -26,4 +26,4 @@ pub record IsLastStable (log : List BatchData) (offset : ℤ) : Type 0 where
   pub reached : (offset ≡ end_of log) ⊎ HasUnendedAt log offset
 
 abbrev pub LastStableIsExact : Type 0
-LastStableIsExact = (log : List BatchData) → IsLog log → IsLastStable log (stable log)
+LastStableIsExact = (log : List BatchData) → IsLog log → IsLastStable log (last_stable_offset log)

@@ -3,24 +3,24 @@ use Rattle.std.specs.Prelude.{◌≡◌, ◌≤ℤ◌, ℕ, ℤ, pos, true, fals
 use Rattle.acl_binding.specs.declared.words.Kind.TheVariants.{Topic}
 use Rattle.acl_binding.specs.declared.words.Operation.TheVariants.{Write}
 use Rattle.acl_binding.specs.declared.question.Caller.{Caller}
-use Rattle.acl_binding.specs.Verdict.{asked}
+use Rattle.acl_binding.specs.Verdict.{question_of}
 use Rattle.authorizer.specs.declared.answer.Refusal.{Refusal}
 use Rattle.authorizer.specs.AnyTopic.{any_topic}
 use Rattle.authorizer.specs.Asking.{Rules, part_refusal, question_refusal}
 use Rattle.settings.specs.declared.settings.Settings.{Settings}
-use Rattle.producer_state.specs.Sequences.{written_by}
+use Rattle.producer_state.specs.Sequences.{batches_written_by}
 use Rattle.producer_state.specs.Laws.{IsInSequence}
 use Rattle.msg_txn.specs.declared.init_producer_id.InitProducerIdRequest.{InitProducerIdRequest}
 use Rattle.msg_admin.specs.declared.reply.Reply.TheVariants as replies
 use Rattle.audit_trail.specs.declared.event.Event.{Event}
-use Rattle.transactions.specs.declared.pair.Given.TheVariants.{Never, Free}
-use Rattle.transactions.specs.Coordinator.{owner, given_by}
+use Rattle.txn_coordinator.specs.declared.producer_id.ProducerIdOwner.TheVariants.{Never, Free}
+use Rattle.txn_coordinator.specs.Coordinator.{owner, given_by}
 use Rattle.broker_world.specs.World.{World, LogValue, rules_of}
 use Rattle.broker_world.specs.First.{first_world}
 use Rattle.broker_world.specs.Logs.{log_at}
-use Rattle.broker_world.specs.Outcome.{Outcome}
+use Rattle.broker_world.specs.HandlerResult.{HandlerResult}
 use Rattle.txn_handlers.specs.InitProducerId.{init_question, init_questions, init_given, init_producer_id_outcome}
-use Rattle.api_dispatch.specs.Step.{reached}
+use Rattle.api_dispatch.specs.Step.{world_after_events}
 use Rattle.api_laws.specs.Tenants.{SameBase, SameGranted}
 use Rattle.api_laws.specs.DataTenants.{SameAnswer}
 use Rattle.api_laws.specs.AclLaws.{IsRefusedWhole}
@@ -30,13 +30,13 @@ use Rattle.api_laws.specs.AclLaws.{IsRefusedWhole}
 -- Whatever the events were, each log holds what a producer wrote in an epoch once, in order and without a gap: its first
 -- batch begins at sequence number 0, and each other one where the one before it ended.
 abbrev pub HoldsOnce : Type 0
-HoldsOnce = (s : Settings) (es : List Event) (name : List ℕ) (index : ℤ) (log : LogValue) (id epoch : ℤ) → log_at (reached (first_world s) es).topics name index ≡ Some log → pos 0 ≤ℤ id
-    → IsInSequence (pos 0) (written_by id epoch log)
+HoldsOnce = (s : Settings) (es : List Event) (name : List ℕ) (index : ℤ) (log : LogValue) (id epoch : ℤ) → log_at (world_after_events (first_world s) es).topics name index ≡ Some log → pos 0 ≤ℤ id
+    → IsInSequence (pos 0) (batches_written_by id epoch log)
 
 -- ---- InitProducerId
 
 -- a producer id is told that was never given out before and is now, and the others are as they were
-pub record GivesFresh (w : World) (o : Outcome) : Type 0 where
+pub record GivesFresh (w : World) (o : HandlerResult) : Type 0 where
   pub producer : ℤ
   pub reply : o.reply ≡ replies.InitProducerId (init_given producer)
   pub never : given_by (owner w.coordinator producer) ≡ Never
@@ -51,7 +51,7 @@ pub record InitsOnce : Type 0 where
   pub waived : (rules : Rules) (caller : Caller) → any_topic rules.book.entries caller.who caller.host ≡ true → part_refusal rules (init_questions rules caller None) ≡ None
   pub unwaived : (rules : Rules) (caller : Caller) → any_topic rules.book.entries caller.who caller.host ≡ false → part_refusal rules (init_questions rules caller None) ≡ question_refusal rules (init_question caller None)
   -- so it is allowed to whoever is granted to write a topic, of whatever name
-  pub granted : (rules : Rules) (caller : Caller) (name : List ℕ) → question_refusal rules (asked caller Write Topic name) ≡ None → part_refusal rules (init_questions rules caller None) ≡ None
+  pub granted : (rules : Rules) (caller : Caller) (name : List ℕ) → question_refusal rules (question_of caller Write Topic name) ≡ None → part_refusal rules (init_questions rules caller None) ≡ None
 
 -- Worlds of one book that gave out the same producer ids, and that agree on the transactional id where writing with it
 -- is granted, give the same answer, whatever their topics hold; and no topic is touched.

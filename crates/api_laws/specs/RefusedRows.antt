@@ -4,8 +4,8 @@ use Rattle.std.specs.List.{flat_map, filter_map}
 use Rattle.acl_binding.specs.declared.question.Caller.{Caller}
 use Rattle.acl_binding.specs.declared.question.Verdict.{Verdict}
 use Rattle.acl_binding.specs.declared.question.Verdict.TheVariants.{Yes, Denied, Nothing}
-use Rattle.authorizer.specs.declared.answer.Why.{Why}
-use Rattle.authorizer.specs.declared.answer.Why.TheVariants as why
+use Rattle.authorizer.specs.declared.answer.DenyReason.{DenyReason}
+use Rattle.authorizer.specs.declared.answer.DenyReason.TheVariants as why
 use Rattle.authorizer.specs.declared.answer.Refusal.{Refusal}
 use Rattle.authorizer.specs.Policy.{verdict}
 use Rattle.wire_types.specs.declared.topic.Topic.{Topic}
@@ -14,7 +14,7 @@ use Rattle.msg_admin.specs.declared.request.Request.TheVariants as requests
 use Rattle.audit_trail.specs.declared.event.Event.TheVariants.{Ask}
 use Rattle.broker_world.specs.World.{World}
 use Rattle.api_dispatch.specs.Step.{refusals_of}
-use Rattle.api_laws.specs.AskedTable.{Row, asking, request_rows, topic_rows, first_refused}
+use Rattle.api_laws.specs.AskedTable.{Row, row_question, request_rows, topic_rows, first_refused}
 
 -- ---- what each part asks, in order; a null list has no part
 
@@ -51,14 +51,14 @@ abbrev pub refused_rows : World → Caller → Request → List Row
 refused_rows w caller request = itself_or (first_refused w caller (request_rows w caller request)) (filter_map (first_refused w caller) (part_rows request))
 
 -- by its verdict: the binding that denies it, or that nothing allows it
-abbrev pub reason : Verdict → Why
+abbrev pub reason : Verdict → DenyReason
 reason (Denied n) = why.Denied n
 reason Nothing = why.Nothing
 reason Yes = why.Nothing
 
-abbrev pub refusing : World → Caller → Row → Refusal
-refusing w caller r = record { question = asking caller r; why = reason (verdict w.book w.supers (asking caller r)) }
+abbrev pub row_refusal : World → Caller → Row → Refusal
+row_refusal w caller r = record { question = row_question caller r; why = reason (verdict w.book w.supers (row_question caller r)) }
 
 -- one refusal for each of them, in order, and no other
 abbrev pub RefusalsByTable : Type 0
-RefusalsByTable = (w : World) (caller : Caller) (client : Option (List ℕ)) (request : Request) → refusals_of w (Ask caller client request) ≡ map (refusing w caller) (refused_rows w caller request)
+RefusalsByTable = (w : World) (caller : Caller) (client : Option (List ℕ)) (request : Request) → refusals_of w (Ask caller client request) ≡ map (row_refusal w caller) (refused_rows w caller request)

@@ -7,7 +7,7 @@ use Rattle.settings.specs.declared.settings.Settings.{Settings}
 use Rattle.record_batch.specs.Batch.{BatchData}
 use Rattle.producer_state.specs.declared.judgment.Judgment.{Judgment}
 use Rattle.producer_state.specs.declared.judgment.Judgment.TheVariants.{Repeat, Refused}
-use Rattle.producer_state.specs.Sequences.{judged as judged_by_log}
+use Rattle.producer_state.specs.Sequences.{judgment_of as judged_by_log}
 use Rattle.producer_state.specs.Laws.{IsSentAgain, records_in}
 use Rattle.msg_data.specs.declared.produce.ProduceRequest.{ProduceRequest}
 use Rattle.msg_data.specs.declared.produce.ProducedRecords.{ProducedRecords}
@@ -17,13 +17,13 @@ use Rattle.broker_world.specs.World.{World, LogValue}
 use Rattle.broker_world.specs.First.{first_world}
 use Rattle.broker_world.specs.Logs.{log_at}
 use Rattle.data_handlers.specs.Produce.{produce_outcome}
-use Rattle.api_dispatch.specs.Step.{reached}
+use Rattle.api_dispatch.specs.Step.{world_after_events}
 use Rattle.api_laws.specs.Acceptance.{IsProper, same_writer, IsInLatestEpoch, next_number, IsNew, HasPart, IsTold}
 
 -- the batch stands here in a log that events reach: it has records and a producer, and no batch or marker of the log tells a
 -- greater epoch of that producer
 pub record StandsIn (s : Settings) (es : List Event) (name : List ℕ) (index : ℤ) (log before after : LogValue) (b : BatchData) : Type 0 where
-  pub there : log_at (reached (first_world s) es).topics name index ≡ Some log
+  pub there : log_at (world_after_events (first_world s) es).topics name index ≡ Some log
   pub place : log ≡ before ++ b ∷ after
   pub no_marker : b.marker ≡ None
   pub producer : pos 0 ≤ℤ b.header.producer_id
@@ -73,9 +73,9 @@ pub record IsUnchangedBy (number : ℕ) (offset : ℤ) (w : World) (caller : Cal
 
 -- So each permitted part of a request is answered in the world that the events reach, if what it sends is this batch and is proper.
 abbrev pub IsAnsweredAs : ℕ → ℤ → Settings → List Event → List ℕ → ℤ → LogValue → BatchData → Type 0
-IsAnsweredAs number offset s es name index log b = (caller : Caller) (r : ProduceRequest) (p : ProducedRecords) (part : HasPart (reached (first_world s) es) caller r name p) → p.index ≡ index
-    → IsProper (reached (first_world s) es).node.max_batch (reached (first_world s) es).coordinator r.transactional_id r.acks name p b
-    → IsUnchangedBy number offset (reached (first_world s) es) caller r (length part.before) (length part.parts) name p log
+IsAnsweredAs number offset s es name index log b = (caller : Caller) (r : ProduceRequest) (p : ProducedRecords) (part : HasPart (world_after_events (first_world s) es) caller r name p) → p.index ≡ index
+    → IsProper (world_after_events (first_world s) es).node.max_batch (world_after_events (first_world s) es).coordinator r.transactional_id r.acks name p b
+    → IsUnchangedBy number offset (world_after_events (first_world s) es) caller r (length part.before) (length part.parts) name p log
 
 pub record LastFiveRepeat : Type 0 where
   -- One of the last five batches of a producer's epoch that is sent again is told its old offset. (Its numbers are borne by no
@@ -87,8 +87,8 @@ pub record LastFiveRepeat : Type 0 where
   pub too_old : (s : Settings) (es : List Event) (name : List ℕ) (index : ℤ) (log before after : LogValue) (b again : BatchData) → StandsIn s es name index log before after b → IsSentAgain b again → 5 ≤ batches_after b after → records_from b after < 2147483648
       → IsRefusedBy 45 (judged_by_log log again) × IsAnsweredAs 45 (negsuc 0) s es name index log again
   -- And nothing else is a repeat. (The number of records is one of 32 bits.)
-  pub alone : (s : Settings) (es : List Event) (name : List ℕ) (index : ℤ) (log : LogValue) (again : BatchData) (offset : ℤ) → log_at (reached (first_world s) es).topics name index ≡ Some log → pos 0 <ℤ again.header.record_count → again.header.record_count ≤ℤ pos 2147483647
+  pub alone : (s : Settings) (es : List Event) (name : List ℕ) (index : ℤ) (log : LogValue) (again : BatchData) (offset : ℤ) → log_at (world_after_events (first_world s) es).topics name index ≡ Some log → pos 0 <ℤ again.header.record_count → again.header.record_count ≤ℤ pos 2147483647
       → judged_by_log log again ≡ Repeat offset → IsOneOfFive s es name index log again offset
   -- What leaves a gap is out of order too.
-  pub gaps : (s : Settings) (es : List Event) (name : List ℕ) (index : ℤ) (log : LogValue) (b : BatchData) → log_at (reached (first_world s) es).topics name index ≡ Some log → LeavesGap log b
+  pub gaps : (s : Settings) (es : List Event) (name : List ℕ) (index : ℤ) (log : LogValue) (b : BatchData) → log_at (world_after_events (first_world s) es).topics name index ≡ Some log → LeavesGap log b
       → IsRefusedBy 45 (judged_by_log log b) × IsAnsweredAs 45 (negsuc 0) s es name index log b

@@ -6,11 +6,11 @@ use Rattle.acl_binding.specs.declared.words.Kind.{Kind}
 use Rattle.acl_binding.specs.declared.words.Kind.TheVariants.{Topic, Group, Cluster, TransactionalId}
 use Rattle.acl_binding.specs.declared.words.Operation.TheVariants.{Describe}
 use Rattle.acl_binding.specs.declared.question.Verdict.TheVariants.{Yes}
-use Rattle.acl_binding.specs.Verdict.{asked}
+use Rattle.acl_binding.specs.Verdict.{question_of}
 use Rattle.authorizer.specs.Policy.{verdict}
 use Rattle.msg_data.specs.declared.metadata.MetadataRequest.{MetadataRequest}
-use Rattle.transactions.specs.Coordinator.{recorded}
-use Rattle.offset_tables.specs.Groups.{find_group}
+use Rattle.txn_coordinator.specs.Coordinator.{id_record}
+use Rattle.group_offsets.specs.Groups.{find_group}
 use Rattle.broker_world.specs.World.{World, rules_of, find_topic, topic_names}
 use Rattle.data_handlers.specs.Metadata.{describable, metadata_answer, metadata_refusals}
 
@@ -28,7 +28,7 @@ abbrev pub SameOn : World → World → Kind → List ℕ → Type 0
 SameOn v w Topic name = find_topic v.topics name ≡ find_topic w.topics name
 SameOn v w Group name = find_group v.groups name ≡ find_group w.groups name
 SameOn v w Cluster name = Unit {0}
-SameOn v w TransactionalId name = recorded v.coordinator.transactions name ≡ recorded w.coordinator.transactions name
+SameOn v w TransactionalId name = id_record v.coordinator.transactions name ≡ id_record w.coordinator.transactions name
 
 -- the worlds agree on what each question that is granted is about
 abbrev pub SameGranted : World → World → List Question → Type 0
@@ -38,7 +38,7 @@ SameGranted v w (q ∷ qs) = (verdict w.book w.supers q ≡ Yes → SameOn v w q
 -- the questions of named topics
 abbrev pub topic_questions : Caller → List (List ℕ) → List Question
 topic_questions caller [] = []
-topic_questions caller (name ∷ names) = asked caller Describe Topic name ∷ topic_questions caller names
+topic_questions caller (name ∷ names) = question_of caller Describe Topic name ∷ topic_questions caller names
 
 -- the worlds agree on these topics
 abbrev pub SameTopics : World → World → List (List ℕ) → Type 0

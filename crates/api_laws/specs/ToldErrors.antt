@@ -19,7 +19,7 @@ use Rattle.msg_acl.specs.declared.delete_acls.DeletedAcl.{DeletedAcl}
 use Rattle.msg_acl.specs.declared.delete_acls.DeletedAcls.{DeletedAcls}
 use Rattle.msg_admin.specs.declared.reply.Reply.{Reply}
 use Rattle.msg_admin.specs.declared.reply.Reply.TheVariants as replies
-use Rattle.walk.specs.Headline.{at}
+use Rattle.walk.specs.Headline.{element_at}
 
 -- ---- how the request itself came off
 
@@ -50,32 +50,32 @@ pub data Place : Type 0 where
   PartitionAt : ℕ → ℕ → Place
 
 -- the error of what stands there, if anything does
-abbrev pub told : {A : Type 0} → (A → ErrorCode) → Option A → Option ℤ
-told error None = None
-told error (Some a) = Some (number_of (error a))
+abbrev pub error_number : {A : Type 0} → (A → ErrorCode) → Option A → Option ℤ
+error_number error None = None
+error_number error (Some a) = Some (number_of (error a))
 
-abbrev pub told_in : {A : Type 0} → (A → ErrorCode) → Option (Topic A) → ℕ → Option ℤ
-told_in error None j = None
-told_in error (Some t) j = told error (at t.partitions j)
+abbrev pub error_number_in : {A : Type 0} → (A → ErrorCode) → Option (Topic A) → ℕ → Option ℤ
+error_number_in error None j = None
+error_number_in error (Some t) j = error_number error (element_at t.partitions j)
 
-abbrev pub partition_told : {A : Type 0} → (A → ErrorCode) → List (Topic A) → Place → Option ℤ
-partition_told error topics (TopicAt i) = None
-partition_told error topics (PartitionAt i j) = told_in error (at topics i) j
+abbrev pub partition_error_at : {A : Type 0} → (A → ErrorCode) → List (Topic A) → Place → Option ℤ
+partition_error_at error topics (TopicAt i) = None
+partition_error_at error topics (PartitionAt i j) = error_number_in error (element_at topics i) j
 
-abbrev pub topic_told : List TopicInfo → Place → Option ℤ
-topic_told topics (TopicAt i) = told (λ (t : TopicInfo). t.error) (at topics i)
-topic_told topics (PartitionAt i j) = None
+abbrev pub topic_error_at : List TopicInfo → Place → Option ℤ
+topic_error_at topics (TopicAt i) = error_number (λ (t : TopicInfo). t.error) (element_at topics i)
+topic_error_at topics (PartitionAt i j) = None
 
 abbrev pub error_at : Reply → Place → Option ℤ
-error_at (replies.Produce a) place = partition_told (λ (p : ProducedOffset). p.error) a.topics place
-error_at (replies.SilentProduce a) place = partition_told (λ (p : ProducedOffset). p.error) a.topics place
-error_at (replies.Fetch a) place = partition_told (λ (p : FetchedRecords). p.error) a.topics place
-error_at (replies.ListOffsets a) place = partition_told (λ (p : FoundOffset). p.error) a.topics place
-error_at (replies.Metadata a) place = topic_told a.topics place
-error_at (replies.OffsetCommit a) place = partition_told (λ (p : CommittedOffset). p.error) a.topics place
-error_at (replies.OffsetFetch a) place = partition_told (λ (p : FetchedOffset). p.error) a.topics place
-error_at (replies.AddPartitionsToTxn a) place = partition_told (λ (p : AddedPartition). p.error) a.topics place
-error_at (replies.TxnOffsetCommit a) place = partition_told (λ (p : StagedOffset). p.error) a.topics place
+error_at (replies.Produce a) place = partition_error_at (λ (p : ProducedOffset). p.error) a.topics place
+error_at (replies.SilentProduce a) place = partition_error_at (λ (p : ProducedOffset). p.error) a.topics place
+error_at (replies.Fetch a) place = partition_error_at (λ (p : FetchedRecords). p.error) a.topics place
+error_at (replies.ListOffsets a) place = partition_error_at (λ (p : FoundOffset). p.error) a.topics place
+error_at (replies.Metadata a) place = topic_error_at a.topics place
+error_at (replies.OffsetCommit a) place = partition_error_at (λ (p : CommittedOffset). p.error) a.topics place
+error_at (replies.OffsetFetch a) place = partition_error_at (λ (p : FetchedOffset). p.error) a.topics place
+error_at (replies.AddPartitionsToTxn a) place = partition_error_at (λ (p : AddedPartition). p.error) a.topics place
+error_at (replies.TxnOffsetCommit a) place = partition_error_at (λ (p : StagedOffset). p.error) a.topics place
 error_at reply place = None
 
 -- ---- all errors of an answer

@@ -8,14 +8,14 @@ use Rattle.msg_txn.specs.declared.add_partitions.AddPartitionsToTxnRequest.{AddP
 use Rattle.msg_txn.specs.declared.end_txn.EndTxnRequest.{EndTxnRequest}
 use Rattle.walk.specs.Walk.{plain_topics, answers, refusals}
 use Rattle.walk.specs.Alike.{AllTopics}
-use Rattle.transactions.specs.Coordinator.{recorded, turned, turn_code}
+use Rattle.txn_coordinator.specs.Coordinator.{id_record, apply_transition, transition_code}
 use Rattle.broker_world.specs.World.{World, rules_of}
-use Rattle.broker_world.specs.Outcome.{Outcome}
+use Rattle.broker_world.specs.HandlerResult.{HandlerResult}
 use Rattle.broker_world.specs.Logs.{log_at}
 use Rattle.txn_handlers.specs.InitProducerId.{init_producer_id_outcome}
 use Rattle.broker_world.specs.Questions.{id_question}
 use Rattle.txn_handlers.specs.EndTxn.{end_txn_outcome, end_questions, ending_id}
-use Rattle.txn_handlers.specs.AddPartitions.{add_questions, cut_rule, told_rule, add_turn, add_reply, add_partitions_outcome}
+use Rattle.txn_handlers.specs.AddPartitions.{add_questions, cut_rule, code_rule, add_transition, add_reply, add_partitions_outcome}
 use Rattle.api_laws.specs.Tenants.{SameBase, SameGranted}
 use Rattle.api_laws.specs.DataTenants.{SameForParts, SameAnswer}
 use Rattle.api_laws.specs.AclLaws.{IsRefusedWhole}
@@ -29,16 +29,16 @@ pub record IsAddable (w : World) (caller : Caller) (id name : List ℕ) (index :
 
 -- nothing is added: each partition that is refused is told so, each other one that it is missing, or else that nothing
 -- was tried
-pub record IsCut (w : World) (caller : Caller) (r : AddPartitionsToTxnRequest) (o : Outcome) : Type 0 where
+pub record IsCut (w : World) (caller : Caller) (r : AddPartitionsToTxnRequest) (o : HandlerResult) : Type 0 where
   pub world : o.world ≡ w
   pub reply : o.reply ≡ add_reply (answers (cut_rule caller r.transactional_id w.topics) (rules_of w) tt r.topics)
   pub refusals : o.refusals ≡ refusals (cut_rule caller r.transactional_id w.topics) (rules_of w) r.topics
 
 -- the coordinator decides, and all are told its code
-pub record IsWhole (w : World) (r : AddPartitionsToTxnRequest) (o : Outcome) : Type 0 where
-  pub coordinator : o.world.coordinator ≡ turned w.coordinator (add_turn w.coordinator w.moment r)
+pub record IsWhole (w : World) (r : AddPartitionsToTxnRequest) (o : HandlerResult) : Type 0 where
+  pub coordinator : o.world.coordinator ≡ apply_transition w.coordinator (add_transition w.coordinator w.moment r)
   pub topics : o.world.topics ≡ w.topics
-  pub reply : o.reply ≡ add_reply (plain_topics (told_rule (turn_code (add_turn w.coordinator w.moment r))) tt r.topics)
+  pub reply : o.reply ≡ add_reply (plain_topics (code_rule (transition_code (add_transition w.coordinator w.moment r))) tt r.topics)
   pub refusals : o.refusals ≡ []
 
 -- where each partition may be added it is whole, and where one may not be, it is cut
@@ -56,8 +56,8 @@ pub record TransactionsDependOnGrants : Type 0 where
 -- ---- what stays as it was
 
 -- another transactional id has the record that it had, and no log is touched
-pub record KeepsOtherIds (w : World) (id : List ℕ) (o : Outcome) : Type 0 where
-  pub others : (other : List ℕ) → (other ≡ id → ⊥) → recorded o.world.coordinator.transactions other ≡ recorded w.coordinator.transactions other
+pub record KeepsOtherIds (w : World) (id : List ℕ) (o : HandlerResult) : Type 0 where
+  pub others : (other : List ℕ) → (other ≡ id → ⊥) → id_record o.world.coordinator.transactions other ≡ id_record w.coordinator.transactions other
   pub topics : o.world.topics ≡ w.topics
 
 pub record TransactionsKeepTheRest : Type 0 where

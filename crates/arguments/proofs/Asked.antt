@@ -235,8 +235,8 @@ begins_with name words rest is = ap (begin_with name) is ∙ (bytes_eq-Decides n
 
 -- ---- a job that reads a file
 
-asks_behind : (name : Text) (words rest : List Text) → words ≡ name ∷ rest → file_asked name words ≡ file_named rest
-asks_behind name words rest is = ap (file_asked name) is ∙ ap (λ (b : Bool). cond b (file_named rest) None) ((bytes_eq-Decides name name).1 refl)
+asks_after : (name : Text) (words rest : List Text) → words ≡ name ∷ rest → file_asked name words ≡ file_named rest
+asks_after name words rest is = ap (file_asked name) is ∙ ap (λ (b : Bool). cond b (file_named rest) None) ((bytes_eq-Decides name name).1 refl)
 
 -- the words ask for this job, and so they begin with its name
 asked_begins : (name : Text) (words : List Text) (file : Option Text) → file_asked name words ≡ Some file → (rest : List Text) × ((words ≡ name ∷ rest) × (file_named rest ≡ Some file))
@@ -317,7 +317,7 @@ entered_asks name reads words options e read =
     let it = begun name (drop 1 words) e (ap (option_map (λ p. p.0)) read) in
     let taken : fault_at (name ∷ it.0) ≡ [] = subst (λ (l : List Text). fault_at l ≡ []) it.1 e in
     let entered_here : entered_at (name ∷ it.0) ≡ Some (name, options) = sym (ap entered_at it.1) ∙ read in
-    asks_behind name (drop 1 words) it.0 it.1 ∙ (reads.names it.0 taken ∙ ap (λ (f : Option Text). Some f) (reads.found it.0 options entered_here))
+    asks_after name (drop 1 words) it.0 it.1 ∙ (reads.names it.0 taken ∙ ap (λ (f : Option Text). Some f) (reads.found it.0 options entered_here))
 
 module _ {Z : Type 0} where
   entered_name : (sub : Option (Box SubCommand Z)) → option_map (λ p. p.0) (subcommand_rows sub) ≡ option_map (λ b. (out-SubCommand (box_value b)).name.now) sub

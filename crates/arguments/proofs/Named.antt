@@ -19,7 +19,7 @@ use Rattle.arguments.proofs.Refused.{NoLong, NoShort, dashes, first_empty, flag_
 abbrev pub leaf : Text → Shape
 leaf name = built_leaf (reading_shape name)
 
--- what is refused of the words behind the command's name, and the file that is found in them
+-- what is refused of the words after the command's name, and the file that is found in them
 abbrev pub leaf_fault : Text → List Text → Kinds
 leaf_fault name words = level_fault (leaf name) [] nothing_held words false []
 
@@ -30,7 +30,7 @@ leaf_file name words = first_of (codes "file") (rows_after (leaf name).rules [] 
 abbrev pub Decided : Text → List Text → Type 0
 Decided name words = ((leaf_fault name words ≡ []) × (file_named words ≡ Some (leaf_file name words))) ⊎ ((leaf_fault name words ≡ [] → ⊥) × (file_named words ≡ None))
 
--- the same behind a first word, at which this was refused, and behind which the walk stands so
+-- the same after a first word, at which this was refused, and after which the walk stands so
 abbrev fault_from : Text → Kinds → Walk → List Text → Kinds
 fault_from name first w rest =
     let s = leaf name in
@@ -71,7 +71,7 @@ module _ (name word : Text) (other : bytes_eq word dashes ≡ false) (free : is_
   unfolding clap_on_literals
   first_walk = plain_walk (leaf name) [] [] None 1 word refl other free
 
--- and each word behind it is refused, but `--`
+-- and each word after it is refused, but `--`
 second_refused : (name word last : Text) (rest : List Text) → bytes_eq last dashes ≡ false → fault_from name [] (one word) (last ∷ rest) ≡ [] → ⊥
 unfolding clap_on_literals
 second_refused name word last rest other e =

@@ -78,7 +78,7 @@ with_serve_options a = with_serve_clients (with_serve_ending (with_serve_steerin
 abbrev pub serve_shape : Shape
 serve_shape = (with_serve_options (new_app (codes "serve"))).top
 
--- the subcommand of this name, behind which a file may be named
+-- the subcommand of this name, after which a file may be named
 abbrev pub reading_app : List ℕ → App
 reading_app name = with_rule (new_app name) file_rule
 

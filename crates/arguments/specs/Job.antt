@@ -14,7 +14,7 @@ is_flag (first ∷ rest) = first == 45 && is_any (chars rest)
 abbrev pub ends_options : List ℕ → Bool
 ends_options word = bytes_eq word (codes "--")
 
--- the file that these words name behind a job, if they name one at most and nothing else: `--` ends the options, and what
+-- the file that these words name after a job, if they name one at most and nothing else: `--` ends the options, and what
 -- follows it is no flag
 abbrev pub file_named : List (List ℕ) → Option (Option (List ℕ))
 file_named [] = Some None

@@ -2,7 +2,7 @@
 use Rattle.std.specs.Prelude.{◌≡◌, ◌<◌, ◌≤◌, ℕ, Bool, false, true, List, ◌∷◌, ◌++◌, length, Option, Some, None, IfSome, codes, is_some, option_map}
 use Rattle.std.specs.Str.{bytes_eq}
 use Rattle.std.specs.Str.Parse.{IsNumeral, digits_value, without_leading_plus}
-use Rattle.arguments.specs.declared.serving.Ending.{Ending}
+use Rattle.arguments.specs.declared.serving.ShutdownOptions.{ShutdownOptions}
 use Rattle.arguments.specs.declared.serving.Serving.{Serving}
 
 -- a text writes a number in decimal digits, a plus before them or not
@@ -74,7 +74,7 @@ is_given None = false
 is_given (Some value) = bytes_eq value (codes "true")
 
 -- how a server stops, as the values of the options have it
-pub record EndsBy (value_of : List ℕ → Option (List ℕ)) (ending : Ending) : Type 0 where
+pub record EndsBy (value_of : List ℕ → Option (List ℕ)) (ending : ShutdownOptions) : Type 0 where
   pub grace_seconds : TellsIfGiven (value_of (codes "grace")) ending.grace_seconds
   pub with_input : ending.with_input ≡ is_given (value_of (codes "stop-with-input"))
 

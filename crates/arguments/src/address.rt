@@ -26,7 +26,9 @@ fn is_address(text: &str) -> bool
 pub(crate) fn listen_of<'a>(text: Option<&'a str>) -> Result<&'a str, Misused>
     ensures within { IfOk result (λ address. IsAddress address.now) }
     ensures told { IfOk result (λ address. option_map (λ t. t.now) text.entry ≡ Some address.now) }
-    ensures none { IfErr result (λ _. (address : _) → IsAddress address → option_map (λ t. t.now) text.entry ≡ Some address → ⊥) }
+    ensures none { IfErr result
+        (λ _. (address : _) → IsAddress address → option_map (λ t. t.now) text.entry ≡ Some address
+        → ⊥) }
 {
     match text {
         Some(text) if is_address(text) => Ok(text),

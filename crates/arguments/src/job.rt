@@ -73,7 +73,8 @@ fn with_file<'a>(
     help: &'a str,
 ) -> Result<Command<'a>, AllocError>
     ensures app { IfOk result (λ made. app_of made ≡ with_rule (app_of command.entry) file_rule) }
-    ensures local { IfOk result (λ made. (fields_of made).has_globals ≡ (fields_of command.entry).has_globals) }
+    ensures local { IfOk result
+        (λ made. (fields_of made).has_globals ≡ (fields_of command.entry).has_globals) }
 {
     command.arg(file(alloc, help))
 }
@@ -124,7 +125,7 @@ fn misuse(alloc: Global, misused: Misused) -> Result<Error, AllocError> {
 }
 
 /// What the words ask for, of which the first is the program's own name: the job that the next one names. Behind `replay` and
-/// `check` at most one file is named, behind `serve` and `show` their options follow. A refusal holds the text to print on standard
+/// `check` at most one file is named, after `serve` and `show` their options follow. A refusal holds the text to print on standard
 /// error; help and the version are refusals.
 pub fn arguments<'a>(alloc: Global, words: &'a [&'a str]) -> Result<Job<'a>, Error>
     ensures job { IfOk result (λ job. IsAsked (map (λ word. word.now) words.entry.now) job) }

@@ -9,4 +9,4 @@ mod serving;
 
 pub use help::VERSION;
 pub use job::{Job, Showing, arguments};
-pub use serving::{Ending, Serving};
+pub use serving::{Serving, ShutdownOptions};

@@ -19,7 +19,7 @@ use std::alloc::{AllocError, Global};
 
 /// How a server stops.
 #[derive(Clone, Copy, Debug, PartialEq, Eq)]
-pub struct Ending {
+pub struct ShutdownOptions {
     /// How many seconds after it open connections are closed, 0 to 1,000,000, if that is given.
     pub grace_seconds: Option<u64>,
     /// Whether the end of standard input stops it.
@@ -29,7 +29,7 @@ pub struct Ending {
 /// How a listener's connections are served.
 #[derive(Clone, Copy, Debug, PartialEq, Eq)]
 pub struct Serving<'a> {
-    /// The address to listen on, and its port behind a colon.
+    /// The address to listen on, and its port after a colon.
     pub listen: &'a str,
     /// How many connections are served at once, 1 to 64.
     pub workers: u64,
@@ -60,7 +60,7 @@ pub struct Serving<'a> {
     /// Whether lines of standard input steer the broker, in place of the clock.
     pub control: bool,
     /// How it stops.
-    pub ending: Ending,
+    pub ending: ShutdownOptions,
     /// Whether ApiVersions lists before a login what librdkafka looks for.
     pub librdkafka: bool,
 }
@@ -128,8 +128,11 @@ fn with_two<'a>(
 ) -> Result<Command<'a>, AllocError>
     requires first { first.global ≡ false }
     requires second { second.global ≡ false }
-    ensures app { IfOk result (λ made. app_of made ≡ with_two_rules (app_of command.entry) (rule_of first.entry) (rule_of second.entry)) }
-    ensures local { IfOk result (λ made. (fields_of made).has_globals ≡ (fields_of command.entry).has_globals) }
+    ensures app { IfOk result
+        (λ made. app_of made ≡ with_two_rules (app_of command.entry) (rule_of first.entry)
+        (rule_of second.entry)) }
+    ensures local { IfOk result
+        (λ made. (fields_of made).has_globals ≡ (fields_of command.entry).has_globals) }
 {
     command.arg(first)?.arg(second)
 }
@@ -144,8 +147,11 @@ fn with_three<'a>(
     requires first { first.global ≡ false }
     requires second { second.global ≡ false }
     requires third { third.global ≡ false }
-    ensures app { IfOk result (λ made. app_of made ≡ with_rules (app_of command.entry) (rule_of first.entry) (rule_of second.entry) (rule_of third.entry)) }
-    ensures local { IfOk result (λ made. (fields_of made).has_globals ≡ (fields_of command.entry).has_globals) }
+    ensures app { IfOk result
+        (λ made. app_of made ≡ with_rules (app_of command.entry) (rule_of first.entry)
+        (rule_of second.entry) (rule_of third.entry)) }
+    ensures local { IfOk result
+        (λ made. (fields_of made).has_globals ≡ (fields_of command.entry).has_globals) }
 {
     command.arg(first)?.arg(second)?.arg(third)
 }
@@ -153,7 +159,8 @@ fn with_three<'a>(
 /// The command with the options that say where, and how many are served.
 fn with_numbers<'a>(alloc: Global, command: Command<'a>) -> Result<Command<'a>, AllocError>
     ensures app { IfOk result (λ made. app_of made ≡ with_serve_numbers (app_of command.entry)) }
-    ensures local { IfOk result (λ made. (fields_of made).has_globals ≡ (fields_of command.entry).has_globals) }
+    ensures local { IfOk result
+        (λ made. (fields_of made).has_globals ≡ (fields_of command.entry).has_globals) }
 {
     let listen = listen_option(alloc)?;
     let workers = option(alloc, "workers", "N", WORKERS, false);
@@ -164,7 +171,8 @@ fn with_numbers<'a>(alloc: Global, command: Command<'a>) -> Result<Command<'a>, 
 /// The command with the options that change nothing where they aren't given.
 fn with_switches<'a>(alloc: Global, command: Command<'a>) -> Result<Command<'a>, AllocError>
     ensures app { IfOk result (λ made. app_of made ≡ with_serve_switches (app_of command.entry)) }
-    ensures local { IfOk result (λ made. (fields_of made).has_globals ≡ (fields_of command.entry).has_globals) }
+    ensures local { IfOk result
+        (λ made. (fields_of made).has_globals ≡ (fields_of command.entry).has_globals) }
 {
     let open = option(alloc, "for", "SECONDS", FOR, false);
     let idle = option(alloc, "idle", "SECONDS", IDLE, false);
@@ -174,7 +182,8 @@ fn with_switches<'a>(alloc: Global, command: Command<'a>) -> Result<Command<'a>,
 /// The command with the options of what is told, and of the time before each line of it.
 fn with_reports<'a>(alloc: Global, command: Command<'a>) -> Result<Command<'a>, AllocError>
     ensures app { IfOk result (λ made. app_of made ≡ with_serve_reports (app_of command.entry)) }
-    ensures local { IfOk result (λ made. (fields_of made).has_globals ≡ (fields_of command.entry).has_globals) }
+    ensures local { IfOk result
+        (λ made. (fields_of made).has_globals ≡ (fields_of command.entry).has_globals) }
 {
     let audit = option(alloc, "audit", "-", AUDIT, false);
     let log_times = flag(alloc, "log-times", LOG_TIMES);
@@ -184,7 +193,8 @@ fn with_reports<'a>(alloc: Global, command: Command<'a>) -> Result<Command<'a>, 
 /// The command with the options of the time that a login has, and a frame.
 fn with_deadlines<'a>(alloc: Global, command: Command<'a>) -> Result<Command<'a>, AllocError>
     ensures app { IfOk result (λ made. app_of made ≡ with_serve_deadlines (app_of command.entry)) }
-    ensures local { IfOk result (λ made. (fields_of made).has_globals ≡ (fields_of command.entry).has_globals) }
+    ensures local { IfOk result
+        (λ made. (fields_of made).has_globals ≡ (fields_of command.entry).has_globals) }
 {
     let login = option(alloc, "login-within", "SECONDS", LOGIN_WITHIN, false);
     let frame = option(alloc, "frame-within", "SECONDS", FRAME_WITHIN, false);
@@ -194,7 +204,8 @@ fn with_deadlines<'a>(alloc: Global, command: Command<'a>) -> Result<Command<'a>
 /// The command with the options of connections that aren't counted, and of those of one host.
 fn with_shares<'a>(alloc: Global, command: Command<'a>) -> Result<Command<'a>, AllocError>
     ensures app { IfOk result (λ made. app_of made ≡ with_serve_shares (app_of command.entry)) }
-    ensures local { IfOk result (λ made. (fields_of made).has_globals ≡ (fields_of command.entry).has_globals) }
+    ensures local { IfOk result
+        (λ made. (fields_of made).has_globals ≡ (fields_of command.entry).has_globals) }
 {
     let endless = flag(alloc, "endless", ENDLESS);
     let per_host = option(alloc, "per-host", "N", PER_HOST, false);
@@ -204,7 +215,8 @@ fn with_shares<'a>(alloc: Global, command: Command<'a>) -> Result<Command<'a>, A
 /// The command with the options of how fast each user may ask.
 fn with_rates<'a>(alloc: Global, command: Command<'a>) -> Result<Command<'a>, AllocError>
     ensures app { IfOk result (λ made. app_of made ≡ with_serve_rates (app_of command.entry)) }
-    ensures local { IfOk result (λ made. (fields_of made).has_globals ≡ (fields_of command.entry).has_globals) }
+    ensures local { IfOk result
+        (λ made. (fields_of made).has_globals ≡ (fields_of command.entry).has_globals) }
 {
     let rate = option(alloc, "rate", "REQUESTS", RATE, false);
     let rate_bytes = option(alloc, "rate-bytes", "BYTES", RATE_BYTES, false);
@@ -214,7 +226,8 @@ fn with_rates<'a>(alloc: Global, command: Command<'a>) -> Result<Command<'a>, Al
 /// The command with the options of a broker that is steered.
 fn with_steering<'a>(alloc: Global, command: Command<'a>) -> Result<Command<'a>, AllocError>
     ensures app { IfOk result (λ made. app_of made ≡ with_serve_steering (app_of command.entry)) }
-    ensures local { IfOk result (λ made. (fields_of made).has_globals ≡ (fields_of command.entry).has_globals) }
+    ensures local { IfOk result
+        (λ made. (fields_of made).has_globals ≡ (fields_of command.entry).has_globals) }
 {
     let settings = option(alloc, "settings", "FILE", SETTINGS, false);
     let control = flag(alloc, "control", CONTROL);
@@ -224,7 +237,8 @@ fn with_steering<'a>(alloc: Global, command: Command<'a>) -> Result<Command<'a>,
 /// The command with the options of how a server stops.
 fn with_ending<'a>(alloc: Global, command: Command<'a>) -> Result<Command<'a>, AllocError>
     ensures app { IfOk result (λ made. app_of made ≡ with_serve_ending (app_of command.entry)) }
-    ensures local { IfOk result (λ made. (fields_of made).has_globals ≡ (fields_of command.entry).has_globals) }
+    ensures local { IfOk result
+        (λ made. (fields_of made).has_globals ≡ (fields_of command.entry).has_globals) }
 {
     let grace = option(alloc, "grace", "SECONDS", GRACE, false);
     let with_input = flag(alloc, "stop-with-input", STOP_WITH_INPUT);
@@ -234,7 +248,8 @@ fn with_ending<'a>(alloc: Global, command: Command<'a>) -> Result<Command<'a>, A
 /// The command with the options for clients that look for other versions.
 fn with_clients<'a>(alloc: Global, command: Command<'a>) -> Result<Command<'a>, AllocError>
     ensures app { IfOk result (λ made. app_of made ≡ with_serve_clients (app_of command.entry)) }
-    ensures local { IfOk result (λ made. (fields_of made).has_globals ≡ (fields_of command.entry).has_globals) }
+    ensures local { IfOk result
+        (λ made. (fields_of made).has_globals ≡ (fields_of command.entry).has_globals) }
 {
     command.arg(flag(alloc, "librdkafka", LIBRDKAFKA))
 }
@@ -245,7 +260,8 @@ pub(crate) fn with_options<'a>(
     command: Command<'a>,
 ) -> Result<Command<'a>, AllocError>
     ensures app { IfOk result (λ made. app_of made ≡ with_serve_options (app_of command.entry)) }
-    ensures local { IfOk result (λ made. (fields_of made).has_globals ≡ (fields_of command.entry).has_globals) }
+    ensures local { IfOk result
+        (λ made. (fields_of made).has_globals ≡ (fields_of command.entry).has_globals) }
 {
     let command = with_numbers(alloc, command)?;
     let command = with_switches(alloc, command)?;
@@ -274,7 +290,9 @@ fn number_or(text: Option<&str>, most: u64, usual: u64, misused: Misused) -> Res
     requires { IsIn most usual }
     ensures within { IfOk result (IsIn most) }
     ensures told { IfOk result (Tells (option_map (λ t. t.now) text.entry) usual) }
-    ensures none { IfErr result (λ _. (number : _) → IsIn most number → Tells (option_map (λ t. t.now) text.entry) usual number → ⊥) }
+    ensures none { IfErr result
+        (λ _. (number : _) → IsIn most number → Tells (option_map (λ t. t.now) text.entry) usual
+        number → ⊥) }
 {
     match text {
         Some(text) => number_of(text, most).ok_or(misused),
@@ -286,7 +304,9 @@ fn number_or(text: Option<&str>, most: u64, usual: u64, misused: Misused) -> Res
 fn number_if_given(text: Option<&str>, most: u64, misused: Misused) -> Result<Option<u64>, Misused>
     ensures within { IfOk result (λ told. IfSome told (IsIn most)) }
     ensures told { IfOk result (TellsIfGiven (option_map (λ t. t.now) text.entry)) }
-    ensures none { IfErr result (λ _. (told : _) → IfSome told (IsIn most) → TellsIfGiven (option_map (λ t. t.now) text.entry) told → ⊥) }
+    ensures none { IfErr result
+        (λ _. (told : _) → IfSome told (IsIn most)
+        → TellsIfGiven (option_map (λ t. t.now) text.entry) told → ⊥) }
 {
     let Some(text) = text else {
         return Ok(None);
@@ -301,7 +321,9 @@ fn number_if_given(text: Option<&str>, most: u64, misused: Misused) -> Result<Op
 fn seconds_of(text: Option<&str>, misused: Misused) -> Result<Option<u64>, Misused>
     ensures within { IfOk result (λ told. IfSome told (IsIn 1000000)) }
     ensures told { IfOk result (TellsIfGiven (option_map (λ t. t.now) text.entry)) }
-    ensures none { IfErr result (λ _. (told : _) → IfSome told (IsIn 1000000) → TellsIfGiven (option_map (λ t. t.now) text.entry) told → ⊥) }
+    ensures none { IfErr result
+        (λ _. (told : _) → IfSome told (IsIn 1000000)
+        → TellsIfGiven (option_map (λ t. t.now) text.entry) told → ⊥) }
 {
     number_if_given(text, MOST_SECONDS, misused)
 }
@@ -311,7 +333,9 @@ fn seconds_or(text: Option<&str>, usual: u64, misused: Misused) -> Result<u64, M
     requires { IsIn 1000000 usual }
     ensures within { IfOk result (IsIn 1000000) }
     ensures told { IfOk result (Tells (option_map (λ t. t.now) text.entry) usual) }
-    ensures none { IfErr result (λ _. (number : _) → IsIn 1000000 number → Tells (option_map (λ t. t.now) text.entry) usual number → ⊥) }
+    ensures none { IfErr result
+        (λ _. (number : _) → IsIn 1000000 number → Tells (option_map (λ t. t.now) text.entry) usual
+        number → ⊥) }
 {
     number_or(text, MOST_SECONDS, usual, misused)
 }
@@ -320,8 +344,11 @@ fn seconds_or(text: Option<&str>, usual: u64, misused: Misused) -> Result<u64, M
 fn connections_of(text: Option<&str>, endless: bool) -> Result<u64, Misused>
     ensures within { IfOk result (IsIn 1000000) }
     ensures told { IfOk result (Tells (option_map (λ t. t.now) text.entry) 1000000) }
-    ensures uncounted { IfOk result (λ _. GoesUncounted endless (option_map (λ t. t.now) text.entry)) }
-    ensures none { IfErr result (λ _. (number : _) → IsIn 1000000 number → Tells (option_map (λ t. t.now) text.entry) 1000000 number → GoesUncounted endless (option_map (λ t. t.now) text.entry) → ⊥) }
+    ensures uncounted { IfOk result
+        (λ _. GoesUncounted endless (option_map (λ t. t.now) text.entry)) }
+    ensures none { IfErr result
+        (λ _. (number : _) → IsIn 1000000 number → Tells (option_map (λ t. t.now) text.entry)
+        1000000 number → GoesUncounted endless (option_map (λ t. t.now) text.entry) → ⊥) }
 {
     if endless && text.is_some() {
         return Err(Misused::Endless);
@@ -337,7 +364,8 @@ fn connections_of(text: Option<&str>, endless: bool) -> Result<u64, Misused>
 /// Whether refusals are told. The one place for them is standard error, which goes by the name `-`.
 fn audit_of(text: Option<&str>) -> Result<bool, Misused>
     ensures told { IfOk result (TellsAudit (option_map (λ t. t.now) text.entry)) }
-    ensures none { IfErr result (λ _. (told : _) → TellsAudit (option_map (λ t. t.now) text.entry) told → ⊥) }
+    ensures none { IfErr result
+        (λ _. (told : _) → TellsAudit (option_map (λ t. t.now) text.entry) told → ⊥) }
 {
     match text {
         None => Ok(false),
@@ -357,7 +385,9 @@ fn is_given(text: Option<&str>) -> bool
 fn control_of(text: Option<&str>, settings: Option<&str>, audit: bool) -> Result<bool, Misused>
     ensures told { IfOk result (λ told. told ≡ is_given (option_map (λ t. t.now) text.entry)) }
     ensures steered { IfOk result (λ told. told ≡ true → MaySteer (is_some settings.entry) audit) }
-    ensures none { IfErr result (λ _. (is_given (option_map (λ t. t.now) text.entry) ≡ true) × (MaySteer (is_some settings.entry) audit → ⊥)) }
+    ensures none { IfErr result
+        (λ _. (is_given (option_map (λ t. t.now) text.entry) ≡ true)
+        × (MaySteer (is_some settings.entry) audit → ⊥)) }
 {
     if !is_given(text) {
         return Ok(false);
@@ -383,7 +413,9 @@ fn grace_in(text: &str) -> Option<u64>
 fn grace_of(text: Option<&str>) -> Result<Option<u64>, Misused>
     ensures within { IfOk result (λ told. IfSome told (λ seconds. seconds ≤ 1000000)) }
     ensures told { IfOk result (TellsIfGiven (option_map (λ t. t.now) text.entry)) }
-    ensures none { IfErr result (λ _. (told : _) → IfSome told (λ seconds. seconds ≤ 1000000) → TellsIfGiven (option_map (λ t. t.now) text.entry) told → ⊥) }
+    ensures none { IfErr result
+        (λ _. (told : _) → IfSome told (λ seconds. seconds ≤ 1000000)
+        → TellsIfGiven (option_map (λ t. t.now) text.entry) told → ⊥) }
 {
     let Some(text) = text else {
         return Ok(None);
@@ -398,7 +430,9 @@ fn grace_of(text: Option<&str>) -> Result<Option<u64>, Misused>
 fn with_input_of(text: Option<&str>, settings: Option<&str>, control: bool) -> Result<bool, Misused>
     ensures told { IfOk result (λ told. told ≡ is_given (option_map (λ t. t.now) text.entry)) }
     ensures stopped { IfOk result (λ told. told ≡ true → MayStop (is_some settings.entry) control) }
-    ensures none { IfErr result (λ _. (is_given (option_map (λ t. t.now) text.entry) ≡ true) × (MayStop (is_some settings.entry) control → ⊥)) }
+    ensures none { IfErr result
+        (λ _. (is_given (option_map (λ t. t.now) text.entry) ≡ true)
+        × (MayStop (is_some settings.entry) control → ⊥)) }
 {
     if !is_given(text) {
         return Ok(false);
@@ -414,14 +448,16 @@ fn ending_by(
     options: &ArgMatches<'_>,
     settings: Option<&str>,
     control: bool,
-) -> Result<Ending, Misused>
-    ensures within { IfOk result (λ ending. IfSome ending.grace_seconds (λ seconds. seconds ≤ 1000000)) }
-    ensures stopped { IfOk result (λ ending. ending.with_input ≡ true → MayStop (is_some settings.entry) control) }
+) -> Result<ShutdownOptions, Misused>
+    ensures within { IfOk result
+        (λ ending. IfSome ending.grace_seconds (λ seconds. seconds ≤ 1000000)) }
+    ensures stopped { IfOk result
+        (λ ending. ending.with_input ≡ true → MayStop (is_some settings.entry) control) }
     ensures told { IfOk result (EndsBy (first_value (found_of options.now))) }
-    ensures none { IfErr result (λ _. (ending : Ending) → EndsBy (first_value (found_of options.now)) ending
+    ensures none { IfErr result (λ _. (ending : ShutdownOptions) → EndsBy (first_value (found_of options.now)) ending
         → IfSome ending.grace_seconds (λ seconds. seconds ≤ 1000000) → (ending.with_input ≡ true → MayStop (is_some settings.entry) control) → ⊥) }
 {
-    Ok(Ending {
+    Ok(ShutdownOptions {
         grace_seconds: grace_of(options.get_str("grace"))?,
         with_input: with_input_of(options.get_str("stop-with-input"), settings, control)?,
     })

@@ -14,8 +14,8 @@ use Rattle.acl_binding.specs.Binding.{name_covers, star}
 use Rattle.acl_binding.specs.Book.{IsRising}
 use Rattle.acl_binding.proofs.Kept.{rising_filter}
 use Rattle.std.specs.Str.{bytes_eq}
-use Rattle.authorizer.specs.Index.{held_by}
-use Rattle.authorizer.specs.Looking.{finding, joined, is_at, is_longer, about, kind_index, IsNamed, IsTableOf, IsKindIndexed, IsIndexed}
+use Rattle.authorizer.specs.Index.{bindings_under}
+use Rattle.authorizer.specs.Looking.{finding_of, combined_finding, is_at, is_longer, bindings_about, kind_index, IsNamed, IsTableOf, IsKindIndexed, IsIndexed}
 use Rattle.authorizer.specs.declared.index.KindIndex.{KindIndex}
 use Rattle.authorizer.specs.declared.index.Index.{Index}
 use Rattle.authorizer.proofs.Findings.{joined_parts, covering, each_of}
@@ -28,7 +28,7 @@ kind_indexed index es is Cluster = is.cluster
 kind_indexed index es is TransactionalId = is.ids
 
 -- what a table holds of a name rises as the book does
-pub held_rising : (table : List (List ℕ × List Numbered)) (kind : Kind) (pattern : Pattern) (es : List Numbered) → IsTableOf table kind pattern es → IsRising 1 es → (name : List ℕ) → IsRising 1 (held_by table name)
+pub held_rising : (table : List (List ℕ × List Numbered)) (kind : Kind) (pattern : Pattern) (es : List Numbered) → IsTableOf table kind pattern es → IsRising 1 es → (name : List ℕ) → IsRising 1 (bindings_under table name)
 held_rising table kind pattern es is rising name = subst (IsRising 1) (sym (held_about table kind pattern es name is)) (rising_filter (is_at kind pattern name) es 1 rising)
 
 with_false : (a b : Bool) → (a || b) ≡ true → (a || (b || false)) ≡ true
@@ -47,11 +47,11 @@ covered true Prefixed own name some h = and_true (starts_with nat_eq name own) (
 covered false pattern own name some h = h
 
 pub found_all : (k : KindIndex) (es : List Numbered) (q : Question) → IsKindIndexed k q.kind es → AllByRecursion IsNamed es →
-    joined (finding (held_by k.literal q.name) q) (joined (finding (held_by k.literal star) q) (finding (filter (is_longer q.kind q.name 0) es) q)) ≡ finding es q
+    combined_finding (finding_of (bindings_under k.literal q.name) q) (combined_finding (finding_of (bindings_under k.literal star) q) (finding_of (filter (is_longer q.kind q.name 0) es) q)) ≡ finding_of es q
 found_all k es q is named =
-    ap (λ (h : List Numbered). joined (finding h q) (joined (finding (held_by k.literal star) q) (finding (filter (is_longer q.kind q.name 0) es) q))) (held_about k.literal q.kind Literal es q.name is.literal)
-    ∙ ap (λ (h : List Numbered). joined (finding (about q.kind Literal q.name es) q) (joined (finding h q) (finding (filter (is_longer q.kind q.name 0) es) q))) (held_about k.literal q.kind Literal es star is.literal)
-    ∙ ap (joined (finding (about q.kind Literal q.name es) q)) (joined_parts (is_at q.kind Literal star) (is_longer q.kind q.name 0) es q)
+    ap (λ (h : List Numbered). combined_finding (finding_of h q) (combined_finding (finding_of (bindings_under k.literal star) q) (finding_of (filter (is_longer q.kind q.name 0) es) q))) (held_about k.literal q.kind Literal es q.name is.literal)
+    ∙ ap (λ (h : List Numbered). combined_finding (finding_of (bindings_about q.kind Literal q.name es) q) (combined_finding (finding_of h q) (finding_of (filter (is_longer q.kind q.name 0) es) q))) (held_about k.literal q.kind Literal es star is.literal)
+    ∙ ap (combined_finding (finding_of (bindings_about q.kind Literal q.name es) q)) (joined_parts (is_at q.kind Literal star) (is_longer q.kind q.name 0) es q)
     ∙ joined_parts (is_at q.kind Literal q.name) (λ e. is_at q.kind Literal star e || is_longer q.kind q.name 0 e) es q
     ∙ covering _ es q (each_of IsNamed _ es (λ e n cover. covered (kind_number e.binding.kind == kind_number q.kind) e.binding.pattern e.binding.name q.name n.some cover) named)
 

@@ -8,11 +8,11 @@ use Rattle.acl_binding.specs.declared.words.Pattern.{Pattern}
 use Rattle.acl_binding.specs.declared.words.Pattern.TheVariants.{Literal, Prefixed}
 use Rattle.acl_binding.specs.declared.binding.Numbered.{Numbered}
 use Rattle.acl_binding.specs.declared.filter.Filter.{Filter}
-use Rattle.acl_binding.specs.Filter.{stays}
+use Rattle.acl_binding.specs.Filter.{is_not_matched}
 use Rattle.acl_binding.specs.Words.{kind_number, pattern_number}
 use Rattle.std.specs.Str.{bytes_eq}
-use Rattle.authorizer.specs.Index.{found, held_by, nonempty, HasMore, HasSame, HasLess}
-use Rattle.authorizer.specs.Looking.{is_at, about, IsTableOf, IsKindIndexed}
+use Rattle.authorizer.specs.Index.{named_bindings, bindings_under, nonempty, HasMore, HasSame, HasLess}
+use Rattle.authorizer.specs.Looking.{is_at, bindings_about, IsTableOf, IsKindIndexed}
 use Rattle.authorizer.specs.declared.index.KindIndex.{KindIndex}
 use Rattle.authorizer.proofs.Tables.{same_bytes}
 
@@ -41,7 +41,7 @@ and_both true false c h k = absurd (let clash : false ≡ true = k in cc)
 and_both false b c h k = absurd (let clash : false ≡ true = h in cc)
 
 -- what the end adds
-about_push : (kind : Kind) (pattern : Pattern) (name : List ℕ) (es : List Numbered) (e : Numbered) → about kind pattern name (es ++ e ∷ []) ≡ about kind pattern name es ++ cond (is_at kind pattern name e) (e ∷ []) []
+about_push : (kind : Kind) (pattern : Pattern) (name : List ℕ) (es : List Numbered) (e : Numbered) → bindings_about kind pattern name (es ++ e ∷ []) ≡ bindings_about kind pattern name es ++ cond (is_at kind pattern name e) (e ∷ []) []
 about_push kind pattern name es e = filter-append (is_at kind pattern name) es (e ∷ [])
 
 pub more_here : (old new : List (List ℕ × List Numbered)) (kind : Kind) (pattern : Pattern) (es : List Numbered) (e : Numbered) →
@@ -50,20 +50,20 @@ pub more_here : (old new : List (List ℕ × List Numbered)) (kind : Kind) (patt
 more_here old new kind pattern es e k p more table name =
     let test : is_at kind pattern name e ≡ bytes_eq e.binding.name name = and_both _ _ _ (ap (λ (n : ℕ). n == kind_number kind) k ∙ self_eq (kind_number kind)) (ap (λ (n : ℕ). n == pattern_number pattern) p ∙ self_eq (pattern_number pattern)) in
     more name ∙ by (bytes_eq e.binding.name name) refl
-    ∙ sym (ap (λ (b : Bool). nonempty (about kind pattern name es ++ cond b (e ∷ []) [])) test)
+    ∙ sym (ap (λ (b : Bool). nonempty (bindings_about kind pattern name es ++ cond b (e ∷ []) [])) test)
     ∙ sym (ap nonempty (about_push kind pattern name es e)) where
-      by : (b : Bool) → bytes_eq e.binding.name name ≡ b → cond b (Some (held_by old e.binding.name ++ e ∷ [])) (found old name) ≡ nonempty (about kind pattern name es ++ cond b (e ∷ []) [])
+      by : (b : Bool) → bytes_eq e.binding.name name ≡ b → cond b (Some (bindings_under old e.binding.name ++ e ∷ [])) (named_bindings old name) ≡ nonempty (bindings_about kind pattern name es ++ cond b (e ∷ []) [])
       by true same =
-          let held : held_by old e.binding.name ≡ about kind pattern name es =
-          ap (λ (o : Option (List Numbered)). unwrap_or o []) (table e.binding.name) ∙ unwrapped (about kind pattern e.binding.name es) ∙ ap (λ (n : List ℕ). about kind pattern n es) (same_bytes e.binding.name name same) in
-          ap (λ (h : List Numbered). Some (h ++ e ∷ [])) held ∙ pushed (about kind pattern name es) e
-      by false same = table name ∙ ap nonempty (sym (append-nil (about kind pattern name es)))
+          let held : bindings_under old e.binding.name ≡ bindings_about kind pattern name es =
+          ap (λ (o : Option (List Numbered)). unwrap_or o []) (table e.binding.name) ∙ unwrapped (bindings_about kind pattern e.binding.name es) ∙ ap (λ (n : List ℕ). bindings_about kind pattern n es) (same_bytes e.binding.name name same) in
+          ap (λ (h : List Numbered). Some (h ++ e ∷ [])) held ∙ pushed (bindings_about kind pattern name es) e
+      by false same = table name ∙ ap nonempty (sym (append-nil (bindings_about kind pattern name es)))
 
 pub more_elsewhere : (table : List (List ℕ × List Numbered)) (kind : Kind) (pattern : Pattern) (es : List Numbered) (e : Numbered) →
     ((name : List ℕ) → is_at kind pattern name e ≡ false) → IsTableOf table kind pattern es → IsTableOf table kind pattern (es ++ e ∷ [])
 more_elsewhere table kind pattern es e other is name =
-    is name ∙ ap nonempty (sym (append-nil (about kind pattern name es)))
-    ∙ sym (ap (λ (b : Bool). nonempty (about kind pattern name es ++ cond b (e ∷ []) [])) (other name))
+    is name ∙ ap nonempty (sym (append-nil (bindings_about kind pattern name es)))
+    ∙ sym (ap (λ (b : Bool). nonempty (bindings_about kind pattern name es ++ cond b (e ∷ []) [])) (other name))
     ∙ sym (ap nonempty (about_push kind pattern name es e))
 
 pub other_pattern : (kind : Kind) (pattern : Pattern) (e : Numbered) → (pattern_number e.binding.pattern == pattern_number pattern) ≡ false → (name : List ℕ) → is_at kind pattern name e ≡ false
@@ -114,7 +114,7 @@ pub filtered : (s : Numbered → Bool) (xs : List Numbered) → option_and_then 
 filtered s [] = refl
 filtered s (x ∷ xs) = refl
 
-pub less_table : (old new : List (List ℕ × List Numbered)) (f : Filter) (kind : Kind) (pattern : Pattern) (es : List Numbered) → HasLess old new f → IsTableOf old kind pattern es → IsTableOf new kind pattern (filter (stays f) es)
+pub less_table : (old new : List (List ℕ × List Numbered)) (f : Filter) (kind : Kind) (pattern : Pattern) (es : List Numbered) → HasLess old new f → IsTableOf old kind pattern es → IsTableOf new kind pattern (filter (is_not_matched f) es)
 less_table old new f kind pattern es less is name =
-    less name ∙ ap (option_and_then (λ (held : List Numbered). nonempty (filter (stays f) held))) (is name)
-    ∙ filtered (stays f) (about kind pattern name es) ∙ ap nonempty (filter_swap (is_at kind pattern name) (stays f) es)
+    less name ∙ ap (option_and_then (λ (held : List Numbered). nonempty (filter (is_not_matched f) held))) (is name)
+    ∙ filtered (is_not_matched f) (bindings_about kind pattern name es) ∙ ap nonempty (filter_swap (is_at kind pattern name) (is_not_matched f) es)

@@ -12,14 +12,14 @@ use Rattle.acl_binding.specs.declared.words.Pattern.{Pattern}
 use Rattle.acl_binding.specs.declared.words.Pattern.TheVariants.{Literal, Prefixed}
 use Rattle.acl_binding.specs.declared.binding.Numbered.{Numbered}
 use Rattle.acl_binding.specs.declared.filter.Filter.{Filter}
-use Rattle.acl_binding.specs.Filter.{stays}
+use Rattle.acl_binding.specs.Filter.{is_not_matched}
 use Rattle.acl_binding.specs.Words.{kind_number, pattern_number}
-use Rattle.authorizer.specs.Index.{found, nonempty, HasLessAt}
-use Rattle.authorizer.specs.Looking.{is_at, about, IsNamed, IsTableOf, IsKindIndexed, IsIndexed}
-use Rattle.authorizer.specs.Picking.{picks, left_of, stands_at, stands_in, AreAllAt}
+use Rattle.authorizer.specs.Index.{named_bindings, nonempty, HasLessAt}
+use Rattle.authorizer.specs.Looking.{is_at, bindings_about, IsNamed, IsTableOf, IsKindIndexed, IsIndexed}
+use Rattle.authorizer.specs.Picking.{picks, is_left, stands_at, stands_in, AreAllAt}
 use Rattle.authorizer.specs.declared.index.KindIndex.{KindIndex}
 use Rattle.authorizer.specs.declared.index.Index.{Index}
-use Rattle.authorizer.specs.declared.place.Place.{Place}
+use Rattle.authorizer.specs.declared.acl_key.AclKey.{AclKey}
 use Rattle.authorizer.proofs.Findings.{same_filter, each_of}
 use Rattle.authorizer.proofs.Indexing.{filtered}
 use Rattle.authorizer.proofs.Picks.{filter_both}
@@ -67,13 +67,13 @@ another_name own name other apart here = by (bytes_eq own name) refl where
   by true is = absurd (let clash : true ≡ false = sym here ∙ ap (λ (n : List ℕ). bytes_eq n other) (same_bytes own name is) ∙ apart in cc)
 
 pub less_at : (old new : List (List ℕ × List Numbered)) (f : Filter) (kind : Kind) (pattern : Pattern) (name : List ℕ) (es : List Numbered) →
-    HasLessAt old new name f → IsTableOf old kind pattern es → IsTableOf new kind pattern (filter (left_of f (is_at kind pattern name)) es)
+    HasLessAt old new name f → IsTableOf old kind pattern es → IsTableOf new kind pattern (filter (is_left f (is_at kind pattern name)) es)
 less_at old new f kind pattern name es less is other = less other ∙ by (bytes_eq name other) refl where
   by : (b : Bool) → bytes_eq name other ≡ b →
-      cond b (option_and_then (λ (held : List Numbered). nonempty (filter (stays f) held)) (found old other)) (found old other) ≡ nonempty (about kind pattern other (filter (left_of f (is_at kind pattern name)) es))
+      cond b (option_and_then (λ (held : List Numbered). nonempty (filter (is_not_matched f) held)) (named_bindings old other)) (named_bindings old other) ≡ nonempty (bindings_about kind pattern other (filter (is_left f (is_at kind pattern name)) es))
   by true same =
-      ap (option_and_then (λ (held : List Numbered). nonempty (filter (stays f) held))) (is other)
-      ∙ filtered (stays f) (about kind pattern other es)
+      ap (option_and_then (λ (held : List Numbered). nonempty (filter (is_not_matched f) held))) (is other)
+      ∙ filtered (is_not_matched f) (bindings_about kind pattern other es)
       ∙ ap nonempty (left_here (is_at kind pattern other) (is_at kind pattern name) (picks f) es (λ e. ap (λ (n : List ℕ). is_at kind pattern n e) (sym (same_bytes name other same))))
   by false apart =
       is other
@@ -82,7 +82,7 @@ less_at old new f kind pattern name es less is other = less other ∙ by (bytes_
       never (kind_number e.binding.kind == kind_number kind) _ (never (pattern_number e.binding.pattern == pattern_number pattern) _ (another_name e.binding.name name other apart own))))
 
 left_elsewhere : (table : List (List ℕ × List Numbered)) (kind : Kind) (pattern : Pattern) (es : List Numbered) (f : Filter) (looked : Numbered → Bool) →
-    ((name : List ℕ) (e : Numbered) → is_at kind pattern name e ≡ true → looked e ≡ false) → IsTableOf table kind pattern es → IsTableOf table kind pattern (filter (left_of f looked) es)
+    ((name : List ℕ) (e : Numbered) → is_at kind pattern name e ≡ true → looked e ≡ false) → IsTableOf table kind pattern es → IsTableOf table kind pattern (filter (is_left f looked) es)
 left_elsewhere table kind pattern es f looked apart is name = is name ∙ ap nonempty (left_there (is_at kind pattern name) looked (picks f) es (apart name))
 
 -- ---- in the tables of a kind
@@ -99,14 +99,14 @@ another_pattern kind own other name apart at e here =
       and_no false b h = refl
 
 pub literal_left : (k : KindIndex) (table : List (List ℕ × List Numbered)) (f : Filter) (name : List ℕ) → HasLessAt k.literal table name f →
-    (kind : Kind) (es : List Numbered) → IsKindIndexed k kind es → IsKindIndexed (record { literal = table; prefixed = k.prefixed }) kind (filter (left_of f (is_at kind Literal name)) es)
+    (kind : Kind) (es : List Numbered) → IsKindIndexed k kind es → IsKindIndexed (record { literal = table; prefixed = k.prefixed }) kind (filter (is_left f (is_at kind Literal name)) es)
 literal_left k table f name less kind es is = record {
   literal = less_at k.literal table f kind Literal name es less is.literal;
   prefixed = left_elsewhere k.prefixed kind Prefixed es f (is_at kind Literal name) (another_pattern kind Prefixed Literal name refl) is.prefixed;
 }
 
 pub prefixed_left : (k : KindIndex) (table : List (List ℕ × List Numbered)) (f : Filter) (name : List ℕ) → HasLessAt k.prefixed table name f →
-    (kind : Kind) (es : List Numbered) → IsKindIndexed k kind es → IsKindIndexed (record { literal = k.literal; prefixed = table }) kind (filter (left_of f (is_at kind Prefixed name)) es)
+    (kind : Kind) (es : List Numbered) → IsKindIndexed k kind es → IsKindIndexed (record { literal = k.literal; prefixed = table }) kind (filter (is_left f (is_at kind Prefixed name)) es)
 prefixed_left k table f name less kind es is = record {
   literal = left_elsewhere k.literal kind Literal es f (is_at kind Prefixed name) (another_pattern kind Literal Prefixed name refl) is.literal;
   prefixed = less_at k.prefixed table f kind Prefixed name es less is.prefixed;
@@ -120,14 +120,14 @@ another_kind kind other pattern name apart own at e here =
       and_no false b h = refl
 
 -- a place of the kind
-pub kind_here : (k : KindIndex) (kind : Kind) (es : List Numbered) (f : Filter) (place : Place) → place.kind ≡ kind → IsKindIndexed k kind (filter (left_of f (is_at kind place.pattern place.name.now)) es) → IsKindIndexed k kind (filter (left_of f (stands_at place)) es)
-kind_here k kind es f place of is = subst (λ (x : Kind). IsKindIndexed k kind (filter (left_of f (is_at x place.pattern place.name.now)) es)) (sym of) is
+pub kind_here : (k : KindIndex) (kind : Kind) (es : List Numbered) (f : Filter) (acl_key : AclKey) → acl_key.kind ≡ kind → IsKindIndexed k kind (filter (is_left f (is_at kind acl_key.pattern acl_key.name.now)) es) → IsKindIndexed k kind (filter (is_left f (stands_at acl_key)) es)
+kind_here k kind es f acl_key of is = subst (λ (x : Kind). IsKindIndexed k kind (filter (is_left f (is_at x acl_key.pattern acl_key.name.now)) es)) (sym of) is
 
 -- a place of another kind
-pub kind_left : (k : KindIndex) (kind : Kind) (es : List Numbered) (f : Filter) (place : Place) → (kind_number kind == kind_number place.kind) ≡ false → IsKindIndexed k kind es → IsKindIndexed k kind (filter (left_of f (stands_at place)) es)
-kind_left k kind es f place apart is = record {
-  literal = left_elsewhere k.literal kind Literal es f (stands_at place) (another_kind kind place.kind place.pattern place.name.now apart Literal) is.literal;
-  prefixed = left_elsewhere k.prefixed kind Prefixed es f (stands_at place) (another_kind kind place.kind place.pattern place.name.now apart Prefixed) is.prefixed;
+pub kind_left : (k : KindIndex) (kind : Kind) (es : List Numbered) (f : Filter) (acl_key : AclKey) → (kind_number kind == kind_number acl_key.kind) ≡ false → IsKindIndexed k kind es → IsKindIndexed k kind (filter (is_left f (stands_at acl_key)) es)
+kind_left k kind es f acl_key apart is = record {
+  literal = left_elsewhere k.literal kind Literal es f (stands_at acl_key) (another_kind kind acl_key.kind acl_key.pattern acl_key.name.now apart Literal) is.literal;
+  prefixed = left_elsewhere k.prefixed kind Prefixed es f (stands_at acl_key) (another_kind kind acl_key.kind acl_key.pattern acl_key.name.now apart Prefixed) is.prefixed;
 }
 
 -- ---- one place after the other
@@ -136,29 +136,29 @@ all_left : (es : List Numbered) → filter (λ e. true) es ≡ es
 all_left [] = refl
 all_left (e ∷ es) = ap (λ (l : List Numbered). e ∷ l) (all_left es)
 
-pub left_nowhere : (index : Index) (f : Filter) (es : List Numbered) → IsIndexed index es → IsIndexed index (filter (left_of f (stands_in [])) es)
+pub left_nowhere : (index : Index) (f : Filter) (es : List Numbered) → IsIndexed index es → IsIndexed index (filter (is_left f (stands_in [])) es)
 left_nowhere index f es is = subst (IsIndexed index) (sym (all_left es)) is
 
-left_both : (f : Filter) (A B : Numbered → Bool) (es : List Numbered) → filter (left_of f B) (filter (left_of f A) es) ≡ filter (left_of f (λ e. A e || B e)) es
+left_both : (f : Filter) (A B : Numbered → Bool) (es : List Numbered) → filter (is_left f B) (filter (is_left f A) es) ≡ filter (is_left f (λ e. A e || B e)) es
 left_both f A B es =
-    filter_both (left_of f A) (left_of f B) es
-    ∙ same_filter (λ e. left_of f A e && left_of f B e) (left_of f (λ e. A e || B e)) es (of_all _ es (λ e. by (A e) (B e) (picks f e))) where
+    filter_both (is_left f A) (is_left f B) es
+    ∙ same_filter (λ e. is_left f A e && is_left f B e) (is_left f (λ e. A e || B e)) es (of_all _ es (λ e. by (A e) (B e) (picks f e))) where
       by : (a b m : Bool) → (not (a && m) && not (b && m)) ≡ not ((a || b) && m)
       by true b true = refl
       by true true false = refl
       by true false false = refl
       by false b m = refl
 
-pub left_place : (index : Index) (f : Filter) (places : List Place) (i : ℕ) (d : Place) (es : List Numbered) → i < length places →
-    IsIndexed index (filter (left_of f (stands_at (get_or places i d))) (filter (left_of f (stands_in (take i places))) es)) → IsIndexed index (filter (left_of f (stands_in (take (i + 1) places))) es)
-left_place index f places i d es lt now =
+pub left_key : (index : Index) (f : Filter) (acl_keys : List AclKey) (i : ℕ) (d : AclKey) (es : List Numbered) → i < length acl_keys →
+    IsIndexed index (filter (is_left f (stands_at (get_or acl_keys i d))) (filter (is_left f (stands_in (take i acl_keys))) es)) → IsIndexed index (filter (is_left f (stands_in (take (i + 1) acl_keys))) es)
+left_key index f acl_keys i d es lt now =
     subst (IsIndexed index)
-    (left_both f (stands_in (take i places)) (stands_at (get_or places i d)) es
-    ∙ ap (λ (T : Numbered → Bool). filter (left_of f T) es) (λ j (e : Numbered). sym (list_any_more (λ (p : Place). stands_at p e) places i d lt) j)) now
+    (left_both f (stands_in (take i acl_keys)) (stands_at (get_or acl_keys i d)) es
+    ∙ ap (λ (T : Numbered → Bool). filter (is_left f T) es) (λ j (e : Numbered). sym (list_any_more (λ (p : AclKey). stands_at p e) acl_keys i d lt) j)) now
 
 -- all that the filter picks stands at the places
-pub left_all : (places : List Place) (f : Filter) (es : List Numbered) → AreAllAt (Some places) f → AllByRecursion IsNamed es → filter (left_of f (stands_in places)) es ≡ filter (stays f) es
-left_all places f es covers named = same_filter (left_of f (stands_in places)) (stays f) es (each_of IsNamed _ es (λ e n. by (stands_in places e) (picks f e) (covers e n)) named) where
+pub left_all : (acl_keys : List AclKey) (f : Filter) (es : List Numbered) → AreAllAt (Some acl_keys) f → AllByRecursion IsNamed es → filter (is_left f (stands_in acl_keys)) es ≡ filter (is_not_matched f) es
+left_all acl_keys f es covers named = same_filter (is_left f (stands_in acl_keys)) (is_not_matched f) es (each_of IsNamed _ es (λ e n. by (stands_in acl_keys e) (picks f e) (covers e n)) named) where
   by : (s m : Bool) → (m ≡ true → s ≡ true) → not (s && m) ≡ not m
   by true m h = refl
   by false false h = refl

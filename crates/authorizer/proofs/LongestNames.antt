@@ -22,11 +22,11 @@ use Rattle.acl_binding.specs.declared.words.Pattern.TheVariants.{Prefixed}
 use Rattle.acl_binding.specs.declared.binding.Numbered.{Numbered}
 use Rattle.acl_binding.specs.Words.{kind_number, pattern_number}
 use Rattle.authorizer.specs.AnyTopic.{is_of}
-use Rattle.authorizer.specs.Index.{rows, found, held_by, nonempty}
+use Rattle.authorizer.specs.Index.{rows, named_bindings, bindings_under, nonempty}
 use Rattle.authorizer.specs.Longest.{greatest, lengths, longest_name, IsLongest}
 use Rattle.authorizer.specs.declared.index.longest.Longest.{Longest}
 use Rattle.authorizer.specs.LookUps.{longest_prefix}
-use Rattle.authorizer.specs.Looking.{is_at, is_longer, about, IsTableOf}
+use Rattle.authorizer.specs.Looking.{is_at, is_longer, bindings_about, IsTableOf}
 use Rattle.authorizer.proofs.Longest.{own_le, rest_le, both_le, HasLeft}
 use Rattle.authorizer.proofs.Tables.{is_text, same_bytes}
 
@@ -37,32 +37,32 @@ key_lengths (e ∷ es) = ap (λ (ns : List ℕ). length (string_bytes e.0) ∷ n
 
 -- ---- what stands in a table
 
-found_within : (table : List (List ℕ × List Numbered)) (name : List ℕ) (held : List Numbered) → found table name ≡ Some held → length name ≤ longest_name table
+found_within : (table : List (List ℕ × List Numbered)) (name : List ℕ) (held : List Numbered) → named_bindings table name ≡ Some held → length name ≤ longest_name table
 found_within [] name held is = absurd (let clash : None ≡ Some held = is in cc)
 found_within (row ∷ table) name held is = by (bytes_eq name row.0) refl is (λ h. found_within table name held h) where
-  by : (r : Bool) → bytes_eq name row.0 ≡ r → cond r (Some row.1) (found table name) ≡ Some held → (found table name ≡ Some held → length name ≤ longest_name table) → length name ≤ longest_name (row ∷ table)
+  by : (r : Bool) → bytes_eq name row.0 ≡ r → cond r (Some row.1) (named_bindings table name) ≡ Some held → (named_bindings table name ≡ Some held → length name ≤ longest_name table) → length name ≤ longest_name (row ∷ table)
   by true e h among = let same : length name ≡ length row.0 = ap length (same_bytes name row.0 e) in let own = own_le (length row.0) (map (λ (r : List ℕ × List Numbered). length r.0) table) in omega arith
   by false e h among = let rest = among h in let more = rest_le (length row.0) (map (λ (r : List ℕ × List Numbered). length r.0) table) in omega arith
 
 -- nothing stands under a longer name
-pub too_long : (table : List (List ℕ × List Numbered)) (name : List ℕ) → longest_name table < length name → found table name ≡ None
-too_long table name long = by (found table name) refl where
-  by : (o : Option (List Numbered)) → found table name ≡ o → o ≡ None
+pub too_long : (table : List (List ℕ × List Numbered)) (name : List ℕ) → longest_name table < length name → named_bindings table name ≡ None
+too_long table name long = by (named_bindings table name) refl where
+  by : (o : Option (List Numbered)) → named_bindings table name ≡ o → o ≡ None
   by None e = refl
   by (Some held) e = absurd (let le = found_within table name held e in omega arith)
 
-pub none_held : (table : List (List ℕ × List Numbered)) (name : List ℕ) → longest_name table < length name → held_by table name ≡ []
+pub none_held : (table : List (List ℕ × List Numbered)) (name : List ℕ) → longest_name table < length name → bindings_under table name ≡ []
 none_held table name long = ap (λ (o : Option (List Numbered)). unwrap_or o []) (too_long table name long)
 
-table_within : (b : ℕ) (table : List (List ℕ × List Numbered)) → ((name : List ℕ) (held : List Numbered) → found table name ≡ Some held → length name ≤ b) → longest_name table ≤ b
+table_within : (b : ℕ) (table : List (List ℕ × List Numbered)) → ((name : List ℕ) (held : List Numbered) → named_bindings table name ≡ Some held → length name ≤ b) → longest_name table ≤ b
 table_within b [] within = omega arith
 table_within b (row ∷ table) within =
     both_le b (length row.0) (map (λ (r : List ℕ × List Numbered). length r.0) table)
-    (within row.0 row.1 (ap (λ (r : Bool). cond r (Some row.1) (found table row.0)) ((bytes_eq-Decides row.0 row.0).1 refl)))
+    (within row.0 row.1 (ap (λ (r : Bool). cond r (Some row.1) (named_bindings table row.0)) ((bytes_eq-Decides row.0 row.0).1 refl)))
     (table_within b table (λ name held is. by name held is (bytes_eq name row.0) refl)) where
-      by : (name : List ℕ) (held : List Numbered) → found table name ≡ Some held → (r : Bool) → bytes_eq name row.0 ≡ r → length name ≤ b
-      by name held is true e = within name row.1 (ap (λ (r : Bool). cond r (Some row.1) (found table name)) e)
-      by name held is false e = within name held (ap (λ (r : Bool). cond r (Some row.1) (found table name)) e ∙ is)
+      by : (name : List ℕ) (held : List Numbered) → named_bindings table name ≡ Some held → (r : Bool) → bytes_eq name row.0 ≡ r → length name ≤ b
+      by name held is true e = within name row.1 (ap (λ (r : Bool). cond r (Some row.1) (named_bindings table name)) e)
+      by name held is false e = within name held (ap (λ (r : Bool). cond r (Some row.1) (named_bindings table name)) e ∙ is)
 
 -- ---- what stands among bindings
 
@@ -77,14 +77,14 @@ parted kind pattern name e is = by (kind_number e.binding.kind == kind_number ki
   by true false c h = absurd (let clash : false ≡ true = h in cc)
   by false b c h = absurd (let clash : false ≡ true = h in cc)
 
-own_place : (kind : Kind) (pattern : Pattern) (e : Numbered) → is_of kind pattern e ≡ true → is_at kind pattern e.binding.name e ≡ true
-own_place kind pattern e is = by (kind_number e.binding.kind == kind_number kind) (pattern_number e.binding.pattern == pattern_number pattern) (bytes_eq e.binding.name e.binding.name) is ((bytes_eq-Decides e.binding.name e.binding.name).1 refl) where
+own_key : (kind : Kind) (pattern : Pattern) (e : Numbered) → is_of kind pattern e ≡ true → is_at kind pattern e.binding.name e ≡ true
+own_key kind pattern e is = by (kind_number e.binding.kind == kind_number kind) (pattern_number e.binding.pattern == pattern_number pattern) (bytes_eq e.binding.name e.binding.name) is ((bytes_eq-Decides e.binding.name e.binding.name).1 refl) where
   by : (a b c : Bool) → (a && b) ≡ true → c ≡ true → (a && (b && c)) ≡ true
   by true true c h k = k
   by true false c h k = absurd (let clash : false ≡ true = h in cc)
   by false b c h k = absurd (let clash : false ≡ true = h in cc)
 
-about_within : (kind : Kind) (pattern : Pattern) (name : List ℕ) (es : List Numbered) (held : List Numbered) → nonempty (about kind pattern name es) ≡ Some held → length name ≤ greatest (map size (filter (is_of kind pattern) es))
+about_within : (kind : Kind) (pattern : Pattern) (name : List ℕ) (es : List Numbered) (held : List Numbered) → nonempty (bindings_about kind pattern name es) ≡ Some held → length name ≤ greatest (map size (filter (is_of kind pattern) es))
 about_within kind pattern name [] held is = absurd (let clash : None ≡ Some held = is in cc)
 about_within kind pattern name (e ∷ es) held is = by (is_at kind pattern name e) refl is (λ h. about_within kind pattern name es held h) where
   some : ℕ
@@ -94,7 +94,7 @@ about_within kind pattern name (e ∷ es) held is = by (is_at kind pattern name 
   rest true more = let le = rest_le (size e) (map size (filter (is_of kind pattern) es)) in omega arith
   rest false more = more
 
-  by : (r : Bool) → is_at kind pattern name e ≡ r → nonempty (cond r (e ∷ about kind pattern name es) (about kind pattern name es)) ≡ Some held → (nonempty (about kind pattern name es) ≡ Some held → length name ≤ some) →
+  by : (r : Bool) → is_at kind pattern name e ≡ r → nonempty (cond r (e ∷ bindings_about kind pattern name es) (bindings_about kind pattern name es)) ≡ Some held → (nonempty (bindings_about kind pattern name es) ≡ Some held → length name ≤ some) →
       length name ≤ greatest (map size (filter (is_of kind pattern) (e ∷ es)))
   by true at h among =
       let parts = parted kind pattern name e at in
@@ -109,15 +109,15 @@ about_within kind pattern name (e ∷ es) held is = by (is_at kind pattern name 
 abbrev pub AreWithin : Kind → Pattern → ℕ → List Numbered → Type 0
 AreWithin kind pattern b es = AllByRecursion (λ (e : Numbered). is_of kind pattern e ≡ true → length e.binding.name ≤ b) es
 
-each_within : (kind : Kind) (pattern : Pattern) (b : ℕ) (es : List Numbered) → ((name : List ℕ) (held : List Numbered) → nonempty (about kind pattern name es) ≡ Some held → length name ≤ b) → AreWithin kind pattern b es
+each_within : (kind : Kind) (pattern : Pattern) (b : ℕ) (es : List Numbered) → ((name : List ℕ) (held : List Numbered) → nonempty (bindings_about kind pattern name es) ≡ Some held → length name ≤ b) → AreWithin kind pattern b es
 each_within kind pattern b [] within = tt
 each_within kind pattern b (e ∷ es) within = (
-  λ is. within e.binding.name (e ∷ about kind pattern e.binding.name es) (ap (λ (r : Bool). nonempty (cond r (e ∷ about kind pattern e.binding.name es) (about kind pattern e.binding.name es))) (own_place kind pattern e is)),
+  λ is. within e.binding.name (e ∷ bindings_about kind pattern e.binding.name es) (ap (λ (r : Bool). nonempty (cond r (e ∷ bindings_about kind pattern e.binding.name es) (bindings_about kind pattern e.binding.name es))) (own_key kind pattern e is)),
   each_within kind pattern b es (λ name held is. by name held is (is_at kind pattern name e) refl),
 ) where
-  by : (name : List ℕ) (held : List Numbered) → nonempty (about kind pattern name es) ≡ Some held → (r : Bool) → is_at kind pattern name e ≡ r → length name ≤ b
-  by name held is true at = within name (e ∷ about kind pattern name es) (ap (λ (r : Bool). nonempty (cond r (e ∷ about kind pattern name es) (about kind pattern name es))) at)
-  by name held is false at = within name held (ap (λ (r : Bool). nonempty (cond r (e ∷ about kind pattern name es) (about kind pattern name es))) at ∙ is)
+  by : (name : List ℕ) (held : List Numbered) → nonempty (bindings_about kind pattern name es) ≡ Some held → (r : Bool) → is_at kind pattern name e ≡ r → length name ≤ b
+  by name held is true at = within name (e ∷ bindings_about kind pattern name es) (ap (λ (r : Bool). nonempty (cond r (e ∷ bindings_about kind pattern name es) (bindings_about kind pattern name es))) at)
+  by name held is false at = within name held (ap (λ (r : Bool). nonempty (cond r (e ∷ bindings_about kind pattern name es) (bindings_about kind pattern name es))) at ∙ is)
 
 greatest_within : (kind : Kind) (pattern : Pattern) (b : ℕ) (es : List Numbered) → AreWithin kind pattern b es → greatest (map size (filter (is_of kind pattern) es)) ≤ b
 greatest_within kind pattern b [] within = omega arith

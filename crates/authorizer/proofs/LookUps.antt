@@ -8,10 +8,10 @@ use Rattle.std.proofs.lemmas.Str.{IsUtf8-drop, len_utf8_bounds, chars_past_char}
 use Rattle.acl_binding.specs.declared.words.Pattern.TheVariants.{Prefixed}
 use Rattle.acl_binding.specs.declared.binding.Numbered.{Numbered}
 use Rattle.acl_binding.specs.declared.question.Question.{Question}
-use Rattle.authorizer.specs.Index.{held_by}
+use Rattle.authorizer.specs.Index.{bindings_under}
 use Rattle.authorizer.specs.Longest.{longest_name}
 use Rattle.authorizer.specs.LookUps.{beginnings_within, look_ups, longest_prefix, LookUpsAreFew}
-use Rattle.authorizer.specs.Looking.{finding, joined, is_longer, IsNamed, IsTableOf}
+use Rattle.authorizer.specs.Looking.{finding_of, combined_finding, is_longer, IsNamed, IsTableOf}
 use Rattle.authorizer.specs.Policy.{PolicyValue, is_super}
 use Rattle.authorizer.specs.declared.looking.Finding.{Finding}
 use Rattle.authorizer.proofs.Findings.{joined_nothing}
@@ -89,12 +89,12 @@ counted_out name rest longest k c text boundary next lt =
 pub look_past : (table : List (List ℕ × List Numbered)) (es : List Numbered) (q : Question) (f : Finding) (rest : List ℕ) (k c : ℕ) →
     AllByRecursion IsNamed es → IsTableOf table q.kind Prefixed es → IsCharBoundary q.name k → drop k q.name ≡ encode_utf8 c ++ rest →
     length (take (k + len_utf8 c) q.name) ≡ k + len_utf8 c → longest_name table < k + len_utf8 c →
-    joined f (finding (filter (is_longer q.kind q.name k) es) q) ≡ f
+    combined_finding f (finding_of (filter (is_longer q.kind q.name k) es) q) ≡ f
 look_past table es q f rest k c named is boundary next whole lt =
-    let far : List Numbered = held_by table (take (k + len_utf8 c) q.name) in
+    let far : List Numbered = bindings_under table (take (k + len_utf8 c) q.name) in
     let none : far ≡ [] = none_held table (take (k + len_utf8 c) q.name) (omega arith) in
     let longer : filter (is_longer q.kind q.name (k + len_utf8 c)) es ≡ [] = none_longer q.kind q.name (longest_name table) (k + len_utf8 c) es (omega arith) (all_within table q.kind Prefixed es is) in
     sym (look_step table es q f rest k c named is boundary next)
-    ∙ ap (λ (h : List Numbered). joined (joined f (finding h q)) (finding (filter (is_longer q.kind q.name (k + len_utf8 c)) es) q)) none
-    ∙ ap (λ (l : List Numbered). joined (joined f (finding [] q)) (finding l q)) longer
-    ∙ joined_nothing (joined f (finding [] q)) ∙ joined_nothing f
+    ∙ ap (λ (h : List Numbered). combined_finding (combined_finding f (finding_of h q)) (finding_of (filter (is_longer q.kind q.name (k + len_utf8 c)) es) q)) none
+    ∙ ap (λ (l : List Numbered). combined_finding (combined_finding f (finding_of [] q)) (finding_of l q)) longer
+    ∙ joined_nothing (combined_finding f (finding_of [] q)) ∙ joined_nothing f

@@ -11,15 +11,15 @@ use Rattle.acl_binding.specs.declared.words.Pattern.{Pattern}
 use Rattle.acl_binding.specs.declared.binding.Numbered.{Numbered}
 use Rattle.acl_binding.specs.declared.question.Question.{Question}
 use Rattle.acl_binding.specs.Words.{kind_number, pattern_number}
-use Rattle.authorizer.specs.Index.{held_by}
-use Rattle.authorizer.specs.Looking.{finding, joined, is_at, is_longer, about, IsNamed, IsTableOf}
+use Rattle.authorizer.specs.Index.{bindings_under}
+use Rattle.authorizer.specs.Looking.{finding_of, combined_finding, is_at, is_longer, bindings_about, IsNamed, IsTableOf}
 use Rattle.authorizer.specs.declared.looking.Finding.{Finding}
 use Rattle.authorizer.proofs.Findings.{joined_assoc, joined_nothing, joined_parts, same_filter, no_filter, each_of}
 use Rattle.authorizer.proofs.Indexing.{unwrapped}
 use Rattle.authorizer.proofs.Prefixes.{longer_step, not_longer}
 
-pub held_about : (table : List (List ℕ × List Numbered)) (kind : Kind) (pattern : Pattern) (es : List Numbered) (name : List ℕ) → IsTableOf table kind pattern es → held_by table name ≡ about kind pattern name es
-held_about table kind pattern es name is = ap (λ (o : Option (List Numbered)). unwrap_or o []) (is name) ∙ unwrapped (about kind pattern name es)
+pub held_about : (table : List (List ℕ × List Numbered)) (kind : Kind) (pattern : Pattern) (es : List Numbered) (name : List ℕ) → IsTableOf table kind pattern es → bindings_under table name ≡ bindings_about kind pattern name es
+held_about table kind pattern es name is = ap (λ (o : Option (List Numbered)). unwrap_or o []) (is name) ∙ unwrapped (bindings_about kind pattern name es)
 
 and_or : (a b x y : Bool) → ((a && (b && x)) || (a && (b && y))) ≡ (a && (b && (x || y)))
 and_or true true x y = refl
@@ -37,20 +37,20 @@ one_longer kind name rest k c e text boundary next =
 
 pub look_step : (table : List (List ℕ × List Numbered)) (es : List Numbered) (q : Question) (f : Finding) (rest : List ℕ) (k c : ℕ) →
     AllByRecursion IsNamed es → IsTableOf table q.kind Prefixed es → IsCharBoundary q.name k → drop k q.name ≡ encode_utf8 c ++ rest →
-    joined (joined f (finding (held_by table (take (k + len_utf8 c) q.name)) q)) (finding (filter (is_longer q.kind q.name (k + len_utf8 c)) es) q) ≡ joined f (finding (filter (is_longer q.kind q.name k) es) q)
+    combined_finding (combined_finding f (finding_of (bindings_under table (take (k + len_utf8 c) q.name)) q)) (finding_of (filter (is_longer q.kind q.name (k + len_utf8 c)) es) q) ≡ combined_finding f (finding_of (filter (is_longer q.kind q.name k) es) q)
 look_step table es q f rest k c named is boundary next =
     joined_assoc f _ _
-    ∙ ap (joined f) (
-    ap (λ (h : List Numbered). joined (finding h q) (finding (filter (is_longer q.kind q.name (k + len_utf8 c)) es) q)) (held_about table q.kind Prefixed es (take (k + len_utf8 c) q.name) is)
+    ∙ ap (combined_finding f) (
+    ap (λ (h : List Numbered). combined_finding (finding_of h q) (finding_of (filter (is_longer q.kind q.name (k + len_utf8 c)) es) q)) (held_about table q.kind Prefixed es (take (k + len_utf8 c) q.name) is)
     ∙ joined_parts (is_at q.kind Prefixed (take (k + len_utf8 c) q.name)) (is_longer q.kind q.name (k + len_utf8 c)) es q
-    ∙ ap (λ (l : List Numbered). finding l q) (same_filter _ (is_longer q.kind q.name k) es (each_of IsNamed _ es (λ e n. one_longer q.kind q.name rest k c e n.text boundary next) named)))
+    ∙ ap (λ (l : List Numbered). finding_of l q) (same_filter _ (is_longer q.kind q.name k) es (each_of IsNamed _ es (λ e n. one_longer q.kind q.name rest k c e n.text boundary next) named)))
 
 -- nothing is longer than the name
-pub look_end : (es : List Numbered) (q : Question) (f : Finding) (k : ℕ) → length q.name ≤ k → joined f (finding (filter (is_longer q.kind q.name k) es) q) ≡ f
-look_end es q f k le = ap (λ (l : List Numbered). joined f (finding l q)) (no_filter (is_longer q.kind q.name k) es (λ e. not_longer (kind_number e.binding.kind == kind_number q.kind) (pattern_number e.binding.pattern == 4) q.name e.binding.name k le)) ∙ joined_nothing f
+pub look_end : (es : List Numbered) (q : Question) (f : Finding) (k : ℕ) → length q.name ≤ k → combined_finding f (finding_of (filter (is_longer q.kind q.name k) es) q) ≡ f
+look_end es q f k le = ap (λ (l : List Numbered). combined_finding f (finding_of l q)) (no_filter (is_longer q.kind q.name k) es (λ e. not_longer (kind_number e.binding.kind == kind_number q.kind) (pattern_number e.binding.pattern == 4) q.name e.binding.name k le)) ∙ joined_nothing f
 
-pub look_begin : (es : List Numbered) (q : Question) (f : Finding) → f ≡ record { denied = None; allowed = false } → joined f (finding (filter (is_longer q.kind q.name 0) es) q) ≡ finding (filter (is_longer q.kind q.name 0) es) q
-look_begin es q f is = ap (λ (g : Finding). joined g (finding (filter (is_longer q.kind q.name 0) es) q)) is
+pub look_begin : (es : List Numbered) (q : Question) (f : Finding) → f ≡ record { denied = None; allowed = false } → combined_finding f (finding_of (filter (is_longer q.kind q.name 0) es) q) ≡ finding_of (filter (is_longer q.kind q.name 0) es) q
+look_begin es q f is = ap (λ (g : Finding). combined_finding g (finding_of (filter (is_longer q.kind q.name 0) es) q)) is
 
 pub end_reached : (name : List ℕ) (k : ℕ) → length (drop k name) ≡ 0 → length name ≤ k
 end_reached name k h = let size : length (drop k name) ≡ length name - k = length-drop k name in omega arith

@@ -11,51 +11,51 @@ use Rattle.acl_binding.specs.declared.binding.Binding.{Binding}
 use Rattle.acl_binding.specs.declared.binding.Numbered.{Numbered}
 use Rattle.acl_binding.specs.declared.filter.Filter.{Filter}
 use Rattle.acl_binding.specs.Binding.{same_binding}
-use Rattle.acl_binding.specs.Book.{BookValue, IsBook, IsRising, AreBelow, AreDistinct, number_of, appended}
-use Rattle.acl_binding.specs.Filter.{stays, removed}
+use Rattle.acl_binding.specs.Book.{BookValue, IsBook, IsRising, AreBelow, AreDistinct, number_of, with_new_binding}
+use Rattle.acl_binding.specs.Filter.{is_not_matched, without_matching}
 use Rattle.acl_binding.proofs.Kept.{rising_filter, below_filter, distinct_filter, absent_filter}
 use Rattle.acl_binding.proofs.Rising.{rising_from_less, rising_push, below_push, distinct_push}
 use Rattle.acl_binding.proofs.Same.{same_is_equal}
 use Rattle.authorizer.specs.Contents.{says_same, IsContentsOf, HasForgotten}
-use Rattle.authorizer.specs.Picking.{numbered, without, picks}
+use Rattle.authorizer.specs.Picking.{under_numbers, without_numbers, picks}
 
 -- ---- by number
 
 -- a number above all others comes last
-pub numbered_last : (es : List Numbered) (n : ℕ) (e : Numbered) → AreBelow n es → insert_entry nat_cmp (numbered es) n e ≡ numbered es ++ (n, e) ∷ []
+pub numbered_last : (es : List Numbered) (n : ℕ) (e : Numbered) → AreBelow n es → insert_entry nat_cmp (under_numbers es) n e ≡ under_numbers es ++ (n, e) ∷ []
 numbered_last [] n e below = refl
 numbered_last (x ∷ es) n e below =
-    ap (λ (o : Ordering). match_ordering o ((n, e) ∷ numbered (x ∷ es)) ((x.number, e) ∷ numbered es) ((x.number, x) ∷ insert_entry nat_cmp (numbered es) n e)) (sym (nat_cmp_is n x.number Greater below.0))
+    ap (λ (o : Ordering). match_ordering o ((n, e) ∷ under_numbers (x ∷ es)) ((x.number, e) ∷ under_numbers es) ((x.number, x) ∷ insert_entry nat_cmp (under_numbers es) n e)) (sym (nat_cmp_is n x.number Greater below.0))
     ∙ ap (λ (l : List (ℕ × Numbered)). (x.number, x) ∷ l) (numbered_last es n e below.1)
 
 -- and is taken out again
-pub last_undone : (es : List Numbered) (n : ℕ) (e : Numbered) → AreBelow n es → remove_entry (is_key (nat_cmp n)) (numbered es ++ (n, e) ∷ []) ≡ numbered es
+pub last_undone : (es : List Numbered) (n : ℕ) (e : Numbered) → AreBelow n es → remove_entry (is_key (nat_cmp n)) (under_numbers es ++ (n, e) ∷ []) ≡ under_numbers es
 last_undone [] n e below = ap (λ (o : Ordering). cond (is_eq o) [] ((n, e) ∷ [])) (sym (nat_cmp_is n n Equal refl))
 last_undone (x ∷ es) n e below =
-    ap (λ (o : Ordering). cond (is_eq o) (numbered es ++ (n, e) ∷ []) ((x.number, x) ∷ remove_entry (is_key (nat_cmp n)) (numbered es ++ (n, e) ∷ []))) (sym (nat_cmp_is n x.number Greater below.0))
+    ap (λ (o : Ordering). cond (is_eq o) (under_numbers es ++ (n, e) ∷ []) ((x.number, x) ∷ remove_entry (is_key (nat_cmp n)) (under_numbers es ++ (n, e) ∷ []))) (sym (nat_cmp_is n x.number Greater below.0))
     ∙ ap (λ (l : List (ℕ × Numbered)). (x.number, x) ∷ l) (last_undone es n e below.1)
 
--- what has greater numbers is taken out behind it
-without_behind : (ys : List Numbered) (e : Numbered) (table : List (ℕ × Numbered)) → IsRising (e.number + 1) ys → without ((e.number, e) ∷ table) (keys_of (numbered ys)) ≡ (e.number, e) ∷ without table (keys_of (numbered ys))
-without_behind [] e table rising = refl
-without_behind (y ∷ ys) e table rising =
+-- what has greater numbers is taken out after it
+without_after : (ys : List Numbered) (e : Numbered) (table : List (ℕ × Numbered)) → IsRising (e.number + 1) ys → without_numbers ((e.number, e) ∷ table) (keys_of (under_numbers ys)) ≡ (e.number, e) ∷ without_numbers table (keys_of (under_numbers ys))
+without_after [] e table rising = refl
+without_after (y ∷ ys) e table rising =
     let above : e.number < y.number = let least = rising.0 in omega arith in
     let later : e.number + 1 ≤ y.number + 1 = omega arith in
-    ap (λ (o : Ordering). without (cond (is_eq o) table ((e.number, e) ∷ remove_entry (is_key (nat_cmp y.number)) table)) (keys_of (numbered ys))) (sym (nat_cmp_is y.number e.number Greater above))
-    ∙ without_behind ys e (remove_entry (is_key (nat_cmp y.number)) table) (rising_from_less ys (e.number + 1) (y.number + 1) later rising.1)
+    ap (λ (o : Ordering). without_numbers (cond (is_eq o) table ((e.number, e) ∷ remove_entry (is_key (nat_cmp y.number)) table)) (keys_of (under_numbers ys))) (sym (nat_cmp_is y.number e.number Greater above))
+    ∙ without_after ys e (remove_entry (is_key (nat_cmp y.number)) table) (rising_from_less ys (e.number + 1) (y.number + 1) later rising.1)
 
-taken_out : (f : Filter) (es : List Numbered) (low : ℕ) → IsRising low es → without (numbered es) (keys_of (numbered (filter (picks f) es))) ≡ numbered (filter (stays f) es)
+taken_out : (f : Filter) (es : List Numbered) (low : ℕ) → IsRising low es → without_numbers (under_numbers es) (keys_of (under_numbers (filter (picks f) es))) ≡ under_numbers (filter (is_not_matched f) es)
 taken_out f [] low rising = refl
 taken_out f (e ∷ es) low rising = by (picks f e) (taken_out f es (e.number + 1) rising.1) where
-  by : (t : Bool) → without (numbered es) (keys_of (numbered (filter (picks f) es))) ≡ numbered (filter (stays f) es) →
-      without ((e.number, e) ∷ numbered es) (keys_of (numbered (cond t (e ∷ filter (picks f) es) (filter (picks f) es)))) ≡ numbered (cond (not t) (e ∷ filter (stays f) es) (filter (stays f) es))
-  by true rest = ap (λ (o : Ordering). without (cond (is_eq o) (numbered es) ((e.number, e) ∷ remove_entry (is_key (nat_cmp e.number)) (numbered es))) (keys_of (numbered (filter (picks f) es)))) (sym (nat_cmp_is e.number e.number Equal refl)) ∙ rest
-  by false rest = without_behind (filter (picks f) es) e (numbered es) (rising_filter (picks f) es (e.number + 1) rising.1) ∙ ap (λ (l : List (ℕ × Numbered)). (e.number, e) ∷ l) rest
+  by : (t : Bool) → without_numbers (under_numbers es) (keys_of (under_numbers (filter (picks f) es))) ≡ under_numbers (filter (is_not_matched f) es) →
+      without_numbers ((e.number, e) ∷ under_numbers es) (keys_of (under_numbers (cond t (e ∷ filter (picks f) es) (filter (picks f) es)))) ≡ under_numbers (cond (not t) (e ∷ filter (is_not_matched f) es) (filter (is_not_matched f) es))
+  by true rest = ap (λ (o : Ordering). without_numbers (cond (is_eq o) (under_numbers es) ((e.number, e) ∷ remove_entry (is_key (nat_cmp e.number)) (under_numbers es))) (keys_of (under_numbers (filter (picks f) es)))) (sym (nat_cmp_is e.number e.number Equal refl)) ∙ rest
+  by false rest = without_after (filter (picks f) es) e (under_numbers es) (rising_filter (picks f) es (e.number + 1) rising.1) ∙ ap (λ (l : List (ℕ × Numbered)). (e.number, e) ∷ l) rest
 
-pub left_numbers : (f : Filter) (es : List Numbered) (old new picked : List (ℕ × Numbered)) → IsRising 1 es → old ≡ numbered es → picked ≡ numbered (filter (picks f) es) → new ≡ without old (keys_of picked) → new ≡ numbered (filter (stays f) es)
-left_numbers f es old new picked rising was is less = less ∙ (λ i. without (was i) (keys_of (is i))) ∙ taken_out f es 1 rising
+pub left_numbers : (f : Filter) (es : List Numbered) (old new picked : List (ℕ × Numbered)) → IsRising 1 es → old ≡ under_numbers es → picked ≡ under_numbers (filter (picks f) es) → new ≡ without_numbers old (keys_of picked) → new ≡ under_numbers (filter (is_not_matched f) es)
+left_numbers f es old new picked rising was is less = less ∙ (λ i. without_numbers (was i) (keys_of (is i))) ∙ taken_out f es 1 rising
 
-pub values_back : (es : List Numbered) → values_of (numbered es) ≡ es
+pub values_back : (es : List Numbered) → values_of (under_numbers es) ≡ es
 values_back [] = refl
 values_back (e ∷ es) = ap (λ (l : List Numbered). e ∷ l) (values_back es)
 
@@ -118,7 +118,7 @@ number_left p (e ∷ es) b distinct = by (same_binding e.binding b) (p e) refl (
   by false true apart rest = ap (λ (t : Bool). cond (t || is_said (filter p es) b) None (number_of es b)) apart ∙ rest
   by false false apart rest = rest ∙ sym (ap (λ (t : Bool). cond t (Some e.number) (number_of others b)) apart)
 
-pub left_contents : (f : Filter) (es picked : List Numbered) (old new : List (Numbered × ℕ)) → AreDistinct es → picked ≡ filter (picks f) es → HasForgotten old new picked → IsContentsOf old es → IsContentsOf new (filter (stays f) es)
+pub left_contents : (f : Filter) (es picked : List Numbered) (old new : List (Numbered × ℕ)) → AreDistinct es → picked ≡ filter (picks f) es → HasForgotten old new picked → IsContentsOf old es → IsContentsOf new (filter (is_not_matched f) es)
 left_contents f es picked old new distinct is less was x =
     less x ∙ (λ i. cond (is_said (is i) x.binding) None (was x i)) ∙ number_left (picks f) es x.binding distinct
 
@@ -131,7 +131,7 @@ forgets_one false false now next initial less so_far = less ∙ so_far
 
 -- ---- the book
 
-pub book_more : (book : BookValue) (b : Binding) → IsBook book → number_of book.entries b ≡ None → IsBook (appended book b)
+pub book_more : (book : BookValue) (b : Binding) → IsBook book → number_of book.entries b ≡ None → IsBook (with_new_binding book b)
 book_more book b is absent = record {
   rising = rising_push book.entries 1 book.next b is.first is.rising is.below;
   below = below_push book.entries book.next b is.below;
@@ -139,10 +139,10 @@ book_more book b is absent = record {
   distinct = distinct_push book.entries book.next b is.distinct absent;
 }
 
-pub book_less : (book : BookValue) (f : Filter) → IsBook book → IsBook (removed book f)
+pub book_less : (book : BookValue) (f : Filter) → IsBook book → IsBook (without_matching book f)
 book_less book f is = record {
-  rising = rising_filter (stays f) book.entries 1 is.rising;
-  below = below_filter (stays f) book.entries book.next is.below;
+  rising = rising_filter (is_not_matched f) book.entries 1 is.rising;
+  below = below_filter (is_not_matched f) book.entries book.next is.below;
   first = is.first;
-  distinct = distinct_filter (stays f) book.entries is.distinct;
+  distinct = distinct_filter (is_not_matched f) book.entries is.distinct;
 }

@@ -12,7 +12,7 @@ use Rattle.acl_binding.specs.declared.words.Permission.TheVariants as permission
 use Rattle.acl_binding.specs.Book.{empty_book}
 use Rattle.authorizer.specs.AnyTopic.{any_topic}
 use Rattle.authorizer.specs.Asking.{Rules}
-use Rattle.authorizer.specs.Tally.{raised, counted}
+use Rattle.authorizer.specs.Tally.{count_after, count_after_parts}
 
 -- ---- what is counted, where no binding stands and `a` is a super user
 
@@ -27,15 +27,15 @@ abbrev by_another : Question
 by_another = record { who = 98 ∷ []; host = []; op = operations.Read; kind = kinds.Topic; name = 116 ∷ [] }
 
 -- a part of two questions and one of one
-three : counted root_alone 0 ((by_root ∷ by_root ∷ []) ∷ (by_root ∷ []) ∷ []) ≡ 3
+three : count_after_parts root_alone 0 ((by_root ∷ by_root ∷ []) ∷ (by_root ∷ []) ∷ []) ≡ 3
 three = refl
 
 -- for a part that is refused nothing is spent, though one of its questions is granted
-none_for_a_refused_part : counted root_alone 0 ((by_root ∷ by_another ∷ []) ∷ []) ≡ 0
+none_for_a_refused_part : count_after_parts root_alone 0 ((by_root ∷ by_another ∷ []) ∷ []) ≡ 0
 none_for_a_refused_part = refl
 
 -- at its end it stands still
-no_further : raised 18446744073709551615 (by_root ∷ []) ≡ 18446744073709551615
+no_further : count_after 18446744073709551615 (by_root ∷ []) ≡ 18446744073709551615
 no_further = refl
 
 -- ---- whether ann may write to some topic

@@ -16,7 +16,7 @@ use Rattle.acl_binding.specs.Binding.{star, applies, denies, allows}
 use Rattle.acl_binding.specs.Relations.{Applies, Denies}
 use Rattle.acl_binding.proofs.Same.{both, kind_one, pattern_one, same_number, same_bytes, itself_number, itself_bytes}
 use Rattle.acl_binding.proofs.Relations.{or_first, or_second, front_is, front_of, does_apply, is_applied, does_deny, is_denied, does_allow, is_allowed}
-use Rattle.authorizer.specs.AnyTopic.{is_topics, lets_write, bars_write, is_star, begins, is_same_literal, takes_name, stands_over, is_barred, any_topic}
+use Rattle.authorizer.specs.AnyTopic.{is_topics, lets_write, bars_write, is_star, is_prefix_of, is_same_literal, takes_name, stands_over, is_overridden_by_deny, any_topic}
 use Rattle.authorizer.specs.SomeTopic.{IsBound, IsForAll, TakesName, LeavesNoName, MayWriteSomeTopic, SomeTopicIsExact}
 
 -- ---- tests of one or two bindings
@@ -51,8 +51,8 @@ not_star b other = by_test (is_star b) refl where
   by_test false is = refl
 
 takes_is : (b other : Binding) → takes_name b other ≡ true → TakesName b other
-takes_is b other h = by_case (or_cases (begins b other) (is_same_literal b other) h) where
-  by_case : (begins b other ≡ true) ⊎ (is_same_literal b other ≡ true) → TakesName b other
+takes_is b other h = by_case (or_cases (is_prefix_of b other) (is_same_literal b other) h) where
+  by_case : (is_prefix_of b other ≡ true) ⊎ (is_same_literal b other ≡ true) → TakesName b other
   by_case (inl front) =
       let parts = both (pattern_number b.pattern == pattern_number Prefixed) (starts_with nat_eq other.name b.name) front in
       inl (same_pattern b.pattern Prefixed parts.0, front_is b.name other.name parts.1)
@@ -63,12 +63,12 @@ takes_is b other h = by_case (or_cases (begins b other) (is_same_literal b other
 
 takes_of : (b other : Binding) → TakesName b other → takes_name b other ≡ true
 takes_of b other (inl h) =
-    or_first (begins b other) (is_same_literal b other)
+    or_first (is_prefix_of b other) (is_same_literal b other)
     (and_from (pattern_number b.pattern == pattern_number Prefixed) (starts_with nat_eq other.name b.name)
     (own_pattern b.pattern Prefixed h.0)
     (ap (λ (n : List ℕ). starts_with nat_eq n b.name) h.1.1 ∙ front_of b.name h.1.0))
 takes_of b other (inr h) =
-    or_second (begins b other) (is_same_literal b other)
+    or_second (is_prefix_of b other) (is_same_literal b other)
     (and_from (pattern_number b.pattern == pattern_number Literal) ((pattern_number other.pattern == pattern_number Literal) && bytes_eq b.name other.name)
     (own_pattern b.pattern Literal h.0)
     (and_from (pattern_number other.pattern == pattern_number Literal) (bytes_eq b.name other.name)
@@ -116,9 +116,9 @@ abbrev bars : List ℕ → List ℕ → Binding → Binding → Bool
 bars who host allow b = is_topics b && (bars_write who host b && stands_over b allow)
 
 abbrev lets : List Numbered → List ℕ → List ℕ → Binding → Bool
-lets es who host b = is_topics b && (lets_write who host b && not (is_barred es who host b))
+lets es who host b = is_topics b && (lets_write who host b && not (is_overridden_by_deny es who host b))
 
-unbarred_is : (es : List Numbered) (who host : List ℕ) (allow : Binding) → is_barred es who host allow ≡ false
+unbarred_is : (es : List Numbered) (who host : List ℕ) (allow : Binding) → is_overridden_by_deny es who host allow ≡ false
     → (deny : Binding) → IsBound es deny → deny.kind ≡ Topic → Applies deny who host → Denies deny Write → LeavesNoName deny allow → ⊥
 unbarred_is es who host allow none deny bound topics applies_to denies_it over =
     true≢false (sym (some_of (bars who host allow) es deny bound
@@ -128,9 +128,9 @@ unbarred_is es who host allow none deny bound topics applies_to denies_it over =
     (over_of deny allow over)))) ∙ none)
 
 not_barred : (es : List Numbered) (who host : List ℕ) (allow : Binding)
-    → ((deny : Binding) → IsBound es deny → deny.kind ≡ Topic → Applies deny who host → Denies deny Write → LeavesNoName deny allow → ⊥) → is_barred es who host allow ≡ false
-not_barred es who host allow unbarred = by_test (is_barred es who host allow) refl where
-  by_test : (t : Bool) → is_barred es who host allow ≡ t → t ≡ false
+    → ((deny : Binding) → IsBound es deny → deny.kind ≡ Topic → Applies deny who host → Denies deny Write → LeavesNoName deny allow → ⊥) → is_overridden_by_deny es who host allow ≡ false
+not_barred es who host allow unbarred = by_test (is_overridden_by_deny es who host allow) refl where
+  by_test : (t : Bool) → is_overridden_by_deny es who host allow ≡ t → t ≡ false
   by_test false h = refl
   by_test true h =
       let some = some_is (bars who host allow) es h in
@@ -144,8 +144,8 @@ may_is : (es : List Numbered) (who host : List ℕ) → any_topic es who host �
 may_is es who host h =
     let some = some_is (lets es who host) es h in
     let b = some.binding in
-    let topics = both (is_topics b) (lets_write who host b && not (is_barred es who host b)) some.passes in
-    let free = both (lets_write who host b) (not (is_barred es who host b)) topics.1 in
+    let topics = both (is_topics b) (lets_write who host b && not (is_overridden_by_deny es who host b)) some.passes in
+    let free = both (lets_write who host b) (not (is_overridden_by_deny es who host b)) topics.1 in
     let writes = both (applies b who host) (allows b Write) free.0 in
     record {
       allow = b;
@@ -153,14 +153,14 @@ may_is es who host h =
       topics = topics_is b topics.0;
       applies = does_apply b who host writes.0;
       allows = does_allow b Write writes.1;
-      unbarred = unbarred_is es who host b (not-true (is_barred es who host b) free.1);
+      unbarred = unbarred_is es who host b (not-true (is_overridden_by_deny es who host b) free.1);
     }
 
 may_of : (es : List Numbered) (who host : List ℕ) → MayWriteSomeTopic es who host → any_topic es who host ≡ true
 may_of es who host h =
     some_of (lets es who host) es h.allow h.bound
-    (and_from (is_topics h.allow) (lets_write who host h.allow && not (is_barred es who host h.allow)) (is_topics_of h.allow h.topics)
-    (and_from (lets_write who host h.allow) (not (is_barred es who host h.allow))
+    (and_from (is_topics h.allow) (lets_write who host h.allow && not (is_overridden_by_deny es who host h.allow)) (is_topics_of h.allow h.topics)
+    (and_from (lets_write who host h.allow) (not (is_overridden_by_deny es who host h.allow))
     (and_from (applies h.allow who host) (allows h.allow Write) (is_applied h.allow who host h.applies) (is_allowed h.allow Write h.allows))
     (ap not (not_barred es who host h.allow h.unbarred))))
 

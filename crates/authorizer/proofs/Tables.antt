@@ -15,14 +15,14 @@ use Rattle.std.proofs.lemmas.Bool.Decides.{nat_tests}
 use Rattle.std.proofs.lemmas.Slice.Eq.{bytes_eq-Decides}
 use Rattle.acl_binding.specs.declared.binding.Numbered.{Numbered}
 use Rattle.acl_binding.specs.declared.filter.Filter.{Filter}
-use Rattle.acl_binding.specs.Filter.{stays}
-use Rattle.authorizer.specs.Index.{rows, found, nonempty, HasMore, HasSame, HasLessAt}
+use Rattle.acl_binding.specs.Filter.{is_not_matched}
+use Rattle.authorizer.specs.Index.{rows, named_bindings, nonempty, HasMore, HasSame, HasLessAt}
 
 -- the test by which the bytes are looked up
 abbrev pub is_text : List ℕ → String Global → Bool
 is_text bs k = bytes_eq bs (string_bytes k)
 
-pub found_rows : (es : List (String Global × List Numbered)) (name : List ℕ) → lookup (is_text name) es ≡ found (rows es) name
+pub found_rows : (es : List (String Global × List Numbered)) (name : List ℕ) → lookup (is_text name) es ≡ named_bindings (rows es) name
 found_rows [] name = refl
 found_rows (e ∷ es) name = ap (λ (o : Option (List Numbered)). cond (bytes_eq name (string_bytes e.0)) (Some e.1) o) (found_rows es name)
 
@@ -35,7 +35,7 @@ pub has_more : (m n : List (String Global × List Numbered)) (name : List ℕ) (
 has_more m n name held entry changed is other =
     sym (found_rows n other) ∙ changed other
     ∙ ap (λ (o : Option (List Numbered)). cond (bytes_eq name other) (Some held) o) (found_rows m other)
-    ∙ ap (λ (h : List Numbered). cond (bytes_eq name other) (Some h) (found (rows m) other)) (is ∙ ap (λ (o : Option (List Numbered)). unwrap_or o [] ++ entry ∷ []) (found_rows m name))
+    ∙ ap (λ (h : List Numbered). cond (bytes_eq name other) (Some h) (named_bindings (rows m) other)) (is ∙ ap (λ (o : Option (List Numbered)). unwrap_or o [] ++ entry ∷ []) (found_rows m name))
 
 pub has_same : (m n : List (String Global × List Numbered)) (name : List ℕ) (held : List Numbered) →
     ((other : List ℕ) → lookup (is_text other) n ≡ cond (bytes_eq name other) (Some held) (lookup (is_text other) m)) →
@@ -94,27 +94,27 @@ lookup_retained T s f says name (e ∷ es) kept apart h =
 -- the name, cleaned, and the others as they were
 less_by : (m n : List (String Global × List Numbered)) (name : List ℕ) (f : Filter) (left : Option (List Numbered)) →
     ((other : List ℕ) → lookup (is_text other) n ≡ cond (bytes_eq name other) left (lookup (is_text other) m)) →
-    left ≡ option_and_then (λ held. nonempty (filter (stays f) held)) (lookup (is_text name) m) → HasLessAt (rows m) (rows n) name f
+    left ≡ option_and_then (λ held. nonempty (filter (is_not_matched f) held)) (lookup (is_text name) m) → HasLessAt (rows m) (rows n) name f
 less_by m n name f left changed is other = sym (found_rows n other) ∙ changed other ∙ by (bytes_eq name other) refl where
-  by : (b : Bool) → bytes_eq name other ≡ b → cond b left (lookup (is_text other) m) ≡ cond b (option_and_then (λ held. nonempty (filter (stays f) held)) (found (rows m) other)) (found (rows m) other)
-  by true same = is ∙ ap (option_and_then (λ held. nonempty (filter (stays f) held))) (ap (λ (t : List ℕ). lookup (is_text t) m) (same_bytes name other same) ∙ found_rows m other)
+  by : (b : Bool) → bytes_eq name other ≡ b → cond b left (lookup (is_text other) m) ≡ cond b (option_and_then (λ held. nonempty (filter (is_not_matched f) held)) (named_bindings (rows m) other)) (named_bindings (rows m) other)
+  by true same = is ∙ ap (option_and_then (λ held. nonempty (filter (is_not_matched f) held))) (ap (λ (t : List ℕ). lookup (is_text t) m) (same_bytes name other same) ∙ found_rows m other)
   by false apart = found_rows m other
 
-cleaned : (m : List (String Global × List Numbered)) (name : List ℕ) (f : Filter) (v held : List Numbered) → Some v ≡ lookup (is_text name) m → held ≡ filter (stays f) v →
-    nonempty held ≡ option_and_then (λ held. nonempty (filter (stays f) held)) (lookup (is_text name) m)
-cleaned m name f v held was left = ap nonempty left ∙ ap (option_and_then (λ held. nonempty (filter (stays f) held))) was
+cleaned : (m : List (String Global × List Numbered)) (name : List ℕ) (f : Filter) (v held : List Numbered) → Some v ≡ lookup (is_text name) m → held ≡ filter (is_not_matched f) v →
+    nonempty held ≡ option_and_then (λ held. nonempty (filter (is_not_matched f) held)) (lookup (is_text name) m)
+cleaned m name f v held was left = ap nonempty left ∙ ap (option_and_then (λ held. nonempty (filter (is_not_matched f) held))) was
 
 -- something of the name is left
 pub less_kept : (m n : List (String Global × List Numbered)) (name : List ℕ) (f : Filter) (v held : List Numbered) →
     ((other : List ℕ) → lookup (is_text other) n ≡ cond (bytes_eq name other) (Some held) (lookup (is_text other) m)) →
-    Some v ≡ lookup (is_text name) m → held ≡ filter (stays f) v → true ≡ not (nat_eq (length held) 0) → HasLessAt (rows m) (rows n) name f
+    Some v ≡ lookup (is_text name) m → held ≡ filter (is_not_matched f) v → true ≡ not (nat_eq (length held) 0) → HasLessAt (rows m) (rows n) name f
 less_kept m n name f v held changed was left any = less_by m n name f (Some held) changed (left_some held any ∙ cleaned m name f v held was left)
 
 -- nothing of it is left
 pub less_gone : (m o n : List (String Global × List Numbered)) (name : List ℕ) (f : Filter) (v held : List Numbered) →
     ((other : List ℕ) → lookup (is_text other) o ≡ cond (bytes_eq name other) (Some held) (lookup (is_text other) m)) →
     ((other : List ℕ) → lookup (is_text other) n ≡ cond (bytes_eq name other) None (lookup (is_text other) o)) →
-    Some v ≡ lookup (is_text name) m → held ≡ filter (stays f) v → false ≡ not (nat_eq (length held) 0) → HasLessAt (rows m) (rows n) name f
+    Some v ≡ lookup (is_text name) m → held ≡ filter (is_not_matched f) v → false ≡ not (nat_eq (length held) 0) → HasLessAt (rows m) (rows n) name f
 less_gone m o n name f v held written gone was left none =
     less_by m n name f None (λ other. gone other ∙ ap (cond (bytes_eq name other) None) (written other) ∙ twice (bytes_eq name other) (lookup (is_text other) m)) (left_none held none ∙ cleaned m name f v held was left) where
       twice : (b : Bool) (rest : Option (List Numbered)) → cond b None (cond b (Some held) rest) ≡ cond b None rest
@@ -123,7 +123,7 @@ less_gone m o n name f v held written gone was left none =
 
 -- the name isn't there
 pub less_absent : (m : List (String Global × List Numbered)) (name : List ℕ) (f : Filter) → None ≡ lookup (is_text name) m → HasLessAt (rows m) (rows m) name f
-less_absent m name f none = less_by m m name f None (λ other. by other (bytes_eq name other) refl) (ap (option_and_then (λ held. nonempty (filter (stays f) held))) none) where
+less_absent m name f none = less_by m m name f None (λ other. by other (bytes_eq name other) refl) (ap (option_and_then (λ held. nonempty (filter (is_not_matched f) held))) none) where
   by : (other : List ℕ) (b : Bool) → bytes_eq name other ≡ b → lookup (is_text other) m ≡ cond b None (lookup (is_text other) m)
   by other true same = ap (λ (t : List ℕ). lookup (is_text t) m) (sym (same_bytes name other same)) ∙ sym none
   by other false apart = refl

@@ -20,9 +20,9 @@ use Rattle.acl_binding.specs.declared.binding.Binding.{Binding}
 use Rattle.acl_binding.specs.declared.binding.Numbered.{Numbered}
 use Rattle.acl_binding.specs.Words.{kind_number, pattern_number}
 use Rattle.acl_binding.specs.Binding.{star}
-use Rattle.authorizer.specs.AnyTopic.{is_topics, bars_write, is_star, takes_name, stands_over, is_barred, is_barred_by_name, is_of}
-use Rattle.authorizer.specs.Index.{rows, held_by, nonempty}
-use Rattle.authorizer.specs.Looking.{is_at, is_longer, about, IsNamed, IsTableOf, IsKindIndexed}
+use Rattle.authorizer.specs.AnyTopic.{is_topics, bars_write, is_star, takes_name, stands_over, is_overridden_by_deny, is_overridden_by_name, is_of}
+use Rattle.authorizer.specs.Index.{rows, bindings_under, nonempty}
+use Rattle.authorizer.specs.Looking.{is_at, is_longer, bindings_about, IsNamed, IsTableOf, IsKindIndexed}
 use Rattle.authorizer.specs.declared.index.KindIndex.{KindIndex}
 use Rattle.authorizer.proofs.Findings.{allowed_parts, same_filter, no_filter, each_of}
 use Rattle.authorizer.proofs.Looked.{held_about, one_longer}
@@ -68,7 +68,7 @@ both_ways false false there back = refl
 
 bar_step : (p : Numbered → Bool) (table : List (List ℕ × List Numbered)) (es : List Numbered) (name rest : List ℕ) (k c : ℕ) →
     AllByRecursion IsNamed es → IsTableOf table Topic Prefixed es → IsCharBoundary name k → drop k name ≡ encode_utf8 c ++ rest →
-    (list_any p (held_by table (take (k + len_utf8 c) name)) || list_any p (filter (is_longer Topic name (k + len_utf8 c)) es)) ≡ list_any p (filter (is_longer Topic name k) es)
+    (list_any p (bindings_under table (take (k + len_utf8 c) name)) || list_any p (filter (is_longer Topic name (k + len_utf8 c)) es)) ≡ list_any p (filter (is_longer Topic name k) es)
 bar_step p table es name rest k c named is boundary next =
     ap (λ (h : List Numbered). list_any p h || list_any p (filter (is_longer Topic name (k + len_utf8 c)) es)) (held_about table Topic Prefixed es (take (k + len_utf8 c) name) is)
     ∙ allowed_parts (is_at Topic Prefixed (take (k + len_utf8 c) name)) (is_longer Topic name (k + len_utf8 c)) p es
@@ -77,14 +77,14 @@ bar_step p table es name rest k c named is boundary next =
 -- it bars
 pub bar_here : (p : Numbered → Bool) (table : List (List ℕ × List Numbered)) (es : List Numbered) (name rest : List ℕ) (k c : ℕ) →
     AllByRecursion IsNamed es → IsTableOf table Topic Prefixed es → IsCharBoundary name k → drop k name ≡ encode_utf8 c ++ rest →
-    list_any p (held_by table (take (k + len_utf8 c) name)) ≡ true → list_any p (filter (is_longer Topic name k) es) ≡ true
+    list_any p (bindings_under table (take (k + len_utf8 c) name)) ≡ true → list_any p (filter (is_longer Topic name k) es) ≡ true
 bar_here p table es name rest k c named is boundary next here =
     sym (bar_step p table es name rest k c named is boundary next) ∙ or_left _ _ here
 
 -- it doesn't
 pub bar_later : (p : Numbered → Bool) (table : List (List ℕ × List Numbered)) (es : List Numbered) (name rest : List ℕ) (k c : ℕ) →
     AllByRecursion IsNamed es → IsTableOf table Topic Prefixed es → IsCharBoundary name k → drop k name ≡ encode_utf8 c ++ rest →
-    list_any p (held_by table (take (k + len_utf8 c) name)) ≡ false → list_any p (filter (is_longer Topic name (k + len_utf8 c)) es) ≡ list_any p (filter (is_longer Topic name k) es)
+    list_any p (bindings_under table (take (k + len_utf8 c) name)) ≡ false → list_any p (filter (is_longer Topic name (k + len_utf8 c)) es) ≡ list_any p (filter (is_longer Topic name k) es)
 bar_later p table es name rest k c named is boundary next here =
     sym (ap (λ (b : Bool). b || list_any p (filter (is_longer Topic name (k + len_utf8 c)) es)) here) ∙ bar_step p table es name rest k c named is boundary next
 
@@ -146,7 +146,7 @@ module _ (k : KindIndex) (es : List Numbered) (who host : List ℕ) (b : Binding
   own = pattern_number b.pattern == pattern_number Literal
 
   -- the names that are looked up for a binding
-  pub barred_by_name : AllByRecursion IsNamed es → ((own && list_any bars (held_by k.literal b.name)) || list_any bars (filter (is_longer Topic b.name 0) es)) ≡ is_barred_by_name es who host b
+  pub barred_by_name : AllByRecursion IsNamed es → ((own && list_any bars (bindings_under k.literal b.name)) || list_any bars (filter (is_longer Topic b.name 0) es)) ≡ is_overridden_by_name es who host b
   barred_by_name named =
       (λ i. (own && here i) || any_filtered (is_longer Topic b.name 0) bars es i)
       ∙ ap (λ (x : Bool). x || list_any (λ e. is_longer Topic b.name 0 e && bars e) es) (any_given own (λ e. is_at Topic Literal b.name e && bars e) es)
@@ -154,7 +154,7 @@ module _ (k : KindIndex) (es : List Numbered) (who host : List ℕ) (b : Binding
       ∙ any_same _ _ es (each_of IsNamed _ es (λ e n.
       takes (is_topics e.binding) (pattern_number e.binding.pattern == pattern_number Literal) (pattern_number e.binding.pattern == pattern_number Prefixed)
       (bytes_eq e.binding.name b.name) (starts_with nat_eq b.name e.binding.name) (nat_lt 0 (length e.binding.name)) (bars e) own (long e n)) named) where
-        here : list_any bars (held_by k.literal b.name) ≡ list_any (λ e. is_at Topic Literal b.name e && bars e) es
+        here : list_any bars (bindings_under k.literal b.name) ≡ list_any (λ e. is_at Topic Literal b.name e && bars e) es
         here = ap (list_any bars) (held_about k.literal Topic Literal es b.name is.literal) ∙ any_filtered (is_at Topic Literal b.name) bars es
 
         long : (e : Numbered) → IsNamed e → (pattern_number e.binding.pattern == pattern_number Prefixed) ≡ true → nat_lt 0 (length e.binding.name) ≡ true
@@ -164,12 +164,12 @@ module _ (k : KindIndex) (es : List Numbered) (who host : List ℕ) (b : Binding
           prefixed Prefixed is = refl
 
   -- ... and `*`
-  pub barred_by : (list_any bars (held_by k.literal star) || (not (is_star b) && is_barred_by_name es who host b)) ≡ is_barred es who host b
+  pub barred_by : (list_any bars (bindings_under k.literal star) || (not (is_star b) && is_overridden_by_name es who host b)) ≡ is_overridden_by_deny es who host b
   barred_by =
       (λ i. every i || any_given (not (is_star b)) (λ e. is_topics e.binding && (bars e && takes_name e.binding b)) es i)
       ∙ any_either (λ e. is_at Topic Literal star e && bars e) (λ e. not (is_star b) && (is_topics e.binding && (bars e && takes_name e.binding b))) es
       ∙ any_same _ _ es (of_all es) where
-        every : list_any bars (held_by k.literal star) ≡ list_any (λ e. is_at Topic Literal star e && bars e) es
+        every : list_any bars (bindings_under k.literal star) ≡ list_any (λ e. is_at Topic Literal star e && bars e) es
         every = ap (list_any bars) (held_about k.literal Topic Literal es star is.literal) ∙ any_filtered (is_at Topic Literal star) bars es
 
         of_all : (es : List Numbered) → AllByRecursion (λ (e : Numbered). ((is_at Topic Literal star e && bars e) || (not (is_star b) && (is_topics e.binding && (bars e && takes_name e.binding b)))) ≡ (is_topics e.binding && (bars e && stands_over e.binding b))) es
@@ -229,7 +229,7 @@ any_of_table p table kind pattern es apart is = both_ways _ _ there back where
   there : list_any (λ (row : List ℕ × List Numbered). list_any p row.1) (rows table) ≡ true → list_any (λ (e : Numbered). is_of kind pattern e && p e) es ≡ true
   there any =
       let row = any_row p table apart any in
-      let held : about kind pattern row.0 es ≡ row.1 = filled _ _ (sym (is row.0) ∙ sym (found_rows table row.0) ∙ row.2) in
+      let held : bindings_about kind pattern row.0 es ≡ row.1 = filled _ _ (sym (is row.0) ∙ sym (found_rows table row.0) ∙ row.2) in
       any_weaker (λ e. is_at kind pattern row.0 e && p e) _ es (λ e h. weaker (kind_number e.binding.kind == kind_number kind) (pattern_number e.binding.pattern == pattern_number pattern) (bytes_eq e.binding.name row.0) (p e) h)
       (sym (any_filtered (is_at kind pattern row.0) p es) ∙ ap (list_any p) held ∙ row.3) where
         weaker : (k t n x : Bool) → ((k && (t && n)) && x) ≡ true → ((k && t) && x) ≡ true
@@ -242,10 +242,10 @@ any_of_table p table kind pattern es apart is = both_ways _ _ there back where
   back any =
       let it = Any-from_list_any (λ (e : Numbered). is_of kind pattern e && p e) es any in
       let name = it.1.binding.name in
-      let here : list_any p (about kind pattern name es) ≡ true =
+      let here : list_any p (bindings_about kind pattern name es) ≡ true =
       any_filtered (is_at kind pattern name) p es
       ∙ list_any-from_Any (λ e. is_at kind pattern name e && p e) es (it.0, it.1, it.2, it.3, named (kind_number it.1.binding.kind == kind_number kind) (pattern_number it.1.binding.pattern == pattern_number pattern) (bytes_eq it.1.binding.name name) (p it.1) (nat_list_eq_equiv.refl name) it.4) in
-      row_passes p table name (about kind pattern name es) (found_rows table name ∙ is name ∙ is_filled p _ here) here where
+      row_passes p table name (bindings_about kind pattern name es) (found_rows table name ∙ is name ∙ is_filled p _ here) here where
         named : (k t n x : Bool) → n ≡ true → ((k && t) && x) ≡ true → ((k && (t && n)) && x) ≡ true
         named true true true x is h = h
         named true true false x is h = absurd (true≢false (sym is))

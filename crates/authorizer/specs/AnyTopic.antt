@@ -29,8 +29,8 @@ abbrev pub is_star : Binding → Bool
 is_star b = (pattern_number b.pattern == pattern_number Literal) && bytes_eq b.name star
 
 -- the binding is prefixed, and its name begins that of the other
-abbrev pub begins : Binding → Binding → Bool
-begins b other = (pattern_number b.pattern == pattern_number Prefixed) && starts_with nat_eq other.name b.name
+abbrev pub is_prefix_of : Binding → Binding → Bool
+is_prefix_of b other = (pattern_number b.pattern == pattern_number Prefixed) && starts_with nat_eq other.name b.name
 
 -- both are for the same literal name
 abbrev pub is_same_literal : Binding → Binding → Bool
@@ -38,23 +38,23 @@ is_same_literal b other = (pattern_number b.pattern == pattern_number Literal) &
 
 -- the name of the one begins that of the other, or both are for the same literal name
 abbrev pub takes_name : Binding → Binding → Bool
-takes_name b other = begins b other || is_same_literal b other
+takes_name b other = is_prefix_of b other || is_same_literal b other
 
 -- a DENY stands over an ALLOW that it leaves no name: it is for each name; or the ALLOW isn't, and the DENY takes its name
 abbrev pub stands_over : Binding → Binding → Bool
 stands_over deny allow = is_star deny || (not (is_star allow) && takes_name deny allow)
 
 -- some DENY of writing stands over the ALLOW
-abbrev pub is_barred : List Numbered → List ℕ → List ℕ → Binding → Bool
-is_barred es who host allow = list_any (λ (e : Numbered). is_topics e.binding && (bars_write who host e.binding && stands_over e.binding allow)) es
+abbrev pub is_overridden_by_deny : List Numbered → List ℕ → List ℕ → Binding → Bool
+is_overridden_by_deny es who host allow = list_any (λ (e : Numbered). is_topics e.binding && (bars_write who host e.binding && stands_over e.binding allow)) es
 
 -- some DENY of writing takes the ALLOW's name
-abbrev pub is_barred_by_name : List Numbered → List ℕ → List ℕ → Binding → Bool
-is_barred_by_name es who host allow = list_any (λ (e : Numbered). is_topics e.binding && (bars_write who host e.binding && takes_name e.binding allow)) es
+abbrev pub is_overridden_by_name : List Numbered → List ℕ → List ℕ → Binding → Bool
+is_overridden_by_name es who host allow = list_any (λ (e : Numbered). is_topics e.binding && (bars_write who host e.binding && takes_name e.binding allow)) es
 
 -- the binding is an ALLOW of writing with no DENY over it
 abbrev pub is_unbarred : List Numbered → List ℕ → List ℕ → Numbered → Bool
-is_unbarred es who host e = lets_write who host e.binding && not (is_barred es who host e.binding)
+is_unbarred es who host e = lets_write who host e.binding && not (is_overridden_by_deny es who host e.binding)
 
 -- it has this kind and pattern
 abbrev pub is_of : Kind → Pattern → Numbered → Bool

@@ -35,12 +35,12 @@ says_same_laws =
     (on_equiv (λ (e : Numbered). permission_number e.binding.permission) nat_eq_equiv))))))
 
 -- what is hashed of it: the words by their numbers, and the texts
-abbrev pub said : Numbered → HashWrites
-said e =
+abbrev pub hash_writes_of : Numbered → HashWrites
+hash_writes_of e =
     fed.i8 (kind_code e.binding.kind) ++ (fed.str e.binding.name ++ (fed.i8 (pattern_code e.binding.pattern)
     ++ (fed.str e.binding.principal ++ (fed.str e.binding.host ++ (fed.i8 (operation_code e.binding.operation) ++ fed.i8 (permission_code e.binding.permission))))))
 
-pub said_alike : Alike says_same said
+pub said_alike : Alike says_same hash_writes_of
 unfolding kind_code pattern_code operation_code permission_code
 said_alike =
     and-Alike (on_Alike (λ (e : Numbered). kind_number e.binding.kind) (same_Alike (λ (n : ℕ). fed.i8 (pos n)) unsigned_Decides))

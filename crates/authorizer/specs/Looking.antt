@@ -9,8 +9,8 @@ use Rattle.acl_binding.specs.declared.words.Pattern.TheVariants.{Literal, Prefix
 use Rattle.acl_binding.specs.declared.binding.Numbered.{Numbered}
 use Rattle.acl_binding.specs.declared.question.Question.{Question}
 use Rattle.acl_binding.specs.Words.{kind_number, pattern_number}
-use Rattle.acl_binding.specs.Verdict.{any_grant, denials, least, lesser}
-use Rattle.authorizer.specs.Index.{found, nonempty}
+use Rattle.acl_binding.specs.Verdict.{any_grant, denials, least_of, lesser_of}
+use Rattle.authorizer.specs.Index.{named_bindings, nonempty}
 use Rattle.authorizer.specs.declared.index.KindIndex.{KindIndex}
 use Rattle.authorizer.specs.declared.index.Index.{Index}
 use Rattle.authorizer.specs.declared.looking.Finding.{Finding}
@@ -20,12 +20,12 @@ abbrev pub is_at : Kind → Pattern → List ℕ → Numbered → Bool
 is_at kind pattern name e = (kind_number e.binding.kind == kind_number kind) && ((pattern_number e.binding.pattern == pattern_number pattern) && bytes_eq e.binding.name name)
 
 -- the bindings of this kind, pattern and name, in creation order
-abbrev pub about : Kind → Pattern → List ℕ → List Numbered → List Numbered
-about kind pattern name es = filter (is_at kind pattern name) es
+abbrev pub bindings_about : Kind → Pattern → List ℕ → List Numbered → List Numbered
+bindings_about kind pattern name es = filter (is_at kind pattern name) es
 
 -- the table has each name's bindings, and no name without any
 abbrev pub IsTableOf : List (List ℕ × List Numbered) → Kind → Pattern → List Numbered → Type 0
-IsTableOf table kind pattern es = (name : List ℕ) → found table name ≡ nonempty (about kind pattern name es)
+IsTableOf table kind pattern es = (name : List ℕ) → named_bindings table name ≡ nonempty (bindings_about kind pattern name es)
 
 pub record IsKindIndexed (k : KindIndex) (kind : Kind) (es : List Numbered) : Type 0 where
   pub literal : IsTableOf k.literal kind Literal es
@@ -55,16 +55,16 @@ pub record IsNamed (e : Numbered) : Type 0 where
 
 -- ---- what some bindings say of a question
 
-abbrev pub finding : List Numbered → Question → Finding
-finding es q = record { denied = least (denials es q); allowed = any_grant es q }
+abbrev pub finding_of : List Numbered → Question → Finding
+finding_of es q = record { denied = least_of (denials es q); allowed = any_grant es q }
 
 -- the lesser of those that are there
-abbrev pub sooner : Option ℕ → Option ℕ → Option ℕ
-sooner None b = b
-sooner (Some a) b = Some (lesser a b)
+abbrev pub min_some : Option ℕ → Option ℕ → Option ℕ
+min_some None b = b
+min_some (Some a) b = Some (lesser_of a b)
 
-abbrev pub joined : Finding → Finding → Finding
-joined a b = record { denied = sooner a.denied b.denied; allowed = a.allowed || b.allowed }
+abbrev pub combined_finding : Finding → Finding → Finding
+combined_finding a b = record { denied = min_some a.denied b.denied; allowed = a.allowed || b.allowed }
 
 -- a prefixed binding whose name begins the name, and is longer than k bytes
 abbrev pub is_longer : Kind → List ℕ → ℕ → Numbered → Bool

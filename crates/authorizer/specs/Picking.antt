@@ -14,21 +14,21 @@ use Rattle.acl_binding.specs.Words.{kind_number}
 use Rattle.acl_binding.specs.Binding.{star}
 use Rattle.acl_binding.specs.Filter.{matches}
 use Rattle.authorizer.specs.Looking.{is_at, is_longer, IsNamed}
-use Rattle.authorizer.specs.declared.place.Place.{Place}
+use Rattle.authorizer.specs.declared.acl_key.AclKey.{AclKey}
 
 -- the bindings under their numbers
-abbrev pub numbered : List Numbered → List (ℕ × Numbered)
-numbered es = map (λ (e : Numbered). (e.number, e)) es
+abbrev pub under_numbers : List Numbered → List (ℕ × Numbered)
+under_numbers es = map (λ (e : Numbered). (e.number, e)) es
 
 -- the table with one binding after the other, each in its place
-abbrev pub entered : List (ℕ × Numbered) → List Numbered → List (ℕ × Numbered)
-entered table [] = table
-entered table (e ∷ es) = entered (insert_entry nat_cmp table e.number e) es
+abbrev pub with_entries : List (ℕ × Numbered) → List Numbered → List (ℕ × Numbered)
+with_entries table [] = table
+with_entries table (e ∷ es) = with_entries (insert_entry nat_cmp table e.number e) es
 
 -- the table without the bindings of these numbers
-abbrev pub without : List (ℕ × Numbered) → List ℕ → List (ℕ × Numbered)
-without table [] = table
-without table (n ∷ ns) = without (remove_entry (is_key (nat_cmp n)) table) ns
+abbrev pub without_numbers : List (ℕ × Numbered) → List ℕ → List (ℕ × Numbered)
+without_numbers table [] = table
+without_numbers table (n ∷ ns) = without_numbers (remove_entry (is_key (nat_cmp n)) table) ns
 
 -- the filter picks it
 abbrev pub picks : Filter → Numbered → Bool
@@ -37,21 +37,21 @@ picks f e = matches f e.binding
 -- where those of the bindings stood in the table that pass some test, there stand now also those that are looked at and
 -- that the filter picks
 abbrev pub HasPicked : List (ℕ × Numbered) → List (ℕ × Numbered) → Filter → List Numbered → (Numbered → Bool) → Type 0
-HasPicked old new f es looked = (test : Numbered → Bool) → old ≡ numbered (filter test es) → new ≡ numbered (filter (λ e. test e || (looked e && picks f e)) es)
+HasPicked old new f es looked = (test : Numbered → Bool) → old ≡ under_numbers (filter test es) → new ≡ under_numbers (filter (λ e. test e || (looked e && picks f e)) es)
 
 -- what is left where of those that are looked at the filter's are taken out
-abbrev pub left_of : Filter → (Numbered → Bool) → Numbered → Bool
-left_of f looked e = not (looked e && picks f e)
+abbrev pub is_left : Filter → (Numbered → Bool) → Numbered → Bool
+is_left f looked e = not (looked e && picks f e)
 
 -- ---- where bindings stand
 
 -- the binding stands at the place
-abbrev pub stands_at : Place → Numbered → Bool
-stands_at place e = is_at place.kind place.pattern place.name.now e
+abbrev pub stands_at : AclKey → Numbered → Bool
+stands_at acl_key e = is_at acl_key.kind acl_key.pattern acl_key.name.now e
 
 -- the binding stands at one of the places
-abbrev pub stands_in : List Place → Numbered → Bool
-stands_in places e = list_any (λ place. stands_at place e) places
+abbrev pub stands_in : List AclKey → Numbered → Bool
+stands_in acl_keys e = list_any (λ acl_key. stands_at acl_key e) acl_keys
 
 -- where those of a kind stand that such a pattern with this name picks: under the name, and for MATCH also under `*` and
 -- under the name's beginnings
@@ -62,9 +62,9 @@ stands_under wanted.Literal kind name e = is_at kind Literal name e
 stands_under wanted.Prefixed kind name e = is_at kind Prefixed name e
 
 -- each binding that the filter picks stands at one of the places, where there are any
-abbrev pub AreAllAt : Option (List Place) → Filter → Type 0
+abbrev pub AreAllAt : Option (List AclKey) → Filter → Type 0
 AreAllAt None f = Unit {0}
-AreAllAt (Some places) f = (e : Numbered) → IsNamed e → picks f e ≡ true → stands_in places e ≡ true
+AreAllAt (Some acl_keys) f = (e : Numbered) → IsNamed e → picks f e ≡ true → stands_in acl_keys e ≡ true
 
 -- it is of this kind
 abbrev pub is_of_kind : Kind → Numbered → Bool

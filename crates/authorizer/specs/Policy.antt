@@ -7,9 +7,9 @@ use Rattle.acl_binding.specs.declared.binding.Binding.{Binding}
 use Rattle.acl_binding.specs.declared.question.Question.{Question}
 use Rattle.acl_binding.specs.declared.question.Verdict.{Verdict}
 use Rattle.acl_binding.specs.declared.question.Verdict.TheVariants.{Yes}
-use Rattle.acl_binding.specs.Book.{BookValue, empty_book, added, number_of}
+use Rattle.acl_binding.specs.Book.{BookValue, empty_book, with_binding, number_of}
 use Rattle.acl_binding.specs.declared.filter.Filter.{Filter}
-use Rattle.acl_binding.specs.Filter.{matching, removed}
+use Rattle.acl_binding.specs.Filter.{matching_bindings, without_matching}
 use Rattle.acl_binding.specs.Verdict.{verdict_of}
 
 pub record PolicyValue : Type 0 where
@@ -44,15 +44,15 @@ edit_after_adding policy b = if is_some (number_of policy.book.entries b) then p
 
 -- the policy with the binding added
 abbrev pub policy_added : PolicyValue → Binding → PolicyValue
-policy_added policy b = record policy { book = added policy.book b; edit = edit_after_adding policy b }
+policy_added policy b = record policy { book = with_binding policy.book b; edit = edit_after_adding policy b }
 
 -- the edit number after taking out what the filter picks: it rises exactly where that is anything
 abbrev pub edit_after_removing : PolicyValue → Filter → ℕ
-edit_after_removing policy f = if nat_eq (length (matching policy.book.entries f)) 0 then policy.edit else policy.edit + 1
+edit_after_removing policy f = if nat_eq (length (matching_bindings policy.book.entries f)) 0 then policy.edit else policy.edit + 1
 
 -- the policy without the bindings that the filter picks
 abbrev pub policy_removed : PolicyValue → Filter → PolicyValue
-policy_removed policy f = record policy { book = removed policy.book f; edit = edit_after_removing policy f }
+policy_removed policy f = record policy { book = without_matching policy.book f; edit = edit_after_removing policy f }
 
 -- ---- permits
 
@@ -74,4 +74,4 @@ pub record IsGranted (policy : PolicyValue) (question : Question) (permit : Perm
 -- no permit of before a change of the book is good after it
 pub record PermitEndsWithEdit : Type 0 where
   pub added : (policy : PolicyValue) (b : Binding) (permit : PermitValue) → IsGood policy permit → number_of policy.book.entries b ≡ None → ¬ IsGood (policy_added policy b) permit
-  pub taken_out : (policy : PolicyValue) (f : Filter) (permit : PermitValue) → IsGood policy permit → 0 < length (matching policy.book.entries f) → ¬ IsGood (policy_removed policy f) permit
+  pub taken_out : (policy : PolicyValue) (f : Filter) (permit : PermitValue) → IsGood policy permit → 0 < length (matching_bindings policy.book.entries f) → ¬ IsGood (policy_removed policy f) permit

@@ -5,7 +5,7 @@ use acl_binding::Question;
 
 /// Why a question was refused.
 #[derive(Clone, Copy, Debug, PartialEq, Eq)]
-pub enum Why {
+pub enum DenyReason {
     /// The creation number of the first binding that denies it.
     Denied(u64),
     /// No binding allows it.
@@ -16,7 +16,7 @@ pub enum Why {
 #[derive(Clone, Debug, Drop)]
 pub struct Refusal {
     pub question: Question,
-    pub why: Why,
+    pub why: DenyReason,
 }
 
 /// A permit, which must be spent or declined, or a refusal.

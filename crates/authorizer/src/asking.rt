@@ -58,7 +58,8 @@ pub fn ask_settled(policy: &Policy, settled: Settled) -> Result<Permit, Refusal>
 /// Both permits, or the first refusal, where the first question was settled.
 pub fn ask_two(policy: &Policy, first: Settled, second: Question) -> Result<TwoPermits, Refusal>
     requires { IsSettled policy.now first }
-    ensures granted { IfOk result (λ permits. AreBothGranted policy.now first.question second permits) }
+    ensures granted { IfOk result
+        (λ permits. AreBothGranted policy.now first.question second permits) }
     ensures yes { OnOk result (AreYes policy.now (first.question ∷ second ∷ [])) }
     ensures refused { IfErr result (IsRefusalOf policy.now (first.question ∷ second ∷ [])) }
 {
@@ -81,9 +82,11 @@ pub fn ask_three(
 ) -> Result<ThreePermits, Refusal>
     requires first { IsSettled policy.now first }
     requires second { IsSettled policy.now second }
-    ensures granted { IfOk result (AreThreeGranted policy.now first.question second.question third) }
+    ensures granted { IfOk result
+        (AreThreeGranted policy.now first.question second.question third) }
     ensures yes { OnOk result (AreYes policy.now (first.question ∷ second.question ∷ third ∷ [])) }
-    ensures refused { IfErr result (IsRefusalOf policy.now (first.question ∷ second.question ∷ third ∷ [])) }
+    ensures refused { IfErr result
+        (IsRefusalOf policy.now (first.question ∷ second.question ∷ third ∷ [])) }
 {
     let first = ask_settled(policy, first)?;
     match ask_two(policy, second, third) {
@@ -111,9 +114,12 @@ pub fn ask_given(
     last: Question,
 ) -> Result<GivenPermits, Refusal>
     requires { IsSettledIfGiven policy.now given }
-    ensures granted { IfOk result (λ permits. AreGivenGranted policy.now (settled_question given) last permits) }
-    ensures yes { OnOk result (AreYes policy.now (cons_option (settled_question given) (last ∷ []))) }
-    ensures refused { IfErr result (IsRefusalOf policy.now (cons_option (settled_question given) (last ∷ []))) }
+    ensures granted { IfOk result
+        (λ permits. AreGivenGranted policy.now (settled_question given) last permits) }
+    ensures yes { OnOk result
+        (AreYes policy.now (cons_option (settled_question given) (last ∷ []))) }
+    ensures refused { IfErr result
+        (IsRefusalOf policy.now (cons_option (settled_question given) (last ∷ []))) }
 {
     match given {
         Some(given) => {

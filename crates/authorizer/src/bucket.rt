@@ -2,7 +2,7 @@
 
 ghost use Rattle.std.specs.Prelude.{◌≡◌, [], ◌∷◌, ◌++◌, length, nat_eq, not, is_ok, if◌then◌else◌, IfOk, filter as kept};
 ghost use Rattle.std.specs.List.{list_any};
-ghost use Rattle.acl_binding.specs.Filter.{stays};
+ghost use Rattle.acl_binding.specs.Filter.{is_not_matched};
 ghost use Rattle.authorizer.specs.AnyTopic.{is_unbarred};
 
 use crate::indexed::IndexedBook;
@@ -43,7 +43,7 @@ impl Bucket {
     }
 
     /// Some binding lets the caller write, and no denial of the book stands over it.
-    pub(crate) fn any_unbarred(&self, book: &IndexedBook, who: &Text, host: &Text) -> bool
+    pub(crate) fn any_not_overridden(&self, book: &IndexedBook, who: &Text, host: &Text) -> bool
         ensures { result ≡ list_any (is_unbarred book.now.entries who.now host.now) self.now }
     {
         self.entries
@@ -51,7 +51,7 @@ impl Bucket {
             .any(|entry| book.is_unbarred(entry.value(), who, host))
     }
 
-    /// One more binding, the last.
+    /// Puts a binding after the others: its creation number is the greatest.
     pub(crate) fn push(&mut self, entry: Shared<Numbered>) -> Result<(), AllocError>
         ensures { self.new ≡ (if is_ok result then self.old ++ entry ∷ [] else self.old) }
     {
@@ -61,7 +61,7 @@ impl Bucket {
 
     /// Leaves what the filter doesn't pick, and answers whether that is anything.
     pub(crate) fn leave(&mut self, filter: &Filter) -> bool
-        ensures left { self.new ≡ kept (stays filter.now) self.old }
+        ensures left { self.new ≡ kept (is_not_matched filter.now) self.old }
         ensures any { result ≡ not (nat_eq (length self.new) 0) }
     {
         self.entries

@@ -2,7 +2,7 @@
 
 ghost use Rattle.std.specs.Prelude.{◌≡◌, IfOk};
 ghost use Rattle.std.specs.Cmp.{partial_equiv_from_equiv};
-ghost use Rattle.authorizer.specs.Contents.{says_same, says_same_laws, said, said_alike};
+ghost use Rattle.authorizer.specs.Contents.{says_same, says_same_laws, hash_writes_of, said_alike};
 
 use acl_binding::{Binding, Numbered};
 use std::alloc::AllocError;
@@ -40,7 +40,7 @@ impl Eq for Content {
 
 /// Written out, since a text has no hash of its own.
 impl Hash for Content {
-    ghost hash_input = { said };
+    ghost hash_input = { hash_writes_of };
 
     ghost respects_eq = { said_alike.fed };
 

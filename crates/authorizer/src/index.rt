@@ -5,17 +5,17 @@ ghost use Rattle.std.specs.Str.{IsUtf8};
 ghost use Rattle.acl_binding.specs.declared.binding.Numbered.{Numbered as Entry};
 ghost use Rattle.acl_binding.specs.declared.words.Kind.{Kind as AnyKind};
 ghost use Rattle.acl_binding.specs.Book.{IsRising};
-ghost use Rattle.acl_binding.specs.Filter.{stays};
+ghost use Rattle.acl_binding.specs.Filter.{is_not_matched};
 ghost use Rattle.acl_binding.specs.Words.{kind_number};
-ghost use Rattle.authorizer.specs.Looking.{about, is_at, IsKindIndexed, IsIndexed, kind_index, pattern_names};
-ghost use Rattle.authorizer.specs.Picking.{left_of, stands_at, stands_in, HasPicked};
+ghost use Rattle.authorizer.specs.Looking.{bindings_about, is_at, IsKindIndexed, IsIndexed, kind_index, pattern_names};
+ghost use Rattle.authorizer.specs.Picking.{is_left, stands_at, stands_in, HasPicked};
 
 mod any_topic;
 mod longest;
 mod names;
 
+use crate::acl_key::AclKey;
 use crate::picking::{ByNumber, pick_from};
-use crate::place::Place;
 use acl_binding::{Filter, Kind, Numbered, Pattern};
 pub(crate) use names::{ANY_NAME, Names};
 use std::alloc::{AllocError, Global};
@@ -59,8 +59,13 @@ impl KindIndex {
     }
 
     fn add(&mut self, alloc: Global, entry: &Shared<Numbered>) -> Result<(), AllocError>
-        ensures ok { OnOk result ((kind : AnyKind) (es : List Entry) → kind_number entry.now.binding.kind ≡ kind_number kind → IsKindIndexed self.old kind es → IsKindIndexed self.new kind (es ++ entry.now ∷ [])) }
-        ensures err { OnErr result ((kind : AnyKind) (es : List Entry) → IsKindIndexed self.old kind es → IsKindIndexed self.new kind es) }
+        ensures ok { OnOk result
+            ((kind : AnyKind) (es : List Entry) → kind_number entry.now.binding.kind
+            ≡ kind_number kind → IsKindIndexed self.old kind es
+            → IsKindIndexed self.new kind (es ++ entry.now ∷ [])) }
+        ensures err { OnErr result
+            ((kind : AnyKind) (es : List Entry) → IsKindIndexed self.old kind es
+            → IsKindIndexed self.new kind es) }
         ensures text { IsUtf8 entry.now.binding.name }
     {
         let name = entry.value().binding.name.as_str();
@@ -72,7 +77,8 @@ impl KindIndex {
     }
 
     fn clean(&mut self, filter: &Filter)
-        ensures { (kind : AnyKind) (es : List Entry) → IsKindIndexed self.old kind es → IsKindIndexed self.new kind (kept (stays filter.now) es) }
+        ensures { (kind : AnyKind) (es : List Entry) → IsKindIndexed self.old kind es
+            → IsKindIndexed self.new kind (kept (is_not_matched filter.now) es) }
     {
         self.literal.clean(filter);
         self.prefixed.clean(filter);
@@ -80,7 +86,9 @@ impl KindIndex {
 
     /// Takes out the bindings of this pattern and name that the filter picks.
     fn clean_at(&mut self, pattern: Pattern, name: &str, filter: &Filter)
-        ensures { (kind : AnyKind) (es : List Entry) → IsKindIndexed self.old kind es → IsKindIndexed self.new kind (kept (left_of filter.now (is_at kind pattern name.now)) es) }
+        ensures { (kind : AnyKind) (es : List Entry) → IsKindIndexed self.old kind es
+            → IsKindIndexed self.new kind
+            (kept (is_left filter.now (is_at kind pattern name.now)) es) }
     {
         match pattern {
             Pattern::Literal => self.literal.clean_at(name, filter),
@@ -114,31 +122,38 @@ impl Index {
     }
 
     /// The bindings at the place.
-    fn held(&self, place: &Place) -> &[Shared<Numbered>]
-        ensures { (es : List Entry) → IsIndexed self.now es → result.now ≡ about place.now.kind place.now.pattern place.now.name.now es }
+    fn held(&self, acl_key: &AclKey) -> &[Shared<Numbered>]
+        ensures { (es : List Entry) → IsIndexed self.now es → result.now
+            ≡ bindings_about acl_key.now.kind acl_key.now.pattern acl_key.now.name.now es }
     {
-        self.of(place.kind).of(place.pattern).held(place.name)
+        self.of(acl_key.kind).of(acl_key.pattern).held(acl_key.name)
     }
 
     /// Takes those of the bindings at these places that the filter picks.
     pub(crate) fn pick(
         &self,
-        places: &[Place],
+        acl_keys: &[AclKey],
         filter: &Filter,
         picked: &mut ByNumber,
     ) -> Result<(), AllocError>
-        ensures { OnOk result ((es : List Entry) → IsRising 1 es → IsIndexed self.now es → HasPicked picked.old.entries picked.new.entries filter.now es (stands_in places.now)) }
+        ensures { OnOk result
+            ((es : List Entry) → IsRising 1 es → IsIndexed self.now es
+            → HasPicked picked.old.entries picked.new.entries filter.now es
+            (stands_in acl_keys.now)) }
     {
-        for place in places {
-            pick_from(self.held(place), filter, picked)?;
+        for acl_key in acl_keys {
+            pick_from(self.held(acl_key), filter, picked)?;
         }
         Ok(())
     }
 
     /// One more binding, after all others.
     pub(crate) fn add(&mut self, alloc: Global, entry: &Shared<Numbered>) -> Result<(), AllocError>
-        ensures ok { OnOk result ((es : List Entry) → IsIndexed self.old es → IsIndexed self.new (es ++ entry.now ∷ [])) }
-        ensures err { OnErr result ((es : List Entry) → IsIndexed self.old es → IsIndexed self.new es) }
+        ensures ok { OnOk result
+            ((es : List Entry) → IsIndexed self.old es
+            → IsIndexed self.new (es ++ entry.now ∷ [])) }
+        ensures err { OnErr result
+            ((es : List Entry) → IsIndexed self.old es → IsIndexed self.new es) }
         ensures text { IsUtf8 entry.now.binding.name }
     {
         match entry.value().binding.kind {
@@ -151,7 +166,8 @@ impl Index {
 
     /// Takes out the bindings that the filter picks.
     pub(crate) fn clean(&mut self, filter: &Filter)
-        ensures { (es : List Entry) → IsIndexed self.old es → IsIndexed self.new (kept (stays filter.now) es) }
+        ensures { (es : List Entry) → IsIndexed self.old es
+            → IsIndexed self.new (kept (is_not_matched filter.now) es) }
     {
         self.topics.clean(filter);
         self.groups.clean(filter);
@@ -160,23 +176,25 @@ impl Index {
     }
 
     /// Takes out the bindings at the place that the filter picks.
-    fn clean_at(&mut self, place: &Place, filter: &Filter)
-        ensures { (es : List Entry) → IsIndexed self.old es → IsIndexed self.new (kept (left_of filter.now (stands_at place.now)) es) }
+    fn clean_at(&mut self, acl_key: &AclKey, filter: &Filter)
+        ensures { (es : List Entry) → IsIndexed self.old es
+            → IsIndexed self.new (kept (is_left filter.now (stands_at acl_key.now)) es) }
     {
-        match place.kind {
-            Kind::Topic => self.topics.clean_at(place.pattern, place.name, filter),
-            Kind::Group => self.groups.clean_at(place.pattern, place.name, filter),
-            Kind::Cluster => self.cluster.clean_at(place.pattern, place.name, filter),
-            Kind::TransactionalId => self.ids.clean_at(place.pattern, place.name, filter),
+        match acl_key.kind {
+            Kind::Topic => self.topics.clean_at(acl_key.pattern, acl_key.name, filter),
+            Kind::Group => self.groups.clean_at(acl_key.pattern, acl_key.name, filter),
+            Kind::Cluster => self.cluster.clean_at(acl_key.pattern, acl_key.name, filter),
+            Kind::TransactionalId => self.ids.clean_at(acl_key.pattern, acl_key.name, filter),
         }
     }
 
     /// Takes out the bindings at these places that the filter picks.
-    pub(crate) fn clean_places(&mut self, places: &[Place], filter: &Filter)
-        ensures { (es : List Entry) → IsIndexed self.old es → IsIndexed self.new (kept (left_of filter.now (stands_in places.now)) es) }
+    pub(crate) fn clean_keys(&mut self, acl_keys: &[AclKey], filter: &Filter)
+        ensures { (es : List Entry) → IsIndexed self.old es
+            → IsIndexed self.new (kept (is_left filter.now (stands_in acl_keys.now)) es) }
     {
-        for place in places {
-            self.clean_at(place, filter);
+        for acl_key in acl_keys {
+            self.clean_at(acl_key, filter);
         }
     }
 }

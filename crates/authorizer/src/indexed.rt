@@ -4,19 +4,19 @@ ghost use Rattle.std.specs.Prelude.{◌≡◌, ◌+◌, ◌^◌, ◌<◌, ◌≤
 ghost use Rattle.std.specs.List.{AllByRecursion};
 ghost use Rattle.std.specs.Str.{chars};
 ghost use Rattle.acl_binding.specs.Adding.{adding_answer};
-ghost use Rattle.acl_binding.specs.Book.{empty_book, number_of, added, appended};
-ghost use Rattle.acl_binding.specs.Filter.{matching, removed};
+ghost use Rattle.acl_binding.specs.Book.{empty_book, number_of, with_binding, with_new_binding};
+ghost use Rattle.acl_binding.specs.Filter.{matching_bindings, without_matching};
 ghost use Rattle.acl_binding.specs.Verdict.{verdict_of};
-ghost use Rattle.authorizer.specs.Looking.{finding, IsIndexed, IsNamed};
+ghost use Rattle.authorizer.specs.Looking.{finding_of, IsIndexed, IsNamed};
 ghost use Rattle.authorizer.specs.LookUps.{beginnings_within, longest_prefix};
-ghost use Rattle.authorizer.specs.Picking.{numbered, picks, AreAllAt};
+ghost use Rattle.authorizer.specs.Picking.{under_numbers, picks, AreAllAt};
 ghost use Rattle.acl_binding.specs.declared.words.Pattern.TheVariants.{Prefixed};
 
+use crate::acl_key::{AclKey, acl_keys};
 use crate::content::Content;
 use crate::index::{ANY_NAME, Index};
-use crate::looking::{Finding, look, look_prefixes};
+use crate::looking::{Finding, look_up_name, look_up_prefixes};
 use crate::picking::{ByNumber, copies, forget, pick_from_all, take_out};
-use crate::place::{Place, places};
 use acl_binding::{Added, Binding, Filter, Numbered, Question, Verdict};
 use indexmap::IndexMap;
 use std::alloc::{AllocError, Global};
@@ -33,7 +33,6 @@ pub struct IndexedBook {
     index: Index,
 }
 
-/// Written out, so that a proof has one call where a policy is let go, and not the drops of all its tables.
 impl Drop for IndexedBook {
     fn drop(self) {
         let IndexedBook {
@@ -85,7 +84,7 @@ impl IndexedBook {
     pub(crate) fn add(&mut self, alloc: Global, binding: Binding) -> Result<Added, AllocError>
         requires next { self.old.next + 1 < 2 ^ 64 }
         requires named { binding.pattern ≡ Prefixed → 0 < length binding.name }
-        ensures ok { OnOk result (self.new ≡ added self.old binding) }
+        ensures ok { OnOk result (self.new ≡ with_binding self.old binding) }
         ensures number { IfOk result (λ answer. answer ≡ adding_answer self.old binding) }
         ensures grows { self.new.next ≤ self.old.next + 1 }
         ensures err { OnErr result (self.new ≡ self.old) }
@@ -119,7 +118,7 @@ impl IndexedBook {
         requires content { content ≡ entry.now }
         requires named { entry.now.binding.pattern ≡ Prefixed → 0 < length entry.now.binding.name }
         requires absent { number_of self.old.entries entry.now.binding ≡ None }
-        ensures ok { OnOk result (self.new ≡ appended self.old entry.now.binding) }
+        ensures ok { OnOk result (self.new ≡ with_new_binding self.old entry.now.binding) }
         ensures err { OnErr result (self.new ≡ self.old) }
     {
         let number = self.next;
@@ -140,10 +139,10 @@ impl IndexedBook {
         alloc: Global,
         filter: &Filter,
     ) -> Result<Items<Binding>, AllocError>
-        ensures { IfOk result (λ picked. picked ≡ matching self.now.entries filter.now) }
+        ensures { IfOk result (λ picked. picked ≡ matching_bindings self.now.entries filter.now) }
     {
-        let places = places(alloc, filter)?;
-        copies(alloc, &self.picked(alloc, filter, &places)?)
+        let acl_keys = acl_keys(alloc, filter)?;
+        copies(alloc, &self.picked(alloc, filter, &acl_keys)?)
     }
 
     /// The bindings that the filter picks: those at the places, and without places those of all.
@@ -151,15 +150,16 @@ impl IndexedBook {
         &self,
         alloc: Global,
         filter: &Filter,
-        places: &Option<Items<Place>>,
+        acl_keys: &Option<Items<AclKey>>,
     ) -> Result<ByNumber, AllocError>
-        requires { AreAllAt places.now filter.now }
-        ensures { IfOk result (λ picked. picked.entries ≡ numbered (kept (picks filter.now) self.now.entries)) }
+        requires { AreAllAt acl_keys.now filter.now }
+        ensures { IfOk result
+            (λ picked. picked.entries ≡ under_numbers (kept (picks filter.now) self.now.entries)) }
     {
-        match places {
-            Some(places) => {
+        match acl_keys {
+            Some(acl_keys) => {
                 let mut picked = ByNumber::new(alloc);
-                self.index.pick(places.as_slice(), filter, &mut picked)?;
+                self.index.pick(acl_keys.as_slice(), filter, &mut picked)?;
                 Ok(picked)
             }
             None => pick_from_all(alloc, &self.entries, filter),
@@ -172,27 +172,29 @@ impl IndexedBook {
         alloc: Global,
         filter: &Filter,
     ) -> Result<Items<Binding>, AllocError>
-        ensures ok { OnOk result (self.new ≡ removed self.old filter.now) }
-        ensures picked { IfOk result (λ list. list ≡ matching self.old.entries filter.now) }
+        ensures ok { OnOk result (self.new ≡ without_matching self.old filter.now) }
+        ensures picked { IfOk result
+            (λ list. list ≡ matching_bindings self.old.entries filter.now) }
         ensures err { OnErr result (self.new ≡ self.old) }
     {
-        let places = places(alloc, filter)?;
-        let picked = self.picked(alloc, filter, &places)?;
+        let acl_keys = acl_keys(alloc, filter)?;
+        let picked = self.picked(alloc, filter, &acl_keys)?;
         let copies = copies(alloc, &picked)?;
-        self.take_out(filter, &places, &picked);
+        self.take_out(filter, &acl_keys, &picked);
         Ok(copies)
     }
 
     /// Takes out what the filter picks, which stands at the places.
-    fn take_out(&mut self, filter: &Filter, places: &Option<Items<Place>>, picked: &ByNumber)
-        requires places { AreAllAt places.now filter.now }
-        requires picked { picked.now.entries ≡ numbered (kept (picks filter.now) self.old.entries) }
-        ensures { self.new ≡ removed self.old filter.now }
+    fn take_out(&mut self, filter: &Filter, acl_keys: &Option<Items<AclKey>>, picked: &ByNumber)
+        requires acl_keys { AreAllAt acl_keys.now filter.now }
+        requires picked { picked.now.entries
+            ≡ under_numbers (kept (picks filter.now) self.old.entries) }
+        ensures { self.new ≡ without_matching self.old filter.now }
     {
         take_out(&mut self.entries, picked);
         forget(&mut self.contents, picked);
-        match places {
-            Some(places) => self.index.clean_places(places.as_slice(), filter),
+        match acl_keys {
+            Some(acl_keys) => self.index.clean_keys(acl_keys.as_slice(), filter),
             None => self.index.clean(filter),
         }
     }
@@ -200,7 +202,9 @@ impl IndexedBook {
     /// What the bindings answer to the question, deny before allow, and how often a name was looked up for it.
     pub(crate) fn verdict_counted(&self, question: &Question) -> (Verdict, u64)
         ensures verdict { result.0 ≡ verdict_of self.now.entries question.now }
-        ensures looked { result.1 ≡ beginnings_within (longest_prefix question.now.kind self.now.entries) (chars question.now.name) + 2 }
+        ensures looked { result.1
+            ≡ beginnings_within (longest_prefix question.now.kind self.now.entries)
+            (chars question.now.name) + 2 }
     {
         let (finding, looked) = self.found(question);
         (finding.verdict(), looked)
@@ -208,19 +212,21 @@ impl IndexedBook {
 
     /// What the bindings that may cover the question's name say: those of the name, of `*` and of its beginnings.
     fn found(&self, question: &Question) -> (Finding, u64)
-        ensures finding { result.0 ≡ finding self.now.entries question.now }
-        ensures looked { result.1 ≡ beginnings_within (longest_prefix question.now.kind self.now.entries) (chars question.now.name) + 2 }
+        ensures finding { result.0 ≡ finding_of self.now.entries question.now }
+        ensures looked { result.1
+            ≡ beginnings_within (longest_prefix question.now.kind self.now.entries)
+            (chars question.now.name) + 2 }
     {
         let names = self.index.of(question.kind);
         let mut looked = 0;
-        let own = look(
+        let own = look_up_name(
             &names.literal,
             question.name.as_str(),
             question,
             &mut looked,
         );
-        let any = look(&names.literal, ANY_NAME, question, &mut looked);
-        let prefixed = look_prefixes(&names.prefixed, question, &mut looked);
+        let any = look_up_name(&names.literal, ANY_NAME, question, &mut looked);
+        let prefixed = look_up_prefixes(&names.prefixed, question, &mut looked);
         (own.joined(any.joined(prefixed)), looked)
     }
 }

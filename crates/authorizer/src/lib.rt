@@ -4,6 +4,7 @@
 //! [`Refusal`]; a permit is good until the next change of the book.
 #![tactic(auto)]
 
+mod acl_key;
 mod answer;
 mod asking;
 mod bucket;
@@ -15,12 +16,11 @@ mod looking;
 mod paid;
 mod permit;
 mod picking;
-mod place;
 mod policy;
 mod settled;
 mod tally;
 
-pub use answer::{Answer, Refusal, Why};
+pub use answer::{Answer, DenyReason, Refusal};
 pub use asking::{
     GivenPermits, ThreePermits, TwoPermits, ask_given, ask_one, ask_settled, ask_three, ask_two,
 };

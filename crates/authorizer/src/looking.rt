@@ -6,11 +6,11 @@ ghost use Rattle.std.specs.Str.{chars};
 ghost use Rattle.acl_binding.specs.declared.binding.Numbered.{Numbered as Entry};
 ghost use Rattle.acl_binding.specs.declared.words.Pattern.TheVariants.{Prefixed};
 ghost use Rattle.acl_binding.specs.Book.{IsRising};
-ghost use Rattle.acl_binding.specs.Verdict.{decided};
-ghost use Rattle.authorizer.specs.Index.{held_by};
+ghost use Rattle.acl_binding.specs.Verdict.{verdict_by};
+ghost use Rattle.authorizer.specs.Index.{bindings_under};
 ghost use Rattle.authorizer.specs.Longest.{longest_name};
 ghost use Rattle.authorizer.specs.LookUps.{beginnings_within};
-ghost use Rattle.authorizer.specs.Looking.{finding, joined, sooner, is_longer, IsNamed, IsTableOf};
+ghost use Rattle.authorizer.specs.Looking.{finding_of, combined_finding, min_some, is_longer, IsNamed, IsTableOf};
 
 use crate::index::Names;
 use acl_binding::{Numbered, Question, Verdict, any_grant, first_denial};
@@ -35,7 +35,7 @@ impl Finding {
 
     fn of(entries: &[Shared<Numbered>], question: &Question) -> Finding
         requires { IsRising 1 entries.now }
-        ensures { result ≡ finding entries.now question.now }
+        ensures { result ≡ finding_of entries.now question.now }
     {
         Finding {
             denied: first_denial(entries, question),
@@ -44,17 +44,17 @@ impl Finding {
     }
 
     pub(crate) fn joined(self, other: Finding) -> Finding
-        ensures { result ≡ joined self other }
+        ensures { result ≡ combined_finding self other }
     {
         Finding {
-            denied: sooner(self.denied, other.denied),
+            denied: min_some(self.denied, other.denied),
             allowed: self.allowed || other.allowed,
         }
     }
 
     /// Deny before allow.
     pub(crate) fn verdict(self) -> Verdict
-        ensures { result ≡ decided self.denied self.allowed }
+        ensures { result ≡ verdict_by self.denied self.allowed }
     {
         match self.denied {
             Some(number) => Verdict::Denied(number),
@@ -64,8 +64,8 @@ impl Finding {
     }
 }
 
-fn sooner(a: Option<u64>, b: Option<u64>) -> Option<u64>
-    ensures { result ≡ sooner a b }
+fn min_some(a: Option<u64>, b: Option<u64>) -> Option<u64>
+    ensures { result ≡ min_some a b }
 {
     match (a, b) {
         (None, b) => b,
@@ -75,10 +75,15 @@ fn sooner(a: Option<u64>, b: Option<u64>) -> Option<u64>
 }
 
 /// What the bindings of this name say: one look-up.
-pub(crate) fn look(names: &Names, name: &str, question: &Question, looked: &mut u64) -> Finding
-    requires rising { IsRising 1 (held_by names.now name.now) }
+pub(crate) fn look_up_name(
+    names: &Names,
+    name: &str,
+    question: &Question,
+    looked: &mut u64,
+) -> Finding
+    requires rising { IsRising 1 (bindings_under names.now name.now) }
     requires count { looked.old + 1 < 2 ^ 64 }
-    ensures finding { result ≡ finding (held_by names.now name.now) question.now }
+    ensures finding { result ≡ finding_of (bindings_under names.now name.now) question.now }
     ensures looked { looked.new ≡ looked.old + 1 }
 {
     Finding::of(names.look_up(name, looked), question)
@@ -86,11 +91,14 @@ pub(crate) fn look(names: &Names, name: &str, question: &Question, looked: &mut 
 
 /// What the prefixed bindings whose names begin the question's say: a look-up for each beginning that is no longer than
 /// the longest of those names.
-pub(crate) fn look_prefixes(names: &Names, question: &Question, looked: &mut u64) -> Finding
-    requires rising { (name : List ℕ) → IsRising 1 (held_by names.now name) }
+pub(crate) fn look_up_prefixes(names: &Names, question: &Question, looked: &mut u64) -> Finding
+    requires rising { (name : List ℕ) → IsRising 1 (bindings_under names.now name) }
     requires count { looked.old + length question.now.name + 1 < 2 ^ 64 }
-    ensures finding { (es : List Entry) → AllByRecursion IsNamed es → IsTableOf names.now question.now.kind Prefixed es → result ≡ finding (kept (is_longer question.now.kind question.now.name 0) es) question.now }
-    ensures looked { looked.new ≡ looked.old + beginnings_within (longest_name names.now) (chars question.now.name) }
+    ensures finding { (es : List Entry) → AllByRecursion IsNamed es
+        → IsTableOf names.now question.now.kind Prefixed es → result
+        ≡ finding_of (kept (is_longer question.now.kind question.now.name 0) es) question.now }
+    ensures looked { looked.new ≡ looked.old + beginnings_within (longest_name names.now)
+        (chars question.now.name) }
 {
     let name = question.name.as_str();
     let longest = names.longest();
@@ -101,7 +109,7 @@ pub(crate) fn look_prefixes(names: &Names, question: &Question, looked: &mut u64
         if end > longest {
             break;
         }
-        finding = finding.joined(look(names, &name[..end], question, looked));
+        finding = finding.joined(look_up_name(names, &name[..end], question, looked));
     }
     finding
 }

@@ -13,7 +13,6 @@ pub struct Paid {
     pub(crate) third: Option<Spent>,
 }
 
-/// Written out, so that a crate which lets it go calls this once, and proves nothing of its questions.
 impl Drop for Paid {
     fn drop(self) {
         let Paid {

@@ -26,7 +26,6 @@ pub struct Spent {
     question: Question,
 }
 
-/// Written out, so that a crate which lets it go calls this once, and proves nothing of its question.
 impl Drop for Spent {
     fn drop(self) {
         let Spent {

@@ -1,12 +1,10 @@
 //! The bindings that a filter picks.
 
-ghost use Rattle.std.specs.Prelude.{◌≡◌, [], List, map, IfOk, OnOk, filter as kept};
+ghost use Rattle.std.specs.Prelude.{◌≡◌, [], map, IfOk, OnOk, filter as kept};
 ghost use Rattle.std.specs.BTreeMap.{keys, values};
 ghost use Rattle.acl_binding.specs.declared.binding.Numbered.{Numbered as Entry};
-ghost use Rattle.acl_binding.specs.Book.{IsRising};
 ghost use Rattle.authorizer.specs.Contents.{HasForgotten};
-ghost use Rattle.authorizer.specs.Looking.{IsIndexed};
-ghost use Rattle.authorizer.specs.Picking.{entered, without, picks, stands_in, HasPicked};
+ghost use Rattle.authorizer.specs.Picking.{with_entries, without_numbers, picks};
 
 use crate::content::Content;
 use acl_binding::{Binding, Filter, Numbered};
@@ -25,7 +23,9 @@ pub(crate) fn pick_from(
     filter: &Filter,
     picked: &mut ByNumber,
 ) -> Result<(), AllocError>
-    ensures { OnOk result (picked.new.entries ≡ entered picked.old.entries (kept (picks filter.now) entries.now)) }
+    ensures { OnOk result
+        (picked.new.entries ≡ with_entries picked.old.entries
+        (kept (picks filter.now) entries.now)) }
 {
     for entry in entries {
         if filter.matches(&entry.value().binding) {
@@ -41,7 +41,9 @@ pub(crate) fn pick_from_all(
     entries: &ByNumber,
     filter: &Filter,
 ) -> Result<ByNumber, AllocError>
-    ensures { IfOk result (λ picked. picked.entries ≡ entered [] (kept (picks filter.now) (values entries.now))) }
+    ensures { IfOk result
+        (λ picked. picked.entries
+        ≡ with_entries [] (kept (picks filter.now) (values entries.now))) }
 {
     let mut picked = ByNumber::new(alloc);
     for entry in entries.values() {
@@ -65,7 +67,7 @@ pub(crate) fn copies(alloc: Global, picked: &ByNumber) -> Result<Items<Binding>,
 
 /// Takes out of the bindings those that were picked among them.
 pub(crate) fn take_out(entries: &mut ByNumber, picked: &ByNumber)
-    ensures { entries.new.entries ≡ without entries.old.entries (keys picked.now) }
+    ensures { entries.new.entries ≡ without_numbers entries.old.entries (keys picked.now) }
 {
     for number in picked.keys() {
         entries.remove(number);

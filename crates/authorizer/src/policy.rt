@@ -2,12 +2,12 @@
 
 ghost use Rattle.std.specs.Prelude.{◌≡◌, ◌+◌, ◌^◌, ◌<◌, ◌≤◌, length, IfOk, OnOk, OnErr};
 ghost use Rattle.acl_binding.specs.Adding.{adding_answer};
-ghost use Rattle.acl_binding.specs.Filter.{matching};
+ghost use Rattle.acl_binding.specs.Filter.{matching_bindings};
 ghost use Rattle.authorizer.specs.LookUps.{look_ups};
 ghost use Rattle.authorizer.specs.Policy.{first_policy, policy_verdict, policy_added, policy_removed, is_super};
 ghost use Rattle.authorizer.specs.AnyTopic.{any_topic};
 ghost use Rattle.authorizer.specs.Asking.{asking_answer};
-ghost use Rattle.authorizer.specs.Settled.{settled, IsSettled};
+ghost use Rattle.authorizer.specs.Settled.{settled_value, IsSettled};
 ghost use Rattle.acl_binding.specs.declared.words.Pattern.TheVariants.{Prefixed};
 
 use crate::answer::Answer;
@@ -83,7 +83,8 @@ impl Policy {
 
     /// Copies of the bindings that the filter picks, in creation order.
     pub fn matching(&self, alloc: Global, filter: &Filter) -> Result<Items<Binding>, AllocError>
-        ensures { IfOk result (λ picked. picked ≡ matching self.now.book.entries filter.now) }
+        ensures { IfOk result
+            (λ picked. picked ≡ matching_bindings self.now.book.entries filter.now) }
     {
         self.book.matching(alloc, filter)
     }
@@ -93,7 +94,8 @@ impl Policy {
     pub fn remove(&mut self, alloc: Global, filter: &Filter) -> Result<Items<Binding>, AllocError>
         requires { self.old.book.next < 2 ^ 63 }
         ensures ok { OnOk result (self.new ≡ policy_removed self.old filter.now) }
-        ensures picked { IfOk result (λ list. list ≡ matching self.old.book.entries filter.now) }
+        ensures picked { IfOk result
+            (λ list. list ≡ matching_bindings self.old.book.entries filter.now) }
         ensures err { OnErr result (self.new ≡ self.old) }
     {
         let picked = self.book.remove(alloc, filter)?;
@@ -132,7 +134,7 @@ impl Policy {
 
     /// What it says to a question, for all that ask the same before the next change of the book.
     pub fn settle(&self, question: Question) -> Settled
-        ensures { result ≡ settled self.now question }
+        ensures { result ≡ settled_value self.now question }
     {
         let verdict = self.verdict(&question);
         Settled {

@@ -2,9 +2,9 @@
 
 ghost use Rattle.std.specs.Prelude.{◌≡◌, IfOk};
 ghost use Rattle.authorizer.specs.Asking.{answer_by};
-ghost use Rattle.authorizer.specs.Settled.{settled_if_given};
+ghost use Rattle.authorizer.specs.Settled.{settled_value_if_given};
 
-use crate::answer::{Answer, Refusal, Why};
+use crate::answer::{Answer, DenyReason, Refusal};
 use crate::permit::Permit;
 use crate::policy::Policy;
 use acl_binding::{Question, Verdict};
@@ -18,7 +18,6 @@ pub struct Settled {
     pub(crate) verdict: Verdict,
 }
 
-/// Written out, so that a crate which lets it go calls this once, and proves nothing of its question.
 impl Drop for Settled {
     fn drop(self) {
         let Settled {
@@ -60,8 +59,8 @@ impl Settled {
         } = self;
         let why = match verdict {
             Verdict::Yes => return Answer::Granted(Permit::new(edit, question)),
-            Verdict::Denied(number) => Why::Denied(number),
-            Verdict::Nothing => Why::Nothing,
+            Verdict::Denied(number) => DenyReason::Denied(number),
+            Verdict::Nothing => DenyReason::Nothing,
         };
         Answer::Refused(Refusal { question, why })
     }
@@ -69,7 +68,7 @@ impl Settled {
 
 /// What the policy says to a question that may be absent.
 pub fn settle_if_given(policy: &Policy, question: Option<Question>) -> Option<Settled>
-    ensures { result ≡ settled_if_given policy.now question }
+    ensures { result ≡ settled_value_if_given policy.now question }
 {
     match question {
         Some(question) => Some(policy.settle(question)),

@@ -2,7 +2,7 @@
 
 ghost use Rattle.std.specs.Prelude.{◌≡◌, []};
 ghost use Rattle.std.specs.List.{cons_option};
-ghost use Rattle.authorizer.specs.Tally.{raised};
+ghost use Rattle.authorizer.specs.Tally.{count_after};
 
 use crate::paid::Paid;
 use crate::permit::Spent;
@@ -33,7 +33,7 @@ impl Tally {
 
     /// Counts what was spent for a part.
     pub fn add(&mut self, paid: Paid)
-        ensures { self.new ≡ raised self.old paid }
+        ensures { self.new ≡ count_after self.old paid }
     {
         self.count(&paid.first);
         self.count(&paid.second);
@@ -41,7 +41,7 @@ impl Tally {
     }
 
     fn count(&mut self, spent: &Option<Spent>)
-        ensures { self.new ≡ raised self.old (cons_option spent.now []) }
+        ensures { self.new ≡ count_after self.old (cons_option spent.now []) }
     {
         if spent.is_some() && self.spent < u64::MAX {
             self.spent += 1;

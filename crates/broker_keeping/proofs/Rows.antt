@@ -6,7 +6,7 @@ use Rattle.broker_keeping.specs.ControlCommand.{command_in}
 pub each_word : (command_in (codes "mark") ≡ Some Mark) × (command_in (codes "marks") ≡ Some Marks) × (command_in (codes "audit") ≡ Some Audit) × (command_in (codes "state") ≡ Some State) × (command_in (codes "end") ≡ Some End)
 each_word = (refl, refl, refl, refl, refl)
 
--- the last one that 64 bits hold, and the one behind it
+-- the last one that 64 bits hold, and the one after it
 pub a_moment : (command_in (codes "tick 60001") ≡ Some (Tick 60001)) × (command_in (codes "tick 18446744073709551615") ≡ Some (Tick 18446744073709551615)) × (command_in (codes "tick 18446744073709551616") ≡ None)
 a_moment = (refl, refl, refl)
 

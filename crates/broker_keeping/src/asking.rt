@@ -6,13 +6,13 @@ use crate::state_report::state_report_of;
 use crate::state_text::state_text;
 use crate::trail_delta::{lines_of, refusals_since};
 use authorizer::Refusal;
+use byte_streams::write_whole;
 use request_handlers::{Core, Stop};
-use session_pool::{Closing, DeskLedger, LockedDesk};
+use session_pool::{DeskLedger, LockedDesk, ShutdownFlag};
 use std::alloc::{AllocError, Global};
 use std::io::{BufRead, Write};
 use std::sync::Wait;
 use std::time;
-use wire_types::write_whole;
 
 /// The lines that are answered beside a clock, as an operator is told them.
 const ASKING_LINES: &str = "`audit`, `state` and `end`";
@@ -23,7 +23,7 @@ pub struct Steering<'d, I, O> {
     pub lines: I,
     pub answers: O,
     /// Is closed by the last line, and once all is served.
-    pub closing: &'d Closing,
+    pub closing: &'d ShutdownFlag,
     /// Whether they steer it in place of the clock, or the broker keeps its time beside them.
     pub without_clock: bool,
 }

@@ -8,12 +8,12 @@ use crate::operator_log::OperatorLog;
 use crate::state_report::{TickReport, front_of, open_ones, tick_report_of};
 use crate::state_text::{front_text, moment_text};
 use request_handlers::{Core, Stop};
-use session_pool::{DeskLedger, LockedDesk, Step, Steps, Why};
+use session_pool::{DeskLedger, EndReason, LockedDesk, Step, Steps};
 use std::alloc::{AllocError, Global};
 use std::io::{BufRead, Write};
 use std::sync::Wait;
 use std::time;
-use transactions::OwedMarker;
+use txn_coordinator::PendingMarker;
 
 /// The lines that steer a broker, as an operator is told them.
 const STEERING_LINES: &str = "`tick N`, `mark`, `marks`, `audit`, `state` and `end`";
@@ -33,8 +33,8 @@ enum InFlight {
 enum Seen {
     /// Nothing, since memory was refused.
     Nothing,
-    /// The marker that was owed first before it.
-    Front(Option<OwedMarker>),
+    /// The marker that was pending first before it.
+    Front(Option<PendingMarker>),
     /// Which transactions were open before it.
     Open(Vec<bool>),
     /// What a moment came to.
@@ -58,7 +58,7 @@ pub struct Control<'d, 'r, L: DeskLedger, R: Wait, I: BufRead, O: Write> {
     alloc: Global,
     asking: Asking<'d, 'r, L, R, I, O>,
     in_flight: InFlight,
-    /// How many markers are owed.
+    /// How many markers are pending.
     left: u64,
     /// What is to be told of the step.
     seen: Seen,
@@ -82,10 +82,10 @@ fn seen_before(alloc: Global, core: &Core, in_flight: InFlight) -> Seen {
     }
 }
 
-/// The line of a step that wasn't taken.
-fn stop_line(why: Why) -> &'static str {
+/// The line that tells why a step wasn't made.
+fn stop_line(why: EndReason) -> &'static str {
     match why {
-        Why::Stopped(stop) => stop.line(),
+        EndReason::Stopped(stop) => stop.line(),
         _ => Stop::NoMemory.line(),
     }
 }
@@ -152,7 +152,7 @@ impl<'d, 'r, L: DeskLedger, R: Wait + time::Clock, I: BufRead, O: Write> Control
         Effect::Answered
     }
 
-    /// The line of a step that was taken: `moment MOMENT` or `marker ..`, and how many markers are owed.
+    /// The line of a step that was taken: `moment MOMENT` or `marker ..`, and how many markers are pending.
     fn tell_step(&mut self, left: u64) {
         self.left = left;
         let alloc = self.alloc;
@@ -215,7 +215,7 @@ impl<'d, 'r, L: DeskLedger, R: Wait + time::Clock, I: BufRead, O: Write> Steps
         None
     }
 
-    fn came(&mut self, outcome: Result<u64, Why>) -> bool {
+    fn on_result(&mut self, outcome: Result<u64, EndReason>) -> bool {
         match outcome {
             Ok(left) => self.tell_step(left),
             Err(why) => {

@@ -3,7 +3,7 @@
 ghost use Rattle.std.specs.Prelude.{◌≡◌};
 ghost use Rattle.broker_keeping.specs.ControlCommand.{command_in, command_of};
 
-use script_lines::parse_number;
+use commands::parse_number;
 use std::str::from_utf8;
 
 /// What a line asks for.
@@ -11,7 +11,7 @@ use std::str::from_utf8;
 pub(crate) enum ControlCommand {
     /// The clock shows a moment, in milliseconds.
     Tick(u64),
-    /// The first marker that is owed is to be written.
+    /// The first marker that is pending is to be written.
     Mark,
     /// All that are owed.
     Marks,

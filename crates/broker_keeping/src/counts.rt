@@ -11,32 +11,32 @@ use std::alloc::{AllocError, Global};
 
 /// A kind of event.
 #[derive(Clone, Copy, Debug, PartialEq, Eq)]
-pub(crate) enum Kind {
+pub(crate) enum EventKind {
     /// A request to the api of this key.
     Request(i16),
-    /// A step that writes a marker, if one is owed.
+    /// A step that writes a marker, if one is pending.
     Mark,
     /// A moment of the clock.
     Tick,
 }
 
-impl Kind {
+impl EventKind {
     /// Whether an event is of this kind.
     fn has(self, event: &Event) -> bool
         ensures { result ≡ is_of self event.now }
     {
         match event {
             Event::Ask { request, .. } => match self {
-                Kind::Request(key) => request.api().key() == key,
-                Kind::Mark | Kind::Tick => false,
+                EventKind::Request(key) => request.api().key() == key,
+                EventKind::Mark | EventKind::Tick => false,
             },
             Event::Mark => match self {
-                Kind::Mark => true,
-                Kind::Request(_) | Kind::Tick => false,
+                EventKind::Mark => true,
+                EventKind::Request(_) | EventKind::Tick => false,
             },
             Event::Tick(_) => match self {
-                Kind::Tick => true,
-                Kind::Request(_) | Kind::Mark => false,
+                EventKind::Tick => true,
+                EventKind::Request(_) | EventKind::Mark => false,
             },
         }
     }
@@ -52,7 +52,7 @@ pub(crate) struct Counted {
 impl Counted {
     /// What an entry adds to those of a kind.
     #[tactic(auto, using(crate::proofs::Counting::one, crate::proofs::Counting::none, crate::proofs::Counting::its_refusals, crate::proofs::Counting::no_refusals))]
-    fn of(kind: Kind, entry: &Entry) -> Counted
+    fn of(kind: EventKind, entry: &Entry) -> Counted
         ensures events { result.events ≡ length (entries_of kind (entry.now ∷ [])) }
         ensures refusals { result.refusals ≡ refusal_count (entries_of kind (entry.now ∷ [])) }
     {
@@ -82,9 +82,11 @@ impl Counted {
 }
 
 /// The events of a kind in a trail. None where 64 bits don't count them.
-pub(crate) fn count_of(trail: &Trail, kind: Kind) -> Option<Counted>
-    ensures events { IfSome result (λ counted. counted.events ≡ length (entries_of kind trail.now)) }
-    ensures refusals { IfSome result (λ counted. counted.refusals ≡ refusal_count (entries_of kind trail.now)) }
+pub(crate) fn count_of(trail: &Trail, kind: EventKind) -> Option<Counted>
+    ensures events { IfSome result
+        (λ counted. counted.events ≡ length (entries_of kind trail.now)) }
+    ensures refusals { IfSome result
+        (λ counted. counted.refusals ≡ refusal_count (entries_of kind trail.now)) }
 {
     let mut counted = Counted {
         events: 0,
@@ -120,15 +122,15 @@ pub(crate) fn counts_of(alloc: Global, trail: &Trail) -> Option<Counts> {
     let mut apis = Vec::new(alloc);
     let served = versions_reply(alloc).ok()?;
     for api in served.apis.iter() {
-        let counted = count_of(trail, Kind::Request(api.key))?;
+        let counted = count_of(trail, EventKind::Request(api.key))?;
         if counted.events > 0 {
             let name = api_name(alloc, api.key)?;
             apis.push(ApiCount { name, counted }).ok()?;
         }
     }
     Some(Counts {
-        ticks: count_of(trail, Kind::Tick)?.events,
-        marks: count_of(trail, Kind::Mark)?.events,
+        ticks: count_of(trail, EventKind::Tick)?.events,
+        marks: count_of(trail, EventKind::Mark)?.events,
         apis,
     })
 }

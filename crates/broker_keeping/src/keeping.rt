@@ -1,12 +1,12 @@
 //! The steps of the clock, after each of which it is told what is new.
 
 ghost use Rattle.std.specs.Prelude.{◌≡◌, false, Some, IfSome, IsSome, is_ok};
-ghost use Rattle.session_pool.specs.Steps.{IsDue, step_event, noted};
+ghost use Rattle.session_pool.specs.Steps.{IsDue, step_event, pending_after_outcome};
 
 use crate::ticks::Ticks;
 use crate::watch::Watch;
 use request_handlers::Core;
-use session_pool::{Clocked, DeskLedger, Step, Steps, Why};
+use session_pool::{Clocked, DeskLedger, EndReason, Step, Steps};
 use std::sync::Wait;
 use std::time;
 
@@ -30,7 +30,7 @@ impl<'d, 'r, L: DeskLedger, R: Wait + time::Clock> Timekeeper<'d, 'r, L, R> {
 impl<'d, 'r, L: DeskLedger, R: Wait + time::Clock> Steps for Timekeeper<'d, 'r, L, R> {
     ghost owed = { λ keeper. Some keeper.clock.left };
 
-    /// Until all workers have ended there is a next step, and where they left markers owed, there is one afterwards too.
+    /// Until all workers have ended there is a next step, and where they left markers pending, there is one afterwards too.
     fn next(&mut self, done: bool) -> Option<Step>
         ensures step { IfSome result (λ step. IsDue (Some self.old.clock.left) (step_event step)) }
         ensures owed { self.new.clock.left ≡ self.old.clock.left }
@@ -53,14 +53,15 @@ impl<'d, 'r, L: DeskLedger, R: Wait + time::Clock> Steps for Timekeeper<'d, 'r, 
         self.watch.note(core);
     }
 
-    fn came(&mut self, outcome: Result<u64, Why>) -> bool
-        ensures owed { Some self.new.clock.left ≡ noted (Some self.old.clock.left) outcome }
+    fn on_result(&mut self, outcome: Result<u64, EndReason>) -> bool
+        ensures owed { Some self.new.clock.left ≡ pending_after_outcome (Some self.old.clock.left)
+            outcome }
         ensures goes_on { result ≡ is_ok outcome }
     {
         self.watch.tell();
         if let Err(why) = outcome {
             self.watch.stop(why);
         }
-        self.clock.came(outcome)
+        self.clock.on_result(outcome)
     }
 }

@@ -6,13 +6,13 @@ ghost use Rattle.broker_keeping.specs.Dropped.{dropped_line};
 use crate::log_message::{Level, LogMessage, Queued};
 use crate::repeats::{Repeated, Repeats, session_line};
 use crate::stamps::Stamp;
+use byte_streams::write_whole;
 use crossbeam_channel::Receiver;
 use std::alloc::{AllocError, Global};
 use std::io::Write;
 use std::sync::Wait;
 use std::time;
 use std::time::{Duration, SystemTime};
-use wire_types::write_whole;
 
 /// After so many seconds without a message it is told of how many sessions the same was said.
 const QUIET: u64 = 10;

@@ -9,7 +9,7 @@ use crate::unserved::unserved_words;
 use admission::Doorman;
 use crossbeam_channel::Sender;
 use request_handlers::{Core, MOST_SEATS};
-use session_pool::{DeskLedger, Gate, LockedDesk, Why};
+use session_pool::{DeskLedger, EndReason, Gate, LockedDesk};
 use std::alloc::{AllocError, Global};
 use std::fmt::Display;
 use std::io::Write;
@@ -216,7 +216,7 @@ impl<'r, R: Wait + time::Clock> Gate for OperatorLog<'r, R> {
     fn after(&self, _session: u64, _frame: u64) {}
 
     /// Tells which api it asks, and what of it is served.
-    fn garbled(&self, session: u64, kept: &[u8]) {
+    fn malformed(&self, session: u64, kept: &[u8]) {
         self.info_of_session(session, unserved_words(self.alloc, kept));
     }
 
@@ -225,14 +225,21 @@ impl<'r, R: Wait + time::Clock> Gate for OperatorLog<'r, R> {
         self.info_of_session(session, refused_words(self.alloc, kept, is_answered));
     }
 
-    fn ended(&self, session: u64, host: &Text, who: Option<&Text>, why: Why) {
+    fn ended(&self, session: u64, host: &Text, who: Option<&Text>, why: EndReason) {
         self.ended.fetch_add(1, Ordering::SeqCst);
-        if why != Why::Closed {
+        if why != EndReason::Closed {
             self.tell_end(session, host, who, why);
         }
     }
 
-    fn ended_as(&self, session: u64, host: &Text, who: Option<&Text>, _why: Why, words: &str) {
+    fn ended_as(
+        &self,
+        session: u64,
+        host: &Text,
+        who: Option<&Text>,
+        _why: EndReason,
+        words: &str,
+    ) {
         self.ended.fetch_add(1, Ordering::SeqCst);
         self.tell_end(session, host, who, words);
     }

@@ -3,7 +3,7 @@
 use crate::unserved::{api_name, asked};
 use audit_trail::push_word;
 use msg_admin::{Request, read_request};
-use session_logins::name_in;
+use session_pool::name_in;
 use std::alloc::{AllocError, Global};
 use std::str::from_utf8;
 use wire_types::Bytes;
@@ -45,10 +45,10 @@ fn push_refused(alloc: Global, words: &mut String, kept: &Bytes) -> Result<(), A
     match &request {
         Request::SaslHandshake(message) => {
             words.push_str("asks for the mechanism")?;
-            push_word(words, message.mechanism.as_str())?;
+            push_word(words, message.value().mechanism.as_str())?;
             words.push_str(", which isn't offered: PLAIN is")
         }
-        Request::SaslAuthenticate(message) => push_login(words, message.auth.as_slice()),
+        Request::SaslAuthenticate(message) => push_login(words, message.value().auth.as_slice()),
         _ => words.push_str("isn't logged in"),
     }
 }

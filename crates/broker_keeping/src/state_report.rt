@@ -1,10 +1,10 @@
 //! How things stand in a core, as plain values. They are taken while it is locked, and laid out as text afterwards.
 
 use broker_world::{Slot, State};
-use offset_tables::Group;
+use group_offsets::Group;
 use request_handlers::Core;
 use std::alloc::{AllocError, Global};
-use transactions::{OwedMarker, Phase, Transaction};
+use txn_coordinator::{PendingMarker, Transaction, TransactionState};
 use wire_types::Text;
 
 /// The log end offset and the last stable offset of a partition.
@@ -42,7 +42,7 @@ pub(crate) struct GroupReport {
 #[derive(Drop)]
 pub(crate) struct StateReport {
     pub(crate) moment: u64,
-    /// How many markers are owed.
+    /// How many markers are pending.
     pub(crate) owed: usize,
     pub(crate) topics: Vec<TopicReport>,
     /// Those that are open or prepared.
@@ -119,18 +119,18 @@ fn topics_of(alloc: Global, slots: &[Slot]) -> Result<Vec<TopicReport>, AllocErr
     Ok(topics)
 }
 
-/// Whether a transaction in this phase is open or prepared.
-fn is_shown(phase: Phase) -> bool {
+/// Whether a transaction in this state is open or prepared.
+fn is_shown(state: TransactionState) -> bool {
     matches!(
-        phase,
-        Phase::Ongoing | Phase::PrepareCommit | Phase::PrepareAbort
+        state,
+        TransactionState::Ongoing | TransactionState::PrepareCommit | TransactionState::PrepareAbort
     )
 }
 
 fn shown_of(alloc: Global, all: &[Transaction]) -> Result<Vec<Transaction>, AllocError> {
     let mut shown = Vec::new(alloc);
     for transaction in all {
-        if is_shown(transaction.phase) {
+        if is_shown(transaction.state) {
             shown.push(transaction.copied()?)?;
         }
     }
@@ -159,8 +159,8 @@ pub(crate) fn state_report_of(alloc: Global, core: &Core) -> Result<StateReport,
     })
 }
 
-/// The marker that is owed first, if one is.
-pub(crate) fn front_of(core: &Core) -> Result<Option<OwedMarker>, AllocError> {
+/// The marker that is pending first, if one is.
+pub(crate) fn front_of(core: &Core) -> Result<Option<PendingMarker>, AllocError> {
     match core.world().coordinator.front() {
         Some(marker) => Ok(Some(marker.clone()?)),
         None => Ok(None),
@@ -171,7 +171,7 @@ pub(crate) fn front_of(core: &Core) -> Result<Option<OwedMarker>, AllocError> {
 pub(crate) fn open_ones(alloc: Global, core: &Core) -> Result<Vec<bool>, AllocError> {
     let mut open = Vec::new(alloc);
     for transaction in core.world().coordinator.transactions() {
-        open.push(transaction.phase == Phase::Ongoing)?;
+        open.push(transaction.state == TransactionState::Ongoing)?;
     }
     Ok(open)
 }
@@ -185,7 +185,7 @@ pub(crate) fn tick_report_of(
     let world = core.world();
     let mut aborted = Vec::new(alloc);
     for (transaction, was_open) in world.coordinator.transactions().iter().zip(open.iter()) {
-        if *was_open && transaction.phase != Phase::Ongoing {
+        if *was_open && transaction.state != TransactionState::Ongoing {
             aborted.push(transaction.id.clone()?)?;
         }
     }

@@ -2,9 +2,9 @@
 
 use crate::state_report::{CommittedOffset, GroupReport, StateReport, TickReport, TopicReport};
 use audit_trail::push_word;
-use record_batch::Outcome;
+use record_batch::TransactionResult;
 use std::alloc::{AllocError, Global};
-use transactions::{OwedMarker, Phase, Target, TopicPartition, Transaction};
+use txn_coordinator::{PendingMarker, Target, TopicPartition, Transaction, TransactionState};
 
 fn push_partition(
     alloc: Global,
@@ -28,12 +28,14 @@ fn push_topic(alloc: Global, text: &mut String, topic: &TopicReport) -> Result<(
 }
 
 /// The transaction's state by its name in KIP-98, where it is open or prepared.
-fn phase_name(phase: Phase) -> Option<&'static str> {
-    match phase {
-        Phase::Ongoing => Some("Ongoing"),
-        Phase::PrepareCommit => Some("PrepareCommit"),
-        Phase::PrepareAbort => Some("PrepareAbort"),
-        Phase::Empty | Phase::CompleteCommit | Phase::CompleteAbort => None,
+fn state_name(state: TransactionState) -> Option<&'static str> {
+    match state {
+        TransactionState::Ongoing => Some("Ongoing"),
+        TransactionState::PrepareCommit => Some("PrepareCommit"),
+        TransactionState::PrepareAbort => Some("PrepareAbort"),
+        TransactionState::Empty
+        | TransactionState::CompleteCommit
+        | TransactionState::CompleteAbort => None,
     }
 }
 
@@ -66,14 +68,14 @@ fn push_transaction(
     text: &mut String,
     transaction: &Transaction,
 ) -> Result<(), AllocError> {
-    let Some(phase) = phase_name(transaction.phase) else {
+    let Some(state) = state_name(transaction.state) else {
         return Ok(());
     };
     let (producer, epoch) = (transaction.pair.producer, transaction.pair.epoch);
     let (start, timeout) = (transaction.start, transaction.timeout);
     text.push_str("transaction")?;
     push_word(text, transaction.id.as_str())?;
-    text.push_str(format!(in alloc; " {phase} producer {producer} epoch {epoch}")?.as_str())?;
+    text.push_str(format!(in alloc; " {state} producer {producer} epoch {epoch}")?.as_str())?;
     text.push_str(format!(in alloc; " began {start} timeout {timeout}\n")?.as_str())?;
     push_added(alloc, text, transaction)
 }
@@ -126,15 +128,15 @@ pub(crate) fn state_text(alloc: Global, report: &StateReport) -> Result<String, 
     Ok(text)
 }
 
-fn outcome_name(outcome: Outcome) -> &'static str {
+fn outcome_name(outcome: TransactionResult) -> &'static str {
     match outcome {
-        Outcome::Commit => "commit",
-        Outcome::Abort => "abort",
+        TransactionResult::Commit => "commit",
+        TransactionResult::Abort => "abort",
     }
 }
 
 /// `marker commit producer ID epoch EPOCH topic TOPIC INDEX`, or `abort` and `group GROUP`.
-fn marker_text(alloc: Global, marker: &OwedMarker) -> Result<String, AllocError> {
+fn marker_text(alloc: Global, marker: &PendingMarker) -> Result<String, AllocError> {
     let outcome = outcome_name(marker.outcome);
     let (producer, epoch) = (marker.pair.producer, marker.pair.epoch);
     let mut text = format!(in alloc; "marker {outcome} producer {producer} epoch {epoch}")?;
@@ -151,8 +153,11 @@ fn marker_text(alloc: Global, marker: &OwedMarker) -> Result<String, AllocError>
     Ok(text)
 }
 
-/// The front marker; `marker none` where none is owed.
-pub(crate) fn front_text(alloc: Global, front: &Option<OwedMarker>) -> Result<String, AllocError> {
+/// The front marker; `marker none` where none is pending.
+pub(crate) fn front_text(
+    alloc: Global,
+    front: &Option<PendingMarker>,
+) -> Result<String, AllocError> {
     match front {
         Some(marker) => marker_text(alloc, marker),
         None => String::from_str(alloc, "marker none"),

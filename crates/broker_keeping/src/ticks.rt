@@ -11,7 +11,7 @@ use std::time::{Duration, Instant};
 const REST: u64 = 100;
 
 /// Gives the milliseconds since its start about ten times a second, until all workers have ended. Where a step of a session leaves
-/// markers owed and none were owed before, it gives them at once, since the keeper writes the markers that are owed after a tick.
+/// markers pending and none were pending before, it gives them at once, since the keeper writes the markers that are pending after a tick.
 #[derive(Drop)]
 pub struct Ticks<'d, 'r, L: DeskLedger, R: Wait + time::Clock> {
     rt: &'r R,

@@ -5,30 +5,30 @@ use Rattle.std.specs.Option.{option_map}
 use Rattle.std.specs.Ordering.{int_eq}
 use Rattle.std.proofs.lemmas.Bool.Decides.{Decides-int_eq}
 use Rattle.std.proofs.lemmas.List.{map-append}
-use Rattle.transactions.specs.declared.pair.Pair.{Pair}
-use Rattle.transactions.specs.declared.target.TopicPartition.{TopicPartition}
-use Rattle.transactions.specs.declared.target.Target.{Target}
-use Rattle.transactions.specs.declared.target.Target.TheVariants.{Partition, Group}
-use Rattle.record_batch.specs.declared.outcome.Outcome.{Outcome as Ending}
-use Rattle.record_batch.specs.declared.outcome.Outcome.TheVariants.{Commit, Abort}
-use Rattle.transactions.specs.declared.marker.OwedMarker.{OwedMarker}
-use Rattle.offset_tables.specs.declared.event.OffsetEvent.{OffsetEvent}
-use Rattle.offset_tables.specs.declared.event.OffsetEvent.TheVariants.{Put, Stage, Decide}
-use Rattle.offset_tables.specs.Offsets.{is_of, first_decision, offset_of}
-use Rattle.offset_tables.specs.Groups.{group_of}
-use Rattle.offset_tables.specs.Laws.{or_else, pending}
-use Rattle.offset_tables.proofs.Following.{committed_goes_on}
-use Rattle.offset_tables.proofs.Waiting.{pending_goes_on}
+use Rattle.txn_coordinator.specs.declared.producer_id.ProducerIdAndEpoch.{ProducerIdAndEpoch}
+use Rattle.txn_coordinator.specs.declared.target.TopicPartition.{TopicPartition}
+use Rattle.txn_coordinator.specs.declared.target.Target.{Target}
+use Rattle.txn_coordinator.specs.declared.target.Target.TheVariants.{Partition, Group}
+use Rattle.record_batch.specs.declared.transaction_result.TransactionResult.{TransactionResult}
+use Rattle.record_batch.specs.declared.transaction_result.TransactionResult.TheVariants.{Commit, Abort}
+use Rattle.txn_coordinator.specs.declared.marker.PendingMarker.{PendingMarker}
+use Rattle.group_offsets.specs.declared.event.OffsetEvent.{OffsetEvent}
+use Rattle.group_offsets.specs.declared.event.OffsetEvent.TheVariants.{Put, Stage, Decide}
+use Rattle.group_offsets.specs.Offsets.{is_of, first_decision, offset_of}
+use Rattle.group_offsets.specs.Groups.{group_of}
+use Rattle.group_offsets.specs.Laws.{or_else, pending_offset}
+use Rattle.group_offsets.proofs.Following.{committed_goes_on}
+use Rattle.group_offsets.proofs.Waiting.{pending_goes_on}
 use Rattle.txn_laws.specs.Small.{Entry}
 use Rattle.txn_laws.specs.Small.Entry.{Data, Marker, Other}
 use Rattle.txn_laws.specs.Sound.{Each}
 use Rattle.txn_laws.specs.Laws.{IsNotOf, IsEnded, IsDone}
-use Rattle.txn_laws.specs.Kept.{kept_pair}
+use Rattle.txn_laws.specs.Kept.{kept_id_and_epoch}
 use Rattle.txn_laws.proofs.Base.{each_weaker}
 use Rattle.broker_world.specs.World.{World}
-use Rattle.api_dispatch.specs.Step.{step, reached}
+use Rattle.api_dispatch.specs.Step.{step, world_after_events}
 use Rattle.broker_laws.specs.Entries.{in_group, event_entry, entries_in}
-use Rattle.broker_laws.specs.Laws.{InReached, IsNotBy, shown_by, IsDecided, DecidesPrepared, DecidesWaiting}
+use Rattle.broker_laws.specs.Laws.{InReached, IsNotBy, committed_after, IsDecided, DecidesPrepared, DecidesWaiting}
 use Rattle.broker_laws.proofs.Noted.{Follows, GoOn}
 use Rattle.broker_laws.proofs.Growing.{Anything, reached_goes}
 use Rattle.broker_laws.proofs.Reached.{IsGood, good}
@@ -41,26 +41,26 @@ cancelled [] ys zs e = e
 cancelled (x ∷ xs) ys zs e = let rest : xs ++ ys ≡ xs ++ zs = cc in cancelled xs ys zs rest
 
 -- the producer's decision, with nothing of the producer before it
-record IsSplit (producer : ℤ) (o : Ending) (es : List OffsetEvent) : Type 0 where
+record IsSplit (producer : ℤ) (o : TransactionResult) (es : List OffsetEvent) : Type 0 where
   between : List OffsetEvent
   after : List OffsetEvent
   events : es ≡ between ++ Decide producer o ∷ after
   nothing : Each (IsNotBy producer) between
 
-decision_is : (e : OffsetEvent) (pair : Pair) (o : Ending) → event_entry e ≡ Marker pair o → e ≡ Decide pair.producer o
+decision_is : (e : OffsetEvent) (pair : ProducerIdAndEpoch) (o : TransactionResult) → event_entry e ≡ Marker pair o → e ≡ Decide pair.producer o
 decision_is (Put x) pair o is = absurd (let clash : Other ≡ Marker pair o = is in cc)
 decision_is (Stage p x) pair o is = absurd (let clash : Data (in_group p) ≡ Marker pair o = is in cc)
 decision_is (Decide p d) pair o is =
     let same : in_group p ≡ pair = cc in
     let told : d ≡ o = cc in
-    ap (λ (q : Pair). Decide q.producer d) same ∙ ap (λ x. Decide pair.producer x) told
+    ap (λ (q : ProducerIdAndEpoch). Decide q.producer d) same ∙ ap (λ x. Decide pair.producer x) told
 
 not_by : (producer : ℤ) (e : OffsetEvent) → IsNotOf producer (event_entry e) → IsNotBy producer e
 not_by producer (Put x) h = tt
 not_by producer (Stage p x) h = h
 not_by producer (Decide p d) h = h
 
-split : (es : List OffsetEvent) (bs cs : List Entry) (pair : Pair) (o : Ending) → map event_entry es ≡ bs ++ Marker pair o ∷ cs → Each (IsNotOf pair.producer) bs → IsSplit pair.producer o es
+split : (es : List OffsetEvent) (bs cs : List Entry) (pair : ProducerIdAndEpoch) (o : TransactionResult) → map event_entry es ≡ bs ++ Marker pair o ∷ cs → Each (IsNotOf pair.producer) bs → IsSplit pair.producer o es
 split [] [] cs pair o e h = absurd (let clash : [] ≡ Marker pair o ∷ cs = e in cc)
 split [] (b ∷ bs) cs pair o e h = absurd (let clash : [] ≡ b ∷ (bs ++ Marker pair o ∷ cs) = e in cc)
 split (x ∷ xs) [] cs pair o e h =
@@ -88,7 +88,7 @@ other_number p q differ = by_test (int_eq p q) refl where
   by_test true e = absurd (differ ((Decides-int_eq p q).0 e))
   by_test false e = e
 
--- behind events without a decision, the first is the first of those behind
+-- after events without a decision, the first is the first of those after
 record IsPassed (p : ℤ) (k : ℕ) (es rest : List OffsetEvent) : Type 0 where
   place : ℕ
   same : first_decision p k (es ++ rest) ≡ first_decision p place rest
@@ -110,7 +110,7 @@ undecided p k (Put o ∷ es) h = undecided p (k + 1) es h.1
 undecided p k (Stage q o ∷ es) h = undecided p (k + 1) es h.1
 undecided p k (Decide q d ∷ es) h = ap (λ b. cond b (Some (record { place = k; outcome = d })) (first_decision p (k + 1) es)) (other_number q p h.0) ∙ undecided p (k + 1) es h.1
 
-first_is : (p : ℤ) (d : Ending) (behind between after : List OffsetEvent) → first_decision p 0 behind ≡ None → Each (IsNotBy p) between
+first_is : (p : ℤ) (d : TransactionResult) (behind between after : List OffsetEvent) → first_decision p 0 behind ≡ None → Each (IsNotBy p) between
     → option_map (λ x. x.outcome) (first_decision p 0 (behind ++ (between ++ Decide p d ∷ after))) ≡ Some d
 first_is p d behind between after none nothing =
     let rest = Decide p d ∷ after in
@@ -121,31 +121,31 @@ first_is p d behind between after none nothing =
 
 -- ---- what waits
 
-still_waits : (p : ℤ) (topic : List ℕ) (index : ℤ) (old between : List OffsetEvent) → Each (IsNotBy p) between → pending (old ++ between) p topic index ≡ pending old p topic index
-still_waits p topic index old [] h = ap (λ es. pending es p topic index) (append-nil old)
+still_waits : (p : ℤ) (topic : List ℕ) (index : ℤ) (old between : List OffsetEvent) → Each (IsNotBy p) between → pending_offset (old ++ between) p topic index ≡ pending_offset old p topic index
+still_waits p topic index old [] h = ap (λ es. pending_offset es p topic index) (append-nil old)
 still_waits p topic index old (e ∷ es) h =
-    ap (λ l. pending l p topic index) (sym (append_assoc old (e ∷ []) es))
+    ap (λ l. pending_offset l p topic index) (sym (append_assoc old (e ∷ []) es))
     ∙ still_waits p topic index (old ++ e ∷ []) es h.1
     ∙ one e h.0 where
-      one : (x : OffsetEvent) → IsNotBy p x → pending (old ++ x ∷ []) p topic index ≡ pending old p topic index
+      one : (x : OffsetEvent) → IsNotBy p x → pending_offset (old ++ x ∷ []) p topic index ≡ pending_offset old p topic index
       one (Put o) not = pending_goes_on.put old o p topic index
       one (Stage q o) not =
           pending_goes_on.stage old q o p topic index
-          ∙ ap (λ b. cond (b && is_of topic index o) (Some o) (pending old p topic index)) (other_number p q (λ same. not (sym same)))
-      one (Decide q d) not = pending_goes_on.decide old q d p topic index ∙ ap (λ b. cond b None (pending old p topic index)) (other_number q p not)
+          ∙ ap (λ b. cond (b && is_of topic index o) (Some o) (pending_offset old p topic index)) (other_number p q (λ same. not (sym same)))
+      one (Decide q d) not = pending_goes_on.decide old q d p topic index ∙ ap (λ b. cond b None (pending_offset old p topic index)) (other_number q p not)
 
-shows : (p : ℤ) (o : Ending) (topic : List ℕ) (index : ℤ) (old between : List OffsetEvent) → Each (IsNotBy p) between
-    → offset_of ((old ++ between) ++ Decide p o ∷ []) topic index ≡ shown_by o (pending old p topic index) (offset_of (old ++ between) topic index)
+shows : (p : ℤ) (o : TransactionResult) (topic : List ℕ) (index : ℤ) (old between : List OffsetEvent) → Each (IsNotBy p) between
+    → offset_of ((old ++ between) ++ Decide p o ∷ []) topic index ≡ committed_after o (pending_offset old p topic index) (offset_of (old ++ between) topic index)
 shows p Commit topic index old between h =
     committed_goes_on.commit (old ++ between) p topic index ∙ ap (λ x. or_else x (offset_of (old ++ between) topic index)) (still_waits p topic index old between h)
 shows p Abort topic index old between h = committed_goes_on.abort (old ++ between) p topic index
 
-settles : (p : ℤ) (d : Ending) (topic : List ℕ) (index : ℤ) (es : List OffsetEvent) → pending (es ++ Decide p d ∷ []) p topic index ≡ None
-settles p d topic index es = pending_goes_on.decide es p d p topic index ∙ ap (λ b. cond b None (pending es p topic index)) (own_number p)
+settles : (p : ℤ) (d : TransactionResult) (topic : List ℕ) (index : ℤ) (es : List OffsetEvent) → pending_offset (es ++ Decide p d ∷ []) p topic index ≡ None
+settles p d topic index es = pending_goes_on.decide es p d p topic index ∙ ap (λ b. cond b None (pending_offset es p topic index)) (own_number p)
 
 -- ---- a group
 
-decided : (old new : List OffsetEvent) (pair : Pair) (o : Ending) → Follows (λ e. Unit {0}) old new → IsEnded pair o (map event_entry old) (map event_entry new) → IsDecided pair.producer o old new
+decided : (old new : List OffsetEvent) (pair : ProducerIdAndEpoch) (o : TransactionResult) → Follows (λ e. Unit {0}) old new → IsEnded pair o (map event_entry old) (map event_entry new) → IsDecided pair.producer o old new
 decided old new pair o more ended =
     let p = pair.producer in
     let entries = cancelled (map event_entry old) (map event_entry more.more) (ended.between ++ Marker pair o ∷ ended.after) (sym (map-append event_entry old more.more) ∙ ap (map event_entry) (sym more.events) ∙ ended.log) in
@@ -175,7 +175,7 @@ added_groups P [] (g ∷ gs) h = (h.0, added_groups P [] gs h.1)
 
 pub prepared_decides : (w : World) → IsGood w → DecidesPrepared w
 prepared_decides w good e id t o after by enough =
-    let v = reached (step w e) after in
+    let v = world_after_events (step w e) after in
     each_weaker (λ g. IsDone t.pair.producer o (entries_in w (Group g)) (entries_in v (Group g))) (λ g. IsDecided t.pair.producer o (group_of w.groups g).offsets (group_of v.groups g).offsets)
     (λ g done. one v (reached_goes w (e ∷ after)) g done) t.groups
     (added_groups (λ target. IsDone t.pair.producer o (entries_in w target) (entries_in v target)) t.partitions t.groups (prepared_done w good e id t o after by enough)) where
@@ -188,12 +188,12 @@ prepared_groups s es = prepared_decides _ (good s es)
 
 waiting_decides : (w : World) → IsGood w → DecidesWaiting w
 waiting_decides w good id t o after found waits enough =
-    let v = reached w after in
-    each_weaker (λ (x : OwedMarker). x.id ≡ id → IsEnded (kept_pair x.target x.pair) o (entries_in w x.target) (entries_in v x.target))
-    (λ (x : OwedMarker). x.id ≡ id → (g : List ℕ) → x.target ≡ Group g → IsDecided x.pair.producer o (group_of w.groups g).offsets (group_of v.groups g).offsets)
+    let v = world_after_events w after in
+    each_weaker (λ (x : PendingMarker). x.id ≡ id → IsEnded (kept_id_and_epoch x.target x.pair) o (entries_in w x.target) (entries_in v x.target))
+    (λ (x : PendingMarker). x.id ≡ id → (g : List ℕ) → x.target ≡ Group g → IsDecided x.pair.producer o (group_of w.groups g).offsets (group_of v.groups g).offsets)
     (λ x h own g is.
-    decided (group_of w.groups g).offsets (group_of v.groups g).offsets (kept_pair (Group g) x.pair) o (reached_goes w after g)
-    (subst (λ target. IsEnded (kept_pair target x.pair) o (entries_in w target) (entries_in v target)) is (h own)))
+    decided (group_of w.groups g).offsets (group_of v.groups g).offsets (kept_id_and_epoch (Group g) x.pair) o (reached_goes w after g)
+    (subst (λ target. IsEnded (kept_id_and_epoch target x.pair) o (entries_in w target) (entries_in v target)) is (h own)))
     w.coordinator.warrants (waiting_completes w good id t o after found waits enough)
 
 pub waiting_groups : InReached DecidesWaiting

@@ -16,8 +16,8 @@ use Rattle.walk.specs.Rule.{refusal_of}
 use Rattle.walk.specs.Walk.{answers}
 use Rattle.walk.specs.Codes.{refusal_code}
 use Rattle.walk.proofs.Weaving.{woven}
-use Rattle.offset_tables.specs.declared.event.PartitionOffset.{PartitionOffset}
-use Rattle.offset_tables.specs.Offsets.{fetched}
+use Rattle.group_offsets.specs.declared.event.PartitionOffset.{PartitionOffset}
+use Rattle.group_offsets.specs.Offsets.{fetch_result}
 use Rattle.broker_world.specs.World.{World, rules_of}
 use Rattle.group_handlers.specs.OffsetFetch.{group_question, fetched_offset, offset_rule, offsets_of, fetched_outcome, offset_fetch_by}
 use Rattle.broker_laws.specs.Commits.{BothTopics}
@@ -64,7 +64,7 @@ module _ (w : World) (caller : Caller) (r : OffsetFetchRequest) where
     adds = refl;
   }
   fetch_one u name index keeps None e =
-      let told = fetched (offsets_of w r.group) r.require_stable name index in
+      let told = fetch_result (offsets_of w r.group) r.require_stable name index in
       record { keeps = tt; is = record { place = place_as told index; epoch = epoch_as told index; refused = λ may_not. absurd (may_not e); told = λ may. told_as_it told index }; adds = refl }
 
   fetch_all : (ts : List (Topic ℤ)) → BothTopics (IsFetchAnswer w caller r) ts (answers (offset_rule caller (offsets_of w r.group) r.require_stable) (rules_of w) tt ts)

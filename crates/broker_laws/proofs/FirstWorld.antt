@@ -8,12 +8,12 @@ use Rattle.wire_types.specs.ListLaws.{and_parts}
 use Rattle.acl_binding.specs.declared.binding.Binding.{Binding}
 use Rattle.acl_binding.specs.declared.binding.Numbered.{Numbered}
 use Rattle.acl_binding.specs.Binding.{same_binding}
-use Rattle.acl_binding.specs.Book.{BookValue, empty_book, number_of, appended, added}
+use Rattle.acl_binding.specs.Book.{BookValue, empty_book, number_of, with_new_binding, with_binding}
 use Rattle.acl_binding.proofs.Same.{same_is_equal, equal_is_same}
 use Rattle.settings.specs.declared.settings.TopicSetting.{TopicSetting}
 use Rattle.settings.specs.Fault.{is_within, is_topic_within}
 use Rattle.broker_world.specs.World.{LogValue}
-use Rattle.broker_world.specs.First.{magnitude, with_bindings, empty_logs, first_topics}
+use Rattle.broker_world.specs.First.{non_negative, with_bindings, empty_logs, first_topics}
 use Rattle.broker_world.proofs.InRange.{faultless_in_range, topics_in_range}
 use Rattle.txn_laws.specs.Sound.{IsAmong}
 use Rattle.broker_laws.specs.FirstWorld.{bindings_of, AreAllDifferent, AreNumberedFrom, AreFirstBindings, AreFirstTopics, FirstWorldIsTheSettings}
@@ -107,7 +107,7 @@ stays done book b h there = record {
   by_place x (inl listed) = h.all x listed
   by_place x (inr same) = subst (IsAmong (bindings_of book.entries)) same there
 
-grows : (done : List Binding) (book : BookValue) (b : Binding) → Holds done book → (IsAmong (bindings_of book.entries) b → ⊥) → Holds (done ++ b ∷ []) (appended book b)
+grows : (done : List Binding) (book : BookValue) (b : Binding) → Holds done book → (IsAmong (bindings_of book.entries) b → ⊥) → Holds (done ++ b ∷ []) (with_new_binding book b)
 grows done book b h new = record {
   numbered = numbered_push book.entries 1 book.next b h.numbered h.next;
   next = omega (arith, h.next, length_push book.entries (record { number = book.next; binding = b }));
@@ -127,9 +127,9 @@ grows done book b h new = record {
   back x (inl there) = listed_front done (b ∷ []) x (h.alone x there)
   back x (inr same) = subst (IsAmong (done ++ b ∷ [])) same (listed_last done b)
 
-one_added : (done : List Binding) (book : BookValue) (b : Binding) → Holds done book → Holds (done ++ b ∷ []) (added book b)
+one_added : (done : List Binding) (book : BookValue) (b : Binding) → Holds done book → Holds (done ++ b ∷ []) (with_binding book b)
 one_added done book b h = by_test (is_some (number_of book.entries b)) refl where
-  by_test : (t : Bool) → is_some (number_of book.entries b) ≡ t → Holds (done ++ b ∷ []) (cond t book (appended book b))
+  by_test : (t : Bool) → is_some (number_of book.entries b) ≡ t → Holds (done ++ b ∷ []) (cond t book (with_new_binding book b))
   by_test true there = stays done book b h (there_is book.entries b there)
   by_test false new = grows done book b h (not_there book.entries b new)
 
@@ -139,7 +139,7 @@ append_nil (x ∷ xs) = ap (λ (l : List Binding). x ∷ l) (append_nil xs)
 
 all_added : (acls done : List Binding) (book : BookValue) → Holds done book → Holds (done ++ acls) (with_bindings book acls)
 all_added [] done book h = subst (λ (l : List Binding). Holds l book) (sym (append_nil done)) h
-all_added (b ∷ bs) done book h = subst (λ (l : List Binding). Holds l (with_bindings (added book b) bs)) (append_assoc done (b ∷ []) bs) (all_added bs (done ++ b ∷ []) (added book b) (one_added done book b h))
+all_added (b ∷ bs) done book h = subst (λ (l : List Binding). Holds l (with_bindings (with_binding book b) bs)) (append_assoc done (b ∷ []) bs) (all_added bs (done ++ b ∷ []) (with_binding book b) (one_added done book b h))
 
 nothing_held : Holds [] empty_book
 nothing_held = record { numbered = tt; next = omega arith; all = λ b there. there; alone = λ b there. there; once = tt; in_order = λ different. refl }
@@ -159,7 +159,7 @@ are_empty : (n : ℕ) → AllByRecursion (λ (log : LogValue). log ≡ []) (empt
 are_empty zero = tt
 are_empty (suc n) = (refl, are_empty n)
 
-partitions : (z : ℤ) → is_within 1 1000 z ≡ true → pos (length (empty_logs (magnitude z))) ≡ z
+partitions : (z : ℤ) → is_within 1 1000 z ≡ true → pos (length (empty_logs (non_negative z))) ≡ z
 partitions (pos n) h = ap pos (so_many n)
 partitions (negsuc n) h = absurd (true≢false (sym h))
 
@@ -167,7 +167,7 @@ first_topics_are : (ts : List TopicSetting) → list_all is_topic_within ts ≡ 
 first_topics_are [] h = refl
 first_topics_are (t ∷ ts) h =
     let parts = and_parts (is_topic_within t) (list_all is_topic_within ts) h in
-    (record { named = refl; as_many = partitions t.partitions parts.0; empty = are_empty (magnitude t.partitions) }, first_topics_are ts parts.1)
+    (record { named = refl; as_many = partitions t.partitions parts.0; empty = are_empty (non_negative t.partitions) }, first_topics_are ts parts.1)
 
 pub first_is : FirstWorldIsTheSettings
 first_is s none = record {

@@ -34,4 +34,4 @@ pub mod Fetched
 pub mod ToldTopics
 pub mod Transacted
 pub mod RoundTrips
-pub mod TurnCodes
+pub mod TransitionCodes

@@ -6,9 +6,9 @@ use Rattle.std.specs.Ordering.{int_eq}
 use Rattle.std.specs.Str.{bytes_eq}
 use Rattle.std.proofs.lemmas.Bool.Decides.{Decides-int_eq}
 use Rattle.std.proofs.lemmas.Slice.Eq.{bytes_eq-Decides}
-use Rattle.transactions.specs.declared.target.Target.{Target}
-use Rattle.transactions.specs.declared.target.Target.TheVariants.{Partition, Group}
-use Rattle.offset_tables.specs.declared.group.Group.{Group as GroupValue}
+use Rattle.txn_coordinator.specs.declared.target.Target.{Target}
+use Rattle.txn_coordinator.specs.declared.target.Target.TheVariants.{Partition, Group}
+use Rattle.group_offsets.specs.declared.group.Group.{Group as GroupValue}
 use Rattle.txn_laws.specs.Small.{Entry, with_entry}
 use Rattle.broker_world.specs.World.{TopicValue, LogValue, find_topic}
 use Rattle.broker_world.specs.Logs.{log_in, log_of, log_at, logs_with, with_log}

@@ -10,7 +10,7 @@ use Rattle.wire_types.specs.declared.error_code.ErrorCode.{ErrorCode}
 use Rattle.record_batch.specs.Batch.{BatchData}
 use Rattle.producer_state.specs.declared.judgment.Judgment.{Judgment}
 use Rattle.producer_state.specs.declared.judgment.Judgment.TheVariants.{Next, Repeat, Refused}
-use Rattle.producer_state.specs.Sequences.{judged as judged_by_log}
+use Rattle.producer_state.specs.Sequences.{judgment_of as judged_by_log}
 use Rattle.partition_log.specs.Log.{at_end}
 use Rattle.msg_data.specs.declared.produce.ProduceRequest.{ProduceRequest}
 use Rattle.msg_data.specs.declared.produce.ProducedRecords.{ProducedRecords}
@@ -20,34 +20,34 @@ use Rattle.audit_trail.specs.declared.event.Event.{Event}
 use Rattle.audit_trail.specs.declared.event.Event.TheVariants.{Ask, Mark, Tick}
 use Rattle.walk.specs.Steps.{topics_world}
 use Rattle.walk.proofs.Weaving.{woven}
-use Rattle.transactions.specs.declared.target.TopicPartition.{TopicPartition}
-use Rattle.transactions.specs.declared.target.Target.{Target}
-use Rattle.transactions.specs.declared.target.Target.TheVariants.{Partition, Group}
-use Rattle.transactions.specs.declared.marker.OwedMarker.{OwedMarker}
+use Rattle.txn_coordinator.specs.declared.target.TopicPartition.{TopicPartition}
+use Rattle.txn_coordinator.specs.declared.target.Target.{Target}
+use Rattle.txn_coordinator.specs.declared.target.Target.TheVariants.{Partition, Group}
+use Rattle.txn_coordinator.specs.declared.marker.PendingMarker.{PendingMarker}
 use Rattle.broker_world.specs.World.{World, TopicValue, LogValue, rules_of}
-use Rattle.broker_world.specs.First.{magnitude}
-use Rattle.broker_world.specs.Logs.{log_at, with_log, log_by, appended_by}
-use Rattle.broker_world.specs.Markers.{marker_batch, marked_by}
-use Rattle.broker_world.specs.Whole.{Served, whole_by}
+use Rattle.broker_world.specs.First.{non_negative}
+use Rattle.broker_world.specs.Logs.{log_at, with_log, log_by, topics_with_batch_by}
+use Rattle.broker_world.specs.Markers.{marker_batch, topics_with_marker_by}
+use Rattle.broker_world.specs.Whole.{Served, whole_outcome_by}
 use Rattle.broker_world.specs.Questions.{read_question}
-use Rattle.data_handlers.specs.Judged.{partition_at, judged, topics_produced}
-use Rattle.data_handlers.specs.Produce.{producing}
-use Rattle.group_handlers.specs.Members.{joined, synced, heard, left}
+use Rattle.data_handlers.specs.Judged.{partition_at, batch_to_append, topics_produced}
+use Rattle.data_handlers.specs.Produce.{producing_rule}
+use Rattle.group_handlers.specs.Members.{served_join, served_sync, served_heartbeat, served_leave}
 use Rattle.group_handlers.specs.FindCoordinator.{kind_of, find_questions}
-use Rattle.txn_handlers.specs.InitProducerId.{init_questions, initialized}
+use Rattle.txn_handlers.specs.InitProducerId.{init_questions, served_init}
 use Rattle.txn_handlers.specs.AddPartitions.{is_cut, cut_outcome, added_outcome}
-use Rattle.txn_handlers.specs.AddOffsets.{add_offsets_questions, offsets_added}
-use Rattle.txn_handlers.specs.EndTxn.{ended, end_questions}
+use Rattle.txn_handlers.specs.AddOffsets.{add_offsets_questions, served_add_offsets}
+use Rattle.txn_handlers.specs.EndTxn.{served_end, end_questions}
 use Rattle.acl_handlers.specs.DescribeAcls.{describe_acls_questions}
 use Rattle.acl_handlers.specs.CreateAcls.{alter_questions}
-use Rattle.txn_handlers.specs.Marks.{marked_at, mark_by}
-use Rattle.api_dispatch.specs.Step.{step, reached}
+use Rattle.txn_handlers.specs.Marks.{topics_with_marker_at, mark_by}
+use Rattle.api_dispatch.specs.Step.{step, world_after_events}
 use Rattle.api_dispatch.proofs.Wholes.{offsets_keep}
 use Rattle.broker_laws.specs.LogEnds.{IsLonger, LogsGoOn}
 use Rattle.broker_laws.proofs.Logs.{at_with, same_partition}
 use Rattle.broker_laws.proofs.Walks.{walk_goes}
 
--- each log that is there stays, and has more behind it
+-- each log that is there stays, and has more after it
 abbrev pub Grow : List TopicValue → List TopicValue → Type 0
 Grow old new = (p : TopicPartition) (log : LogValue) → log_at old p.topic p.index ≡ Some log → IsLonger log (log_at new p.topic p.index)
 
@@ -86,53 +86,53 @@ grow_judged topics name i log b at (Refused code) = grow_again topics name i log
 grow_produced : (topics : List TopicValue) (name : List ℕ) (i : ℤ) (r : Result BatchData ErrorCode) → Grow topics (topics_produced r topics name i)
 grow_produced topics name i (Err code) = grow_same topics
 grow_produced topics name i (Ok b) = by_log (log_at topics name i) refl where
-  by_log : (o : Option LogValue) → log_at topics name i ≡ o → Grow topics (appended_by topics name i b o)
+  by_log : (o : Option LogValue) → log_at topics name i ≡ o → Grow topics (topics_with_batch_by topics name i b o)
   by_log None e = grow_same topics
   by_log (Some log) e = grow_judged topics name i log b e (judged_by_log log b)
 
-grow_walk : (w : World) (caller : Caller) (r : ProduceRequest) → Grow w.topics (topics_world (producing w caller r) (rules_of w) w.topics r.topics)
-grow_walk w caller r = walk_goes (producing w caller r) (rules_of w) Grow grow_same grow_joined part w.topics r.topics where
-  part : (topics : List TopicValue) (name : List ℕ) (p : ProducedRecords) → Grow topics ((producing w caller r).after topics name p)
-  part topics name p = grow_produced topics name p.index (judged (magnitude w.node.max_batch) w.coordinator r.transactional_id r.acks (partition_at name p.index) p.records)
+grow_walk : (w : World) (caller : Caller) (r : ProduceRequest) → Grow w.topics (topics_world (producing_rule w caller r) (rules_of w) w.topics r.topics)
+grow_walk w caller r = walk_goes (producing_rule w caller r) (rules_of w) Grow grow_same grow_joined part w.topics r.topics where
+  part : (topics : List TopicValue) (name : List ℕ) (p : ProducedRecords) → Grow topics ((producing_rule w caller r).after topics name p)
+  part topics name p = grow_produced topics name p.index (batch_to_append (non_negative w.node.max_batch) w.coordinator r.transactional_id r.acks (partition_at name p.index) p.records)
 
 -- ---- a marker step
 
-grow_marked : (topics : List TopicValue) (target : Target) (b : BatchData) → Grow topics (marked_at topics target b)
+grow_marked : (topics : List TopicValue) (target : Target) (b : BatchData) → Grow topics (topics_with_marker_at topics target b)
 grow_marked topics (Group g) b = grow_same topics
 grow_marked topics (Partition p) b = by_log (log_at topics p.topic p.index) refl where
-  by_log : (o : Option LogValue) → log_at topics p.topic p.index ≡ o → Grow topics (marked_by topics p.topic p.index b o)
+  by_log : (o : Option LogValue) → log_at topics p.topic p.index ≡ o → Grow topics (topics_with_marker_by topics p.topic p.index b o)
   by_log None e = grow_same topics
   by_log (Some log) e = grow_with topics p.topic p.index log (at_end log b ∷ []) e
 
-grow_by_front : (w : World) (front : Option OwedMarker) → Grow w.topics (mark_by w front).world.topics
+grow_by_front : (w : World) (front : Option PendingMarker) → Grow w.topics (mark_by w front).world.topics
 grow_by_front w None = grow_same w.topics
 grow_by_front w (Some m) = grow_marked w.topics m.target (marker_batch m w.moment)
 
 -- ---- an event
 
-unless_refused : (o : Option Refusal) (w : World) (refused : ErrorCode → Reply) (served : Served) → Grow w.topics served.world.topics → Grow w.topics (whole_by o w refused served).world.topics
+unless_refused : (o : Option Refusal) (w : World) (refused : ErrorCode → Reply) (served : Served) → Grow w.topics served.world.topics → Grow w.topics (whole_outcome_by o w refused served).world.topics
 unless_refused None w refused served h = h
 unless_refused (Some x) w refused served h = grow_same w.topics
 
 pub step_grows : (w : World) (e : Event) → Grow w.topics (step w e).topics
-step_grows w (Ask caller client (Produce r)) = subst (Grow w.topics) (woven (producing w caller r) (rules_of w) w.topics r.topics).world (grow_walk w caller r)
+step_grows w (Ask caller client (Produce r)) = subst (Grow w.topics) (woven (producing_rule w caller r) (rules_of w) w.topics r.topics).world (grow_walk w caller r)
 step_grows w (Ask caller client (Fetch r)) = grow_same w.topics
 step_grows w (Ask caller client (ListOffsets r)) = grow_same w.topics
 step_grows w (Ask caller client (Metadata r)) = grow_same w.topics
 step_grows w (Ask caller client (OffsetCommit r)) = grow_same w.topics
 step_grows w (Ask caller client (OffsetFetch r)) = subst (λ (v : World). Grow w.topics v.topics) (sym (offsets_keep w caller r)) (grow_same w.topics)
 step_grows w (Ask caller client (FindCoordinator r)) = unless_refused (part_refusal (rules_of w) (find_questions caller (kind_of r.key_type) r.key)) w _ _ (grow_same w.topics)
-step_grows w (Ask caller client (JoinGroup r)) = unless_refused (part_refusal (rules_of w) (read_question caller r.group ∷ [])) w _ (joined w r) (grow_same w.topics)
-step_grows w (Ask caller client (Heartbeat r)) = unless_refused (part_refusal (rules_of w) (read_question caller r.group ∷ [])) w _ (heard w r) (grow_same w.topics)
-step_grows w (Ask caller client (LeaveGroup r)) = unless_refused (part_refusal (rules_of w) (read_question caller r.group ∷ [])) w _ (left w r) (grow_same w.topics)
-step_grows w (Ask caller client (SyncGroup r)) = unless_refused (part_refusal (rules_of w) (read_question caller r.group ∷ [])) w _ (synced w r) (grow_same w.topics)
-step_grows w (Ask caller client (InitProducerId r)) = unless_refused (part_refusal (rules_of w) (init_questions (rules_of w) caller r.transactional_id)) w _ (initialized w r) (grow_same w.topics)
+step_grows w (Ask caller client (JoinGroup r)) = unless_refused (part_refusal (rules_of w) (read_question caller r.group ∷ [])) w _ (served_join w r) (grow_same w.topics)
+step_grows w (Ask caller client (Heartbeat r)) = unless_refused (part_refusal (rules_of w) (read_question caller r.group ∷ [])) w _ (served_heartbeat w r) (grow_same w.topics)
+step_grows w (Ask caller client (LeaveGroup r)) = unless_refused (part_refusal (rules_of w) (read_question caller r.group ∷ [])) w _ (served_leave w r) (grow_same w.topics)
+step_grows w (Ask caller client (SyncGroup r)) = unless_refused (part_refusal (rules_of w) (read_question caller r.group ∷ [])) w _ (served_sync w r) (grow_same w.topics)
+step_grows w (Ask caller client (InitProducerId r)) = unless_refused (part_refusal (rules_of w) (init_questions (rules_of w) caller r.transactional_id)) w _ (served_init w r) (grow_same w.topics)
 step_grows w (Ask caller client (AddPartitionsToTxn r)) = by_cut (is_cut caller r.transactional_id w.topics (rules_of w) r.topics) where
   by_cut : (b : Bool) → Grow w.topics (cond b (cut_outcome w caller r) (added_outcome w r)).world.topics
   by_cut true = grow_same w.topics
   by_cut false = grow_same w.topics
-step_grows w (Ask caller client (AddOffsetsToTxn r)) = unless_refused (part_refusal (rules_of w) (add_offsets_questions caller r.transactional_id r.group)) w _ (offsets_added w r) (grow_same w.topics)
-step_grows w (Ask caller client (EndTxn r)) = unless_refused (part_refusal (rules_of w) (end_questions caller r)) w _ (ended w r) (grow_same w.topics)
+step_grows w (Ask caller client (AddOffsetsToTxn r)) = unless_refused (part_refusal (rules_of w) (add_offsets_questions caller r.transactional_id r.group)) w _ (served_add_offsets w r) (grow_same w.topics)
+step_grows w (Ask caller client (EndTxn r)) = unless_refused (part_refusal (rules_of w) (end_questions caller r)) w _ (served_end w r) (grow_same w.topics)
 step_grows w (Ask caller client (TxnOffsetCommit r)) = grow_same w.topics
 step_grows w (Ask caller client (SaslHandshake r)) = grow_same w.topics
 step_grows w (Ask caller client ApiVersions) = grow_same w.topics
@@ -146,6 +146,6 @@ step_grows w (Tick told) = grow_same w.topics
 pub logs_go_on : (w : World) → LogsGoOn w
 logs_go_on w e = step_grows w e
 
-pub reached_grows : (w : World) (es : List Event) → Grow w.topics (reached w es).topics
+pub reached_grows : (w : World) (es : List Event) → Grow w.topics (world_after_events w es).topics
 reached_grows w [] = grow_same w.topics
-reached_grows w (e ∷ es) = grow_joined w.topics (step w e).topics (reached (step w e) es).topics (step_grows w e) (reached_grows (step w e) es)
+reached_grows w (e ∷ es) = grow_joined w.topics (step w e).topics (world_after_events (step w e) es).topics (step_grows w e) (reached_grows (step w e) es)

@@ -4,7 +4,7 @@ use Rattle.authorizer.specs.declared.answer.Refusal.{Refusal}
 use Rattle.authorizer.specs.Asking.{Rules}
 use Rattle.wire_types.specs.declared.topic.Topic.{Topic}
 use Rattle.walk.specs.Rule.{PartRule, refusal_of}
-use Rattle.walk.specs.Steps.{answer_by, world_by, part_world, part_told, parts_world, parts_answers, topics_world, topics_answers}
+use Rattle.walk.specs.Steps.{answer_by, world_by, part_world, part_answer, parts_world, parts_answers, topics_world, topics_answers}
 use Rattle.broker_laws.specs.Commits.{BothParts, BothTopics, made_parts, made_topics}
 
 -- what is kept, what is answered and what is added
@@ -34,7 +34,7 @@ module _ {P A W E : Type 0} (api : PartRule P A W) (rules : Rules) (Keeps : W �
         keeps = rest.keeps;
         are = (first.is, rest.are);
         add = rest.add ∙ ap (λ l. l ++ made_parts made name ps (parts_answers api rules next name ps)) first.adds
-            ∙ append_assoc (seen w) (made name p (part_told api rules w name p).answer) (made_parts made name ps (parts_answers api rules next name ps));
+            ∙ append_assoc (seen w) (made name p (part_answer api rules w name p).answer) (made_parts made name ps (parts_answers api rules next name ps));
       }
 
   pub all_are : (w : W) (ts : List (Topic P)) → Keeps w → AreAll api rules Keeps Is made seen w ts

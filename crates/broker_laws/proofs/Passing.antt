@@ -12,18 +12,18 @@ use Rattle.record_batch.specs.BatchHeader.{batch_header, is_transactional}
 use Rattle.record_batch.specs.Batch.{BatchData, has_producer}
 use Rattle.record_batch.specs.Faults.{first_fault, IsData}
 use Rattle.record_batch.proofs.Lawful.{faultless_is_batch}
-use Rattle.transactions.specs.declared.pair.Pair.{Pair}
-use Rattle.transactions.specs.declared.target.Target.{Target}
-use Rattle.transactions.specs.declared.transaction.Transaction.{Transaction}
-use Rattle.transactions.specs.Words.{has_target, is_ongoing}
-use Rattle.transactions.specs.Coordinator.{CoordinatorValue, recorded, owner, given_by}
-use Rattle.transactions.specs.Holding.{is_usable, holds_found, holds}
+use Rattle.txn_coordinator.specs.declared.producer_id.ProducerIdAndEpoch.{ProducerIdAndEpoch}
+use Rattle.txn_coordinator.specs.declared.target.Target.{Target}
+use Rattle.txn_coordinator.specs.declared.transaction.Transaction.{Transaction}
+use Rattle.txn_coordinator.specs.Words.{has_target, is_ongoing}
+use Rattle.txn_coordinator.specs.Coordinator.{CoordinatorValue, id_record, owner, given_by}
+use Rattle.txn_coordinator.specs.Holding.{is_usable, holding_code_of, holding_code}
 use Rattle.walk.specs.Codes.{permission_code}
 use Rattle.txn_laws.specs.Small.{is_no_error, is_free}
-use Rattle.data_handlers.specs.Sent.{sent_by, sent}
+use Rattle.data_handlers.specs.Sent.{batch_or_fault_by, batch_or_fault}
 use Rattle.data_handlers.specs.SentLaws.{sent_is}
-use Rattle.data_handlers.specs.Judged.{are_acks, given_code, producer_code, passed_by, passed, batch_in, judged}
-use Rattle.broker_world.specs.Codes.{refused_by}
+use Rattle.data_handlers.specs.Judged.{are_acks, given_code, producer_code, batch_or_error_by, batch_or_error, batch_in, batch_to_append}
+use Rattle.broker_world.specs.Codes.{code_unless_none}
 
 -- ---- the batch
 
@@ -32,9 +32,9 @@ pub record IsPassed (c : CoordinatorValue) (id : Option (List ℕ)) (target : Ta
   pub data_alone : IsData b
   pub none : producer_code c id target b.header ≡ None
 
-sent_data : (most : ℕ) (bytes : List ℕ) (b : BatchData) → sent most bytes ≡ Ok b → IsData b
+sent_data : (most : ℕ) (bytes : List ℕ) (b : BatchData) → batch_or_fault most bytes ≡ Ok b → IsData b
 sent_data most bytes b whole = by_fault (first_fault most bytes) refl whole where
-  by_fault : (f : Option BatchFault) → first_fault most bytes ≡ f → sent_by f bytes (batch_header.reading bytes) ≡ Ok b → IsData b
+  by_fault : (f : Option BatchFault) → first_fault most bytes ≡ f → batch_or_fault_by f bytes (batch_header.reading bytes) ≡ Ok b → IsData b
   by_fault (Some fault) e is = absurd (let clash : Err fault ≡ Ok b = is in cc)
   by_fault None e is =
       let some = (faultless_is_batch most bytes).0 e in
@@ -42,12 +42,12 @@ sent_data most bytes b whole = by_fault (first_fault most bytes) refl whole wher
       let same : some.0 ≡ b = cc in
       subst IsData same some.3
 
-by_code : (c : CoordinatorValue) (id : Option (List ℕ)) (target : Target) (x b : BatchData) (o : Option ErrorCode) → producer_code c id target x.header ≡ o → passed_by o x ≡ Ok b → (x ≡ b) × (producer_code c id target x.header ≡ None)
+by_code : (c : CoordinatorValue) (id : Option (List ℕ)) (target : Target) (x b : BatchData) (o : Option ErrorCode) → producer_code c id target x.header ≡ o → batch_or_error_by o x ≡ Ok b → (x ≡ b) × (producer_code c id target x.header ≡ None)
 by_code c id target x b (Some code) e is = absurd (let clash : Err code ≡ Ok b = is in cc)
 by_code c id target x b None e is = let same : x ≡ b = cc in (same, e)
 
-passed_is : (c : CoordinatorValue) (id : Option (List ℕ)) (target : Target) (most : ℕ) (bytes : List ℕ) (b : BatchData) (r : Result BatchData BatchFault) → sent most bytes ≡ r → passed c id target r ≡ Ok b → IsPassed c id target b
-passed_is c id target most bytes b (Err fault) e is = absurd (let clash : passed c id target (Err fault) ≡ Ok b = is in cc)
+passed_is : (c : CoordinatorValue) (id : Option (List ℕ)) (target : Target) (most : ℕ) (bytes : List ℕ) (b : BatchData) (r : Result BatchData BatchFault) → batch_or_fault most bytes ≡ r → batch_or_error c id target r ≡ Ok b → IsPassed c id target b
+passed_is c id target most bytes b (Err fault) e is = absurd (let clash : batch_or_error c id target (Err fault) ≡ Ok b = is in cc)
 passed_is c id target most bytes b (Ok x) e is =
     let parts = by_code c id target x b (producer_code c id target x.header) refl is in
     subst (IsPassed c id target) parts.0 (record { data_alone = sent_data most bytes x e; none = parts.1 })
@@ -55,11 +55,11 @@ passed_is c id target most bytes b (Ok x) e is =
 records_passed : (c : CoordinatorValue) (id : Option (List ℕ)) (target : Target) (most : ℕ) (records : Option (List ℕ)) (b : BatchData) → batch_in most c id target records ≡ Ok b → IsPassed c id target b
 records_passed c id target most None b is = absurd (let clash : Err codes.InvalidRecord ≡ Ok b = is in cc)
 records_passed c id target most (Some bytes) b is = by_empty (eqb (length bytes) 0) is where
-  by_empty : (empty : Bool) → cond empty (Err codes.InvalidRecord) (passed c id target (sent most bytes)) ≡ Ok b → IsPassed c id target b
+  by_empty : (empty : Bool) → cond empty (Err codes.InvalidRecord) (batch_or_error c id target (batch_or_fault most bytes)) ≡ Ok b → IsPassed c id target b
   by_empty true is = absurd (let clash : Err codes.InvalidRecord ≡ Ok b = is in cc)
-  by_empty false is = passed_is c id target most bytes b (sent most bytes) refl is
+  by_empty false is = passed_is c id target most bytes b (batch_or_fault most bytes) refl is
 
-pub judged_passed : (most : ℕ) (c : CoordinatorValue) (id : Option (List ℕ)) (acks : ℤ) (target : Target) (records : Option (List ℕ)) (b : BatchData) → judged most c id acks target records ≡ Ok b → IsPassed c id target b
+pub judged_passed : (most : ℕ) (c : CoordinatorValue) (id : Option (List ℕ)) (acks : ℤ) (target : Target) (records : Option (List ℕ)) (b : BatchData) → batch_to_append most c id acks target records ≡ Ok b → IsPassed c id target b
 judged_passed most c id acks target records b is = by_acks (are_acks acks) is where
   by_acks : (known : Bool) → cond known (batch_in most c id target records) (Err codes.InvalidRequiredAcks) ≡ Ok b → IsPassed c id target b
   by_acks true is = records_passed c id target most records b is
@@ -81,18 +81,18 @@ transactional_id h has e = by_sign (int_lt h.producer_id (pos 0)) has where
 
 -- ---- what the checks tell
 
-found_holds : (found : Option Transaction) (pair : Pair) (target : Target) → refused_by (holds_found found pair target) ≡ None → is_no_error (holds_found found pair target) ≡ true
+found_holds : (found : Option Transaction) (pair : ProducerIdAndEpoch) (target : Target) → code_unless_none (holding_code_of found pair target) ≡ None → is_no_error (holding_code_of found pair target) ≡ true
 found_holds None pair target h = absurd (let clash : Some codes.InvalidProducerIdMapping ≡ None = h in cc)
-found_holds (Some t) pair target h = by_tests (int_eq t.pair.producer pair.producer) (int_eq t.pair.epoch pair.epoch && is_usable target pair.epoch) (is_ongoing t.phase && has_target t target) h where
-  by_tests : (a b d : Bool) → refused_by (cond a (cond b (cond d codes.None codes.InvalidTxnState) codes.InvalidProducerEpoch) codes.InvalidProducerIdMapping) ≡ None
+found_holds (Some t) pair target h = by_tests (int_eq t.pair.producer pair.producer) (int_eq t.pair.epoch pair.epoch && is_usable target pair.epoch) (is_ongoing t.state && has_target t target) h where
+  by_tests : (a b d : Bool) → code_unless_none (cond a (cond b (cond d codes.None codes.InvalidTxnState) codes.InvalidProducerEpoch) codes.InvalidProducerIdMapping) ≡ None
       → is_no_error (cond a (cond b (cond d codes.None codes.InvalidTxnState) codes.InvalidProducerEpoch) codes.InvalidProducerIdMapping) ≡ true
   by_tests true true true h = refl
   by_tests true true false h = absurd (let clash : Some codes.InvalidTxnState ≡ None = h in cc)
   by_tests true false d h = absurd (let clash : Some codes.InvalidProducerEpoch ≡ None = h in cc)
   by_tests false b d h = absurd (let clash : Some codes.InvalidProducerIdMapping ≡ None = h in cc)
 
-pub held_holds : (c : CoordinatorValue) (id : List ℕ) (pair : Pair) (target : Target) → refused_by (holds c id pair target) ≡ None → is_no_error (holds c id pair target) ≡ true
-held_holds c id pair target h = found_holds (recorded c.transactions id) pair target h
+pub held_holds : (c : CoordinatorValue) (id : List ℕ) (pair : ProducerIdAndEpoch) (target : Target) → code_unless_none (holding_code c id pair target) ≡ None → is_no_error (holding_code c id pair target) ≡ true
+held_holds c id pair target h = found_holds (id_record c.transactions id) pair target h
 
 given_free : (o : Option (Option (List ℕ))) → given_code (given_by o) ≡ None → is_free o ≡ true
 given_free None h = absurd (let clash : Some codes.InvalidProducerIdMapping ≡ None = h in cc)
@@ -110,14 +110,14 @@ never_none kinds.Group h = cc
 never_none kinds.Cluster h = cc
 never_none kinds.TransactionalId h = cc
 
-found_error : (found : Option Transaction) (pair : Pair) (target : Target) → refused_by (holds_found found pair target) ≡ Some codes.None → ⊥
+found_error : (found : Option Transaction) (pair : ProducerIdAndEpoch) (target : Target) → code_unless_none (holding_code_of found pair target) ≡ Some codes.None → ⊥
 found_error None pair target h = let clash : Some codes.InvalidProducerIdMapping ≡ Some codes.None = h in cc
-found_error (Some t) pair target h = by_tests (int_eq t.pair.producer pair.producer) (int_eq t.pair.epoch pair.epoch && is_usable target pair.epoch) (is_ongoing t.phase && has_target t target) h where
-  by_tests : (a b d : Bool) → refused_by (cond a (cond b (cond d codes.None codes.InvalidTxnState) codes.InvalidProducerEpoch) codes.InvalidProducerIdMapping) ≡ Some codes.None → ⊥
+found_error (Some t) pair target h = by_tests (int_eq t.pair.producer pair.producer) (int_eq t.pair.epoch pair.epoch && is_usable target pair.epoch) (is_ongoing t.state && has_target t target) h where
+  by_tests : (a b d : Bool) → code_unless_none (cond a (cond b (cond d codes.None codes.InvalidTxnState) codes.InvalidProducerEpoch) codes.InvalidProducerIdMapping) ≡ Some codes.None → ⊥
   by_tests true true true h = let clash : None ≡ Some codes.None = h in cc
   by_tests true true false h = let clash : Some codes.InvalidTxnState ≡ Some codes.None = h in cc
   by_tests true false d h = let clash : Some codes.InvalidProducerEpoch ≡ Some codes.None = h in cc
   by_tests false b d h = let clash : Some codes.InvalidProducerIdMapping ≡ Some codes.None = h in cc
 
-pub held_error : (c : CoordinatorValue) (id : List ℕ) (pair : Pair) (target : Target) → refused_by (holds c id pair target) ≡ Some codes.None → ⊥
-held_error c id pair target h = found_error (recorded c.transactions id) pair target h
+pub held_error : (c : CoordinatorValue) (id : List ℕ) (pair : ProducerIdAndEpoch) (target : Target) → code_unless_none (holding_code c id pair target) ≡ Some codes.None → ⊥
+held_error c id pair target h = found_error (id_record c.transactions id) pair target h

@@ -26,21 +26,21 @@ use Rattle.walk.specs.Rule.{refusal_of}
 use Rattle.walk.specs.Codes.{refusal_code}
 use Rattle.walk.specs.Steps.{topics_world}
 use Rattle.walk.proofs.Weaving.{woven}
-use Rattle.transactions.specs.declared.target.Target.TheVariants.{Group as group_target}
-use Rattle.offset_tables.specs.declared.event.PartitionOffset.{PartitionOffset}
-use Rattle.offset_tables.specs.declared.event.OffsetEvent.{OffsetEvent}
-use Rattle.offset_tables.specs.declared.event.OffsetEvent.TheVariants.{Put, Stage}
-use Rattle.offset_tables.specs.declared.group.Group.{Group}
-use Rattle.offset_tables.specs.declared.member.Member.{Member}
-use Rattle.offset_tables.specs.Turn.{answered}
-use Rattle.offset_tables.specs.Group.{is_empty, is_member, member_refusal, is_unmanaged, or_awaited, commit_refusal, stage_refusal, with_event, noted}
-use Rattle.offset_tables.specs.Groups.{group_of, turned}
-use Rattle.offset_tables.proofs.Apart.{name_of}
+use Rattle.txn_coordinator.specs.declared.target.Target.TheVariants.{Group as group_target}
+use Rattle.group_offsets.specs.declared.event.PartitionOffset.{PartitionOffset}
+use Rattle.group_offsets.specs.declared.event.OffsetEvent.{OffsetEvent}
+use Rattle.group_offsets.specs.declared.event.OffsetEvent.TheVariants.{Put, Stage}
+use Rattle.group_offsets.specs.declared.group.Group.{Group}
+use Rattle.group_offsets.specs.declared.member.Member.{Member}
+use Rattle.group_offsets.specs.GroupTransition.{answer_of}
+use Rattle.group_offsets.specs.Group.{is_empty, is_member, member_refusal, is_unmanaged, or_awaited, commit_refusal, stage_refusal, with_event, event_transition}
+use Rattle.group_offsets.specs.Groups.{group_of, groups_after}
+use Rattle.group_offsets.proofs.Apart.{name_of}
 use Rattle.broker_world.specs.World.{World, LogValue, rules_of}
 use Rattle.broker_world.specs.Logs.{log_at}
 use Rattle.broker_world.specs.Codes.{code_in}
-use Rattle.group_handlers.specs.OffsetCommit.{committing, offset_of, committed_code, code_by, groups_by, committing_rule}
-use Rattle.txn_handlers.specs.TxnOffsetCommit.{staging, offset_staged, staged_code, turn_by, staging_refusal, staging_rule}
+use Rattle.group_handlers.specs.OffsetCommit.{committing_of, offset_of, committed_code, code_by, groups_by, committing_rule}
+use Rattle.txn_handlers.specs.TxnOffsetCommit.{staging_of, offset_staged, staged_code, transition_by, staging_refusal, staging_rule}
 use Rattle.api_dispatch.specs.Step.{reply_to}
 use Rattle.broker_laws.specs.Members.{group_in, IsMember, IsMemberIn, IsAsBefore}
 use Rattle.broker_laws.specs.Commits.{IsNobody, IsAssigned, MayCommit, IsCommitNumber, MayStage, IsStageNumber, BothTopics, made_topics, MayAsk, IsCommitAnswer, put_part, CommitsBy, IsStageAnswer, stage_part, StagesBy, CommitsAreOfMembers}
@@ -115,7 +115,7 @@ staged_as g generation member b e = ap (λ (t : Bool). cond t None (member_refus
 stage_numbers : (g : Group) (generation : ℤ) (member : List ℕ) → IsStageNumber g generation member (refusal_number (stage_refusal g generation member))
 unfolding number_of
 stage_numbers g generation member = record {
-  nobody = λ by. ap refusal_number (staged_as g generation member true (is_nobody generation member by));
+  unknown_group_error = λ by. ap refusal_number (staged_as g generation member true (is_nobody generation member by));
   stranger = λ named other. ap refusal_number (staged_as g generation member false (somebody generation member named) ∙ stranger_refused g generation member other);
   other_generation = λ named is other. ap refusal_number (staged_as g generation member false (somebody generation member named) ∙ other_refused g generation member is other);
   own = λ named own. ap refusal_number (staged_as g generation member false (somebody generation member named) ∙ own_unrefused g generation member own);
@@ -125,9 +125,9 @@ stage_numbers g generation member = record {
 
 may_commit : (g : Group) (generation : ℤ) (member : List ℕ) → commit_refusal g generation member ≡ None → MayCommit g generation member
 may_commit g generation member h = by_test (is_unmanaged generation member) refl h where
-  nobody : (o : Option Member) → cond (is_some o) (Some errors.UnknownMemberId) None ≡ None → o ≡ None
-  nobody None h = refl
-  nobody (Some m) h = absurd (let clash : Some errors.UnknownMemberId ≡ None = h in cc)
+  unknown_group_error : (o : Option Member) → cond (is_some o) (Some errors.UnknownMemberId) None ≡ None → o ≡ None
+  unknown_group_error None h = refl
+  unknown_group_error (Some m) h = absurd (let clash : Some errors.UnknownMemberId ≡ None = h in cc)
 
   assigned : (o : Option ErrorCode) → member_refusal g generation member ≡ o → (a : Option (List ℕ)) → g.assignment ≡ a → or_awaited o a ≡ None → IsAssigned g generation member
   assigned (Some code) e a has h = absurd (let clash : Some code ≡ None = h in cc)
@@ -135,7 +135,7 @@ may_commit g generation member h = by_test (is_unmanaged generation member) refl
   assigned None e (Some a) has h = record { by = own_is g generation member e; assignment = a; has = has }
 
   by_test : (b : Bool) → is_unmanaged generation member ≡ b → cond b (cond (is_some g.member) (Some errors.UnknownMemberId) None) (or_awaited (member_refusal g generation member) g.assignment) ≡ None → MayCommit g generation member
-  by_test true e h = inl (record { by = nobody_is generation member e; empty = nobody g.member h })
+  by_test true e h = inl (record { by = nobody_is generation member e; empty = unknown_group_error g.member h })
   by_test false e h = inr (assigned (member_refusal g generation member) refl g.assignment refl h)
 
 may_stage : (g : Group) (generation : ℤ) (member : List ℕ) → stage_refusal g generation member ≡ None → MayStage g generation member
@@ -185,7 +185,7 @@ commit_before old new same generation member n h = record {
 
 stage_before : (old new : Group) → IsAsBefore old new → (generation : ℤ) (member : List ℕ) (n : ℤ) → IsStageNumber new generation member n → IsStageNumber old generation member n
 stage_before old new same generation member n h = record {
-  nobody = λ by. h.nobody by;
+  unknown_group_error = λ by. h.unknown_group_error by;
   stranger = λ named other. h.stranger named (λ is. other (member_then old new same member is));
   other_generation = λ named is other. h.other_generation named (member_before old new same member is) (λ e. other (sym same.generation ∙ e));
   own = λ named own. h.own named (own_before old new same member generation own);
@@ -224,7 +224,7 @@ log_clash : (o : Option LogValue) (log : LogValue) → o ≡ None → o ≡ Some
 log_clash o log e h = let clash : None ≡ Some log = sym e ∙ h in cc
 
 -- the group of this name has the event after its others
-noted_own : (gs : List Group) (name : List ℕ) (e : OffsetEvent) → (group_of (turned gs (noted None (group_of gs name) e)) name).offsets ≡ (group_of gs name).offsets ++ e ∷ []
+noted_own : (gs : List Group) (name : List ℕ) (e : OffsetEvent) → (group_of (groups_after gs (event_transition None (group_of gs name) e)) name).offsets ≡ (group_of gs name).offsets ++ e ∷ []
 noted_own gs name e =
     noted_offsets gs name e name ∙ ap (λ (b : Bool). cond b ((group_of gs name).offsets ++ e ∷ []) (group_of gs name).offsets) (text_same name name refl)
 
@@ -238,7 +238,7 @@ text_apart a b other = by_test (bytes_eq a b) refl where
 abbrev OthersStay : List ℕ → List Group → List Group → Type 0
 OthersStay name old new = (g : List ℕ) → name ≢ g → group_of new g ≡ group_of old g
 
-others_noted : (gs : List Group) (name : List ℕ) (e : OffsetEvent) (refusal : Option ErrorCode) → OthersStay name gs (turned gs (noted refusal (group_of gs name) e))
+others_noted : (gs : List Group) (name : List ℕ) (e : OffsetEvent) (refusal : Option ErrorCode) → OthersStay name gs (groups_after gs (event_transition refusal (group_of gs name) e))
 others_noted gs name e (Some code) g other = refl
 others_noted gs name e None g other =
     put_group gs (with_event e (group_of gs name)) name g (name_of gs name) ∙ ap (λ (b : Bool). cond b (with_event e (group_of gs name)) (group_of gs g)) (text_apart name g other)
@@ -254,7 +254,7 @@ record CommitPart (w : World) (caller : Caller) (r : OffsetCommitRequest) (gs : 
 module _ (w : World) (caller : Caller) (r : OffsetCommitRequest) where
   commit_noted : (gs : List Group) (name : List ℕ) (p : OffsetToCommit) (log : LogValue) → MayAsk w caller (OffsetCommit r) name → IsAsBefore (group_in w r.group) (group_of gs r.group) → log_at w.topics name p.index ≡ Some log
       → (refusal : Option ErrorCode) → commit_refusal (group_of gs r.group) r.generation r.member ≡ refusal
-      → CommitPart w caller r gs name p (turned gs (noted refusal (group_of gs r.group) (Put (offset_of name p)))) (code_in (answered (noted refusal (group_of gs r.group) (Put (offset_of name p)))))
+      → CommitPart w caller r gs name p (groups_after gs (event_transition refusal (group_of gs r.group) (Put (offset_of name p)))) (code_in (answer_of (event_transition refusal (group_of gs r.group) (Put (offset_of name p)))))
   commit_noted gs name p log granted keeps found (Some code) e = record {
     keeps = keeps;
     is = record {
@@ -267,7 +267,7 @@ module _ (w : World) (caller : Caller) (r : OffsetCommitRequest) where
     adds = adds_none (group_of gs r.group).offsets code (Put (offset_of name p)) (λ none. commit_error (group_of gs r.group) r.generation r.member (e ∙ ap (λ (c : ErrorCode). Some c) none));
   }
   commit_noted gs name p log granted keeps found None e =
-      let after = turned gs (noted None (group_of gs r.group) (Put (offset_of name p))) in
+      let after = groups_after gs (event_transition None (group_of gs r.group) (Put (offset_of name p))) in
       record {
         keeps = before_joined (group_in w r.group) (group_of gs r.group) (group_of after r.group) keeps (all_noted gs r.group (Put (offset_of name p)) None r.group);
         is = record {
@@ -281,7 +281,7 @@ module _ (w : World) (caller : Caller) (r : OffsetCommitRequest) where
       }
 
   commit_found : (gs : List Group) (name : List ℕ) (p : OffsetToCommit) → MayAsk w caller (OffsetCommit r) name → IsAsBefore (group_in w r.group) (group_of gs r.group) → (found : Option LogValue) → log_at w.topics name p.index ≡ found
-      → CommitPart w caller r gs name p (groups_by (committing r) gs name p found) (code_by (committing r) gs name p found)
+      → CommitPart w caller r gs name p (groups_by (committing_of r) gs name p found) (code_by (committing_of r) gs name p found)
   commit_found gs name p granted keeps None e = record {
     keeps = keeps;
     is = record { index = refl; refused = λ may_not. absurd (may_not granted); missing = λ may none. three; there = λ may log found. absurd (log_clash (log_at w.topics name p.index) log e found) };
@@ -312,7 +312,7 @@ module _ (w : World) (caller : Caller) (r : OffsetCommitRequest) where
   commits_all =
       all_are (committing_rule w caller r) (rules_of w) (λ hs. IsAsBefore (group_in w r.group) (group_of hs r.group)) (IsCommitAnswer w caller r) put_part (λ hs. (group_of hs r.group).offsets) commit_one w.groups r.topics (as_before (group_in w r.group))
 
-  others_committed : (gs : List Group) (name : List ℕ) (p : OffsetToCommit) (found : Option LogValue) → OthersStay r.group gs (groups_by (committing r) gs name p found)
+  others_committed : (gs : List Group) (name : List ℕ) (p : OffsetToCommit) (found : Option LogValue) → OthersStay r.group gs (groups_by (committing_of r) gs name p found)
   others_committed gs name p None g other = refl
   others_committed gs name p (Some log) g other = others_noted gs r.group (Put (offset_of name p)) (commit_refusal (group_of gs r.group) r.generation r.member) g other
 
@@ -324,11 +324,11 @@ module _ (w : World) (caller : Caller) (r : OffsetCommitRequest) where
   abbrev CommitStays : List Group → List Group → Type 0
   CommitStays old new = (MayCommit (group_of old r.group) r.generation r.member → ⊥) → new ≡ old
 
-  stays_noted : (gs : List Group) (e : OffsetEvent) (refusal : Option ErrorCode) → commit_refusal (group_of gs r.group) r.generation r.member ≡ refusal → CommitStays gs (turned gs (noted refusal (group_of gs r.group) e))
+  stays_noted : (gs : List Group) (e : OffsetEvent) (refusal : Option ErrorCode) → commit_refusal (group_of gs r.group) r.generation r.member ≡ refusal → CommitStays gs (groups_after gs (event_transition refusal (group_of gs r.group) e))
   stays_noted gs e (Some code) is none = refl
   stays_noted gs e None is none = absurd (none (may_commit (group_of gs r.group) r.generation r.member is))
 
-  stays_committed : (gs : List Group) (name : List ℕ) (p : OffsetToCommit) (found : Option LogValue) → CommitStays gs (groups_by (committing r) gs name p found)
+  stays_committed : (gs : List Group) (name : List ℕ) (p : OffsetToCommit) (found : Option LogValue) → CommitStays gs (groups_by (committing_of r) gs name p found)
   stays_committed gs name p None none = refl
   stays_committed gs name p (Some log) none = stays_noted gs (Put (offset_of name p)) (commit_refusal (group_of gs r.group) r.generation r.member) refl none
 
@@ -366,7 +366,7 @@ record StagePart (w : World) (caller : Caller) (r : TxnOffsetCommitRequest) (gs 
 module _ (w : World) (caller : Caller) (r : TxnOffsetCommitRequest) where
   stage_noted : (gs : List Group) (name : List ℕ) (p : OffsetToStage) (log : LogValue) → MayAsk w caller (TxnOffsetCommit r) name → IsAsBefore (group_in w r.group) (group_of gs r.group) → log_at w.topics name p.index ≡ Some log
       → (refusal : Option ErrorCode) → stage_refusal (group_of gs r.group) r.generation r.member ≡ refusal
-      → StagePart w caller r gs name p (turned gs (noted refusal (group_of gs r.group) (Stage r.producer (offset_staged name p)))) (code_in (answered (noted refusal (group_of gs r.group) (Stage r.producer (offset_staged name p)))))
+      → StagePart w caller r gs name p (groups_after gs (event_transition refusal (group_of gs r.group) (Stage r.producer (offset_staged name p)))) (code_in (answer_of (event_transition refusal (group_of gs r.group) (Stage r.producer (offset_staged name p)))))
   stage_noted gs name p log granted keeps found (Some code) e = record {
     keeps = keeps;
     is = record {
@@ -380,7 +380,7 @@ module _ (w : World) (caller : Caller) (r : TxnOffsetCommitRequest) where
   }
   stage_noted gs name p log granted keeps found None e =
       let event = Stage r.producer (offset_staged name p) in
-      let after = turned gs (noted None (group_of gs r.group) event) in
+      let after = groups_after gs (event_transition None (group_of gs r.group) event) in
       record {
         keeps = before_joined (group_in w r.group) (group_of gs r.group) (group_of after r.group) keeps (all_noted gs r.group event None r.group);
         is = record {
@@ -397,8 +397,8 @@ module _ (w : World) (caller : Caller) (r : TxnOffsetCommitRequest) where
   held_clash o code e h = let clash : None ≡ Some code = sym h ∙ e in cc
 
   stage_found : (gs : List Group) (name : List ℕ) (p : OffsetToStage) → MayAsk w caller (TxnOffsetCommit r) name → IsAsBefore (group_in w r.group) (group_of gs r.group) → (found : Option LogValue) → log_at w.topics name p.index ≡ found
-      → (refusal : Option ErrorCode) → staging_refusal w.coordinator (staging r) ≡ refusal
-      → StagePart w caller r gs name p (turned gs (turn_by refusal (staging r) gs (offset_staged name p) found)) (code_in (answered (turn_by refusal (staging r) gs (offset_staged name p) found)))
+      → (refusal : Option ErrorCode) → staging_refusal w.coordinator (staging_of r) ≡ refusal
+      → StagePart w caller r gs name p (groups_after gs (transition_by refusal (staging_of r) gs (offset_staged name p) found)) (code_in (answer_of (transition_by refusal (staging_of r) gs (offset_staged name p) found)))
   stage_found gs name p granted keeps None e refusal held = record {
     keeps = keeps;
     is = record { index = refl; refused = λ may_not. absurd (may_not granted); missing = λ may none. three; there = λ may is log found. absurd (log_clash (log_at w.topics name p.index) log e found) };
@@ -410,10 +410,10 @@ module _ (w : World) (caller : Caller) (r : TxnOffsetCommitRequest) where
       index = refl;
       refused = λ may_not. absurd (may_not granted);
       missing = λ may none. absurd (log_clash (log_at w.topics name p.index) log none e);
-      there = λ may is other found. absurd (held_clash (staging_refusal w.coordinator (staging r)) code held is);
+      there = λ may is other found. absurd (held_clash (staging_refusal w.coordinator (staging_of r)) code held is);
     };
     adds = adds_none (group_of gs r.group).offsets code (Stage r.producer (offset_staged name p))
-        (λ none. held_error w.coordinator r.transactional_id (staging r).pair (group_target r.group) (held ∙ ap (λ (c : ErrorCode). Some c) none));
+        (λ none. held_error w.coordinator r.transactional_id (staging_of r).pair (group_target r.group) (held ∙ ap (λ (c : ErrorCode). Some c) none));
   }
   stage_found gs name p granted keeps (Some log) e None held = stage_noted gs name p log granted keeps e (stage_refusal (group_of gs r.group) r.generation r.member) refl
 
@@ -426,37 +426,37 @@ module _ (w : World) (caller : Caller) (r : TxnOffsetCommitRequest) where
     keeps = keeps;
     is = record {
       index = refl;
-      refused = λ may_not. stage_number (rules_of w) caller (staging r) name x e;
+      refused = λ may_not. stage_number (rules_of w) caller (staging_of r) name x e;
       missing = λ may none. absurd (not_refused (refusal_of (staging_rule w caller r) (rules_of w) name p) x e may);
       there = λ may held log found. absurd (not_refused (refusal_of (staging_rule w caller r) (rules_of w) name p) x e may);
     };
     adds = adds_none (group_of gs r.group).offsets (refusal_code x) (Stage r.producer (offset_staged name p)) (never_none x.question.kind);
   }
   stage_one gs name p keeps None e =
-      let part = stage_found gs name p e keeps (log_at w.topics name p.index) refl (staging_refusal w.coordinator (staging r)) refl in
+      let part = stage_found gs name p e keeps (log_at w.topics name p.index) refl (staging_refusal w.coordinator (staging_of r)) refl in
       record { keeps = part.keeps; is = part.is; adds = part.adds }
 
   stages_all : AreAll (staging_rule w caller r) (rules_of w) (λ hs. IsAsBefore (group_in w r.group) (group_of hs r.group)) (IsStageAnswer w caller r) (stage_part r.producer) (λ hs. (group_of hs r.group).offsets) w.groups r.topics
   stages_all =
       all_are (staging_rule w caller r) (rules_of w) (λ hs. IsAsBefore (group_in w r.group) (group_of hs r.group)) (IsStageAnswer w caller r) (stage_part r.producer) (λ hs. (group_of hs r.group).offsets) stage_one w.groups r.topics (as_before (group_in w r.group))
 
-  others_staged : (gs : List Group) (o : PartitionOffset) (found : Option LogValue) (refusal : Option ErrorCode) → OthersStay r.group gs (turned gs (turn_by refusal (staging r) gs o found))
+  others_staged : (gs : List Group) (o : PartitionOffset) (found : Option LogValue) (refusal : Option ErrorCode) → OthersStay r.group gs (groups_after gs (transition_by refusal (staging_of r) gs o found))
   others_staged gs o None refusal g other = refl
   others_staged gs o (Some log) (Some code) g other = refl
   others_staged gs o (Some log) None g other = others_noted gs r.group (Stage r.producer o) (stage_refusal (group_of gs r.group) r.generation r.member) g other
 
   stage_others : OthersStay r.group w.groups (topics_world (staging_rule w caller r) (rules_of w) w.groups r.topics)
   stage_others = walk_goes (staging_rule w caller r) (rules_of w) (OthersStay r.group) (λ gs g other. refl) (λ us vs ws a b g other. b g other ∙ a g other)
-      (λ gs name p. others_staged gs (offset_staged name p) (log_at w.topics name p.index) (staging_refusal w.coordinator (staging r))) w.groups r.topics
+      (λ gs name p. others_staged gs (offset_staged name p) (log_at w.topics name p.index) (staging_refusal w.coordinator (staging_of r))) w.groups r.topics
 
   abbrev StageStays : List Group → List Group → Type 0
   StageStays old new = (MayStage (group_of old r.group) r.generation r.member → ⊥) → new ≡ old
 
-  stays_held : (gs : List Group) (e : OffsetEvent) (refusal : Option ErrorCode) → stage_refusal (group_of gs r.group) r.generation r.member ≡ refusal → StageStays gs (turned gs (noted refusal (group_of gs r.group) e))
+  stays_held : (gs : List Group) (e : OffsetEvent) (refusal : Option ErrorCode) → stage_refusal (group_of gs r.group) r.generation r.member ≡ refusal → StageStays gs (groups_after gs (event_transition refusal (group_of gs r.group) e))
   stays_held gs e (Some code) is none = refl
   stays_held gs e None is none = absurd (none (may_stage (group_of gs r.group) r.generation r.member is))
 
-  stays_staged : (gs : List Group) (o : PartitionOffset) (found : Option LogValue) (refusal : Option ErrorCode) → StageStays gs (turned gs (turn_by refusal (staging r) gs o found))
+  stays_staged : (gs : List Group) (o : PartitionOffset) (found : Option LogValue) (refusal : Option ErrorCode) → StageStays gs (groups_after gs (transition_by refusal (staging_of r) gs o found))
   stays_staged gs o None refusal none = refl
   stays_staged gs o (Some log) (Some code) none = refl
   stays_staged gs o (Some log) None none = stays_held gs (Stage r.producer o) (stage_refusal (group_of gs r.group) r.generation r.member) refl none
@@ -468,7 +468,7 @@ module _ (w : World) (caller : Caller) (r : TxnOffsetCommitRequest) where
 
   stage_none : StageStays w.groups (topics_world (staging_rule w caller r) (rules_of w) w.groups r.topics)
   stage_none = walk_goes (staging_rule w caller r) (rules_of w) StageStays (λ gs none. refl) stays_on
-      (λ gs name p. stays_staged gs (offset_staged name p) (log_at w.topics name p.index) (staging_refusal w.coordinator (staging r))) w.groups r.topics
+      (λ gs name p. stays_staged gs (offset_staged name p) (log_at w.topics name p.index) (staging_refusal w.coordinator (staging_of r))) w.groups r.topics
 
 stage_topics : (a b : TxnOffsetCommitReply) → replies.TxnOffsetCommit a ≡ replies.TxnOffsetCommit b → a.topics ≡ b.topics
 stage_topics a b h = let same : a ≡ b = cc in ap (λ (x : TxnOffsetCommitReply). x.topics) same

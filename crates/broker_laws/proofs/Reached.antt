@@ -13,36 +13,36 @@ use Rattle.record_batch.specs.BatchHeader.{is_transactional}
 use Rattle.record_batch.specs.Batch.{BatchData}
 use Rattle.producer_state.specs.declared.judgment.Judgment.{Judgment}
 use Rattle.producer_state.specs.declared.judgment.Judgment.TheVariants.{Next, Repeat, Refused}
-use Rattle.producer_state.specs.Sequences.{judged as judged_by_log}
+use Rattle.producer_state.specs.Sequences.{judgment_of as judged_by_log}
 use Rattle.msg_data.specs.declared.produce.ProduceRequest.{ProduceRequest}
 use Rattle.msg_data.specs.declared.produce.ProducedRecords.{ProducedRecords}
 use Rattle.msg_admin.specs.declared.request.Request.TheVariants.{Produce, Fetch, ListOffsets, Metadata, OffsetCommit, OffsetFetch, FindCoordinator, JoinGroup, Heartbeat, LeaveGroup, SyncGroup, SaslHandshake, ApiVersions, InitProducerId, AddPartitionsToTxn, AddOffsetsToTxn, EndTxn, TxnOffsetCommit, DescribeAcls, CreateAcls, DeleteAcls, SaslAuthenticate}
 use Rattle.audit_trail.specs.declared.event.Event.{Event}
 use Rattle.audit_trail.specs.declared.event.Event.TheVariants.{Ask, Mark, Tick}
-use Rattle.transactions.specs.declared.pair.Pair.{Pair}
-use Rattle.record_batch.specs.declared.outcome.Outcome.{Outcome as Ending}
-use Rattle.transactions.specs.declared.target.Target.{Target}
-use Rattle.transactions.specs.declared.target.Target.TheVariants.{Partition, Group}
-use Rattle.transactions.specs.declared.transaction.Transaction.{Transaction}
-use Rattle.txn_laws.specs.Small.{World as SmallWorld, Entry, Move, first_world as first_small_world, moved, moved_all, marks as small_marks}
+use Rattle.txn_coordinator.specs.declared.producer_id.ProducerIdAndEpoch.{ProducerIdAndEpoch}
+use Rattle.record_batch.specs.declared.transaction_result.TransactionResult.{TransactionResult}
+use Rattle.txn_coordinator.specs.declared.target.Target.{Target}
+use Rattle.txn_coordinator.specs.declared.target.Target.TheVariants.{Partition, Group}
+use Rattle.txn_coordinator.specs.declared.transaction.Transaction.{Transaction}
+use Rattle.txn_laws.specs.Small.{World as SmallWorld, Entry, Move, first_world as first_small_world, world_after_move, world_after_moves, count_of_marks as small_marks}
 use Rattle.txn_laws.specs.Small.Move.{AddPartitions, Send, Plain}
 use Rattle.txn_laws.specs.Sound.{IsSound}
 use Rattle.txn_laws.specs.Laws.{IsEnded, expiries}
-use Rattle.txn_laws.specs.Kept.{kept_pair, kept_entries, kept_world, kept_moved_all}
+use Rattle.txn_laws.specs.Kept.{kept_id_and_epoch, kept_entries, kept_world, kept_world_after_moves}
 use Rattle.txn_laws.proofs.GroupsKeep.{kept_law, kept_end_law}
 use Rattle.txn_laws.proofs.Moves.{moves_sound, first_sound}
 use Rattle.broker_world.specs.World.{World, TopicValue, LogValue, rules_of, find_topic}
-use Rattle.broker_world.specs.First.{magnitude, empty_logs, first_topic, first_topics, first_world}
+use Rattle.broker_world.specs.First.{non_negative, empty_logs, first_topic, first_topics, first_world}
 use Rattle.broker_world.specs.Logs.{log_in, log_of, log_at}
-use Rattle.data_handlers.specs.Judged.{pair_of, partition_at, judged}
-use Rattle.data_handlers.specs.Produce.{producing}
+use Rattle.data_handlers.specs.Judged.{id_and_epoch_of, partition_at, batch_to_append}
+use Rattle.data_handlers.specs.Produce.{producing_rule}
 use Rattle.txn_handlers.specs.EndTxn.{end_questions}
 use Rattle.txn_handlers.specs.InitProducerId.{init_questions}
 use Rattle.txn_handlers.specs.AddPartitions.{is_cut, partitions_of}
 use Rattle.txn_handlers.specs.AddOffsets.{add_offsets_questions}
-use Rattle.api_dispatch.specs.Step.{step, reached}
-use Rattle.broker_laws.specs.Entries.{log_entries, entries_in, small}
-use Rattle.broker_laws.specs.Moves.{topics_moves, storing, appending, moves_by, batch_moves, produced_moves, initializing, moves_of, moves_of_all, mark_count, marks}
+use Rattle.api_dispatch.specs.Step.{step, world_after_events}
+use Rattle.broker_laws.specs.Entries.{log_entries, entries_in, small_world}
+use Rattle.broker_laws.specs.Moves.{topics_moves, store_moves, append_moves, moves_by, batch_moves, produced_moves, init_id_moves, moves_of, moves_of_all, mark_count, count_of_mark_events}
 use Rattle.broker_laws.specs.Targets.{HasTargets}
 use Rattle.broker_laws.specs.Laws.{InReached, IsMoved}
 use Rattle.broker_laws.proofs.Walks.{marks_append, unmarked_refusal, unmarked_walk}
@@ -62,45 +62,45 @@ pub record IsGood (w : World) : Type 0 where
   pub keeps : (target : Target) → kept_entries target (entries target) ≡ entries_in w target
   pub all_exist : HasTargets w
 
-kept_full : (w : World) (good : IsGood w) → kept_world (full w good.entries) ≡ small w
+kept_full : (w : World) (good : IsGood w) → kept_world (full w good.entries) ≡ small_world w
 kept_full w good = λ k. record { coordinator = w.coordinator; entries = λ target. good.keeps target k; moment = w.moment }
 
-event_moved : (w : World) (e : Event) → IsGood w → small (step w e) ≡ kept_moved_all (small w) (moves_of w e)
+event_moved : (w : World) (e : Event) → IsGood w → small_world (step w e) ≡ kept_world_after_moves (small_world w) (moves_of w e)
 event_moved w e good = step_moved w e good.all_exist good.sound.own_ids
 
-kept_step : (w : World) (e : Event) (good : IsGood w) → kept_world (moved_all (full w good.entries) (moves_of w e)) ≡ small (step w e)
+kept_step : (w : World) (e : Event) (good : IsGood w) → kept_world (world_after_moves (full w good.entries) (moves_of w e)) ≡ small_world (step w e)
 kept_step w e good =
     kept_law.next (full w good.entries) (moves_of w e)
-    ∙ ap (λ s. kept_moved_all s (moves_of w e)) (kept_full w good)
+    ∙ ap (λ s. kept_world_after_moves s (moves_of w e)) (kept_full w good)
     ∙ sym (event_moved w e good)
 
 -- the moves lead to the event's world, with entries that have their epochs
-moved_full : (w : World) (e : Event) (good : IsGood w) → moved_all (full w good.entries) (moves_of w e) ≡ full (step w e) (moved_all (full w good.entries) (moves_of w e)).entries
+moved_full : (w : World) (e : Event) (good : IsGood w) → world_after_moves (full w good.entries) (moves_of w e) ≡ full (step w e) (world_after_moves (full w good.entries) (moves_of w e)).entries
 moved_full w e good =
     let kept = kept_step w e good in
-    λ k. record { coordinator = (kept k).coordinator; entries = (moved_all (full w good.entries) (moves_of w e)).entries; moment = (kept k).moment }
+    λ k. record { coordinator = (kept k).coordinator; entries = (world_after_moves (full w good.entries) (moves_of w e)).entries; moment = (kept k).moment }
 
 pub good_step : (w : World) (e : Event) → IsGood w → IsGood (step w e)
 good_step w e good = record {
-  entries = (moved_all (full w good.entries) (moves_of w e)).entries;
+  entries = (world_after_moves (full w good.entries) (moves_of w e)).entries;
   sound = subst IsSound (moved_full w e good) (moves_sound (full w good.entries) (moves_of w e) good.sound);
   keeps = λ target. ap (λ (s : SmallWorld). s.entries target) (kept_step w e good);
   all_exist = step_targets w e good.all_exist;
 }
 
-pub good_moved : (w : World) (e : Event) (good : IsGood w) → full (step w e) (good_step w e good).entries ≡ moved_all (full w good.entries) (moves_of w e)
+pub good_moved : (w : World) (e : Event) (good : IsGood w) → full (step w e) (good_step w e good).entries ≡ world_after_moves (full w good.entries) (moves_of w e)
 unfolding good_step
 good_moved w e good = sym (moved_full w e good)
 
-pub good_reached : (w : World) (es : List Event) → IsGood w → IsGood (reached w es)
+pub good_reached : (w : World) (es : List Event) → IsGood w → IsGood (world_after_events w es)
 good_reached w [] good = good
 good_reached w (e ∷ es) good = good_reached (step w e) es (good_step w e good)
 
 -- an end is seen in what is kept
-pub ended_kept : (w v : World) (before : IsGood w) (after : IsGood v) (target : Target) (pair : Pair) (o : Ending) → IsEnded pair o (before.entries target) (after.entries target) → IsEnded (kept_pair target pair) o (entries_in w target) (entries_in v target)
+pub ended_kept : (w v : World) (before : IsGood w) (after : IsGood v) (target : Target) (pair : ProducerIdAndEpoch) (o : TransactionResult) → IsEnded pair o (before.entries target) (after.entries target) → IsEnded (kept_id_and_epoch target pair) o (entries_in w target) (entries_in v target)
 ended_kept w v before after target pair o h =
-    subst (λ old. IsEnded (kept_pair target pair) o old (entries_in v target)) (before.keeps target)
-    (subst (λ new. IsEnded (kept_pair target pair) o (kept_entries target (before.entries target)) new) (after.keeps target)
+    subst (λ old. IsEnded (kept_id_and_epoch target pair) o old (entries_in v target)) (before.keeps target)
+    (subst (λ new. IsEnded (kept_id_and_epoch target pair) o (kept_entries target (before.entries target)) new) (after.keeps target)
     (kept_end_law target pair o (before.entries target) (after.entries target) h))
 
 -- ---- the first world
@@ -118,7 +118,7 @@ none_of : (ts : List TopicSetting) (name : List ℕ) (i : ℤ) → log_entries (
 none_of [] name i = refl
 none_of (t ∷ ts) name i = by_name (bytes_eq t.name name) (none_of ts name i) where
   by_name : (b : Bool) → log_entries (log_at (first_topics ts) name i) ≡ [] → log_entries (option_and_then (log_of i) (cond b (Some (first_topic t)) (find_topic (first_topics ts) name))) ≡ []
-  by_name true rest = none_at (magnitude t.partitions) i
+  by_name true rest = none_at (non_negative t.partitions) i
   by_name false rest = rest
 
 first_kept : (s : Settings) (target : Target) → kept_entries target [] ≡ entries_in (first_world s) target
@@ -128,33 +128,33 @@ first_kept s (Group g) = refl
 first_good : (s : Settings) → IsGood (first_world s)
 first_good s = record { entries = λ target. []; sound = first_sound; keeps = first_kept s; all_exist = record { added = tt; owed = tt } }
 
-pub good : (s : Settings) (es : List Event) → IsGood (reached (first_world s) es)
+pub good : (s : Settings) (es : List Event) → IsGood (world_after_events (first_world s) es)
 good s es = good_reached (first_world s) es (first_good s)
 
 -- ---- many events
 
-moved_append : (s : SmallWorld) (ms ns : List Move) → moved_all s (ms ++ ns) ≡ moved_all (moved_all s ms) ns
+moved_append : (s : SmallWorld) (ms ns : List Move) → world_after_moves s (ms ++ ns) ≡ world_after_moves (world_after_moves s ms) ns
 moved_append s [] ns = refl
-moved_append s (m ∷ ms) ns = moved_append (moved s m) ms ns
+moved_append s (m ∷ ms) ns = moved_append (world_after_move s m) ms ns
 
-pub reached_moved : (w : World) (es : List Event) (good : IsGood w) → full (reached w es) (good_reached w es good).entries ≡ moved_all (full w good.entries) (moves_of_all w es)
+pub reached_moved : (w : World) (es : List Event) (good : IsGood w) → full (world_after_events w es) (good_reached w es good).entries ≡ world_after_moves (full w good.entries) (moves_of_all w es)
 unfolding good_reached
 reached_moved w [] good = refl
 reached_moved w (e ∷ es) good =
     reached_moved (step w e) es (good_step w e good)
-    ∙ ap (λ s. moved_all s (moves_of_all (step w e) es)) (good_moved w e good)
+    ∙ ap (λ s. world_after_moves s (moves_of_all (step w e) es)) (good_moved w e good)
     ∙ sym (moved_append (full w good.entries) (moves_of w e) (moves_of_all (step w e) es))
 
-pub first_moved : (s : Settings) (es : List Event) → small (reached (first_world s) es) ≡ kept_world (moved_all first_small_world (moves_of_all (first_world s) es))
+pub first_moved : (s : Settings) (es : List Event) → small_world (world_after_events (first_world s) es) ≡ kept_world (world_after_moves first_small_world (moves_of_all (first_world s) es))
 unfolding good first_good
 first_moved s es =
-    sym (kept_full (reached (first_world s) es) (good s es)) ∙ ap kept_world (reached_moved (first_world s) es (first_good s))
+    sym (kept_full (world_after_events (first_world s) es) (good s es)) ∙ ap kept_world (reached_moved (first_world s) es (first_good s))
 
 -- ---- marker steps are the marks
 
-unmarked_batch : (id : Option (List ℕ)) (target : Target) (h : BatchHeader) → small_marks (appending id target h) ≡ 0
+unmarked_batch : (id : Option (List ℕ)) (target : Target) (h : BatchHeader) → small_marks (append_moves id target h) ≡ 0
 unmarked_batch id target h = by_kind (is_transactional h) (int_lt h.producer_id (pos 0)) id where
-  by_kind : (k l : Bool) (own : Option (List ℕ)) → small_marks (cond k (storing own (pair_of h) target) (cond l (Plain target ∷ []) (Send (pair_of h) target ∷ []))) ≡ 0
+  by_kind : (k l : Bool) (own : Option (List ℕ)) → small_marks (cond k (store_moves own (id_and_epoch_of h) target) (cond l (Plain target ∷ []) (Send (id_and_epoch_of h) target ∷ []))) ≡ 0
   by_kind true l None = refl
   by_kind true l (Some x) = refl
   by_kind false true own = refl
@@ -168,16 +168,16 @@ unmarked_judged (Refused code) ms h = refl
 unmarked_log : (id : Option (List ℕ)) (target : Target) (r : Result BatchData ErrorCode) (o : Option LogValue) → small_marks (batch_moves id target r o) ≡ 0
 unmarked_log id target (Err code) o = refl
 unmarked_log id target (Ok b) None = refl
-unmarked_log id target (Ok b) (Some log) = unmarked_judged (judged_by_log log b) (appending id target b.header) (unmarked_batch id target b.header)
+unmarked_log id target (Ok b) (Some log) = unmarked_judged (judged_by_log log b) (append_moves id target b.header) (unmarked_batch id target b.header)
 
-unmarked_produce : (w : World) (caller : Caller) (r : ProduceRequest) → small_marks (topics_moves (producing w caller r) (rules_of w) (produced_moves w r) w.topics r.topics) ≡ 0
-unmarked_produce w caller r = unmarked_walk (producing w caller r) (rules_of w) (produced_moves w r) part w.topics r.topics where
+unmarked_produce : (w : World) (caller : Caller) (r : ProduceRequest) → small_marks (topics_moves (producing_rule w caller r) (rules_of w) (produced_moves w r) w.topics r.topics) ≡ 0
+unmarked_produce w caller r = unmarked_walk (producing_rule w caller r) (rules_of w) (produced_moves w r) part w.topics r.topics where
   part : (topics : List TopicValue) (name : List ℕ) (p : ProducedRecords) → small_marks (produced_moves w r topics name p) ≡ 0
   part topics name p =
       let target = partition_at name p.index in
-      unmarked_log r.transactional_id target (judged (magnitude w.node.max_batch) w.coordinator r.transactional_id r.acks target p.records) (log_at topics name p.index)
+      unmarked_log r.transactional_id target (batch_to_append (non_negative w.node.max_batch) w.coordinator r.transactional_id r.acks target p.records) (log_at topics name p.index)
 
-unmarked_init : (id : Option (List ℕ)) (timeout greatest : ℤ) → small_marks (initializing id timeout greatest) ≡ 0
+unmarked_init : (id : Option (List ℕ)) (timeout greatest : ℤ) → small_marks (init_id_moves id timeout greatest) ≡ 0
 unmarked_init None timeout greatest = refl
 unmarked_init (Some id) timeout greatest = refl
 
@@ -215,14 +215,14 @@ event_marks w (Ask caller client (DeleteAcls r)) = refl
 event_marks w Mark = refl
 event_marks w (Tick told) = omega (arith, unmarked_expiries w.coordinator.transactions)
 
-pub all_marks : (w : World) (es : List Event) → small_marks (moves_of_all w es) ≡ marks es
+pub all_marks : (w : World) (es : List Event) → small_marks (moves_of_all w es) ≡ count_of_mark_events es
 all_marks w [] = refl
 all_marks w (e ∷ es) = omega (arith, marks_append (moves_of w e) (moves_of_all (step w e) es), event_marks w e, all_marks (step w e) es)
 
 -- ---- the laws
 
 pub is_moved : InReached IsMoved
-is_moved s es e = event_moved (reached (first_world s) es) e (good s es)
+is_moved s es e = event_moved (world_after_events (first_world s) es) e (good s es)
 
 pub targets_exist : InReached HasTargets
 targets_exist s es = (good s es).all_exist

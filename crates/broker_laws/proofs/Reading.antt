@@ -1,10 +1,10 @@
 -- What the definitions tell as they read.
 use Rattle.std.proofs.Common.{◌≡◌, [], map, Option, Some, None, refl, ap}
 use Rattle.std.specs.Prelude.{unwrap_or}
-use Rattle.transactions.specs.declared.marker.OwedMarker.{OwedMarker}
-use Rattle.transactions.specs.Warrants.{next_warrant}
-use Rattle.offset_tables.specs.declared.group.Group.{Group as GroupValue}
-use Rattle.offset_tables.specs.Group.{fresh_group}
+use Rattle.txn_coordinator.specs.declared.marker.PendingMarker.{PendingMarker}
+use Rattle.txn_coordinator.specs.Warrants.{next_warrant}
+use Rattle.group_offsets.specs.declared.group.Group.{Group as GroupValue}
+use Rattle.group_offsets.specs.Group.{fresh_group}
 use Rattle.broker_world.specs.World.{World}
 use Rattle.txn_handlers.specs.Marks.{mark_by}
 use Rattle.broker_laws.specs.Entries.{event_entry, log_entries}
@@ -18,7 +18,7 @@ entries_are_the_log = record {
   fresh = λ w name e. ap (λ (o : Option GroupValue). map event_entry (unwrap_or o (fresh_group name)).offsets) e;
 }
 
-by_front : (w : World) (o : Option OwedMarker) → (mark_by w o).refusals ≡ []
+by_front : (w : World) (o : Option PendingMarker) → (mark_by w o).refusals ≡ []
 by_front w None = refl
 by_front w (Some m) = refl
 

@@ -4,7 +4,7 @@ use Rattle.acl_binding.specs.declared.question.Caller.{Caller}
 use Rattle.acl_binding.specs.declared.question.Question.{Question}
 use Rattle.acl_binding.specs.declared.question.Verdict.{Verdict}
 use Rattle.acl_binding.specs.declared.question.Verdict.TheVariants.{Yes, Denied, Nothing}
-use Rattle.authorizer.specs.declared.answer.Why.TheVariants as why
+use Rattle.authorizer.specs.declared.answer.DenyReason.TheVariants as why
 use Rattle.authorizer.specs.declared.answer.Refusal.{Refusal}
 use Rattle.authorizer.specs.Policy.{verdict}
 use Rattle.authorizer.specs.Asking.{Rules, refusal_by, first_of, part_refusal}

@@ -19,21 +19,21 @@ use Rattle.msg_admin.specs.declared.reply.Reply.TheVariants as replies
 use Rattle.audit_trail.specs.declared.event.Event.{Event}
 use Rattle.audit_trail.specs.declared.event.Event.TheVariants.{Ask, Mark, Tick}
 use Rattle.walk.specs.Walk.{answers}
-use Rattle.transactions.specs.declared.target.Target.{Target}
-use Rattle.transactions.specs.declared.target.Target.TheVariants.{Partition, Group}
-use Rattle.transactions.specs.declared.marker.OwedMarker.{OwedMarker}
-use Rattle.transactions.specs.Warrants.{next_warrant}
-use Rattle.offset_tables.specs.declared.event.PartitionOffset.{PartitionOffset}
-use Rattle.offset_tables.specs.declared.event.OffsetEvent.{OffsetEvent}
-use Rattle.offset_tables.specs.declared.event.OffsetEvent.TheVariants.{Put, Stage, Decide}
-use Rattle.offset_tables.specs.declared.group.Group.{Group as GroupValue}
-use Rattle.offset_tables.specs.Offsets.{fetched}
-use Rattle.offset_tables.specs.Groups.{group_of}
+use Rattle.txn_coordinator.specs.declared.target.Target.{Target}
+use Rattle.txn_coordinator.specs.declared.target.Target.TheVariants.{Partition, Group}
+use Rattle.txn_coordinator.specs.declared.marker.PendingMarker.{PendingMarker}
+use Rattle.txn_coordinator.specs.Warrants.{next_warrant}
+use Rattle.group_offsets.specs.declared.event.PartitionOffset.{PartitionOffset}
+use Rattle.group_offsets.specs.declared.event.OffsetEvent.{OffsetEvent}
+use Rattle.group_offsets.specs.declared.event.OffsetEvent.TheVariants.{Put, Stage, Decide}
+use Rattle.group_offsets.specs.declared.group.Group.{Group as GroupValue}
+use Rattle.group_offsets.specs.Offsets.{fetch_result}
+use Rattle.group_offsets.specs.Groups.{group_of}
 use Rattle.txn_laws.specs.Sound.{Each}
 use Rattle.txn_laws.proofs.Base.{each_append}
 use Rattle.broker_world.specs.World.{World, rules_of}
 use Rattle.group_handlers.specs.OffsetCommit.{offset_of, committing_rule}
-use Rattle.txn_handlers.specs.Marks.{decided_at, mark_by}
+use Rattle.txn_handlers.specs.Marks.{groups_with_decision_at, mark_by}
 use Rattle.api_dispatch.specs.Step.{step, reply_to}
 use Rattle.broker_laws.specs.Laws.{IsCommitFor, IsDecisionFor, ComesBy}
 use Rattle.broker_laws.specs.Members.{group_in}
@@ -50,10 +50,10 @@ use Rattle.broker_laws.proofs.LastPut.{stable_or, fetches_by_events, decide_else
 
 -- ---- puts of other partitions
 
-others_put : (es more : List OffsetEvent) (topic : List ℕ) (index : ℤ) → Each (PutsOther topic index) more → fetched (es ++ more) false topic index ≡ fetched es false topic index
-others_put es [] topic index h = ap (λ (l : List OffsetEvent). fetched l false topic index) (append-nil es)
+others_put : (es more : List OffsetEvent) (topic : List ℕ) (index : ℤ) → Each (PutsOther topic index) more → fetch_result (es ++ more) false topic index ≡ fetch_result es false topic index
+others_put es [] topic index h = ap (λ (l : List OffsetEvent). fetch_result l false topic index) (append-nil es)
 others_put es (Put o ∷ more) topic index h =
-    ap (λ (l : List OffsetEvent). fetched l false topic index) (sym (append_assoc es (Put o ∷ []) more))
+    ap (λ (l : List OffsetEvent). fetch_result l false topic index) (sym (append_assoc es (Put o ∷ []) more))
     ∙ others_put (es ++ Put o ∷ []) more topic index h.1
     ∙ fetches_by_events.put_other es o topic index h.0
 others_put es (Stage p o ∷ more) topic index h = absurd h.0
@@ -92,7 +92,7 @@ puts_other topic index (Decide p d ∷ l) puts none = absurd puts.0
 
 -- what is fetched of the partition stays
 abbrev Stays : World → Event → List ℕ → List ℕ → ℤ → Type 0
-Stays w e g topic index = fetched (group_in (step w e) g).offsets false topic index ≡ fetched (group_in w g).offsets false topic index
+Stays w e g topic index = fetch_result (group_in (step w e) g).offsets false topic index ≡ fetch_result (group_in w g).offsets false topic index
 
 commit_stays : (w : World) (caller : Caller) (client : Option (List ℕ)) (r : OffsetCommitRequest) (g topic : List ℕ) (index : ℤ) → LeavesOffset w (Ask caller client (OffsetCommit r)) g topic index → Stays w (Ask caller client (OffsetCommit r)) g topic index
 commit_stays w caller client r g topic index h = by_name (bytes_eq r.group g) refl where
@@ -102,29 +102,29 @@ commit_stays w caller client r g topic index h = by_name (bytes_eq r.group g) re
       let same = text_is r.group g e in
       let by = commits_by w caller client r reply refl in
       subst (λ (n : List ℕ). Stays w (Ask caller client (OffsetCommit r)) n topic index) same
-      (ap (λ (l : List OffsetEvent). fetched l false topic index) by.offsets
+      (ap (λ (l : List OffsetEvent). fetch_result l false topic index) by.offsets
       ∙ others_put (group_in w r.group).offsets (made_topics put_part r.topics reply.topics) topic index
       (puts_other topic index (made_topics put_part r.topics reply.topics) (topics_put r.topics reply.topics)
       (λ o is among. h.no_commit (record { caller = caller; client = client; request = r; reply = reply; event = refl; group = same; answer = refl; offset = o; is = is; put = among }))))
   by_name false e =
       let reply : OffsetCommitReply = record { topics = answers (committing_rule w caller r) (rules_of w) w.groups r.topics } in
       let by = commits_by w caller client r reply refl in
-      ap (λ (x : GroupValue). fetched x.offsets false topic index) (by.others g (λ same. true≢false (sym (text_same r.group g same) ∙ e)))
+      ap (λ (x : GroupValue). fetch_result x.offsets false topic index) (by.others g (λ same. true≢false (sym (text_same r.group g same) ∙ e)))
 
-decision_stays : (w : World) (g topic : List ℕ) (index : ℤ) → LeavesOffset w Mark g topic index → (m : OwedMarker) → next_warrant w.coordinator ≡ Some m → (target : Target) → m.target ≡ target
-    → fetched (group_of (decided_at w.groups target m) g).offsets false topic index ≡ fetched (group_of w.groups g).offsets false topic index
+decision_stays : (w : World) (g topic : List ℕ) (index : ℤ) → LeavesOffset w Mark g topic index → (m : PendingMarker) → next_warrant w.coordinator ≡ Some m → (target : Target) → m.target ≡ target
+    → fetch_result (group_of (groups_with_decision_at w.groups target m) g).offsets false topic index ≡ fetch_result (group_of w.groups g).offsets false topic index
 decision_stays w g topic index h m front (Partition p) at = refl
 decision_stays w g topic index h m front (Group name) at =
-    ap (λ (l : List OffsetEvent). fetched l false topic index) (noted_offsets w.groups name (Decide m.pair.producer m.outcome) g) ∙ by_name (bytes_eq name g) refl where
+    ap (λ (l : List OffsetEvent). fetch_result l false topic index) (noted_offsets w.groups name (Decide m.pair.producer m.outcome) g) ∙ by_name (bytes_eq name g) refl where
       by_name : (b : Bool) → bytes_eq name g ≡ b
-          → fetched (cond b ((group_of w.groups g).offsets ++ Decide m.pair.producer m.outcome ∷ []) (group_of w.groups g).offsets) false topic index ≡ fetched (group_of w.groups g).offsets false topic index
+          → fetch_result (cond b ((group_of w.groups g).offsets ++ Decide m.pair.producer m.outcome ∷ []) (group_of w.groups g).offsets) false topic index ≡ fetch_result (group_of w.groups g).offsets false topic index
       by_name true e =
           decide_else (group_of w.groups g).offsets m.pair.producer m.outcome topic index
           (h.no_decision m.pair.producer m.outcome (record { event = refl; marker = m; front = front; target = at ∙ ap (λ (n : List ℕ). Group n) (text_is name g e); by = refl; ends = refl }))
       by_name false e = refl
 
-mark_stays : (w : World) (g topic : List ℕ) (index : ℤ) → LeavesOffset w Mark g topic index → (front : Option OwedMarker) → next_warrant w.coordinator ≡ front
-    → fetched (group_of (mark_by w front).world.groups g).offsets false topic index ≡ fetched (group_of w.groups g).offsets false topic index
+mark_stays : (w : World) (g topic : List ℕ) (index : ℤ) → LeavesOffset w Mark g topic index → (front : Option PendingMarker) → next_warrant w.coordinator ≡ front
+    → fetch_result (group_of (mark_by w front).world.groups g).offsets false topic index ≡ fetch_result (group_of w.groups g).offsets false topic index
 mark_stays w g topic index h None e = refl
 mark_stays w g topic index h (Some m) e = decision_stays w g topic index h m e m.target refl
 
@@ -135,8 +135,8 @@ is_special (Ask caller client request) = false
 is_special Mark = true
 is_special (Tick told) = false
 
-stages_stay : (w : World) (e : Event) (g topic : List ℕ) (index : ℤ) → is_special e ≡ false → (es more : List OffsetEvent) → Each (ComesBy w e g) more → fetched (es ++ more) false topic index ≡ fetched es false topic index
-stages_stay w e g topic index plain es [] ways = ap (λ (l : List OffsetEvent). fetched l false topic index) (append-nil es)
+stages_stay : (w : World) (e : Event) (g topic : List ℕ) (index : ℤ) → is_special e ≡ false → (es more : List OffsetEvent) → Each (ComesBy w e g) more → fetch_result (es ++ more) false topic index ≡ fetch_result es false topic index
+stages_stay w e g topic index plain es [] ways = ap (λ (l : List OffsetEvent). fetch_result l false topic index) (append-nil es)
 stages_stay w e g topic index plain es (Put o ∷ more) ways =
     let by : IsCommitFor e g = ways.0 in
     absurd (true≢false (sym (ap is_special by.event) ∙ plain))
@@ -144,14 +144,14 @@ stages_stay w e g topic index plain es (Decide p d ∷ more) ways =
     let by : IsDecisionFor w e g p d = ways.0 in
     absurd (true≢false (sym (ap is_special by.event) ∙ plain))
 stages_stay w e g topic index plain es (Stage p o ∷ more) ways =
-    ap (λ (l : List OffsetEvent). fetched l false topic index) (sym (append_assoc es (Stage p o ∷ []) more))
+    ap (λ (l : List OffsetEvent). fetch_result l false topic index) (sym (append_assoc es (Stage p o ∷ []) more))
     ∙ stages_stay w e g topic index plain (es ++ Stage p o ∷ []) more ways.1
     ∙ fetches_by_events.stage es p o topic index
 
 plain_stays : (w : World) (e : Event) (g topic : List ℕ) (index : ℤ) → is_special e ≡ false → Stays w e g topic index
 plain_stays w e g topic index plain =
     let goes = groups_go_on w e g in
-    ap (λ (l : List OffsetEvent). fetched l false topic index) goes.events ∙ stages_stay w e g topic index plain (group_in w g).offsets goes.more goes.ways
+    ap (λ (l : List OffsetEvent). fetch_result l false topic index) goes.events ∙ stages_stay w e g topic index plain (group_in w g).offsets goes.more goes.ways
 
 stays : (w : World) (e : Event) (g topic : List ℕ) (index : ℤ) → LeavesOffset w e g topic index → Stays w e g topic index
 stays w (Ask caller client (OffsetCommit r)) g topic index h = commit_stays w caller client r g topic index h
@@ -169,10 +169,10 @@ regroup : (old before after : List OffsetEvent) (e : OffsetEvent) → old ++ (be
 regroup old before after e = sym (append_assoc old before (e ∷ after)) ∙ sym (append_assoc (old ++ before) (e ∷ []) after)
 
 is_told : (w : World) (caller : Caller) (client : Option (List ℕ)) (c : OffsetCommitRequest) (answer : OffsetCommitReply) (o : PartitionOffset) → reply_to w (Ask caller client (OffsetCommit c)) ≡ replies.OffsetCommit answer → IsLastOf c.topics answer o
-    → fetched (group_in (step w (Ask caller client (OffsetCommit c))) c.group).offsets false o.topic o.index ≡ Ok (Some o)
+    → fetch_result (group_in (step w (Ask caller client (OffsetCommit c))) c.group).offsets false o.topic o.index ≡ Ok (Some o)
 is_told w caller client c answer o told h =
     let old = (group_in w c.group).offsets in
-    ap (λ (l : List OffsetEvent). fetched l false o.topic o.index) ((commits_by w caller client c answer told).offsets ∙ ap (λ (l : List OffsetEvent). old ++ l) h.put ∙ regroup old h.before h.after (Put o))
+    ap (λ (l : List OffsetEvent). fetch_result l false o.topic o.index) ((commits_by w caller client c answer told).offsets ∙ ap (λ (l : List OffsetEvent). old ++ l) h.put ∙ regroup old h.before h.after (Put o))
     ∙ others_put ((old ++ h.before) ++ Put o ∷ []) h.after o.topic o.index h.last
     ∙ fetches_by_events.put (old ++ h.before) o o.topic o.index (record { of_topic = refl; of_index = refl })
 
@@ -192,28 +192,28 @@ eighty_eight : number_of errors.UnstableOffsetCommit ≡ pos 88
 unfolding number_of
 eighty_eight = refl
 
-tells_by : (es : List OffsetEvent) (stable : Bool) (o : PartitionOffset) (a : FetchedOffset) → fetched es false o.topic o.index ≡ Ok (Some o) → IsTold (fetched es stable o.topic o.index) a → Tells o stable a
+tells_by : (es : List OffsetEvent) (stable : Bool) (o : PartitionOffset) (a : FetchedOffset) → fetch_result es false o.topic o.index ≡ Ok (Some o) → IsTold (fetch_result es stable o.topic o.index) a → Tells o stable a
 tells_by es stable o a is told = by_case (stable_or es stable o.topic o.index) where
-  by_case : (fetched es stable o.topic o.index ≡ fetched es false o.topic o.index) ⊎ ((stable ≡ true) × (fetched es stable o.topic o.index ≡ Err errors.UnstableOffsetCommit)) → Tells o stable a
+  by_case : (fetch_result es stable o.topic o.index ≡ fetch_result es false o.topic o.index) ⊎ ((stable ≡ true) × (fetch_result es stable o.topic o.index ≡ Err errors.UnstableOffsetCommit)) → Tells o stable a
   by_case (inl same) = inl (subst (λ (t : Result (Option PartitionOffset) ErrorCode). IsTold t a) (same ∙ is) told)
   by_case (inr (asked, same)) =
       let error : IsTold (Err errors.UnstableOffsetCommit) a = subst (λ (t : Result (Option PartitionOffset) ErrorCode). IsTold t a) same told in
       inr (asked, ap number_of error.2 ∙ eighty_eight)
 
-tells_of : (v : World) (caller : Caller) (r : OffsetFetchRequest) (g : List ℕ) (o : PartitionOffset) → r.group ≡ g → fetched (group_in v g).offsets false o.topic o.index ≡ Ok (Some o)
+tells_of : (v : World) (caller : Caller) (r : OffsetFetchRequest) (g : List ℕ) (o : PartitionOffset) → r.group ≡ g → fetch_result (group_in v g).offsets false o.topic o.index ≡ Ok (Some o)
     → (name : List ℕ) (index : ℤ) (a : FetchedOffset) → IsFetchAnswer v caller r name index a → TellsOf v caller r o name index a
 tells_of v caller r g o of_group is name index a h named placed may =
-    let same : fetched (group_in v r.group).offsets r.require_stable name index ≡ fetched (group_in v g).offsets r.require_stable o.topic o.index =
-    ap (λ (n : List ℕ). fetched (group_in v n).offsets r.require_stable name index) of_group
-    ∙ ap (λ (n : List ℕ). fetched (group_in v g).offsets r.require_stable n index) named
-    ∙ ap (λ (i : ℤ). fetched (group_in v g).offsets r.require_stable o.topic i) placed
+    let same : fetch_result (group_in v r.group).offsets r.require_stable name index ≡ fetch_result (group_in v g).offsets r.require_stable o.topic o.index =
+    ap (λ (n : List ℕ). fetch_result (group_in v n).offsets r.require_stable name index) of_group
+    ∙ ap (λ (n : List ℕ). fetch_result (group_in v g).offsets r.require_stable n index) named
+    ∙ ap (λ (i : ℤ). fetch_result (group_in v g).offsets r.require_stable o.topic i) placed
     in
     tells_by (group_in v g).offsets r.require_stable o a is (subst (λ (t : Result (Option PartitionOffset) ErrorCode). IsTold t a) same (h.told may))
 
 fetches_what_was_committed : (w : World) → FetchesWhatWasCommitted w
 fetches_what_was_committed w committer client c answer o between told last leaves v at caller agent r ts reply of_group names replied zero =
     let kept = keeps_offsets (step w (Ask committer client (OffsetCommit c))) between c.group o.topic o.index leaves in
-    let is = ap (λ (x : World). fetched (group_in x c.group).offsets false o.topic o.index) at ∙ kept ∙ is_told w committer client c answer o told last in
+    let is = ap (λ (x : World). fetch_result (group_in x c.group).offsets false o.topic o.index) at ∙ kept ∙ is_told w committer client c answer o told last in
     both_weaker (IsFetchAnswer v caller r) (TellsOf v caller r o) (tells_of v caller r c.group o of_group is) ts reply.topics ((fetches_named v caller agent r ts reply replied names).answers zero)
 
 pub commits_are_fetched : (w : World) → CommitsAreFetched w

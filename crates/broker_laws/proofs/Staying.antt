@@ -1,11 +1,11 @@
 -- The members of a group one after the other.
 use Rattle.std.proofs.Common.{◌≡◌, ◌⊎◌, inl, inr, ℕ, List, [], ◌∷◌, Option, Some, None, refl, sym, ap, subst, ◌∙◌}
 use Rattle.audit_trail.specs.declared.event.Event.{Event}
-use Rattle.offset_tables.specs.declared.group.Group.{Group}
-use Rattle.offset_tables.specs.declared.member.Member.{Member}
-use Rattle.offset_tables.specs.Groups.{group_of}
+use Rattle.group_offsets.specs.declared.group.Group.{Group}
+use Rattle.group_offsets.specs.declared.member.Member.{Member}
+use Rattle.group_offsets.specs.Groups.{group_of}
 use Rattle.broker_world.specs.World.{World}
-use Rattle.api_dispatch.specs.Step.{step, reached}
+use Rattle.api_dispatch.specs.Step.{step, world_after_events}
 use Rattle.broker_laws.specs.Members.{group_in, IsJoin, MayChange, ComesNew, ComesBack, IsHeardOf, IsAsBefore, MembersGo, Ends, MembersInShort, EndsAmong, EndsBetween, IsFirst, MembersComeAndGo}
 use Rattle.broker_laws.proofs.Membership.{members_go}
 
@@ -53,7 +53,7 @@ module _ (w : World) (e : Event) (g : List ℕ) (go : MembersGo w e g) where
   stays_by : (m n : Member) → (group_in w g).member ≡ Some m → (group_in (step w e) g).member ≡ Some n → MayChange w e g ⊎ IsAsBefore (group_in w g) (group_in (step w e) g) → n.id ≡ m.id
   stays_by m n had has (inl (inl j)) = by_who (go.joins j).who where
     by_who : ComesNew w (group_in w g) j.request j.reply ⊎ ComesBack (group_in w g) j.request j.reply → n.id ≡ m.id
-    by_who (inl c) = absurd (not_both (group_in w g).member m c.nobody had)
+    by_who (inl c) = absurd (not_both (group_in w g).member m c.unknown_group_error had)
     by_who (inr c) =
         ap (λ (x : Member). x.id) (one_of (group_in (step w e) g).member n (go.joins j).member has (go.joins j).has)
         ∙ sym (go.joins j).named
@@ -62,8 +62,8 @@ module _ (w : World) (e : Event) (g : List ℕ) (go : MembersGo w e g) where
         ∙ ap (λ (x : Member). x.id) (one_of (group_in w g).member c.was.member m c.was.has had)
   stays_by m n had has (inl (inr (inl s))) = heard_stays m n had has (go.syncs s).heard
   stays_by m n had has (inl (inr (inr (inl b)))) = heard_stays m n had has (go.beats b).heard
-  stays_by m n had has (inl (inr (inr (inr (inl l))))) = absurd (not_both (group_in (step w e) g).member n (go.leaves l).left.nobody has)
-  stays_by m n had has (inl (inr (inr (inr (inr x))))) = absurd (not_both (group_in (step w e) g).member n (go.lapses x).nobody has)
+  stays_by m n had has (inl (inr (inr (inr (inl l))))) = absurd (not_both (group_in (step w e) g).member n (go.leaves l).left.unknown_group_error has)
+  stays_by m n had has (inl (inr (inr (inr (inr x))))) = absurd (not_both (group_in (step w e) g).member n (go.lapses x).unknown_group_error has)
   stays_by m n had has (inr same) = ap (λ (x : Member). x.id) (one_of (group_in (step w e) g).member n m has (same.member ∙ had))
 
 pub in_short : (w : World) (e : Event) (g : List ℕ) → MembersInShort w e g
@@ -89,15 +89,15 @@ goes_or_stays w e g m had = by_after (group_in (step w e) g).member refl where
   by_after None has = inl ((in_short w e g).goes m had has)
   by_after (Some n) has = inr (n, has, (in_short w e g).stays m n had has)
 
-ends_later : (w : World) (e : Event) (es : List Event) (g id : List ℕ) → EndsAmong (step w e) es g id ⊎ HasStill (reached (step w e) es) g id → EndsAmong w (e ∷ es) g id ⊎ HasStill (reached w (e ∷ es)) g id
+ends_later : (w : World) (e : Event) (es : List Event) (g id : List ℕ) → EndsAmong (step w e) es g id ⊎ HasStill (world_after_events (step w e) es) g id → EndsAmong w (e ∷ es) g id ⊎ HasStill (world_after_events w (e ∷ es)) g id
 ends_later w e es g id (inl h) = inl (record { before = e ∷ h.before; event = h.event; after = h.after; parts = ap (λ l. e ∷ l) h.parts; ends = h.ends })
 ends_later w e es g id (inr h) = inr h
 
-ends_or_stays : (w : World) (es : List Event) (g id : List ℕ) (m : Member) → (group_in w g).member ≡ Some m → m.id ≡ id → EndsAmong w es g id ⊎ HasStill (reached w es) g id
+ends_or_stays : (w : World) (es : List Event) (g id : List ℕ) (m : Member) → (group_in w g).member ≡ Some m → m.id ≡ id → EndsAmong w es g id ⊎ HasStill (world_after_events w es) g id
 ends_or_stays w [] g id m had named = inr (m, had, named)
 ends_or_stays w (e ∷ es) g id m had named = by_step (goes_or_stays w e g m had) (λ n has is. ends_or_stays (step w e) es g id n has is) where
-  by_step : Ends w e g m.id ⊎ HasStill (step w e) g m.id → ((n : Member) → (group_in (step w e) g).member ≡ Some n → n.id ≡ id → EndsAmong (step w e) es g id ⊎ HasStill (reached (step w e) es) g id)
-      → EndsAmong w (e ∷ es) g id ⊎ HasStill (reached w (e ∷ es)) g id
+  by_step : Ends w e g m.id ⊎ HasStill (step w e) g m.id → ((n : Member) → (group_in (step w e) g).member ≡ Some n → n.id ≡ id → EndsAmong (step w e) es g id ⊎ HasStill (world_after_events (step w e) es) g id)
+      → EndsAmong w (e ∷ es) g id ⊎ HasStill (world_after_events w (e ∷ es)) g id
   by_step (inl ends) rest = inl (record { before = []; event = e; after = es; parts = refl; ends = subst (Ends w e g) named ends })
   by_step (inr (n, has, is)) rest = ends_later w e es g id (rest n has (is ∙ named))
 
@@ -105,18 +105,18 @@ ends_between : (w : World) → EndsBetween w
 ends_between w g e f between j k differ =
     let joins = (members_go w e g).joins j in
     by_end (ends_or_stays (step w e) between g j.reply.member joins.member joins.has (sym joins.named)) where
-      by_who : HasStill (reached (step w e) between) g j.reply.member
-          → ComesNew (reached (step w e) between) (group_in (reached (step w e) between) g) k.request k.reply ⊎ ComesBack (group_in (reached (step w e) between) g) k.request k.reply → ⊥
-      by_who (n, has, is) (inl c) = not_both (group_in (reached (step w e) between) g).member n c.nobody has
+      by_who : HasStill (world_after_events (step w e) between) g j.reply.member
+          → ComesNew (world_after_events (step w e) between) (group_in (world_after_events (step w e) between) g) k.request k.reply ⊎ ComesBack (group_in (world_after_events (step w e) between) g) k.request k.reply → ⊥
+      by_who (n, has, is) (inl c) = not_both (group_in (world_after_events (step w e) between) g).member n c.unknown_group_error has
       by_who (n, has, is) (inr c) =
-          differ (sym is ∙ ap (λ (x : Member). x.id) (one_of (group_in (reached (step w e) between) g).member n c.was.member has c.was.has) ∙ c.was.named ∙ sym c.named)
+          differ (sym is ∙ ap (λ (x : Member). x.id) (one_of (group_in (world_after_events (step w e) between) g).member n c.was.member has c.was.has) ∙ c.was.named ∙ sym c.named)
 
-      by_end : EndsAmong (step w e) between g j.reply.member ⊎ HasStill (reached (step w e) between) g j.reply.member → EndsAmong (step w e) between g j.reply.member
+      by_end : EndsAmong (step w e) between g j.reply.member ⊎ HasStill (world_after_events (step w e) between) g j.reply.member → EndsAmong (step w e) between g j.reply.member
       by_end (inl h) = h
-      by_end (inr h) = absurd (by_who h ((members_go (reached (step w e) between) f g).joins k).who)
+      by_end (inr h) = absurd (by_who h ((members_go (world_after_events (step w e) between) f g).joins k).who)
 
 first_is : (gs : List Group) (g : List ℕ) → gs ≡ [] → IsFirst (group_of gs g)
-first_is gs g none = subst (λ (l : List Group). IsFirst (group_of l g)) (sym none) (record { nobody = refl; generation = refl; assignment = refl; offsets = refl })
+first_is gs g none = subst (λ (l : List Group). IsFirst (group_of l g)) (sym none) (record { unknown_group_error = refl; generation = refl; assignment = refl; offsets = refl })
 
 pub members_come_and_go : (w : World) → MembersComeAndGo w
 members_come_and_go w = record { first = λ none g. first_is w.groups g none; each = members_go w; short = in_short w; between = ends_between w }

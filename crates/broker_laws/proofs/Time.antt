@@ -5,15 +5,15 @@ use Rattle.std.specs.Option.{option_map}
 use Rattle.std.proofs.lemmas.Bool.{true≢false, ltb-true, ltb-false, lt-ltb, and_parts}
 use Rattle.std.proofs.lemmas.List.{length-map}
 use Rattle.std.proofs.lemmas.Option.{slice_get-map}
-use Rattle.transactions.specs.declared.transaction.Transaction.{Transaction}
-use Rattle.transactions.specs.declared.transaction.Phase.{Phase}
-use Rattle.transactions.specs.declared.transaction.Phase.TheVariants.{Empty, Ongoing, PrepareCommit, PrepareAbort, CompleteCommit, CompleteAbort}
-use Rattle.transactions.specs.Words.{is_ongoing}
-use Rattle.transactions.specs.Preparing.{fenced}
-use Rattle.transactions.specs.Expiry.{is_due, expired}
-use Rattle.offset_tables.specs.declared.group.Group.{Group}
-use Rattle.offset_tables.specs.declared.member.Member.{Member}
-use Rattle.offset_tables.specs.Group.{is_lapsed, left, expired as group_expired}
+use Rattle.txn_coordinator.specs.declared.transaction.Transaction.{Transaction}
+use Rattle.txn_coordinator.specs.declared.transaction.TransactionState.{TransactionState}
+use Rattle.txn_coordinator.specs.declared.transaction.TransactionState.TheVariants.{Empty, Ongoing, PrepareCommit, PrepareAbort, CompleteCommit, CompleteAbort}
+use Rattle.txn_coordinator.specs.Words.{is_ongoing}
+use Rattle.txn_coordinator.specs.Preparing.{fenced_transaction}
+use Rattle.txn_coordinator.specs.Expiry.{is_due, fenced_if_due}
+use Rattle.group_offsets.specs.declared.group.Group.{Group}
+use Rattle.group_offsets.specs.declared.member.Member.{Member}
+use Rattle.group_offsets.specs.Group.{is_lapsed, without_member, without_lapsed as group_expired}
 use Rattle.audit_trail.specs.declared.event.Event.TheVariants.{Tick}
 use Rattle.broker_world.specs.World.{World}
 use Rattle.broker_world.specs.Clock.{last_moment}
@@ -45,7 +45,7 @@ shows w told = record {
 
 -- ---- transactions
 
-is_open : (p : Phase) → is_ongoing p ≡ true → p ≡ Ongoing
+is_open : (p : TransactionState) → is_ongoing p ≡ true → p ≡ Ongoing
 is_open Ongoing h = refl
 is_open Empty h = absurd (true≢false (sym h))
 is_open PrepareCommit h = absurd (true≢false (sym h))
@@ -58,25 +58,25 @@ due_is moment t over = (λ i. is_ongoing (over.ongoing i) && lt-ltb (t.start + t
 
 over_is : (moment : ℕ) (t : Transaction) → is_due moment t ≡ true → IsOver moment t
 over_is moment t due =
-    let parts = and_parts (is_ongoing t.phase) (nat_lt (t.start + t.timeout) moment) due in
-    record { ongoing = is_open t.phase parts.0; end = ltb-true (t.start + t.timeout) moment parts.1 }
+    let parts = and_parts (is_ongoing t.state) (nat_lt (t.start + t.timeout) moment) due in
+    record { ongoing = is_open t.state parts.0; end = ltb-true (t.start + t.timeout) moment parts.1 }
 
-is_fenced : (moment : ℕ) (t : Transaction) → IsOver moment t → expired moment t ≡ fenced t
-is_fenced moment t over = ap (λ (b : Bool). cond b (fenced t) t) (due_is moment t over)
+is_fenced : (moment : ℕ) (t : Transaction) → IsOver moment t → fenced_if_due moment t ≡ fenced_transaction t
+is_fenced moment t over = ap (λ (b : Bool). cond b (fenced_transaction t) t) (due_is moment t over)
 
-stays : (moment : ℕ) (t : Transaction) → (IsOver moment t → ⊥) → expired moment t ≡ t
+stays : (moment : ℕ) (t : Transaction) → (IsOver moment t → ⊥) → fenced_if_due moment t ≡ t
 stays moment t other = by_test (is_due moment t) refl where
-  by_test : (b : Bool) → is_due moment t ≡ b → cond b (fenced t) t ≡ t
+  by_test : (b : Bool) → is_due moment t ≡ b → cond b (fenced_transaction t) t ≡ t
   by_test true due = absurd (other (over_is moment t due))
   by_test false due = refl
 
-transactions : (w v : World) → v.coordinator.transactions ≡ map (expired v.moment) w.coordinator.transactions → EndsTransactions w v
+transactions : (w v : World) → v.coordinator.transactions ≡ map (fenced_if_due v.moment) w.coordinator.transactions → EndsTransactions w v
 transactions w v is = record {
-  as_many = ap length is ∙ length-map w.coordinator.transactions (expired v.moment);
+  as_many = ap length is ∙ length-map w.coordinator.transactions (fenced_if_due v.moment);
   over = λ i t u before after over.
-      let changed : Some u ≡ Some (expired v.moment t) = sym after ∙ ap (λ (l : List Transaction). slice_get l i) is ∙ changed_at (expired v.moment) w.coordinator.transactions i t before in
-      ap (λ (x : Transaction). x.phase) (same_some u (expired v.moment t) changed ∙ is_fenced v.moment t over);
-  others = λ i t before other. ap (λ (l : List Transaction). slice_get l i) is ∙ changed_at (expired v.moment) w.coordinator.transactions i t before ∙ ap (λ (x : Transaction). Some x) (stays v.moment t other);
+      let changed : Some u ≡ Some (fenced_if_due v.moment t) = sym after ∙ ap (λ (l : List Transaction). slice_get l i) is ∙ changed_at (fenced_if_due v.moment) w.coordinator.transactions i t before in
+      ap (λ (x : Transaction). x.state) (same_some u (fenced_if_due v.moment t) changed ∙ is_fenced v.moment t over);
+  others = λ i t before other. ap (λ (l : List Transaction). slice_get l i) is ∙ changed_at (fenced_if_due v.moment) w.coordinator.transactions i t before ∙ ap (λ (x : Transaction). Some x) (stays v.moment t other);
 }
 
 -- ---- members
@@ -84,8 +84,8 @@ transactions w v is = record {
 lapsed_is : (moment : ℕ) (o : Option Member) (m : Member) → o ≡ Some m → m.heard + m.session_timeout < moment → is_lapsed moment o ≡ true
 lapsed_is moment o m has silent = ap (is_lapsed moment) has ∙ lt-ltb (m.heard + m.session_timeout) moment silent
 
-is_let_go : (moment : ℕ) (g : Group) → IsLapsed moment g → group_expired moment g ≡ left g
-is_let_go moment g h = ap (λ (b : Bool). cond b (left g) g) (lapsed_is moment g.member h.member h.has h.silent)
+is_let_go : (moment : ℕ) (g : Group) → IsLapsed moment g → group_expired moment g ≡ without_member g
+is_let_go moment g h = ap (λ (b : Bool). cond b (without_member g) g) (lapsed_is moment g.member h.member h.has h.silent)
 
 silent_is : (moment : ℕ) (g : Group) (o : Option Member) → g.member ≡ o → is_lapsed moment o ≡ true → IsLapsed moment g
 silent_is moment g None has h = absurd (true≢false (sym h))
@@ -93,7 +93,7 @@ silent_is moment g (Some m) has h = record { member = m; has = has; silent = ltb
 
 group_stays : (moment : ℕ) (g : Group) → (IsLapsed moment g → ⊥) → group_expired moment g ≡ g
 group_stays moment g other = by_test (is_lapsed moment g.member) refl where
-  by_test : (b : Bool) → is_lapsed moment g.member ≡ b → cond b (left g) g ≡ g
+  by_test : (b : Bool) → is_lapsed moment g.member ≡ b → cond b (without_member g) g ≡ g
   by_test true h = absurd (other (silent_is moment g g.member refl h))
   by_test false h = refl
 

@@ -2,17 +2,17 @@
 use Rattle.std.proofs.Common.{◌≡◌, ℕ, ◌≤◌, List, [], ◌∷◌, ◌++◌, length, Option, Some, None, Bool, true, false, refl, sym, ap, subst, ◌∙◌, inl, inr, ◌⊎◌, append_assoc, arith}
 use Rattle.std.specs.Prelude.{slice_get}
 use Rattle.std.proofs.lemmas.List.{map-append, length-map}
-use Rattle.record_batch.specs.declared.outcome.Outcome.{Outcome as Ending}
-use Rattle.record_batch.specs.declared.outcome.Outcome.TheVariants.{Abort}
+use Rattle.record_batch.specs.declared.transaction_result.TransactionResult.{TransactionResult}
+use Rattle.record_batch.specs.declared.transaction_result.TransactionResult.TheVariants.{Abort}
 use Rattle.msg_admin.specs.declared.request.Request.TheVariants.{InitProducerId, EndTxn}
 use Rattle.msg_admin.specs.declared.reply.Reply.TheVariants as replies
 use Rattle.audit_trail.specs.declared.event.Event.{Event}
 use Rattle.audit_trail.specs.declared.event.Event.TheVariants.{Ask, Mark}
 use Rattle.audit_trail.specs.declared.trail.Entry.{Entry}
 use Rattle.request_handlers.specs.Receipt.{ReceiptValue}
-use Rattle.transactions.specs.declared.transaction.Transaction.{Transaction}
-use Rattle.transactions.specs.declared.marker.OwedMarker.{OwedMarker}
-use Rattle.transactions.specs.Warrants.{written}
+use Rattle.txn_coordinator.specs.declared.transaction.Transaction.{Transaction}
+use Rattle.txn_coordinator.specs.declared.marker.PendingMarker.{PendingMarker}
+use Rattle.txn_coordinator.specs.Warrants.{with_front_written}
 use Rattle.txn_laws.specs.Sound.{Each}
 use Rattle.txn_laws.specs.Laws.{up_to_last}
 use Rattle.txn_laws.proofs.Base.{each_append}
@@ -20,13 +20,13 @@ use Rattle.broker_world.specs.World.{World}
 use Rattle.broker_world.specs.First.{first_world}
 use Rattle.txn_handlers.specs.EndTxn.{ending_id, ending_outcome}
 use Rattle.txn_handlers.specs.Marks.{mark_by}
-use Rattle.api_dispatch.specs.Step.{step, reply_to, refusals_of, reached, is_reading}
+use Rattle.api_dispatch.specs.Step.{step, reply_to, refusals_of, world_after_events, is_reading}
 use Rattle.request_handlers.specs.declared.stop.Stop.{Stop}
 use Rattle.request_handlers.specs.declared.stop.Stop.TheVariants.{NoMemory, TrailFull, Down}
-use Rattle.request_handlers.specs.Core.{CoreValue, IsHistory, IsPutDown, AfterNoMemory, StoppedBy, Ran, entry_of, history, events_of, advanced}
-use Rattle.broker_laws.specs.Moves.{marks}
+use Rattle.request_handlers.specs.Core.{CoreValue, IsHistory, IsPutDown, AfterNoMemory, StoppedBy, IsRun, entry_of, history, events_of, core_after}
+use Rattle.broker_laws.specs.Moves.{count_of_mark_events}
 use Rattle.broker_laws.specs.Laws.{IsPreparedBy, IsCompletedBy}
-use Rattle.broker_laws.specs.Trails.{IsCompleted, IsUnrefusedMark, IsCompletedIn, world_behind, TrailTells, CompletesOverATrail, CompletesBeforeIdle, CompletesOverARun}
+use Rattle.broker_laws.specs.Trails.{IsCompleted, IsUnrefusedMark, IsCompletedIn, world_after_entries, TrailTells, CompletesOverATrail, CompletesBeforeIdle, CompletesOverARun}
 use Rattle.broker_laws.proofs.Reading.{marks_are_not_refused}
 use Rattle.broker_laws.proofs.Reached.{IsGood, good_step, good_reached, good}
 use Rattle.broker_laws.proofs.Completing.{prepared_completes}
@@ -38,18 +38,18 @@ use Rattle.broker_laws.proofs.Preparing.{prepares}
 -- ---- a world
 
 -- what is prepared in a good world is completed where enough marker steps lead
-completed : (w : World) → IsGood w → (e : Event) (id : List ℕ) (t : Transaction) (o : Ending) (behind : List Event) → IsPreparedBy w e id t o → up_to_last (step w e).coordinator.warrants id ≤ marks behind → IsCompleted w (reached (step w e) behind) e t o
+completed : (w : World) → IsGood w → (e : Event) (id : List ℕ) (t : Transaction) (o : TransactionResult) (behind : List Event) → IsPreparedBy w e id t o → up_to_last (step w e).coordinator.warrants id ≤ count_of_mark_events behind → IsCompleted w (world_after_events (step w e) behind) e t o
 completed w good e id t o behind by enough = record {
   markers = prepared_completes w good e id t o behind by enough;
   logs = prepared_ends w good e id t o behind by enough;
   groups = prepared_decides w good e id t o behind by enough;
 }
 
-complete_record : (w : World) → IsGood w → (e : Event) (id : List ℕ) (t : Transaction) (o : Ending) (behind : List Event) → IsPreparedBy w e id t o → up_to_last (step w e).coordinator.warrants id ≤ marks behind → IsCompletedBy (step w e) behind id o
+complete_record : (w : World) → IsGood w → (e : Event) (id : List ℕ) (t : Transaction) (o : TransactionResult) (behind : List Event) → IsPreparedBy w e id t o → up_to_last (step w e).coordinator.warrants id ≤ count_of_mark_events behind → IsCompletedBy (step w e) behind id o
 complete_record w good e id t o behind by enough = ends behind (step w e) (good_step w e good) id by.transaction o by.after by.waits enough
 
-completed_in : (core : CoreValue) (w : World) → IsGood w → (e : Event) (id : List ℕ) (t : Transaction) (o : Ending) (behind : List Event) → (core.down ≡ false → core.world ≡ reached (step w e) behind) → Each IsUnrefusedMark core.trail → IsPreparedBy w e id t o
-    → up_to_last (step w e).coordinator.warrants id ≤ marks behind → IsCompletedIn core w e behind id t o
+completed_in : (core : CoreValue) (w : World) → IsGood w → (e : Event) (id : List ℕ) (t : Transaction) (o : TransactionResult) (behind : List Event) → (core.down ≡ false → core.world ≡ world_after_events (step w e) behind) → Each IsUnrefusedMark core.trail → IsPreparedBy w e id t o
+    → up_to_last (step w e).coordinator.warrants id ≤ count_of_mark_events behind → IsCompletedIn core w e behind id t o
 completed_in core w good e id t o behind leads unrefused by enough = record {
   world = λ up. subst (λ v. IsCompleted w v e t o) (sym (leads up)) (completed w good e id t o behind by enough);
   record_complete = complete_record w good e id t o behind by enough;
@@ -58,7 +58,7 @@ completed_in core w good e id t o behind leads unrefused by enough = record {
 
 -- ---- the trail
 
-reached_append : (w : World) (xs ys : List Event) → reached w (xs ++ ys) ≡ reached (reached w xs) ys
+reached_append : (w : World) (xs ys : List Event) → world_after_events w (xs ++ ys) ≡ world_after_events (world_after_events w xs) ys
 reached_append w [] ys = refl
 reached_append w (x ∷ xs) ys = reached_append (step w x) xs ys
 
@@ -69,24 +69,24 @@ history_unrefused w (e ∷ es) = (λ is. ap (refusals_of w) is ∙ marks_are_not
 trail_unrefused : (core : CoreValue) → IsHistory core → Each IsUnrefusedMark core.trail
 trail_unrefused core h = subst (Each IsUnrefusedMark) (sym h.entries) (history_unrefused (first_world core.settings) (events_of core.trail))
 
-trail_leads : (core : CoreValue) → IsHistory core → (before behind : List Entry) (x : Entry) → core.trail ≡ before ++ x ∷ behind → core.down ≡ false → core.world ≡ reached (step (world_behind core before) x.event) (events_of behind)
+trail_leads : (core : CoreValue) → IsHistory core → (before behind : List Entry) (x : Entry) → core.trail ≡ before ++ x ∷ behind → core.down ≡ false → core.world ≡ world_after_events (step (world_after_entries core before) x.event) (events_of behind)
 trail_leads core h before behind x parts up =
     let first = first_world core.settings in
     h.world up
-    ∙ ap (λ l. reached first (events_of l)) parts
-    ∙ ap (reached first) (map-append (λ (y : Entry). y.event) before (x ∷ behind))
+    ∙ ap (λ l. world_after_events first (events_of l)) parts
+    ∙ ap (world_after_events first) (map-append (λ (y : Entry). y.event) before (x ∷ behind))
     ∙ reached_append first (events_of before) (x.event ∷ events_of behind)
 
 pub completes_over_a_trail : CompletesOverATrail
 completes_over_a_trail core is before behind x parts id t o by enough =
-    completed_in core (world_behind core before) (good core.settings (events_of before)) x.event id t o (events_of behind)
+    completed_in core (world_after_entries core before) (good core.settings (events_of before)) x.event id t o (events_of behind)
     (trail_leads core is.history before behind x parts)
     (trail_unrefused core is.history)
     by enough
 
 -- ---- an entry
 
-history_at : (w : World) (before behind : List Event) (e : Event) → slice_get (history w (before ++ e ∷ behind)) (length before) ≡ Some (entry_of (reached w before) e)
+history_at : (w : World) (before behind : List Event) (e : Event) → slice_get (history w (before ++ e ∷ behind)) (length before) ≡ Some (entry_of (world_after_events w before) e)
 history_at w [] behind e = refl
 history_at w (x ∷ xs) behind e = history_at (step w x) xs behind e
 
@@ -95,24 +95,24 @@ get_at [] behind x = refl
 get_at (y ∷ ys) behind x = get_at ys behind x
 
 -- it is what is kept of its event, in the world in which that was taken
-entry_is : (core : CoreValue) → IsHistory core → (before behind : List Entry) (x : Entry) → core.trail ≡ before ++ x ∷ behind → x ≡ entry_of (world_behind core before) x.event
+entry_is : (core : CoreValue) → IsHistory core → (before behind : List Entry) (x : Entry) → core.trail ≡ before ++ x ∷ behind → x ≡ entry_of (world_after_entries core before) x.event
 entry_is core h before behind x parts =
     let first = first_world core.settings in
     let events = ap events_of parts ∙ map-append (λ (y : Entry). y.event) before (x ∷ behind) in
     let place : length before ≡ length (events_of before) = sym (length-map before (λ (y : Entry). y.event)) in
-    let told : slice_get core.trail (length before) ≡ Some (entry_of (world_behind core before) x.event) =
+    let told : slice_get core.trail (length before) ≡ Some (entry_of (world_after_entries core before) x.event) =
     ap (λ l. slice_get l (length before)) (h.entries ∙ ap (history first) events)
     ∙ ap (slice_get (history first (events_of before ++ x.event ∷ events_of behind))) place
     ∙ history_at first (events_of before) (events_of behind) x.event in
-    let twice : Some x ≡ Some (entry_of (world_behind core before) x.event) = sym (ap (λ l. slice_get l (length before)) parts ∙ get_at before behind x) ∙ told in
+    let twice : Some x ≡ Some (entry_of (world_after_entries core before) x.event) = sym (ap (λ l. slice_get l (length before)) parts ∙ get_at before behind x) ∙ told in
     cc
 
-reply_is : (core : CoreValue) → IsHistory core → (before behind : List Entry) (x : Entry) → core.trail ≡ before ++ x ∷ behind → (e : Event) → x.event ≡ e → x.reply ≡ reply_to (world_behind core before) e
-reply_is core h before behind x parts e is = ap (λ (y : Entry). y.reply) (entry_is core h before behind x parts) ∙ ap (reply_to (world_behind core before)) is
+reply_is : (core : CoreValue) → IsHistory core → (before behind : List Entry) (x : Entry) → core.trail ≡ before ++ x ∷ behind → (e : Event) → x.event ≡ e → x.reply ≡ reply_to (world_after_entries core before) e
+reply_is core h before behind x parts e is = ap (λ (y : Entry). y.reply) (entry_is core h before behind x parts) ∙ ap (reply_to (world_after_entries core before)) is
 
 pub trail_tells : TrailTells
 trail_tells core is before behind x parts =
-    let w = world_behind core before in
+    let w = world_after_entries core before in
     record {
       ended = λ caller client r reply t event told none found ongoing.
           let e = Ask caller client (EndTxn r) in
@@ -125,27 +125,27 @@ trail_tells core is before behind x parts =
 
 -- ---- a marker step that finds nothing to write
 
-none_owed : (w : World) (ws : List OwedMarker) → (mark_by w (slice_get ws 0)).reply ≡ replies.Idle → ws ≡ []
+none_owed : (w : World) (ws : List PendingMarker) → (mark_by w (slice_get ws 0)).reply ≡ replies.Idle → ws ≡ []
 none_owed w [] h = refl
-none_owed w (m ∷ ws) h = absurd (let clash : replies.Marked (length (written w.coordinator).warrants) ≡ replies.Idle = h in cc)
+none_owed w (m ∷ ws) h = absurd (let clash : replies.Marked (length (with_front_written w.coordinator).warrants) ≡ replies.Idle = h in cc)
 
-marks_append : (xs ys : List Event) → marks xs ≤ marks (xs ++ ys)
+marks_append : (xs ys : List Event) → count_of_mark_events xs ≤ count_of_mark_events (xs ++ ys)
 marks_append [] ys = omega arith
 marks_append (x ∷ xs) ys = let rest = marks_append xs ys in omega (arith, rest)
 
 pub completes_before_idle : CompletesBeforeIdle
 completes_before_idle core is before between rest x y parts id t o by event reply =
-    let w = world_behind core before in
+    let w = world_after_entries core before in
     let here = good core.settings (events_of before) in
-    let then = reached (step w x.event) (events_of between) in
+    let then = world_after_events (step w x.event) (events_of between) in
     let longer : core.trail ≡ (before ++ x ∷ between) ++ y ∷ rest = parts ∙ sym (append_assoc before (x ∷ between) (y ∷ rest)) in
-    let leads : world_behind core (before ++ x ∷ between) ≡ then =
-    ap (reached (first_world core.settings)) (map-append (λ (z : Entry). z.event) before (x ∷ between)) ∙ reached_append (first_world core.settings) (events_of before) (x.event ∷ events_of between) in
+    let leads : world_after_entries core (before ++ x ∷ between) ≡ then =
+    ap (world_after_events (first_world core.settings)) (map-append (λ (z : Entry). z.event) before (x ∷ between)) ∙ reached_append (first_world core.settings) (events_of before) (x.event ∷ events_of between) in
     let idle : reply_to then Mark ≡ replies.Idle = ap (λ v. reply_to v Mark) (sym leads) ∙ sym (reply_is core is.history (before ++ x ∷ between) rest y longer Mark event) ∙ reply in
     let none : then.coordinator.warrants ≡ [] = none_owed then then.coordinator.warrants idle in
     let few = enough (events_of between) (step w x.event) (good_step w x.event here) id by.transaction o by.after by.waits none in
-    let all : marks (events_of between) ≤ marks (events_of (between ++ y ∷ rest)) =
-    subst (λ l. marks (events_of between) ≤ marks l) (sym (map-append (λ (z : Entry). z.event) between (y ∷ rest))) (marks_append (events_of between) (events_of (y ∷ rest))) in
+    let all : count_of_mark_events (events_of between) ≤ count_of_mark_events (events_of (between ++ y ∷ rest)) =
+    subst (λ l. count_of_mark_events (events_of between) ≤ count_of_mark_events l) (sym (map-append (λ (z : Entry). z.event) between (y ∷ rest))) (marks_append (events_of between) (events_of (y ∷ rest))) in
     completes_over_a_trail core is before (between ++ y ∷ rest) x parts id t o by (omega (arith, few, all))
 
 -- ---- a stop
@@ -171,14 +171,14 @@ stopped_world old new (inr put) up = absurd (let clash : true ≡ false = sym pu
 
 -- ---- a run
 
-ran_unrefused : (old new : CoreValue) (es : List Event) (rs : List ReceiptValue) (stop : Option Stop) → Ran old es rs stop new → Each IsUnrefusedMark old.trail → Each IsUnrefusedMark new.trail
+ran_unrefused : (old new : CoreValue) (es : List Event) (rs : List ReceiptValue) (stop : Option Stop) → IsRun old es rs stop new → Each IsUnrefusedMark old.trail → Each IsUnrefusedMark new.trail
 ran_unrefused old new [] [] None run h = subst (λ (c : CoreValue). Each IsUnrefusedMark c.trail) (sym run) h
 ran_unrefused old new [] [] (Some stop) run h = absurd run
 ran_unrefused old new [] (r ∷ rs) stop run h = absurd run
 ran_unrefused old new (e ∷ es) [] None run h = absurd run
 ran_unrefused old new (e ∷ es) [] (Some stop) run h = subst (Each IsUnrefusedMark) (sym (stopped_trail old new (stopped stop old e new run))) h
 ran_unrefused old new (e ∷ es) (r ∷ rs) stop run h =
-    ran_unrefused (advanced old e) new es rs stop run.3
+    ran_unrefused (core_after old e) new es rs stop run.3
     (each_append IsUnrefusedMark old.trail _ h (λ is. ap (refusals_of old.world) is ∙ marks_are_not_refused old.world, tt))
 
 same_first : (x y : Event) (xs ys : List Event) → x ∷ xs ≡ y ∷ ys → x ≡ y
@@ -188,7 +188,7 @@ same_rest : (x y : Event) (xs ys : List Event) → x ∷ xs ≡ y ∷ ys → xs 
 same_rest x y xs ys h = cc
 
 -- the events with a receipt lead to the new world
-ran_leads : (old new : CoreValue) (es : List Event) (rs : List ReceiptValue) (stop : Option Stop) → Ran old es rs stop new → (taken rest : List Event) → es ≡ taken ++ rest → length rs ≡ length taken → new.down ≡ false → new.world ≡ reached old.world taken
+ran_leads : (old new : CoreValue) (es : List Event) (rs : List ReceiptValue) (stop : Option Stop) → IsRun old es rs stop new → (taken rest : List Event) → es ≡ taken ++ rest → length rs ≡ length taken → new.down ≡ false → new.world ≡ world_after_events old.world taken
 ran_leads old new [] [] None run [] rest parts same up = ap (λ (c : CoreValue). c.world) run
 ran_leads old new [] [] None run (x ∷ taken) rest parts same up = absurd (omega (arith, same))
 ran_leads old new [] [] (Some stop) run taken rest parts same up = absurd run
@@ -198,11 +198,11 @@ ran_leads old new (e ∷ es) [] (Some stop) run [] rest parts same up = stopped_
 ran_leads old new (e ∷ es) [] (Some stop) run (x ∷ taken) rest parts same up = absurd (omega (arith, same))
 ran_leads old new (e ∷ es) (r ∷ rs) stop run [] rest parts same up = absurd (omega (arith, same))
 ran_leads old new (e ∷ es) (r ∷ rs) stop run (x ∷ taken) rest parts same up =
-    ran_leads (advanced old e) new es rs stop run.3 taken rest (same_rest e x es (taken ++ rest) parts) (omega (arith, same)) up
-    ∙ ap (λ y. reached (step old.world y) taken) (same_first e x es (taken ++ rest) parts)
+    ran_leads (core_after old e) new es rs stop run.3 taken rest (same_rest e x es (taken ++ rest) parts) (omega (arith, same)) up
+    ∙ ap (λ y. world_after_events (step old.world y) taken) (same_first e x es (taken ++ rest) parts)
 
 -- a core that took an event was up
-ran_up : (old new : CoreValue) (es : List Event) (rs : List ReceiptValue) (stop : Option Stop) → Ran old es rs stop new → (before behind : List Event) (e : Event) → length rs ≡ length (before ++ e ∷ behind) → old.down ≡ false
+ran_up : (old new : CoreValue) (es : List Event) (rs : List ReceiptValue) (stop : Option Stop) → IsRun old es rs stop new → (before behind : List Event) (e : Event) → length rs ≡ length (before ++ e ∷ behind) → old.down ≡ false
 ran_up old new [] (r ∷ rs) stop run before behind e same = absurd run
 ran_up old new (x ∷ es) (r ∷ rs) stop run before behind e same = run.0.up
 ran_up old new es [] stop run [] behind e same = absurd (omega (arith, same))
@@ -216,7 +216,7 @@ completes_over_a_run old new es rs stop is (inr none) before behind rest e parts
 completes_over_a_run old new es rs stop is (inl run) before behind rest e parts same id t o by enough =
     let up = ran_up old new es rs stop run before behind e same in
     let here : IsGood old.world = subst IsGood (sym (is.history.world up)) (good old.settings (events_of old.trail)) in
-    completed_in new (reached old.world before) (good_reached old.world before here) e id t o behind
+    completed_in new (world_after_events old.world before) (good_reached old.world before here) e id t o behind
     (λ now. ran_leads old new es rs stop run (before ++ e ∷ behind) rest (parts ∙ sym (append_assoc before (e ∷ behind) rest)) same now ∙ reached_append old.world before (e ∷ behind))
     (ran_unrefused old new es rs stop run (trail_unrefused old is.history))
     by enough

@@ -6,8 +6,8 @@ use Rattle.std.proofs.lemmas.Bool.{true≢false}
 use Rattle.acl_binding.specs.declared.question.Caller.{Caller}
 use Rattle.wire_types.specs.declared.topic.Topic.{Topic}
 use Rattle.wire_types.specs.ErrorCode.{number_of}
-use Rattle.record_batch.specs.declared.outcome.Outcome.{Outcome}
-use Rattle.record_batch.specs.declared.outcome.Outcome.TheVariants.{Commit, Abort}
+use Rattle.record_batch.specs.declared.transaction_result.TransactionResult.{TransactionResult}
+use Rattle.record_batch.specs.declared.transaction_result.TransactionResult.TheVariants.{Commit, Abort}
 use Rattle.msg_txn.specs.declared.txn_offset_commit.TxnOffsetCommitRequest.{TxnOffsetCommitRequest}
 use Rattle.msg_txn.specs.declared.txn_offset_commit.TxnOffsetCommitReply.{TxnOffsetCommitReply}
 use Rattle.msg_txn.specs.declared.txn_offset_commit.OffsetToStage.{OffsetToStage}
@@ -16,20 +16,20 @@ use Rattle.msg_admin.specs.declared.request.Request.TheVariants.{TxnOffsetCommit
 use Rattle.audit_trail.specs.declared.event.Event.{Event}
 use Rattle.audit_trail.specs.declared.event.Event.TheVariants.{Ask, Mark, Tick}
 use Rattle.walk.specs.Walk.{answers}
-use Rattle.transactions.specs.declared.target.Target.{Target}
-use Rattle.transactions.specs.declared.marker.OwedMarker.{OwedMarker}
-use Rattle.offset_tables.specs.declared.event.PartitionOffset.{PartitionOffset}
-use Rattle.offset_tables.specs.declared.event.OffsetEvent.{OffsetEvent}
-use Rattle.offset_tables.specs.declared.event.OffsetEvent.TheVariants.{Put, Stage, Decide}
-use Rattle.offset_tables.specs.declared.group.Group.{Group as GroupValue}
-use Rattle.offset_tables.specs.Offsets.{fetched}
-use Rattle.offset_tables.specs.Groups.{group_of}
+use Rattle.txn_coordinator.specs.declared.target.Target.{Target}
+use Rattle.txn_coordinator.specs.declared.marker.PendingMarker.{PendingMarker}
+use Rattle.group_offsets.specs.declared.event.PartitionOffset.{PartitionOffset}
+use Rattle.group_offsets.specs.declared.event.OffsetEvent.{OffsetEvent}
+use Rattle.group_offsets.specs.declared.event.OffsetEvent.TheVariants.{Put, Stage, Decide}
+use Rattle.group_offsets.specs.declared.group.Group.{Group as GroupValue}
+use Rattle.group_offsets.specs.Offsets.{fetch_result}
+use Rattle.group_offsets.specs.Groups.{group_of}
 use Rattle.txn_laws.specs.Sound.{Each}
 use Rattle.txn_laws.proofs.Base.{each_weaker, each_append}
 use Rattle.broker_world.specs.World.{World, rules_of}
 use Rattle.txn_handlers.specs.TxnOffsetCommit.{offset_staged, staging_rule}
-use Rattle.txn_handlers.specs.Marks.{decided_at, mark_by}
-use Rattle.api_dispatch.specs.Step.{step, reached}
+use Rattle.txn_handlers.specs.Marks.{groups_with_decision_at, mark_by}
+use Rattle.api_dispatch.specs.Step.{step, world_after_events}
 use Rattle.broker_laws.specs.Laws.{IsStagingFor, IsDecisionFor, ComesBy}
 use Rattle.broker_laws.specs.Members.{group_in}
 use Rattle.broker_laws.specs.Commits.{made_parts, made_topics, IsAmong, stage_part}
@@ -128,7 +128,7 @@ event_waits w (Ask caller client request) g p topic index o leaves h = plain_wai
 event_waits w Mark g p topic index o leaves h = plain_waits w Mark g p topic index o refl leaves h
 event_waits w (Tick told) g p topic index o leaves h = plain_waits w (Tick told) g p topic index o refl leaves h
 
-events_wait : (w : World) (es : List Event) (g : List ℕ) (p : ℤ) (topic : List ℕ) (index : ℤ) (o : PartitionOffset) → LeaveStaged w es g p topic index → WaitsLast (group_in w g).offsets p topic index o → WaitsLast (group_in (reached w es) g).offsets p topic index o
+events_wait : (w : World) (es : List Event) (g : List ℕ) (p : ℤ) (topic : List ℕ) (index : ℤ) (o : PartitionOffset) → LeaveStaged w es g p topic index → WaitsLast (group_in w g).offsets p topic index o → WaitsLast (group_in (world_after_events w es) g).offsets p topic index o
 events_wait w [] g p topic index o leave h = h
 events_wait w (e ∷ es) g p topic index o leave h = events_wait (step w e) es g p topic index o leave.1 (event_waits w e g p topic index o leave.0 h)
 
@@ -144,17 +144,17 @@ staged_waits old made new p o before after adds is last = record {
 
 -- ---- a decision
 
-decides : (w : World) (e : Event) (g : List ℕ) (p : ℤ) (outcome : Outcome) → IsDecisionFor w e g p outcome → (group_in (step w e) g).offsets ≡ (group_in w g).offsets ++ Decide p outcome ∷ []
+decides : (w : World) (e : Event) (g : List ℕ) (p : ℤ) (outcome : TransactionResult) → IsDecisionFor w e g p outcome → (group_in (step w e) g).offsets ≡ (group_in w g).offsets ++ Decide p outcome ∷ []
 decides w e g p outcome d =
     let old = (group_in w g).offsets in
     let m = d.marker in
     ap (λ (x : Event). (group_in (step w x) g).offsets) d.event
-    ∙ ap (λ (o : Option OwedMarker). (group_of (mark_by w o).world.groups g).offsets) d.front
-    ∙ ap (λ (t : Target). (group_of (decided_at w.groups t m) g).offsets) d.target
+    ∙ ap (λ (o : Option PendingMarker). (group_of (mark_by w o).world.groups g).offsets) d.front
+    ∙ ap (λ (t : Target). (group_of (groups_with_decision_at w.groups t m) g).offsets) d.target
     ∙ noted_offsets w.groups g (Decide m.pair.producer m.outcome) g
     ∙ ap (λ (b : Bool). cond b (old ++ Decide m.pair.producer m.outcome ∷ []) old) (text_same g g refl)
     ∙ ap (λ (q : ℤ). old ++ Decide q m.outcome ∷ []) d.by
-    ∙ ap (λ (x : Outcome). old ++ Decide p x ∷ []) d.ends
+    ∙ ap (λ (x : TransactionResult). old ++ Decide p x ∷ []) d.ends
 
 pub staged_is_fetched : (w : World) → StagedIsFetched w
 staged_is_fetched w = record {
@@ -162,7 +162,7 @@ staged_is_fetched w = record {
       let by = stages_by w caller client r reply told in
       events_wait (step w (Ask caller client (TxnOffsetCommit r))) between r.group r.producer o.topic o.index o leave (staged_waits (group_in w r.group).offsets _ _ r.producer o last.before last.after by.offsets last.stage last.last);
   commit = λ e g topic producer index o waits d.
-      ap (λ (l : List OffsetEvent). fetched l false topic index) (decides w e g producer Commit d) ∙ fetches_by_events.commit (group_in w g).offsets producer topic index o waits;
+      ap (λ (l : List OffsetEvent). fetch_result l false topic index) (decides w e g producer Commit d) ∙ fetches_by_events.commit (group_in w g).offsets producer topic index o waits;
   abort = λ e g topic producer index d.
-      ap (λ (l : List OffsetEvent). fetched l false topic index) (decides w e g producer Abort d) ∙ fetches_by_events.abort (group_in w g).offsets producer topic index;
+      ap (λ (l : List OffsetEvent). fetch_result l false topic index) (decides w e g producer Abort d) ∙ fetches_by_events.abort (group_in w g).offsets producer topic index;
 }

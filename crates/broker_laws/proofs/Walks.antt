@@ -6,9 +6,9 @@ use Rattle.wire_types.specs.declared.topic.Topic.{Topic}
 use Rattle.walk.specs.Rule.{PartRule, refusal_of}
 use Rattle.walk.specs.Codes.{refusal_code}
 use Rattle.walk.specs.Steps.{answer_by, world_by, part_world, parts_world, parts_answers, topics_world, topics_answers}
-use Rattle.txn_laws.specs.Small.{World as SmallWorld, Move, marks as small_marks}
+use Rattle.txn_laws.specs.Small.{World as SmallWorld, Move, count_of_marks as small_marks}
 use Rattle.txn_laws.specs.Sound.{Each}
-use Rattle.txn_laws.specs.Kept.{kept_moved_all}
+use Rattle.txn_laws.specs.Kept.{kept_world_after_moves}
 use Rattle.txn_laws.proofs.GroupsKeep.{kept_append}
 use Rattle.broker_laws.specs.Moves.{unless_refused, part_moves, parts_moves, topics_moves}
 
@@ -24,27 +24,27 @@ unmarked_refusal (Some x) ms h = refl
 
 -- ---- the walk leads where its moves do
 
-module _ {P A W : Type 0} (api : PartRule P A W) (rules : Rules) (made : W → List ℕ → P → List Move) (at : W → SmallWorld) (one : (w : W) (name : List ℕ) (p : P) → at (api.after w name p) ≡ kept_moved_all (at w) (made w name p)) where
-  part_moved : (w : W) (name : List ℕ) (p : P) → at (part_world api rules w name p) ≡ kept_moved_all (at w) (part_moves api rules made w name p)
+module _ {P A W : Type 0} (api : PartRule P A W) (rules : Rules) (made : W → List ℕ → P → List Move) (at : W → SmallWorld) (one : (w : W) (name : List ℕ) (p : P) → at (api.after w name p) ≡ kept_world_after_moves (at w) (made w name p)) where
+  part_moved : (w : W) (name : List ℕ) (p : P) → at (part_world api rules w name p) ≡ kept_world_after_moves (at w) (part_moves api rules made w name p)
   part_moved w name p = by_refusal (refusal_of api rules name p) where
-    by_refusal : (o : Option Refusal) → at (world_by api o w name p) ≡ kept_moved_all (at w) (unless_refused o (made w name p))
+    by_refusal : (o : Option Refusal) → at (world_by api o w name p) ≡ kept_world_after_moves (at w) (unless_refused o (made w name p))
     by_refusal (Some x) = refl
     by_refusal None = one w name p
 
-  parts_moved : (w : W) (name : List ℕ) (ps : List P) → at (parts_world api rules w name ps) ≡ kept_moved_all (at w) (parts_moves api rules made w name ps)
+  parts_moved : (w : W) (name : List ℕ) (ps : List P) → at (parts_world api rules w name ps) ≡ kept_world_after_moves (at w) (parts_moves api rules made w name ps)
   parts_moved w name [] = refl
   parts_moved w name (p ∷ ps) =
       let next = part_world api rules w name p in
       parts_moved next name ps
-      ∙ ap (λ s. kept_moved_all s (parts_moves api rules made next name ps)) (part_moved w name p)
+      ∙ ap (λ s. kept_world_after_moves s (parts_moves api rules made next name ps)) (part_moved w name p)
       ∙ sym (kept_append (at w) (part_moves api rules made w name p) (parts_moves api rules made next name ps))
 
-  pub walk_moved : (w : W) (ts : List (Topic P)) → at (topics_world api rules w ts) ≡ kept_moved_all (at w) (topics_moves api rules made w ts)
+  pub walk_moved : (w : W) (ts : List (Topic P)) → at (topics_world api rules w ts) ≡ kept_world_after_moves (at w) (topics_moves api rules made w ts)
   walk_moved w [] = refl
   walk_moved w (t ∷ ts) =
       let next = parts_world api rules w t.name t.partitions in
       walk_moved next ts
-      ∙ ap (λ s. kept_moved_all s (topics_moves api rules made next ts)) (parts_moved w t.name t.partitions)
+      ∙ ap (λ s. kept_world_after_moves s (topics_moves api rules made next ts)) (parts_moved w t.name t.partitions)
       ∙ sym (kept_append (at w) (parts_moves api rules made w t.name t.partitions) (topics_moves api rules made next ts))
 
 -- ---- a walk without marks

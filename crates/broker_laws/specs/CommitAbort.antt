@@ -10,7 +10,7 @@ use Rattle.record_batch.specs.BatchHeader.{is_control}
 use Rattle.msg_data.specs.declared.isolation.Isolation.TheVariants.{ReadCommitted}
 use Rattle.msg_txn.specs.declared.end_txn.EndTxnRequest.{EndTxnRequest}
 use Rattle.msg_txn.specs.declared.end_txn.EndTxnReply.{EndTxnReply}
-use Rattle.msg_txn.specs.EndTxn.{asked, error_of}
+use Rattle.msg_txn.specs.EndTxn.{end_txn_of, error_of}
 use Rattle.msg_admin.specs.declared.request.Request.TheVariants.{EndTxn}
 use Rattle.msg_admin.specs.declared.reply.Reply.TheVariants as replies
 use Rattle.audit_trail.specs.declared.event.Event.TheVariants.{Ask}
@@ -18,15 +18,15 @@ use Rattle.audit_trail.specs.declared.trail.Entry.{Entry}
 use Rattle.partition_log.specs.declared.served.Served.{Served}
 use Rattle.partition_log.specs.Log.{records_of, end_from}
 use Rattle.partition_log.specs.Fetch.{served_of}
-use Rattle.partition_log.specs.Filter.{filtered}
-use Rattle.transactions.specs.declared.target.TopicPartition.{TopicPartition}
-use Rattle.transactions.specs.declared.transaction.Transaction.{Transaction}
-use Rattle.transactions.specs.declared.transaction.Phase.TheVariants.{Ongoing}
-use Rattle.transactions.specs.Coordinator.{recorded}
-use Rattle.offset_tables.specs.declared.event.OffsetEvent.{OffsetEvent}
-use Rattle.offset_tables.specs.Offsets.{offset_of}
-use Rattle.offset_tables.specs.Groups.{group_of}
-use Rattle.offset_tables.specs.Laws.{or_else, pending}
+use Rattle.partition_log.specs.Filter.{filtered_records}
+use Rattle.txn_coordinator.specs.declared.target.TopicPartition.{TopicPartition}
+use Rattle.txn_coordinator.specs.declared.transaction.Transaction.{Transaction}
+use Rattle.txn_coordinator.specs.declared.transaction.TransactionState.TheVariants.{Ongoing}
+use Rattle.txn_coordinator.specs.Coordinator.{id_record}
+use Rattle.group_offsets.specs.declared.event.OffsetEvent.{OffsetEvent}
+use Rattle.group_offsets.specs.Offsets.{offset_of}
+use Rattle.group_offsets.specs.Groups.{group_of}
+use Rattle.group_offsets.specs.Laws.{or_else, pending_offset}
 use Rattle.txn_laws.specs.Sound.{Each, IsAmong}
 use Rattle.txn_laws.specs.Laws.{up_to_last}
 use Rattle.broker_world.specs.World.{World, LogValue}
@@ -34,8 +34,8 @@ use Rattle.broker_world.specs.Logs.{log_at}
 use Rattle.api_dispatch.specs.Step.{step}
 use Rattle.request_handlers.specs.Core.{CoreValue, IsCore, events_of}
 use Rattle.api_laws.specs.LastStable.{IsUnended}
-use Rattle.broker_laws.specs.Moves.{marks}
-use Rattle.broker_laws.specs.Trails.{world_behind}
+use Rattle.broker_laws.specs.Moves.{count_of_mark_events}
+use Rattle.broker_laws.specs.Trails.{world_after_entries}
 
 -- ---- in a log
 
@@ -54,7 +54,7 @@ pub record IsMarker (producer : ℤ) (committed : Bool) (m : BatchData) : Type 0
 
 -- what a consumer makes of a fetch with read_committed, and where that ends
 abbrev pub view : LogValue → ℤ → ℕ → Bool → List RecordAt
-view log offset room forced = let answer : Served = served_of log offset ReadCommitted room forced in filtered answer.batches answer.aborted offset
+view log offset room forced = let answer : Served = served_of log offset ReadCommitted room forced in filtered_records answer.batches answer.aborted offset
 
 abbrev pub view_end : LogValue → ℤ → ℕ → Bool → ℤ
 view_end log offset room forced = end_from offset (served_of log offset ReadCommitted room forced).batches
@@ -93,7 +93,7 @@ pub record EndsInGroup (producer : ℤ) (committed : Bool) (old now : List Offse
   pub rest : List OffsetEvent
   pub events : now ≡ (old ++ between) ++ decision ∷ rest
   pub offsets : (topic : List ℕ) (index : ℤ)
-      → offset_of ((old ++ between) ++ decision ∷ []) topic index ≡ (if committed then or_else (pending old producer topic index) (offset_of (old ++ between) topic index) else offset_of (old ++ between) topic index)
+      → offset_of ((old ++ between) ++ decision ∷ []) topic index ≡ (if committed then or_else (pending_offset old producer topic index) (offset_of (old ++ between) topic index) else offset_of (old ++ between) topic index)
 
 -- ---- over a trail
 
@@ -110,11 +110,11 @@ pub record EndsThrough (old later : World) (committed : Bool) (t : Transaction) 
   pub groups : Each (λ g. EndsInGroup t.pair.producer committed (group_of old.groups g).offsets (group_of later.groups g).offsets) t.groups
 
 -- Where the trail of a core holds an EndTxn of an open transaction that was answered no error, and after it as many marker steps as
--- markers were owed then up to and including its last one, the transaction is ended as the client said.
+-- markers were pending then up to and including its last one, the transaction is ended as the client said.
 abbrev pub CommitsAreShown : Type 0
 CommitsAreShown = (core : CoreValue) → IsCore core → core.down ≡ false → (before behind : List Entry) (x : Entry) → core.trail ≡ before ++ x ∷ behind
     → (caller : Caller) (client : Option (List ℕ)) (r : EndTxnRequest) (reply : EndTxnReply) (t : Transaction)
     → x.event ≡ Ask caller client (EndTxn r) → x.reply ≡ replies.EndTxn reply → error_of reply ≡ codes.None
-    → recorded (world_behind core before).coordinator.transactions (asked r).transactional_id ≡ Some t → t.phase ≡ Ongoing
-    → up_to_last (step (world_behind core before) x.event).coordinator.warrants (asked r).transactional_id ≤ marks (events_of behind)
-    → EndsThrough (world_behind core before) core.world (asked r).committed t
+    → id_record (world_after_entries core before).coordinator.transactions (end_txn_of r).transactional_id ≡ Some t → t.state ≡ Ongoing
+    → up_to_last (step (world_after_entries core before) x.event).coordinator.warrants (end_txn_of r).transactional_id ≤ count_of_mark_events (events_of behind)
+    → EndsThrough (world_after_entries core before) core.world (end_txn_of r).committed t

@@ -18,13 +18,13 @@ use Rattle.msg_admin.specs.declared.request.Request.{Request}
 use Rattle.msg_admin.specs.declared.request.Request.TheVariants.{OffsetCommit, TxnOffsetCommit}
 use Rattle.msg_admin.specs.declared.reply.Reply.TheVariants as replies
 use Rattle.audit_trail.specs.declared.event.Event.TheVariants.{Ask}
-use Rattle.offset_tables.specs.declared.event.OffsetEvent.{OffsetEvent}
-use Rattle.offset_tables.specs.declared.event.OffsetEvent.TheVariants.{Put, Stage}
-use Rattle.offset_tables.specs.declared.group.Group.{Group}
-use Rattle.offset_tables.specs.declared.member.Member.{Member}
+use Rattle.group_offsets.specs.declared.event.OffsetEvent.{OffsetEvent}
+use Rattle.group_offsets.specs.declared.event.OffsetEvent.TheVariants.{Put, Stage}
+use Rattle.group_offsets.specs.declared.group.Group.{Group}
+use Rattle.group_offsets.specs.declared.member.Member.{Member}
 use Rattle.broker_world.specs.World.{World, LogValue, rules_of}
 use Rattle.broker_world.specs.Logs.{log_at}
-use Rattle.txn_handlers.specs.TxnOffsetCommit.{staging, staging_refusal}
+use Rattle.txn_handlers.specs.TxnOffsetCommit.{staging_of, staging_refusal}
 use Rattle.api_dispatch.specs.Step.{step, reply_to}
 use Rattle.api_dispatch.specs.Questions.{asks_at}
 use Rattle.broker_laws.specs.Members.{group_in, IsMember, IsMemberIn}
@@ -65,7 +65,7 @@ abbrev pub MayStage : Group → ℤ → List ℕ → Type 0
 MayStage g generation member = IsNobody generation member ⊎ IsMemberIn g member generation
 
 pub record IsStageNumber (g : Group) (generation : ℤ) (member : List ℕ) (number : ℤ) : Type 0 where
-  pub nobody : IsNobody generation member → number ≡ pos 0
+  pub unknown_group_error : IsNobody generation member → number ≡ pos 0
   pub stranger : (IsNobody generation member → ⊥) → (IsMember g member → ⊥) → number ≡ pos 25
   pub other_generation : (IsNobody generation member → ⊥) → IsMember g member → g.generation ≢ generation → number ≡ pos 22
   pub own : (IsNobody generation member → ⊥) → IsMemberIn g member generation → number ≡ pos 0
@@ -133,7 +133,7 @@ pub record IsStageAnswer (w : World) (caller : Caller) (r : TxnOffsetCommitReque
   pub refused : (MayAsk w caller (TxnOffsetCommit r) name → ⊥) → (number_of a.error ≡ pos 29) ⊎ ((number_of a.error ≡ pos 30) ⊎ (number_of a.error ≡ pos 53))
   pub missing : MayAsk w caller (TxnOffsetCommit r) name → log_at w.topics name p.index ≡ None → number_of a.error ≡ pos 3
   -- of a transaction that takes the group in
-  pub there : MayAsk w caller (TxnOffsetCommit r) name → staging_refusal w.coordinator (staging r) ≡ None → (log : LogValue) → log_at w.topics name p.index ≡ Some log
+  pub there : MayAsk w caller (TxnOffsetCommit r) name → staging_refusal w.coordinator (staging_of r) ≡ None → (log : LogValue) → log_at w.topics name p.index ≡ Some log
       → IsStageNumber (group_in w r.group) r.generation r.member (number_of a.error)
 
 -- where it's told no error, its offset waits for the producer's decision

@@ -5,8 +5,8 @@ use Rattle.acl_binding.specs.declared.question.Caller.{Caller}
 use Rattle.wire_types.specs.declared.error_code.ErrorCode.{ErrorCode}
 use Rattle.wire_types.specs.declared.topic.Topic.{Topic}
 use Rattle.wire_types.specs.ErrorCode.{number_of}
-use Rattle.record_batch.specs.declared.outcome.Outcome.{Outcome}
-use Rattle.record_batch.specs.declared.outcome.Outcome.TheVariants.{Commit, Abort}
+use Rattle.record_batch.specs.declared.transaction_result.TransactionResult.{TransactionResult}
+use Rattle.record_batch.specs.declared.transaction_result.TransactionResult.TheVariants.{Commit, Abort}
 use Rattle.msg_group.specs.declared.offset_commit.OffsetCommitRequest.{OffsetCommitRequest}
 use Rattle.msg_group.specs.declared.offset_commit.OffsetCommitReply.{OffsetCommitReply}
 use Rattle.msg_group.specs.declared.offset_commit.OffsetToCommit.{OffsetToCommit}
@@ -20,13 +20,13 @@ use Rattle.msg_admin.specs.declared.request.Request.TheVariants.{OffsetCommit, O
 use Rattle.msg_admin.specs.declared.reply.Reply.TheVariants as replies
 use Rattle.audit_trail.specs.declared.event.Event.{Event}
 use Rattle.audit_trail.specs.declared.event.Event.TheVariants.{Ask}
-use Rattle.offset_tables.specs.declared.event.PartitionOffset.{PartitionOffset}
-use Rattle.offset_tables.specs.declared.event.OffsetEvent.{OffsetEvent}
-use Rattle.offset_tables.specs.declared.event.OffsetEvent.TheVariants.{Put, Stage, Decide}
-use Rattle.offset_tables.specs.Offsets.{fetched}
+use Rattle.group_offsets.specs.declared.event.PartitionOffset.{PartitionOffset}
+use Rattle.group_offsets.specs.declared.event.OffsetEvent.{OffsetEvent}
+use Rattle.group_offsets.specs.declared.event.OffsetEvent.TheVariants.{Put, Stage, Decide}
+use Rattle.group_offsets.specs.Offsets.{fetch_result}
 use Rattle.txn_laws.specs.Sound.{Each}
 use Rattle.broker_world.specs.World.{World, TopicValue, topic_names}
-use Rattle.api_dispatch.specs.Step.{step, reply_to, reached}
+use Rattle.api_dispatch.specs.Step.{step, reply_to, world_after_events}
 use Rattle.broker_laws.specs.Laws.{IsDecisionFor}
 use Rattle.broker_laws.specs.Members.{group_in}
 use Rattle.broker_laws.specs.MemberCodes.{IsGranted}
@@ -74,19 +74,19 @@ IsUnstable told = (code : ErrorCode) × (told ≡ Err code) × (number_of code �
 
 -- what each further event makes of what is fetched
 pub record FetchesByEvents : Type 0 where
-  pub none : (topic : List ℕ) (index : ℤ) → fetched [] false topic index ≡ Ok None
+  pub none : (topic : List ℕ) (index : ℤ) → fetch_result [] false topic index ≡ Ok None
   -- a commit is told of
-  pub put : (es : List OffsetEvent) (o : PartitionOffset) (topic : List ℕ) (index : ℤ) → IsOf topic index o → fetched (es ++ Put o ∷ []) false topic index ≡ Ok (Some o)
-  pub put_other : (es : List OffsetEvent) (o : PartitionOffset) (topic : List ℕ) (index : ℤ) → (IsOf topic index o → ⊥) → fetched (es ++ Put o ∷ []) false topic index ≡ fetched es false topic index
+  pub put : (es : List OffsetEvent) (o : PartitionOffset) (topic : List ℕ) (index : ℤ) → IsOf topic index o → fetch_result (es ++ Put o ∷ []) false topic index ≡ Ok (Some o)
+  pub put_other : (es : List OffsetEvent) (o : PartitionOffset) (topic : List ℕ) (index : ℤ) → (IsOf topic index o → ⊥) → fetch_result (es ++ Put o ∷ []) false topic index ≡ fetch_result es false topic index
   -- what a producer stages isn't, nor what it aborts
-  pub stage : (es : List OffsetEvent) (p : ℤ) (o : PartitionOffset) (topic : List ℕ) (index : ℤ) → fetched (es ++ Stage p o ∷ []) false topic index ≡ fetched es false topic index
-  pub abort : (es : List OffsetEvent) (p : ℤ) (topic : List ℕ) (index : ℤ) → fetched (es ++ Decide p Abort ∷ []) false topic index ≡ fetched es false topic index
+  pub stage : (es : List OffsetEvent) (p : ℤ) (o : PartitionOffset) (topic : List ℕ) (index : ℤ) → fetch_result (es ++ Stage p o ∷ []) false topic index ≡ fetch_result es false topic index
+  pub abort : (es : List OffsetEvent) (p : ℤ) (topic : List ℕ) (index : ℤ) → fetch_result (es ++ Decide p Abort ∷ []) false topic index ≡ fetch_result es false topic index
   -- what it commits is: of each partition the offset that it staged last
-  pub commit : (es : List OffsetEvent) (p : ℤ) (topic : List ℕ) (index : ℤ) (o : PartitionOffset) → WaitsLast es p topic index o → fetched (es ++ Decide p Commit ∷ []) false topic index ≡ Ok (Some o)
-  pub commit_other : (es : List OffsetEvent) (p : ℤ) (topic : List ℕ) (index : ℤ) → (Waits es p topic index → ⊥) → fetched (es ++ Decide p Commit ∷ []) false topic index ≡ fetched es false topic index
+  pub commit : (es : List OffsetEvent) (p : ℤ) (topic : List ℕ) (index : ℤ) (o : PartitionOffset) → WaitsLast es p topic index o → fetch_result (es ++ Decide p Commit ∷ []) false topic index ≡ Ok (Some o)
+  pub commit_other : (es : List OffsetEvent) (p : ℤ) (topic : List ℕ) (index : ℤ) → (Waits es p topic index → ⊥) → fetch_result (es ++ Decide p Commit ∷ []) false topic index ≡ fetch_result es false topic index
   -- who wants a stable offset is told none as long as another waits, and the same else
-  pub unstable : (es : List OffsetEvent) (p : ℤ) (topic : List ℕ) (index : ℤ) → Waits es p topic index → IsUnstable (fetched es true topic index)
-  pub stable : (es : List OffsetEvent) (topic : List ℕ) (index : ℤ) → ((p : ℤ) → Waits es p topic index → ⊥) → fetched es true topic index ≡ fetched es false topic index
+  pub unstable : (es : List OffsetEvent) (p : ℤ) (topic : List ℕ) (index : ℤ) → Waits es p topic index → IsUnstable (fetch_result es true topic index)
+  pub stable : (es : List OffsetEvent) (topic : List ℕ) (index : ℤ) → ((p : ℤ) → Waits es p topic index → ⊥) → fetch_result es true topic index ≡ fetch_result es false topic index
 
 -- ---- an OffsetFetch
 
@@ -101,7 +101,7 @@ pub record IsFetchAnswer (w : World) (caller : Caller) (r : OffsetFetchRequest) 
   pub epoch : a.leader_epoch ≡ negsuc 0
   -- 29 is TOPIC_AUTHORIZATION_FAILED
   pub refused : (MayAsk w caller (OffsetFetch r) name → ⊥) → (a.offset ≡ negsuc 0) × (number_of a.error ≡ pos 29)
-  pub told : MayAsk w caller (OffsetFetch r) name → IsTold (fetched (group_in w r.group).offsets r.require_stable name index) a
+  pub told : MayAsk w caller (OffsetFetch r) name → IsTold (fetch_result (group_in w r.group).offsets r.require_stable name index) a
 
 -- of a request that names topics
 pub record FetchesBy (w : World) (caller : Caller) (r : OffsetFetchRequest) (ts : List (Topic ℤ)) (reply : OffsetFetchReply) : Type 0 where
@@ -122,7 +122,7 @@ pub record HasTold (w : World) (caller : Caller) (r : OffsetFetchRequest) (t : T
   pub topic : IsAmong t w.topics
   pub may : MayAsk w caller (OffsetFetch r) t.name
   pub partition : i < length t.partitions
-  pub some : fetched (group_in w r.group).offsets r.require_stable t.name (pos i) ≢ Ok None
+  pub some : fetch_result (group_in w r.group).offsets r.require_stable t.name (pos i) ≢ Ok None
 
 -- and this is told, in the reply
 pub record IsToldIn (w : World) (r : OffsetFetchRequest) (t : TopicValue) (i : ℕ) (topics : List (Topic FetchedOffset)) (a : Topic FetchedOffset) (p : FetchedOffset) : Type 0 where
@@ -130,7 +130,7 @@ pub record IsToldIn (w : World) (r : OffsetFetchRequest) (t : TopicValue) (i : �
   pub partition : IsAmong p a.partitions
   pub named : a.name ≡ t.name
   pub place : p.index ≡ pos i
-  pub told : IsTold (fetched (group_in w r.group).offsets r.require_stable t.name (pos i)) p
+  pub told : IsTold (fetch_result (group_in w r.group).offsets r.require_stable t.name (pos i)) p
 
 -- the one list is the other with some left out
 abbrev pub IsSubsequence : List (List ℕ) → List (List ℕ) → Type 0
@@ -176,7 +176,7 @@ pub record CommitsFor (w : World) (e : Event) (g topic : List ℕ) (index : ℤ)
 -- it isn't one, nor decides an offset of the partition that waits in the group
 pub record LeavesOffset (w : World) (e : Event) (g topic : List ℕ) (index : ℤ) : Type 0 where
   pub no_commit : CommitsFor w e g topic index → ⊥
-  pub no_decision : (producer : ℤ) (outcome : Outcome) → IsDecisionFor w e g producer outcome → Waits (group_in w g).offsets producer topic index → ⊥
+  pub no_decision : (producer : ℤ) (outcome : TransactionResult) → IsDecisionFor w e g producer outcome → Waits (group_in w g).offsets producer topic index → ⊥
 
 abbrev pub LeaveOffset : World → List Event → List ℕ → List ℕ → ℤ → Type 0
 LeaveOffset w [] g topic index = Unit {0}
@@ -185,7 +185,7 @@ LeaveOffset w (e ∷ es) g topic index = LeavesOffset w e g topic index × Leave
 -- such events leave what is fetched as it was
 abbrev pub KeepsOffsets : World → Type 0
 KeepsOffsets w = (es : List Event) (g topic : List ℕ) (index : ℤ) → LeaveOffset w es g topic index
-    → fetched (group_in (reached w es) g).offsets false topic index ≡ fetched (group_in w g).offsets false topic index
+    → fetch_result (group_in (world_after_events w es) g).offsets false topic index ≡ fetch_result (group_in w g).offsets false topic index
 
 -- ---- the round trip
 
@@ -216,7 +216,7 @@ abbrev pub FetchesWhatWasCommitted : World → Type 0
 FetchesWhatWasCommitted w = (committer : Caller) (client : Option (List ℕ)) (c : OffsetCommitRequest) (answer : OffsetCommitReply) (o : PartitionOffset) (between : List Event)
     → reply_to w (Ask committer client (OffsetCommit c)) ≡ replies.OffsetCommit answer → IsLastOf c.topics answer o
     → LeaveOffset (step w (Ask committer client (OffsetCommit c))) between c.group o.topic o.index
-    → (v : World) → v ≡ reached (step w (Ask committer client (OffsetCommit c))) between
+    → (v : World) → v ≡ world_after_events (step w (Ask committer client (OffsetCommit c))) between
     → (caller : Caller) (agent : Option (List ℕ)) (r : OffsetFetchRequest) (ts : List (Topic ℤ)) (reply : OffsetFetchReply) → r.group ≡ c.group → r.topics ≡ Some ts
     → reply_to v (Ask caller agent (OffsetFetch r)) ≡ replies.OffsetFetch reply → number_of reply.error ≡ pos 0
     → BothTopics (TellsOf v caller r o) ts reply.topics
@@ -247,7 +247,7 @@ pub record StagesFor (w : World) (e : Event) (g : List ℕ) (producer : ℤ) (to
 -- it isn't one, nor decides what the producer staged in the group
 pub record LeavesStaged (w : World) (e : Event) (g : List ℕ) (producer : ℤ) (topic : List ℕ) (index : ℤ) : Type 0 where
   pub no_staging : StagesFor w e g producer topic index → ⊥
-  pub no_decision : (outcome : Outcome) → IsDecisionFor w e g producer outcome → ⊥
+  pub no_decision : (outcome : TransactionResult) → IsDecisionFor w e g producer outcome → ⊥
 
 abbrev pub LeaveStaged : World → List Event → List ℕ → ℤ → List ℕ → ℤ → Type 0
 LeaveStaged w [] g producer topic index = Unit {0}
@@ -258,12 +258,12 @@ pub record StagedIsFetched (w : World) : Type 0 where
   pub waits : (caller : Caller) (client : Option (List ℕ)) (r : TxnOffsetCommitRequest) (reply : TxnOffsetCommitReply) (o : PartitionOffset) (between : List Event)
       → reply_to w (Ask caller client (TxnOffsetCommit r)) ≡ replies.TxnOffsetCommit reply → IsLastStaged r.producer r.topics reply o
       → LeaveStaged (step w (Ask caller client (TxnOffsetCommit r))) between r.group r.producer o.topic o.index
-      → WaitsLast (group_in (reached (step w (Ask caller client (TxnOffsetCommit r))) between) r.group).offsets r.producer o.topic o.index o
+      → WaitsLast (group_in (world_after_events (step w (Ask caller client (TxnOffsetCommit r))) between) r.group).offsets r.producer o.topic o.index o
   -- it is told once it is decided to be committed, and not if it is aborted
   pub commit : (e : Event) (g topic : List ℕ) (producer index : ℤ) (o : PartitionOffset) → WaitsLast (group_in w g).offsets producer topic index o → IsDecisionFor w e g producer Commit
-      → fetched (group_in (step w e) g).offsets false topic index ≡ Ok (Some o)
+      → fetch_result (group_in (step w e) g).offsets false topic index ≡ Ok (Some o)
   pub abort : (e : Event) (g topic : List ℕ) (producer index : ℤ) → IsDecisionFor w e g producer Abort
-      → fetched (group_in (step w e) g).offsets false topic index ≡ fetched (group_in w g).offsets false topic index
+      → fetch_result (group_in (step w e) g).offsets false topic index ≡ fetch_result (group_in w g).offsets false topic index
 
 -- whatever the world is
 pub record CommitsAreFetched (w : World) : Type 0 where

@@ -28,54 +28,54 @@ use Rattle.msg_admin.specs.declared.request.Request.TheVariants.{OffsetCommit, I
 use Rattle.msg_admin.specs.declared.reply.Reply.TheVariants as replies
 use Rattle.audit_trail.specs.declared.event.Event.{Event}
 use Rattle.audit_trail.specs.declared.event.Event.TheVariants.{Ask, Mark, Tick}
-use Rattle.transactions.specs.declared.pair.Pair.{Pair}
-use Rattle.transactions.specs.declared.target.TopicPartition.{TopicPartition}
-use Rattle.transactions.specs.declared.target.Target.{Target}
-use Rattle.transactions.specs.declared.target.Target.TheVariants.{Partition, Group}
-use Rattle.transactions.specs.declared.transaction.Transaction.{Transaction}
-use Rattle.transactions.specs.declared.transaction.Phase.TheVariants.{Ongoing}
-use Rattle.record_batch.specs.declared.outcome.Outcome.{Outcome as Ending}
-use Rattle.record_batch.specs.declared.outcome.Outcome.TheVariants.{Commit, Abort}
-use Rattle.transactions.specs.declared.marker.OwedMarker.{OwedMarker}
-use Rattle.transactions.specs.Turn.{Stays}
-use Rattle.transactions.specs.declared.ending.EndForm.{EndForm}
-use Rattle.transactions.specs.declared.ending.EndForm.TheVariants.{Raising}
-use Rattle.transactions.specs.Words.{raised, pair_after, prepared, complete, targets}
-use Rattle.transactions.specs.Coordinator.{CoordinatorValue, recorded, fresh, turn_code}
-use Rattle.transactions.specs.Preparing.{markers}
-use Rattle.transactions.specs.Adding.{add_partitions, add_group}
-use Rattle.transactions.specs.EndTxn.{is_kept, end}
-use Rattle.transactions.specs.Expiry.{is_due}
-use Rattle.transactions.specs.Warrants.{next_warrant}
-use Rattle.offset_tables.specs.declared.event.PartitionOffset.{PartitionOffset}
-use Rattle.offset_tables.specs.declared.event.OffsetEvent.{OffsetEvent}
-use Rattle.offset_tables.specs.declared.event.OffsetEvent.TheVariants.{Put, Stage, Decide}
-use Rattle.offset_tables.specs.declared.group.Group.{Group as GroupValue}
-use Rattle.offset_tables.specs.Offsets.{first_decision, offset_of}
-use Rattle.offset_tables.specs.Groups.{find_group, group_of}
-use Rattle.offset_tables.specs.Laws.{or_else, pending}
-use Rattle.txn_laws.specs.Small.{first_world as first_small_world, moved_all}
+use Rattle.txn_coordinator.specs.declared.producer_id.ProducerIdAndEpoch.{ProducerIdAndEpoch}
+use Rattle.txn_coordinator.specs.declared.target.TopicPartition.{TopicPartition}
+use Rattle.txn_coordinator.specs.declared.target.Target.{Target}
+use Rattle.txn_coordinator.specs.declared.target.Target.TheVariants.{Partition, Group}
+use Rattle.txn_coordinator.specs.declared.transaction.Transaction.{Transaction}
+use Rattle.txn_coordinator.specs.declared.transaction.TransactionState.TheVariants.{Ongoing}
+use Rattle.record_batch.specs.declared.transaction_result.TransactionResult.{TransactionResult}
+use Rattle.record_batch.specs.declared.transaction_result.TransactionResult.TheVariants.{Commit, Abort}
+use Rattle.txn_coordinator.specs.declared.marker.PendingMarker.{PendingMarker}
+use Rattle.txn_coordinator.specs.Transition.{Stays}
+use Rattle.txn_coordinator.specs.declared.ending.EndForm.{EndForm}
+use Rattle.txn_coordinator.specs.declared.ending.EndForm.TheVariants.{Raising}
+use Rattle.txn_coordinator.specs.Words.{with_next_epoch, next_id_and_epoch, prepared_phase, completed_phase, targets}
+use Rattle.txn_coordinator.specs.Coordinator.{CoordinatorValue, id_record, fresh_producer_id, transition_code}
+use Rattle.txn_coordinator.specs.Preparing.{markers}
+use Rattle.txn_coordinator.specs.Adding.{add_partitions, add_group}
+use Rattle.txn_coordinator.specs.EndTxn.{is_kept, end}
+use Rattle.txn_coordinator.specs.Expiry.{is_due}
+use Rattle.txn_coordinator.specs.Warrants.{next_warrant}
+use Rattle.group_offsets.specs.declared.event.PartitionOffset.{PartitionOffset}
+use Rattle.group_offsets.specs.declared.event.OffsetEvent.{OffsetEvent}
+use Rattle.group_offsets.specs.declared.event.OffsetEvent.TheVariants.{Put, Stage, Decide}
+use Rattle.group_offsets.specs.declared.group.Group.{Group as GroupValue}
+use Rattle.group_offsets.specs.Offsets.{first_decision, offset_of}
+use Rattle.group_offsets.specs.Groups.{find_group, group_of}
+use Rattle.group_offsets.specs.Laws.{or_else, pending_offset}
+use Rattle.txn_laws.specs.Small.{first_world as first_small_world, world_after_moves}
 use Rattle.txn_laws.specs.Sound.{Each, IsOrdered}
 use Rattle.txn_laws.specs.Laws.{IsEnded, IsSilent, Refuses, up_to_last}
-use Rattle.txn_laws.specs.Kept.{kept_pair, kept_world, kept_moved_all}
+use Rattle.txn_laws.specs.Kept.{kept_id_and_epoch, kept_world, kept_world_after_moves}
 use Rattle.broker_world.specs.World.{World, LogValue, TopicValue}
 use Rattle.broker_world.specs.First.{first_world}
 use Rattle.broker_world.specs.Logs.{log_at}
-use Rattle.data_handlers.specs.Sent.{sent}
-use Rattle.data_handlers.specs.Judged.{pair_of, partition_at, producer_code, judged}
-use Rattle.data_handlers.specs.Produce.{produced}
+use Rattle.data_handlers.specs.Sent.{batch_or_fault}
+use Rattle.data_handlers.specs.Judged.{id_and_epoch_of, partition_at, producer_code, batch_to_append}
+use Rattle.data_handlers.specs.Produce.{produce_answer}
 use Rattle.txn_handlers.specs.InitProducerId.{init_answered, init_error}
-use Rattle.txn_handlers.specs.EndTxn.{ending_id, ending_pair, ending_outcome}
-use Rattle.txn_handlers.specs.TxnOffsetCommit.{Staging, staging, staging_refusal}
+use Rattle.txn_handlers.specs.EndTxn.{ending_id, ending_id_and_epoch, ending_outcome}
+use Rattle.txn_handlers.specs.TxnOffsetCommit.{Staging, staging_of, staging_refusal}
 use Rattle.broker_world.specs.Clock.{moment_after}
-use Rattle.api_dispatch.specs.Step.{step, reply_to, reached, refusals_of}
+use Rattle.api_dispatch.specs.Step.{step, reply_to, world_after_events, refusals_of}
 use Rattle.request_handlers.specs.Core.{CoreValue, IsCore}
-use Rattle.broker_laws.specs.Entries.{entry_of, event_entry, entries_in, small}
-use Rattle.broker_laws.specs.Moves.{moves_of, moves_of_all, marks}
+use Rattle.broker_laws.specs.Entries.{entry_of, event_entry, entries_in, small_world}
+use Rattle.broker_laws.specs.Moves.{moves_of, moves_of_all, count_of_mark_events}
 
 -- in each world that events reach from any settings
 abbrev pub InReached : (World → Type 0) → Type 0
-InReached Law = (s : Settings) (es : List Event) → Law (reached (first_world s) es)
+InReached Law = (s : Settings) (es : List Event) → Law (world_after_events (first_world s) es)
 
 -- and so in the world of each core that isn't down
 abbrev pub InCores : (World → Type 0) → Type 0
@@ -93,75 +93,75 @@ pub record EntriesAreTheLog : Type 0 where
 
 -- an event changes the coordinator, the moment and the entries as its moves do, but for the epochs that groups don't keep
 abbrev pub IsMoved : World → Type 0
-IsMoved w = (e : Event) → small (step w e) ≡ kept_moved_all (small w) (moves_of w e)
+IsMoved w = (e : Event) → small_world (step w e) ≡ kept_world_after_moves (small_world w) (moves_of w e)
 
 -- so events lead where their moves lead from the beginning: what is kept of that is there
 abbrev pub EventsAreMoves : Type 0
-EventsAreMoves = (s : Settings) (es : List Event) → small (reached (first_world s) es) ≡ kept_world (moved_all first_small_world (moves_of_all (first_world s) es))
+EventsAreMoves = (s : Settings) (es : List Event) → small_world (world_after_events (first_world s) es) ≡ kept_world (world_after_moves first_small_world (moves_of_all (first_world s) es))
 
 -- ---- completion
 
 -- the id's transaction t is open, and the event prepares it
-pub record IsPreparedBy (w : World) (e : Event) (id : List ℕ) (t : Transaction) (outcome : Ending) : Type 0 where
-  pub before : recorded w.coordinator.transactions id ≡ Some t
-  pub ongoing : t.phase ≡ Ongoing
+pub record IsPreparedBy (w : World) (e : Event) (id : List ℕ) (t : Transaction) (outcome : TransactionResult) : Type 0 where
+  pub before : id_record w.coordinator.transactions id ≡ Some t
+  pub ongoing : t.state ≡ Ongoing
   pub transaction : Transaction
-  pub after : recorded (step w e).coordinator.transactions id ≡ Some transaction
-  pub waits : transaction.phase ≡ prepared outcome
+  pub after : id_record (step w e).coordinator.transactions id ≡ Some transaction
+  pub waits : transaction.state ≡ prepared_phase outcome
 
 -- what prepares an open transaction
 pub record Prepares (w : World) : Type 0 where
   -- an EndTxn that is answered no error, with the outcome that it names
-  pub ended : (caller : Caller) (client : Option (List ℕ)) (r : EndTxnRequest) (reply : EndTxnReply) (t : Transaction) → recorded w.coordinator.transactions (ending_id r) ≡ Some t → t.phase ≡ Ongoing
+  pub ended : (caller : Caller) (client : Option (List ℕ)) (r : EndTxnRequest) (reply : EndTxnReply) (t : Transaction) → id_record w.coordinator.transactions (ending_id r) ≡ Some t → t.state ≡ Ongoing
       → reply_to w (Ask caller client (EndTxn r)) ≡ replies.EndTxn reply → error_of reply ≡ codes.None → IsPreparedBy w (Ask caller client (EndTxn r)) (ending_id r) t (ending_outcome r)
   -- an InitProducerId of a producer that takes the id over, which is told to come again
-  pub taken_over : (caller : Caller) (client : Option (List ℕ)) (r : InitProducerIdRequest) (id : List ℕ) (t : Transaction) → r.transactional_id ≡ Some id → recorded w.coordinator.transactions id ≡ Some t → t.phase ≡ Ongoing
+  pub taken_over : (caller : Caller) (client : Option (List ℕ)) (r : InitProducerIdRequest) (id : List ℕ) (t : Transaction) → r.transactional_id ≡ Some id → id_record w.coordinator.transactions id ≡ Some t → t.state ≡ Ongoing
       → reply_to w (Ask caller client (InitProducerId r)) ≡ replies.InitProducerId (init_error codes.ConcurrentTransactions) → IsPreparedBy w (Ask caller client (InitProducerId r)) id t Abort
-  -- a tick behind the end of its time
-  pub timed_out : (told : ℕ) (id : List ℕ) (t : Transaction) → recorded w.coordinator.transactions id ≡ Some t → is_due (moment_after w.moment told) t ≡ true → IsPreparedBy w (Tick told) id t Abort
+  -- a tick after the end of its time
+  pub timed_out : (told : ℕ) (id : List ℕ) (t : Transaction) → id_record w.coordinator.transactions id ≡ Some t → is_due (moment_after w.moment told) t ≡ true → IsPreparedBy w (Tick told) id t Abort
 
 -- the pair that the markers of a transaction carry: where an EndTxn up to version 4 ends it, its producer's own; where an
 -- EndTxn of version 5 does, or an InitProducerId or a tick aborts it, the producer's with the epoch raised by one, so that
 -- it is fenced
-abbrev pub marker_pair : Event → Pair → Pair
-marker_pair (Ask caller client (EndTxn (versions.Version5 r))) own = raised own
-marker_pair (Ask caller client (EndTxn r)) own = own
-marker_pair e own = raised own
+abbrev pub marker_id_and_epoch : Event → ProducerIdAndEpoch → ProducerIdAndEpoch
+marker_id_and_epoch (Ask caller client (EndTxn (versions.Version5 r))) own = with_next_epoch own
+marker_id_and_epoch (Ask caller client (EndTxn r)) own = own
+marker_id_and_epoch e own = with_next_epoch own
 
--- the pair that the id's record has then: that of the markers, but behind an EndTxn of version 5 the pair that follows,
+-- the pair that the id's record has then: that of the markers, but after an EndTxn of version 5 the pair that follows,
 -- which is a fresh producer id where the epochs are used up
-abbrev pub left_pair : World → Event → Pair → Pair
-left_pair w (Ask caller client (EndTxn (versions.Version5 r))) own = pair_after own (fresh w.coordinator)
-left_pair w e own = marker_pair e own
+abbrev pub id_and_epoch_left : World → Event → ProducerIdAndEpoch → ProducerIdAndEpoch
+id_and_epoch_left w (Ask caller client (EndTxn (versions.Version5 r))) own = next_id_and_epoch own (fresh_producer_id w.coordinator)
+id_and_epoch_left w e own = marker_id_and_epoch e own
 
 -- An event that prepares a transaction changes no entry, and owes a marker of the outcome and of that pair to each partition
--- and group that was added, behind the markers that were owed. Besides them it owes those of other transactions, where a
+-- and group that was added, after the markers that were pending. Besides them it owes those of other transactions, where a
 -- tick ends several.
-pub record OwesEach (w : World) (e : Event) (id : List ℕ) (t : Transaction) (outcome : Ending) : Type 0 where
-  pub front : List OwedMarker
-  pub back : List OwedMarker
-  pub owed : (step w e).coordinator.warrants ≡ w.coordinator.warrants ++ (front ++ (markers t (marker_pair e t.pair) outcome ++ back))
+pub record OwesEach (w : World) (e : Event) (id : List ℕ) (t : Transaction) (outcome : TransactionResult) : Type 0 where
+  pub front : List PendingMarker
+  pub back : List PendingMarker
+  pub owed : (step w e).coordinator.warrants ≡ w.coordinator.warrants ++ (front ++ (markers t (marker_id_and_epoch e t.pair) outcome ++ back))
   pub entries : (target : Target) → entries_in (step w e) target ≡ entries_in w target
   -- the id's record then has its pair
-  pub pair : (u : Transaction) → recorded (step w e).coordinator.transactions id ≡ Some u → u.pair ≡ left_pair w e t.pair
+  pub pair : (u : Transaction) → id_record (step w e).coordinator.transactions id ≡ Some u → u.pair ≡ id_and_epoch_left w e t.pair
 
 abbrev pub OwesPrepared : World → Type 0
-OwesPrepared w = (e : Event) (id : List ℕ) (t : Transaction) (outcome : Ending) → IsPreparedBy w e id t outcome → OwesEach w e id t outcome
+OwesPrepared w = (e : Event) (id : List ℕ) (t : Transaction) (outcome : TransactionResult) → IsPreparedBy w e id t outcome → OwesEach w e id t outcome
 
 -- Where an event prepares a transaction, as many marker steps as markers then stand up to and including its last one
--- write the outcome, with that pair, to each partition and group that was added, behind all that the transaction's producer
+-- write the outcome, with that pair, to each partition and group that was added, after all that the transaction's producer
 -- wrote there, whatever other events come between them. A group keeps of the pair the producer id alone.
 abbrev pub CompletesPrepared : World → Type 0
-CompletesPrepared w = (e : Event) (id : List ℕ) (t : Transaction) (outcome : Ending) (after : List Event)
-    → IsPreparedBy w e id t outcome → up_to_last (step w e).coordinator.warrants id ≤ marks after
-    → Each (λ target. IsEnded (kept_pair target (marker_pair e t.pair)) outcome (entries_in w target) (entries_in (reached (step w e) after) target)) (targets t)
+CompletesPrepared w = (e : Event) (id : List ℕ) (t : Transaction) (outcome : TransactionResult) (after : List Event)
+    → IsPreparedBy w e id t outcome → up_to_last (step w e).coordinator.warrants id ≤ count_of_mark_events after
+    → Each (λ target. IsEnded (kept_id_and_epoch target (marker_id_and_epoch e t.pair)) outcome (entries_in w target) (entries_in (world_after_events (step w e) after) target)) (targets t)
 
 -- where a transaction waits, so many marker steps write its outcome to each partition and group for which it still owes a
 -- marker: to a partition with the marker's epoch, to a group without, since it keeps of a producer its id alone
 abbrev pub CompletesWaiting : World → Type 0
-CompletesWaiting w = (id : List ℕ) (t : Transaction) (outcome : Ending) (after : List Event)
-    → recorded w.coordinator.transactions id ≡ Some t → t.phase ≡ prepared outcome → up_to_last w.coordinator.warrants id ≤ marks after
-    → Each (λ (x : OwedMarker). x.id ≡ id → IsEnded (kept_pair x.target x.pair) outcome (entries_in w x.target) (entries_in (reached w after) x.target)) w.coordinator.warrants
+CompletesWaiting w = (id : List ℕ) (t : Transaction) (outcome : TransactionResult) (after : List Event)
+    → id_record w.coordinator.transactions id ≡ Some t → t.state ≡ prepared_phase outcome → up_to_last w.coordinator.warrants id ≤ count_of_mark_events after
+    → Each (λ (x : PendingMarker). x.id ≡ id → IsEnded (kept_id_and_epoch x.target x.pair) outcome (entries_in w x.target) (entries_in (world_after_events w after) x.target)) w.coordinator.warrants
 
 -- ---- completion, in the words of a group
 
@@ -172,19 +172,19 @@ IsNotBy producer (Stage p o) = p ≡ producer → ⊥
 IsNotBy producer (Decide p outcome) = p ≡ producer → ⊥
 
 -- among new events, an offset that the producer staged between these has that outcome as its first decision
-pub record IsDecidedAs (producer : ℤ) (outcome : Ending) (new before behind : List OffsetEvent) (o : PartitionOffset) : Type 0 where
+pub record IsDecidedAs (producer : ℤ) (outcome : TransactionResult) (new before behind : List OffsetEvent) (o : PartitionOffset) : Type 0 where
   pub more : List OffsetEvent
   pub events : new ≡ before ++ Stage producer o ∷ (behind ++ more)
   pub first : option_map (λ d. d.outcome) (first_decision producer 0 (behind ++ more)) ≡ Some outcome
 
--- the committed offset behind a decision, given the offset that waited for it and the committed one before it
-abbrev pub shown_by : Ending → Option PartitionOffset → Option PartitionOffset → Option PartitionOffset
-shown_by Commit waiting committed = or_else waiting committed
-shown_by Abort waiting committed = committed
+-- the committed offset after a decision, given the offset that waited for it and the committed one before it
+abbrev pub committed_after : TransactionResult → Option PartitionOffset → Option PartitionOffset → Option PartitionOffset
+committed_after Commit waiting committed = or_else waiting committed
+committed_after Abort waiting committed = committed
 
 -- a group's events went on so that what the producer had staged is decided
-pub record IsDecided (producer : ℤ) (outcome : Ending) (old new : List OffsetEvent) : Type 0 where
-  -- behind what stood there before, the first event of the producer is its decision of that outcome
+pub record IsDecided (producer : ℤ) (outcome : TransactionResult) (old new : List OffsetEvent) : Type 0 where
+  -- after what stood there before, the first event of the producer is its decision of that outcome
   pub between : List OffsetEvent
   pub after : List OffsetEvent
   pub events : new ≡ (old ++ between) ++ Decide producer outcome ∷ after
@@ -192,22 +192,22 @@ pub record IsDecided (producer : ℤ) (outcome : Ending) (old new : List OffsetE
   -- so each offset that the producer had staged and that waited is decided so
   pub staged : (before behind : List OffsetEvent) (o : PartitionOffset) → old ≡ before ++ Stage producer o ∷ behind → first_decision producer 0 behind ≡ None → IsDecidedAs producer outcome new before behind o
   -- and the decision shows of each partition the offset that had waited, if it is a commit, and nothing else
-  pub shown : (topic : List ℕ) (index : ℤ) → offset_of ((old ++ between) ++ Decide producer outcome ∷ []) topic index ≡ shown_by outcome (pending old producer topic index) (offset_of (old ++ between) topic index)
+  pub shown : (topic : List ℕ) (index : ℤ) → offset_of ((old ++ between) ++ Decide producer outcome ∷ []) topic index ≡ committed_after outcome (pending_offset old producer topic index) (offset_of (old ++ between) topic index)
   -- and leaves nothing of the producer waiting
-  pub settled : (topic : List ℕ) (index : ℤ) → pending ((old ++ between) ++ Decide producer outcome ∷ []) producer topic index ≡ None
+  pub settled : (topic : List ℕ) (index : ℤ) → pending_offset ((old ++ between) ++ Decide producer outcome ∷ []) producer topic index ≡ None
 
 -- Where an event prepares a transaction, so many marker steps decide what its producer had staged in each group that was
 -- added.
 abbrev pub DecidesPrepared : World → Type 0
-DecidesPrepared w = (e : Event) (id : List ℕ) (t : Transaction) (outcome : Ending) (after : List Event)
-    → IsPreparedBy w e id t outcome → up_to_last (step w e).coordinator.warrants id ≤ marks after
-    → Each (λ g. IsDecided t.pair.producer outcome (group_of w.groups g).offsets (group_of (reached (step w e) after).groups g).offsets) t.groups
+DecidesPrepared w = (e : Event) (id : List ℕ) (t : Transaction) (outcome : TransactionResult) (after : List Event)
+    → IsPreparedBy w e id t outcome → up_to_last (step w e).coordinator.warrants id ≤ count_of_mark_events after
+    → Each (λ g. IsDecided t.pair.producer outcome (group_of w.groups g).offsets (group_of (world_after_events (step w e) after).groups g).offsets) t.groups
 
 -- where a transaction waits, so many decide it in each group for which it still owes a marker
 abbrev pub DecidesWaiting : World → Type 0
-DecidesWaiting w = (id : List ℕ) (t : Transaction) (outcome : Ending) (after : List Event)
-    → recorded w.coordinator.transactions id ≡ Some t → t.phase ≡ prepared outcome → up_to_last w.coordinator.warrants id ≤ marks after
-    → Each (λ (x : OwedMarker). x.id ≡ id → (g : List ℕ) → x.target ≡ Group g → IsDecided x.pair.producer outcome (group_of w.groups g).offsets (group_of (reached w after).groups g).offsets) w.coordinator.warrants
+DecidesWaiting w = (id : List ℕ) (t : Transaction) (outcome : TransactionResult) (after : List Event)
+    → id_record w.coordinator.transactions id ≡ Some t → t.state ≡ prepared_phase outcome → up_to_last w.coordinator.warrants id ≤ count_of_mark_events after
+    → Each (λ (x : PendingMarker). x.id ≡ id → (g : List ℕ) → x.target ≡ Group g → IsDecided x.pair.producer outcome (group_of w.groups g).offsets (group_of (world_after_events w after).groups g).offsets) w.coordinator.warrants
 
 -- ---- what comes into a group
 
@@ -227,12 +227,12 @@ pub record IsStagingFor (w : World) (e : Event) (g : List ℕ) (producer : ℤ) 
   pub event : e ≡ Ask caller client (TxnOffsetCommit request)
   pub group : request.group ≡ g
   pub by : request.producer ≡ producer
-  pub held : staging_refusal w.coordinator (staging request) ≡ None
+  pub held : staging_refusal w.coordinator (staging_of request) ≡ None
 
 -- a marker step, where the front marker is owed to the group for the producer's transaction of that outcome
-pub record IsDecisionFor (w : World) (e : Event) (g : List ℕ) (producer : ℤ) (outcome : Ending) : Type 0 where
+pub record IsDecisionFor (w : World) (e : Event) (g : List ℕ) (producer : ℤ) (outcome : TransactionResult) : Type 0 where
   pub event : e ≡ Mark
-  pub marker : OwedMarker
+  pub marker : PendingMarker
   pub front : next_warrant w.coordinator ≡ Some marker
   pub target : marker.target ≡ Group g
   pub by : marker.pair.producer ≡ producer
@@ -244,7 +244,7 @@ ComesBy w e g (Put o) = IsCommitFor e g
 ComesBy w e g (Stage producer o) = IsStagingFor w e g producer
 ComesBy w e g (Decide producer outcome) = IsDecisionFor w e g producer outcome
 
--- what a group holds stays, and behind it comes what comes in such a way
+-- what a group holds stays, and after it comes what comes in such a way
 pub record GoesOn (w : World) (e : Event) (g : List ℕ) : Type 0 where
   pub more : List OffsetEvent
   pub events : (group_of (step w e).groups g).offsets ≡ (group_of w.groups g).offsets ++ more
@@ -256,18 +256,18 @@ GroupsGoOn w = (e : Event) (g : List ℕ) → GoesOn w e g
 -- ---- the end of a transaction
 
 -- events of which the first ones complete the transaction of the id
-pub record IsCompletedBy (w : World) (events : List Event) (id : List ℕ) (outcome : Ending) : Type 0 where
+pub record IsCompletedBy (w : World) (events : List Event) (id : List ℕ) (outcome : TransactionResult) : Type 0 where
   pub first : List Event
   pub rest : List Event
   pub parts : events ≡ first ++ rest
   pub transaction : Transaction
-  pub found : recorded (reached w first).coordinator.transactions id ≡ Some transaction
-  pub is_complete : transaction.phase ≡ complete outcome
+  pub found : id_record (world_after_events w first).coordinator.transactions id ≡ Some transaction
+  pub is_complete : transaction.state ≡ completed_phase outcome
 
 -- and so many marker steps complete it
 abbrev pub EndsComplete : World → Type 0
-EndsComplete w = (id : List ℕ) (t : Transaction) (outcome : Ending) (after : List Event)
-    → recorded w.coordinator.transactions id ≡ Some t → t.phase ≡ prepared outcome → up_to_last w.coordinator.warrants id ≤ marks after
+EndsComplete w = (id : List ℕ) (t : Transaction) (outcome : TransactionResult) (after : List Event)
+    → id_record w.coordinator.transactions id ≡ Some t → t.state ≡ prepared_phase outcome → up_to_last w.coordinator.warrants id ≤ count_of_mark_events after
     → IsCompletedBy w after id outcome
 
 -- no permission is asked for a marker step
@@ -277,43 +277,43 @@ MarksAreNotRefused = (w : World) → refusals_of w Mark ≡ []
 -- ---- fencing
 
 -- the id's record has the pair
-abbrev pub HasPair : World → List ℕ → Pair → Type 0
-HasPair w id pair = (t : Transaction) × (recorded w.coordinator.transactions id ≡ Some t) × (t.pair ≡ pair)
+abbrev pub HasIdAndEpoch : World → List ℕ → ProducerIdAndEpoch → Type 0
+HasIdAndEpoch w id pair = (t : Transaction) × (id_record w.coordinator.transactions id ≡ Some t) × (t.pair ≡ pair)
 
-abbrev pub pair_with : ℤ → ℤ → Pair
-pair_with producer epoch = record { producer = producer; epoch = epoch }
+abbrev pub id_and_epoch : ℤ → ℤ → ProducerIdAndEpoch
+id_and_epoch producer epoch = record { producer = producer; epoch = epoch }
 
 -- an EndTxn of version 5 once more: the id's record keeps the pair with which it was ended, and the call leaves it as it is
-pub record IsRepeated (c : CoordinatorValue) (form : EndForm) (id : List ℕ) (pair : Pair) (outcome : Ending) : Type 0 where
+pub record IsRepeated (c : CoordinatorValue) (form : EndForm) (id : List ℕ) (pair : ProducerIdAndEpoch) (outcome : TransactionResult) : Type 0 where
   pub raises : form ≡ Raising
   pub transaction : Transaction
-  pub found : recorded c.transactions id ≡ Some transaction
+  pub found : id_record c.transactions id ≡ Some transaction
   pub keeps : is_kept transaction.kept pair ≡ true
   pub stays : end c form id pair outcome ≡ Stays codes.None
 
 -- what makes an id's record leave its pair
 pub record Fences (w : World) : Type 0 where
   -- an InitProducerId with the id that is answered a pair
-  pub begun : (caller : Caller) (client : Option (List ℕ)) (r : InitProducerIdRequest) (id : List ℕ) (pair new : Pair) → r.transactional_id ≡ Some id → HasPair w id pair
-      → reply_to w (Ask caller client (InitProducerId r)) ≡ replies.InitProducerId (init_answered (record { code = codes.None; pair = new })) → HasPair (step w (Ask caller client (InitProducerId r))) id pair → ⊥
+  pub begun : (caller : Caller) (client : Option (List ℕ)) (r : InitProducerIdRequest) (id : List ℕ) (pair new : ProducerIdAndEpoch) → r.transactional_id ≡ Some id → HasIdAndEpoch w id pair
+      → reply_to w (Ask caller client (InitProducerId r)) ≡ replies.InitProducerId (init_answered (record { code = codes.None; pair = new })) → HasIdAndEpoch (step w (Ask caller client (InitProducerId r))) id pair → ⊥
   -- what aborts an open transaction that its producer didn't end: each event above but an EndTxn
-  pub taken_over : (caller : Caller) (client : Option (List ℕ)) (r : InitProducerIdRequest) (id : List ℕ) (t : Transaction) → r.transactional_id ≡ Some id → recorded w.coordinator.transactions id ≡ Some t → t.phase ≡ Ongoing
-      → reply_to w (Ask caller client (InitProducerId r)) ≡ replies.InitProducerId (init_error codes.ConcurrentTransactions) → HasPair (step w (Ask caller client (InitProducerId r))) id t.pair → ⊥
-  pub timed_out : (told : ℕ) (id : List ℕ) (t : Transaction) → recorded w.coordinator.transactions id ≡ Some t → is_due (moment_after w.moment told) t ≡ true → HasPair (step w (Tick told)) id t.pair → ⊥
+  pub taken_over : (caller : Caller) (client : Option (List ℕ)) (r : InitProducerIdRequest) (id : List ℕ) (t : Transaction) → r.transactional_id ≡ Some id → id_record w.coordinator.transactions id ≡ Some t → t.state ≡ Ongoing
+      → reply_to w (Ask caller client (InitProducerId r)) ≡ replies.InitProducerId (init_error codes.ConcurrentTransactions) → HasIdAndEpoch (step w (Ask caller client (InitProducerId r))) id t.pair → ⊥
+  pub timed_out : (told : ℕ) (id : List ℕ) (t : Transaction) → id_record w.coordinator.transactions id ≡ Some t → is_due (moment_after w.moment told) t ≡ true → HasIdAndEpoch (step w (Tick told)) id t.pair → ⊥
   -- an EndTxn of version 5 that is answered no error, and isn't one once more
   pub ended : (caller : Caller) (client : Option (List ℕ)) (body : FlexibleEndTxn) (reply : EndTxnReply) (t : Transaction)
-      → recorded w.coordinator.transactions body.asked.transactional_id ≡ Some t → is_kept t.kept (pair_with body.asked.producer body.asked.epoch) ≡ false
+      → id_record w.coordinator.transactions body.asked.transactional_id ≡ Some t → is_kept t.kept (id_and_epoch body.asked.producer body.asked.epoch) ≡ false
       → reply_to w (Ask caller client (EndTxn (versions.Version5 body))) ≡ replies.EndTxn reply → error_of reply ≡ codes.None
-      → HasPair (step w (Ask caller client (EndTxn (versions.Version5 body)))) body.asked.transactional_id (pair_with body.asked.producer body.asked.epoch) → ⊥
+      → HasIdAndEpoch (step w (Ask caller client (EndTxn (versions.Version5 body)))) body.asked.transactional_id (id_and_epoch body.asked.producer body.asked.epoch) → ⊥
 
 -- no batch of the pair passes Produce's check, no offset of it that of TxnOffsetCommit, and no call that comes with the
 -- pair is told that there is no error, but for an EndTxn of version 5 once more
-pub record TurnsAway (c : CoordinatorValue) (pair : Pair) : Type 0 where
-  pub batches : (id : Option (List ℕ)) (target : Target) (h : BatchHeader) → pair_of h ≡ pair → producer_code c id target h ≡ None → ⊥
-  pub additions : (id : List ℕ) (moment : ℕ) (p : TopicPartition) (ps : List TopicPartition) → turn_code (add_partitions c id pair moment (p ∷ ps)) ≡ codes.None → ⊥
-  pub group_additions : (id : List ℕ) (moment : ℕ) (group : List ℕ) → turn_code (add_group c id pair moment group) ≡ codes.None → ⊥
+pub record TurnsAway (c : CoordinatorValue) (pair : ProducerIdAndEpoch) : Type 0 where
+  pub batches : (id : Option (List ℕ)) (target : Target) (h : BatchHeader) → id_and_epoch_of h ≡ pair → producer_code c id target h ≡ None → ⊥
+  pub additions : (id : List ℕ) (moment : ℕ) (p : TopicPartition) (ps : List TopicPartition) → transition_code (add_partitions c id pair moment (p ∷ ps)) ≡ codes.None → ⊥
+  pub group_additions : (id : List ℕ) (moment : ℕ) (group : List ℕ) → transition_code (add_group c id pair moment group) ≡ codes.None → ⊥
   pub stagings : (s : Staging) → s.pair ≡ pair → staging_refusal c s ≡ None → ⊥
-  pub endings : (form : EndForm) (id : List ℕ) (outcome : Ending) → turn_code (end c form id pair outcome) ≡ codes.None → IsRepeated c form id pair outcome
+  pub endings : (form : EndForm) (id : List ℕ) (outcome : TransactionResult) → transition_code (end c form id pair outcome) ≡ codes.None → IsRepeated c form id pair outcome
 
 -- a TxnOffsetCommit leaves each group as it is, and is answered an error for each partition
 pub record StagesNothing (w : World) (e : Event) : Type 0 where
@@ -322,31 +322,31 @@ pub record StagesNothing (w : World) (e : Event) : Type 0 where
 
 -- each request that comes with the pair is answered an error, for each partition where it names partitions; and so is a
 -- partition of a Produce for which a batch of the pair was sent. An EndTxn of version 5 once more changes nothing.
-pub record RequestsFail (w : World) (pair : Pair) : Type 0 where
-  pub endings : (caller : Caller) (client : Option (List ℕ)) (r : EndTxnRequest) (reply : EndTxnReply) → ending_pair r ≡ pair → reply_to w (Ask caller client (EndTxn r)) ≡ replies.EndTxn reply → error_of reply ≡ codes.None
+pub record RequestsFail (w : World) (pair : ProducerIdAndEpoch) : Type 0 where
+  pub endings : (caller : Caller) (client : Option (List ℕ)) (r : EndTxnRequest) (reply : EndTxnReply) → ending_id_and_epoch r ≡ pair → reply_to w (Ask caller client (EndTxn r)) ≡ replies.EndTxn reply → error_of reply ≡ codes.None
       → (body : FlexibleEndTxn) × (r ≡ versions.Version5 body) × IsRepeated w.coordinator Raising (ending_id r) pair (ending_outcome r)
-  pub group_additions : (caller : Caller) (client : Option (List ℕ)) (r : AddOffsetsToTxnRequest) (reply : AddOffsetsToTxnReply) → pair_with r.producer r.epoch ≡ pair
+  pub group_additions : (caller : Caller) (client : Option (List ℕ)) (r : AddOffsetsToTxnRequest) (reply : AddOffsetsToTxnReply) → id_and_epoch r.producer r.epoch ≡ pair
       → reply_to w (Ask caller client (AddOffsetsToTxn r)) ≡ replies.AddOffsetsToTxn reply → reply.error ≡ codes.None → ⊥
-  pub additions : (caller : Caller) (client : Option (List ℕ)) (r : AddPartitionsToTxnRequest) (reply : AddPartitionsToTxnReply) → pair_with r.producer r.epoch ≡ pair
+  pub additions : (caller : Caller) (client : Option (List ℕ)) (r : AddPartitionsToTxnRequest) (reply : AddPartitionsToTxnReply) → id_and_epoch r.producer r.epoch ≡ pair
       → reply_to w (Ask caller client (AddPartitionsToTxn r)) ≡ replies.AddPartitionsToTxn reply → Each (λ (t : Topic AddedPartition). Each (λ (p : AddedPartition). p.error ≡ codes.None → ⊥) t.partitions) reply.topics
-  pub batches : (most : ℕ) (id : Option (List ℕ)) (acks : ℤ) (topics : List TopicValue) (name : List ℕ) (p : ProducedRecords) (records : List ℕ) (b : BatchData) → p.records ≡ Some records → sent most records ≡ Ok b → pair_of b.header ≡ pair
-      → (produced (judged most w.coordinator id acks (partition_at name p.index) p.records) topics name p).error ≡ codes.None → ⊥
+  pub batches : (most : ℕ) (id : Option (List ℕ)) (acks : ℤ) (topics : List TopicValue) (name : List ℕ) (p : ProducedRecords) (records : List ℕ) (b : BatchData) → p.records ≡ Some records → batch_or_fault most records ≡ Ok b → id_and_epoch_of b.header ≡ pair
+      → (produce_answer (batch_to_append most w.coordinator id acks (partition_at name p.index) p.records) topics name p).error ≡ codes.None → ⊥
 
 -- no log gets data of the pair and no group an offset, and it is refused for each partition and each group, and by each
 -- request
-pub record IsShutOut (pair : Pair) (w later : World) : Type 0 where
+pub record IsShutOut (pair : ProducerIdAndEpoch) (w later : World) : Type 0 where
   pub silent : (p : TopicPartition) → IsSilent pair (entries_in w (Partition p)) (entries_in later (Partition p))
   -- a group doesn't keep the epoch, so this is said of the requests that come with the pair
-  pub stages_nothing : (caller : Caller) (client : Option (List ℕ)) (r : TxnOffsetCommitRequest) → (staging r).pair ≡ pair → StagesNothing later (Ask caller client (TxnOffsetCommit r))
-  pub refused : Refuses (small later) pair
+  pub stages_nothing : (caller : Caller) (client : Option (List ℕ)) (r : TxnOffsetCommitRequest) → (staging_of r).pair ≡ pair → StagesNothing later (Ask caller client (TxnOffsetCommit r))
+  pub refused : Refuses (small_world later) pair
   pub turned_away : TurnsAway later.coordinator pair
   pub fails : RequestsFail later pair
 
 -- once events have made an id's record leave a pair, it is shut out for good
 abbrev pub FencedWriteNothing : World → Type 0
-FencedWriteNothing w = (more after : List Event) (id : List ℕ) (pair : Pair)
-    → HasPair w id pair → (HasPair (reached w more) id pair → ⊥) → IsShutOut pair (reached w more) (reached (reached w more) after)
+FencedWriteNothing w = (more after : List Event) (id : List ℕ) (pair : ProducerIdAndEpoch)
+    → HasIdAndEpoch w id pair → (HasIdAndEpoch (world_after_events w more) id pair → ⊥) → IsShutOut pair (world_after_events w more) (world_after_events (world_after_events w more) after)
 
--- no data stands in a log behind a marker of its producer id with a greater epoch
+-- no data stands in a log after a marker of its producer id with a greater epoch
 abbrev pub NoDataAfterAGreaterMarker : World → Type 0
 NoDataAfterAGreaterMarker w = (p : TopicPartition) → IsOrdered (entries_in w (Partition p))

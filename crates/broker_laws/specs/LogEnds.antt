@@ -1,27 +1,27 @@
 -- Completion in the words of a partition's log: what a transaction's producer had open there is ended, so it is committed,
 -- or filtered (KIP-98, 'Transactional Messaging').
 use Rattle.std.specs.Prelude.{◌≡◌, true, ℕ, ℤ, ◌≤◌, List, [], ◌∷◌, ◌++◌, Option, Some, None}
-use Rattle.record_batch.specs.declared.outcome.Outcome.{Outcome as Ending}
+use Rattle.record_batch.specs.declared.transaction_result.TransactionResult.{TransactionResult}
 use Rattle.record_batch.specs.Batch.{BatchData}
-use Rattle.partition_log.specs.Log.{is_commit, ended, is_open, open_at, is_committed}
+use Rattle.partition_log.specs.Log.{is_commit, transaction_outcome, is_open, open_at, is_committed}
 use Rattle.audit_trail.specs.declared.event.Event.{Event}
-use Rattle.transactions.specs.declared.target.TopicPartition.{TopicPartition}
-use Rattle.transactions.specs.declared.target.Target.TheVariants.{Partition}
-use Rattle.transactions.specs.declared.transaction.Transaction.{Transaction}
-use Rattle.transactions.specs.declared.marker.OwedMarker.{OwedMarker}
-use Rattle.transactions.specs.Words.{prepared}
-use Rattle.transactions.specs.Coordinator.{recorded}
+use Rattle.txn_coordinator.specs.declared.target.TopicPartition.{TopicPartition}
+use Rattle.txn_coordinator.specs.declared.target.Target.TheVariants.{Partition}
+use Rattle.txn_coordinator.specs.declared.transaction.Transaction.{Transaction}
+use Rattle.txn_coordinator.specs.declared.marker.PendingMarker.{PendingMarker}
+use Rattle.txn_coordinator.specs.Words.{prepared_phase}
+use Rattle.txn_coordinator.specs.Coordinator.{id_record}
 use Rattle.txn_laws.specs.Sound.{Each}
 use Rattle.txn_laws.specs.Laws.{up_to_last}
 use Rattle.broker_world.specs.World.{World, LogValue}
 use Rattle.broker_world.specs.Logs.{log_at}
-use Rattle.api_dispatch.specs.Step.{step, reached}
-use Rattle.broker_laws.specs.Moves.{marks}
+use Rattle.api_dispatch.specs.Step.{step, world_after_events}
+use Rattle.broker_laws.specs.Moves.{count_of_mark_events}
 use Rattle.broker_laws.specs.Laws.{IsPreparedBy}
 
 -- ---- what a log holds stays
 
--- the partition's log is still there, and has more batches behind what it had
+-- the partition's log is still there, and has more batches after what it had
 pub record IsLonger (old : LogValue) (found : Option LogValue) : Type 0 where
   pub more : List BatchData
   pub log : found ≡ Some (old ++ more)
@@ -31,9 +31,9 @@ LogsGoOn w = (e : Event) (p : TopicPartition) (log : LogValue) → log_at w.topi
 
 -- ---- what was open is ended
 
--- with these batches behind it, the batch's transaction ended so: its records are committed, or they aren't
-pub record IsEndedAs (b : BatchData) (behind : List BatchData) (outcome : Ending) : Type 0 where
-  pub told : ended b behind ≡ Some outcome
+-- with these batches after it, the batch's transaction ended so: its records are committed, or they aren't
+pub record IsEndedAs (b : BatchData) (behind : List BatchData) (outcome : TransactionResult) : Type 0 where
+  pub told : transaction_outcome b behind ≡ Some outcome
   pub shown : is_committed b behind ≡ is_commit (Some outcome)
 
 -- the batch isn't of the producer
@@ -41,8 +41,8 @@ abbrev pub IsNotFrom : ℤ → BatchData → Type 0
 IsNotFrom producer b = b.header.producer_id ≡ producer → ⊥
 
 -- a log went on so that what the producer had open is ended
-pub record IsEndedLog (producer : ℤ) (outcome : Ending) (old new : LogValue) : Type 0 where
-  -- behind what stood there before, the first batch of the producer is its marker of that outcome
+pub record IsEndedLog (producer : ℤ) (outcome : TransactionResult) (old new : LogValue) : Type 0 where
+  -- after what stood there before, the first batch of the producer is its marker of that outcome
   pub between : List BatchData
   pub marker : BatchData
   pub after : List BatchData
@@ -50,13 +50,13 @@ pub record IsEndedLog (producer : ℤ) (outcome : Ending) (old new : LogValue) :
   pub nothing : Each (IsNotFrom producer) between
   pub by : marker.header.producer_id ≡ producer
   pub ends : marker.marker ≡ Some outcome
-  -- so each batch of the producer that stood open is ended so, by what stands behind it now
+  -- so each batch of the producer that stood open is ended so, by what stands after it now
   pub opened : (before behind : List BatchData) (b : BatchData) → old ≡ before ++ b ∷ behind → b.header.producer_id ≡ producer → is_open b behind ≡ true → IsEndedAs b (behind ++ (between ++ marker ∷ after)) outcome
-  -- and behind the marker nothing of the producer is open
+  -- and after the marker nothing of the producer is open
   pub settled : open_at producer ((old ++ between) ++ marker ∷ []) ≡ None
 
 -- so the partition's log did, from the old world to the later one
-pub record IsEndedAt (producer : ℤ) (outcome : Ending) (old later : World) (p : TopicPartition) : Type 0 where
+pub record IsEndedAt (producer : ℤ) (outcome : TransactionResult) (old later : World) (p : TopicPartition) : Type 0 where
   pub log_before : LogValue
   pub log_then : LogValue
   pub before : log_at old.topics p.topic p.index ≡ Some log_before
@@ -66,12 +66,12 @@ pub record IsEndedAt (producer : ℤ) (outcome : Ending) (old later : World) (p 
 -- Where an event prepares a transaction, as many marker steps as complete it end what its producer had open in the log of
 -- each partition that was added.
 abbrev pub EndsPrepared : World → Type 0
-EndsPrepared w = (e : Event) (id : List ℕ) (t : Transaction) (outcome : Ending) (after : List Event)
-    → IsPreparedBy w e id t outcome → up_to_last (step w e).coordinator.warrants id ≤ marks after
-    → Each (IsEndedAt t.pair.producer outcome w (reached (step w e) after)) t.partitions
+EndsPrepared w = (e : Event) (id : List ℕ) (t : Transaction) (outcome : TransactionResult) (after : List Event)
+    → IsPreparedBy w e id t outcome → up_to_last (step w e).coordinator.warrants id ≤ count_of_mark_events after
+    → Each (IsEndedAt t.pair.producer outcome w (world_after_events (step w e) after)) t.partitions
 
 -- where a transaction waits, so many end it in each partition for which it still owes a marker
 abbrev pub EndsWaiting : World → Type 0
-EndsWaiting w = (id : List ℕ) (t : Transaction) (outcome : Ending) (after : List Event)
-    → recorded w.coordinator.transactions id ≡ Some t → t.phase ≡ prepared outcome → up_to_last w.coordinator.warrants id ≤ marks after
-    → Each (λ (x : OwedMarker). x.id ≡ id → (p : TopicPartition) → x.target ≡ Partition p → IsEndedAt x.pair.producer outcome w (reached w after) p) w.coordinator.warrants
+EndsWaiting w = (id : List ℕ) (t : Transaction) (outcome : TransactionResult) (after : List Event)
+    → id_record w.coordinator.transactions id ≡ Some t → t.state ≡ prepared_phase outcome → up_to_last w.coordinator.warrants id ≤ count_of_mark_events after
+    → Each (λ (x : PendingMarker). x.id ≡ id → (p : TopicPartition) → x.target ≡ Partition p → IsEndedAt x.pair.producer outcome w (world_after_events w after) p) w.coordinator.warrants

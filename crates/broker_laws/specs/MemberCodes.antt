@@ -17,8 +17,8 @@ use Rattle.msg_admin.specs.declared.request.Request.{Request}
 use Rattle.msg_admin.specs.declared.request.Request.TheVariants.{JoinGroup, SyncGroup, Heartbeat, LeaveGroup}
 use Rattle.msg_admin.specs.declared.reply.Reply.TheVariants as replies
 use Rattle.audit_trail.specs.declared.event.Event.TheVariants.{Ask}
-use Rattle.offset_tables.specs.declared.group.Group.{Group}
-use Rattle.offset_tables.specs.declared.member.Member.{Member}
+use Rattle.group_offsets.specs.declared.group.Group.{Group}
+use Rattle.group_offsets.specs.declared.member.Member.{Member}
 use Rattle.broker_world.specs.World.{World, rules_of}
 use Rattle.api_dispatch.specs.Step.{reply_to}
 use Rattle.api_dispatch.specs.Questions.{asks_itself}

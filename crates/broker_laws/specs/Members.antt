@@ -19,11 +19,11 @@ use Rattle.msg_admin.specs.declared.request.Request.TheVariants.{JoinGroup, Sync
 use Rattle.msg_admin.specs.declared.reply.Reply.TheVariants as replies
 use Rattle.audit_trail.specs.declared.event.Event.{Event}
 use Rattle.audit_trail.specs.declared.event.Event.TheVariants.{Ask, Tick}
-use Rattle.offset_tables.specs.declared.group.Group.{Group}
-use Rattle.offset_tables.specs.declared.member.Member.{Member}
-use Rattle.offset_tables.specs.Groups.{group_of}
+use Rattle.group_offsets.specs.declared.group.Group.{Group}
+use Rattle.group_offsets.specs.declared.member.Member.{Member}
+use Rattle.group_offsets.specs.Groups.{group_of}
 use Rattle.broker_world.specs.World.{World}
-use Rattle.api_dispatch.specs.Step.{step, reply_to, reached}
+use Rattle.api_dispatch.specs.Step.{step, reply_to, world_after_events}
 
 -- the group of this name
 abbrev pub group_in : World → List ℕ → Group
@@ -104,7 +104,7 @@ MayChange w e g = IsJoin w e g ⊎ (IsSync w e g ⊎ (IsBeat w e g ⊎ (IsLeave 
 -- who names no member comes in where there is none, and is named after the number of events so far
 pub record ComesNew (w : World) (old : Group) (request : JoinGroupRequest) (reply : JoinGroupReply) : Type 0 where
   pub nameless : request.member ≡ []
-  pub nobody : old.member ≡ None
+  pub unknown_group_error : old.member ≡ None
   pub named : reply.member ≡ codes "m-" ++ decimal w.events
 
 -- who names a member is that member, and comes back
@@ -113,8 +113,8 @@ pub record ComesBack (old : Group) (request : JoinGroupRequest) (reply : JoinGro
   pub was : IsMember old request.member
   pub named : reply.member ≡ request.member
 
-abbrev pub itself : List ℕ → List ℕ → List JoinedMember
-itself member metadata = record { member = member; metadata = metadata } ∷ []
+abbrev pub sole_member : List ℕ → List ℕ → List JoinedMember
+sole_member member metadata = record { member = member; metadata = metadata } ∷ []
 
 pub record Joins (w : World) (old new : Group) (request : JoinGroupRequest) (reply : JoinGroupReply) : Type 0 where
   pub who : ComesNew w old request reply ⊎ ComesBack old request reply
@@ -136,7 +136,7 @@ pub record Joins (w : World) (old new : Group) (request : JoinGroupRequest) (rep
   pub protocol : OfferedProtocol
   pub first : slice_get request.protocols 0 ≡ Some protocol
   pub chosen : reply.protocol ≡ protocol.name
-  pub alone : reply.members ≡ itself reply.member protocol.metadata
+  pub alone : reply.members ≡ sole_member reply.member protocol.metadata
 
 -- the member is the one that it was, and was heard of at this moment
 pub record IsHeardOf (w : World) (old new : Group) : Type 0 where
@@ -172,7 +172,7 @@ pub record Beats (w : World) (old new : Group) (request : HeartbeatRequest) : Ty
 
 -- there is no member any more, and the generation stays
 pub record IsLeft (old new : Group) : Type 0 where
-  pub nobody : new.member ≡ None
+  pub unknown_group_error : new.member ≡ None
   pub generation : new.generation ≡ old.generation
 
 -- it comes from the member
@@ -223,16 +223,16 @@ pub record EndsAmong (w : World) (es : List Event) (g id : List ℕ) : Type 0 wh
   pub event : Event
   pub after : List Event
   pub parts : es ≡ before ++ event ∷ after
-  pub ends : Ends (reached w before) event g id
+  pub ends : Ends (world_after_events w before) event g id
 
 -- between two joins of one group that are told no error and name different members there is a leave or a lapse of the first
 abbrev pub EndsBetween : World → Type 0
-EndsBetween w = (g : List ℕ) (e f : Event) (between : List Event) (j : IsJoin w e g) (k : IsJoin (reached (step w e) between) f g)
+EndsBetween w = (g : List ℕ) (e f : Event) (between : List Event) (j : IsJoin w e g) (k : IsJoin (world_after_events (step w e) between) f g)
     → j.reply.member ≢ k.reply.member → EndsAmong (step w e) between g j.reply.member
 
 -- so it is before a group begins
 pub record IsFirst (g : Group) : Type 0 where
-  pub nobody : g.member ≡ None
+  pub unknown_group_error : g.member ≡ None
   pub generation : g.generation ≡ pos 0
   pub assignment : g.assignment ≡ None
   pub offsets : g.offsets ≡ []

@@ -11,7 +11,7 @@ use Rattle.record_batch.specs.BatchHeader.{is_transactional}
 use Rattle.record_batch.specs.Batch.{BatchData}
 use Rattle.producer_state.specs.declared.judgment.Judgment.{Judgment}
 use Rattle.producer_state.specs.declared.judgment.Judgment.TheVariants.{Next, Repeat, Refused}
-use Rattle.producer_state.specs.Sequences.{judged as judged_by_log}
+use Rattle.producer_state.specs.Sequences.{judgment_of as judged_by_log}
 use Rattle.msg_data.specs.declared.produce.ProduceRequest.{ProduceRequest}
 use Rattle.msg_data.specs.declared.produce.ProducedRecords.{ProducedRecords}
 use Rattle.msg_txn.specs.declared.init_producer_id.InitProducerIdRequest.{InitProducerIdRequest}
@@ -28,25 +28,25 @@ use Rattle.audit_trail.specs.declared.event.Event.{Event}
 use Rattle.audit_trail.specs.declared.event.Event.TheVariants as events
 use Rattle.walk.specs.Rule.{PartRule, refusal_of}
 use Rattle.walk.specs.Steps.{part_world, parts_world}
-use Rattle.transactions.specs.declared.pair.Pair.{Pair}
-use Rattle.transactions.specs.declared.target.Target.{Target}
-use Rattle.transactions.specs.declared.target.Target.TheVariants.{Group}
-use Rattle.offset_tables.specs.declared.group.Group.{Group as GroupValue}
-use Rattle.offset_tables.specs.Turn.{Turn, Stays, Puts}
-use Rattle.offset_tables.specs.Groups.{commit}
+use Rattle.txn_coordinator.specs.declared.producer_id.ProducerIdAndEpoch.{ProducerIdAndEpoch}
+use Rattle.txn_coordinator.specs.declared.target.Target.{Target}
+use Rattle.txn_coordinator.specs.declared.target.Target.TheVariants.{Group}
+use Rattle.group_offsets.specs.declared.group.Group.{Group as GroupValue}
+use Rattle.group_offsets.specs.GroupTransition.{GroupTransition, Stays, Puts}
+use Rattle.group_offsets.specs.Groups.{commit}
 use Rattle.txn_laws.specs.Small.{Move, Move as moves}
 use Rattle.txn_laws.specs.Laws.{expiries}
 use Rattle.broker_world.specs.World.{World, TopicValue, LogValue, rules_of}
-use Rattle.broker_world.specs.First.{magnitude}
+use Rattle.broker_world.specs.First.{non_negative}
 use Rattle.broker_world.specs.Logs.{log_at}
-use Rattle.data_handlers.specs.Judged.{pair_of, partition_at, judged}
-use Rattle.data_handlers.specs.Produce.{producing}
+use Rattle.data_handlers.specs.Judged.{id_and_epoch_of, partition_at, batch_to_append}
+use Rattle.data_handlers.specs.Produce.{producing_rule}
 use Rattle.txn_handlers.specs.InitProducerId.{init_questions}
 use Rattle.txn_handlers.specs.AddPartitions.{is_cut, partitions_of}
 use Rattle.txn_handlers.specs.AddOffsets.{add_offsets_questions}
-use Rattle.txn_handlers.specs.EndTxn.{end_questions, form_of, ending_id, ending_pair, ending_outcome}
-use Rattle.group_handlers.specs.OffsetCommit.{Committing, committing, offset_of, committing_rule}
-use Rattle.txn_handlers.specs.TxnOffsetCommit.{staging, staging_refusal, stage_turn, staging_rule}
+use Rattle.txn_handlers.specs.EndTxn.{end_questions, form_of, ending_id, ending_id_and_epoch, ending_outcome}
+use Rattle.group_handlers.specs.OffsetCommit.{Committing, committing_of, offset_of, committing_rule}
+use Rattle.txn_handlers.specs.TxnOffsetCommit.{staging_of, staging_refusal, stage_transition, staging_rule}
 use Rattle.broker_world.specs.Clock.{moment_after}
 use Rattle.api_dispatch.specs.Step.{step}
 
@@ -71,15 +71,15 @@ topics_moves api rules made w (t ∷ ts) = parts_moves api rules made w t.name t
 -- ---- Produce: a move for each batch that is appended
 
 -- a batch of a transaction names its transactional id
-abbrev pub storing : Option (List ℕ) → Pair → Target → List Move
-storing None pair target = []
-storing (Some id) pair target = moves.Store id pair target ∷ []
+abbrev pub store_moves : Option (List ℕ) → ProducerIdAndEpoch → Target → List Move
+store_moves None pair target = []
+store_moves (Some id) pair target = moves.Store id pair target ∷ []
 
-abbrev pub appending : Option (List ℕ) → Target → BatchHeader → List Move
-appending id target h =
-    if is_transactional h then storing id (pair_of h) target
+abbrev pub append_moves : Option (List ℕ) → Target → BatchHeader → List Move
+append_moves id target h =
+    if is_transactional h then store_moves id (id_and_epoch_of h) target
     else if int_lt h.producer_id (pos 0) then moves.Plain target ∷ []
-    else moves.Send (pair_of h) target ∷ []
+    else moves.Send (id_and_epoch_of h) target ∷ []
 
 -- the log goes on by the next batch of its producer, and by no other
 abbrev pub moves_by : Judgment → List Move → List Move
@@ -89,7 +89,7 @@ moves_by (Refused code) ms = []
 
 abbrev pub log_moves : Option (List ℕ) → Target → BatchData → Option LogValue → List Move
 log_moves id target b None = []
-log_moves id target b (Some log) = moves_by (judged_by_log log b) (appending id target b.header)
+log_moves id target b (Some log) = moves_by (judged_by_log log b) (append_moves id target b.header)
 
 abbrev pub batch_moves : Option (List ℕ) → Target → Result BatchData ErrorCode → Option LogValue → List Move
 batch_moves id target (Err code) log = []
@@ -98,33 +98,33 @@ batch_moves id target (Ok b) log = log_moves id target b log
 -- for a partition, in the topics as they then are
 abbrev pub produced_moves : World → ProduceRequest → List TopicValue → List ℕ → ProducedRecords → List Move
 produced_moves w r topics name p =
-    batch_moves r.transactional_id (partition_at name p.index) (judged (magnitude w.node.max_batch) w.coordinator r.transactional_id r.acks (partition_at name p.index) p.records) (log_at topics name p.index)
+    batch_moves r.transactional_id (partition_at name p.index) (batch_to_append (non_negative w.node.max_batch) w.coordinator r.transactional_id r.acks (partition_at name p.index) p.records) (log_at topics name p.index)
 
 -- ---- OffsetCommit and TxnOffsetCommit: a move for each offset that is committed or staged
 
-abbrev pub turn_moves : {A : Type 0} → Turn A → List Move → List Move
-turn_moves (Stays code) ms = []
-turn_moves (Puts answer g) ms = ms
+abbrev pub transition_moves : {A : Type 0} → GroupTransition A → List Move → List Move
+transition_moves (Stays code) ms = []
+transition_moves (Puts answer g) ms = ms
 
 abbrev pub commit_moves : Committing → List GroupValue → List ℕ → OffsetToCommit → Option LogValue → List Move
 commit_moves c gs name p None = []
-commit_moves c gs name p (Some log) = turn_moves (commit gs c.group c.generation c.member (offset_of name p)) (moves.Plain (Group c.group) ∷ [])
+commit_moves c gs name p (Some log) = transition_moves (commit gs c.group c.generation c.member (offset_of name p)) (moves.Plain (Group c.group) ∷ [])
 
 -- for a partition, in the groups as they then are
 abbrev pub committed_moves : World → OffsetCommitRequest → List GroupValue → List ℕ → OffsetToCommit → List Move
-committed_moves w r gs name p = commit_moves (committing r) gs name p (log_at w.topics name p.index)
+committed_moves w r gs name p = commit_moves (committing_of r) gs name p (log_at w.topics name p.index)
 
 abbrev pub staged_moves : World → TxnOffsetCommitRequest → List GroupValue → List ℕ → OffsetToStage → List Move
-staged_moves w r gs name p = turn_moves (stage_turn (staging_refusal w.coordinator (staging r)) w.topics (staging r) gs name p) (moves.Store r.transactional_id (staging r).pair (Group r.group) ∷ [])
+staged_moves w r gs name p = transition_moves (stage_transition (staging_refusal w.coordinator (staging_of r)) w.topics (staging_of r) gs name p) (moves.Store r.transactional_id (staging_of r).pair (Group r.group) ∷ [])
 
 -- ---- the calls of the coordinator
 
-abbrev pub initializing : Option (List ℕ) → ℤ → ℤ → List Move
-initializing None timeout greatest = moves.Give ∷ []
-initializing (Some id) timeout greatest = moves.Init id timeout greatest ∷ []
+abbrev pub init_id_moves : Option (List ℕ) → ℤ → ℤ → List Move
+init_id_moves None timeout greatest = moves.Give ∷ []
+init_id_moves (Some id) timeout greatest = moves.Init id timeout greatest ∷ []
 
 abbrev pub init_moves : World → Caller → InitProducerIdRequest → List Move
-init_moves w caller r = unless_refused (part_refusal (rules_of w) (init_questions (rules_of w) caller r.transactional_id)) (initializing r.transactional_id r.timeout w.node.max_txn_timeout)
+init_moves w caller r = unless_refused (part_refusal (rules_of w) (init_questions (rules_of w) caller r.transactional_id)) (init_id_moves r.transactional_id r.timeout w.node.max_txn_timeout)
 
 abbrev pub add_moves : World → Caller → AddPartitionsToTxnRequest → List Move
 add_moves w caller r =
@@ -139,12 +139,12 @@ add_group_moves w caller r =
 abbrev pub end_moves : World → Caller → EndTxnRequest → List Move
 end_moves w caller r =
     unless_refused (part_refusal (rules_of w) (end_questions caller r))
-    (moves.End (form_of r) (ending_id r) (ending_pair r) (ending_outcome r) ∷ [])
+    (moves.End (form_of r) (ending_id r) (ending_id_and_epoch r) (ending_outcome r) ∷ [])
 
 -- ---- an event
 
 abbrev pub request_moves : World → Caller → Request → List Move
-request_moves w caller (requests.Produce r) = topics_moves (producing w caller r) (rules_of w) (produced_moves w r) w.topics r.topics
+request_moves w caller (requests.Produce r) = topics_moves (producing_rule w caller r) (rules_of w) (produced_moves w r) w.topics r.topics
 request_moves w caller (requests.Fetch r) = []
 request_moves w caller (requests.ListOffsets r) = []
 request_moves w caller (requests.Metadata r) = []
@@ -186,6 +186,6 @@ mark_count events.Mark = 1
 mark_count (events.Tick told) = 0
 
 -- how many of the events are marker steps
-abbrev pub marks : List Event → ℕ
-marks [] = 0
-marks (e ∷ es) = mark_count e + marks es
+abbrev pub count_of_mark_events : List Event → ℕ
+count_of_mark_events [] = 0
+count_of_mark_events (e ∷ es) = mark_count e + count_of_mark_events es

@@ -1,11 +1,11 @@
--- What transactions take in exists: so each marker that is owed has a log or a group to be written to.
+-- What transactions take in exists: so each marker that is pending has a log or a group to be written to.
 use Rattle.std.specs.Prelude.{◌≡◌, Bool, true, List, is_some}
-use Rattle.transactions.specs.declared.target.Target.{Target}
-use Rattle.transactions.specs.declared.target.Target.TheVariants.{Partition, Group}
-use Rattle.transactions.specs.declared.transaction.Transaction.{Transaction}
-use Rattle.transactions.specs.declared.marker.OwedMarker.{OwedMarker}
-use Rattle.transactions.specs.Words.{targets}
-use Rattle.transactions.specs.Coordinator.{CoordinatorValue}
+use Rattle.txn_coordinator.specs.declared.target.Target.{Target}
+use Rattle.txn_coordinator.specs.declared.target.Target.TheVariants.{Partition, Group}
+use Rattle.txn_coordinator.specs.declared.transaction.Transaction.{Transaction}
+use Rattle.txn_coordinator.specs.declared.marker.PendingMarker.{PendingMarker}
+use Rattle.txn_coordinator.specs.Words.{targets}
+use Rattle.txn_coordinator.specs.Coordinator.{CoordinatorValue}
 use Rattle.txn_laws.specs.Sound.{Each}
 use Rattle.broker_world.specs.World.{World, TopicValue}
 use Rattle.broker_world.specs.Logs.{log_at}
@@ -22,13 +22,13 @@ IsThere topics target = is_there topics target ≡ true
 abbrev pub TakesInExisting : List TopicValue → Transaction → Type 0
 TakesInExisting topics t = Each (IsThere topics) (targets t)
 
-abbrev pub IsOwedToExisting : List TopicValue → OwedMarker → Type 0
-IsOwedToExisting topics m = IsThere topics m.target
+abbrev pub IsPendingToExisting : List TopicValue → PendingMarker → Type 0
+IsPendingToExisting topics m = IsThere topics m.target
 
--- all that transactions take in, and all to which a marker is owed
+-- all that transactions take in, and all to which a marker is pending
 pub record AllExist (topics : List TopicValue) (c : CoordinatorValue) : Type 0 where
   pub added : Each (TakesInExisting topics) c.transactions
-  pub owed : Each (IsOwedToExisting topics) c.warrants
+  pub owed : Each (IsPendingToExisting topics) c.warrants
 
 abbrev pub HasTargets : World → Type 0
 HasTargets w = AllExist w.topics w.coordinator

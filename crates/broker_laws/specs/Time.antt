@@ -1,9 +1,9 @@
 -- What a tick does, in words of its own (KIP-98, 'transaction.timeout.ms'; KIP-62, 'session.timeout.ms').
 use Rattle.std.specs.Prelude.{◌≡◌, ◌⊎◌, ℕ, ◌+◌, ◌<◌, ◌≤◌, length, slice_get, Some, None}
-use Rattle.transactions.specs.declared.transaction.Transaction.{Transaction}
-use Rattle.transactions.specs.declared.transaction.Phase.TheVariants.{Ongoing, PrepareAbort}
-use Rattle.offset_tables.specs.declared.group.Group.{Group}
-use Rattle.offset_tables.specs.declared.member.Member.{Member}
+use Rattle.txn_coordinator.specs.declared.transaction.Transaction.{Transaction}
+use Rattle.txn_coordinator.specs.declared.transaction.TransactionState.TheVariants.{Ongoing, PrepareAbort}
+use Rattle.group_offsets.specs.declared.group.Group.{Group}
+use Rattle.group_offsets.specs.declared.member.Member.{Member}
 use Rattle.audit_trail.specs.declared.event.Event.TheVariants.{Tick}
 use Rattle.broker_world.specs.World.{World}
 use Rattle.api_dispatch.specs.Step.{step}
@@ -14,15 +14,15 @@ pub record ShowsMoment (w : World) (told : ℕ) (v : World) : Type 0 where
   pub no_further : (v.moment ≡ w.moment) ⊎ (v.moment ≤ told)
   pub told_is : told ≤ 4611686018427387903 → told ≤ v.moment
 
--- the time of a transaction that is open is over: the moment is behind its end
+-- the time of a transaction that is open is over: the moment is after its end
 pub record IsOver (moment : ℕ) (t : Transaction) : Type 0 where
-  pub ongoing : t.phase ≡ Ongoing
+  pub ongoing : t.state ≡ Ongoing
   pub end : t.start + t.timeout < moment
 
 -- each transaction whose time is over is to be aborted, and all others are as before; in their places
 pub record EndsTransactions (w v : World) : Type 0 where
   pub as_many : length v.coordinator.transactions ≡ length w.coordinator.transactions
-  pub over : (i : ℕ) (t u : Transaction) → slice_get w.coordinator.transactions i ≡ Some t → slice_get v.coordinator.transactions i ≡ Some u → IsOver v.moment t → u.phase ≡ PrepareAbort
+  pub over : (i : ℕ) (t u : Transaction) → slice_get w.coordinator.transactions i ≡ Some t → slice_get v.coordinator.transactions i ≡ Some u → IsOver v.moment t → u.state ≡ PrepareAbort
   pub others : (i : ℕ) (t : Transaction) → slice_get w.coordinator.transactions i ≡ Some t → (IsOver v.moment t → ⊥) → slice_get v.coordinator.transactions i ≡ Some t
 
 -- nothing was heard of the group's member for longer than its session timeout

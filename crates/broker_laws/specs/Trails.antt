@@ -1,10 +1,10 @@
 -- Completion over a run, and over the trail that a core has so far: what was prepared at some place is completed in the
--- world that the events behind it leave.
+-- world that the events after it leave.
 use Rattle.std.specs.Prelude.{◌≡◌, ◌⊎◌, true, false, ℕ, ◌≤◌, List, [], ◌∷◌, ◌++◌, length, Option, Some}
 use Rattle.acl_binding.specs.declared.question.Caller.{Caller}
 use Rattle.wire_types.specs.declared.error_code.ErrorCode.TheVariants as codes
-use Rattle.record_batch.specs.declared.outcome.Outcome.{Outcome as Ending}
-use Rattle.record_batch.specs.declared.outcome.Outcome.TheVariants.{Abort}
+use Rattle.record_batch.specs.declared.transaction_result.TransactionResult.{TransactionResult}
+use Rattle.record_batch.specs.declared.transaction_result.TransactionResult.TheVariants.{Abort}
 use Rattle.msg_txn.specs.declared.init_producer_id.InitProducerIdRequest.{InitProducerIdRequest}
 use Rattle.msg_txn.specs.declared.end_txn.EndTxnRequest.{EndTxnRequest}
 use Rattle.msg_txn.specs.declared.end_txn.EndTxnReply.{EndTxnReply}
@@ -15,34 +15,34 @@ use Rattle.audit_trail.specs.declared.event.Event.{Event}
 use Rattle.audit_trail.specs.declared.event.Event.TheVariants.{Ask, Mark, Tick}
 use Rattle.audit_trail.specs.declared.trail.Entry.{Entry}
 use Rattle.request_handlers.specs.Receipt.{ReceiptValue}
-use Rattle.transactions.specs.declared.transaction.Transaction.{Transaction}
-use Rattle.transactions.specs.declared.transaction.Phase.TheVariants.{Ongoing}
-use Rattle.transactions.specs.Words.{targets}
-use Rattle.transactions.specs.Coordinator.{recorded}
-use Rattle.transactions.specs.Expiry.{is_due}
-use Rattle.offset_tables.specs.Groups.{group_of}
+use Rattle.txn_coordinator.specs.declared.transaction.Transaction.{Transaction}
+use Rattle.txn_coordinator.specs.declared.transaction.TransactionState.TheVariants.{Ongoing}
+use Rattle.txn_coordinator.specs.Words.{targets}
+use Rattle.txn_coordinator.specs.Coordinator.{id_record}
+use Rattle.txn_coordinator.specs.Expiry.{is_due}
+use Rattle.group_offsets.specs.Groups.{group_of}
 use Rattle.txn_laws.specs.Sound.{Each}
 use Rattle.txn_laws.specs.Laws.{IsEnded, up_to_last}
-use Rattle.txn_laws.specs.Kept.{kept_pair}
+use Rattle.txn_laws.specs.Kept.{kept_id_and_epoch}
 use Rattle.broker_world.specs.World.{World}
 use Rattle.broker_world.specs.First.{first_world}
 use Rattle.broker_world.specs.Clock.{moment_after}
 use Rattle.txn_handlers.specs.InitProducerId.{init_error}
 use Rattle.txn_handlers.specs.EndTxn.{ending_id, ending_outcome}
-use Rattle.api_dispatch.specs.Step.{step, reached}
+use Rattle.api_dispatch.specs.Step.{step, world_after_events}
 use Rattle.request_handlers.specs.declared.stop.Stop.{Stop}
-use Rattle.request_handlers.specs.Core.{CoreValue, IsCore, Ran, NoRoom, events_of}
+use Rattle.request_handlers.specs.Core.{CoreValue, IsCore, IsRun, NoMemoryForReceipts, events_of}
 use Rattle.broker_laws.specs.Entries.{entries_in}
-use Rattle.broker_laws.specs.Moves.{marks}
-use Rattle.broker_laws.specs.Laws.{IsPreparedBy, marker_pair, IsDecided, IsCompletedBy}
+use Rattle.broker_laws.specs.Moves.{count_of_mark_events}
+use Rattle.broker_laws.specs.Laws.{IsPreparedBy, marker_id_and_epoch, IsDecided, IsCompletedBy}
 use Rattle.broker_laws.specs.LogEnds.{IsEndedAt}
 
 -- ---- a completed transaction
 
 -- the transaction, which stood open in the old world and which the event prepared, is completed in the later one
-pub record IsCompleted (old later : World) (e : Event) (t : Transaction) (outcome : Ending) : Type 0 where
-  -- each partition and group that was added has its marker of that outcome behind what its producer wrote there
-  pub markers : Each (λ target. IsEnded (kept_pair target (marker_pair e t.pair)) outcome (entries_in old target) (entries_in later target)) (targets t)
+pub record IsCompleted (old later : World) (e : Event) (t : Transaction) (outcome : TransactionResult) : Type 0 where
+  -- each partition and group that was added has its marker of that outcome after what its producer wrote there
+  pub markers : Each (λ target. IsEnded (kept_id_and_epoch target (marker_id_and_epoch e t.pair)) outcome (entries_in old target) (entries_in later target)) (targets t)
   -- so what the producer had open in the log of a partition is ended: it is committed, or filtered
   pub logs : Each (IsEndedAt t.pair.producer outcome old later) t.partitions
   -- and what it had staged in a group is decided: it is shown, or dropped
@@ -52,11 +52,11 @@ pub record IsCompleted (old later : World) (e : Event) (t : Transaction) (outcom
 abbrev pub IsUnrefusedMark : Entry → Type 0
 IsUnrefusedMark x = x.event ≡ Mark → x.refusals ≡ []
 
--- what a core shows of a transaction that an event of the old world prepared, and behind it enough marker steps completed
-pub record IsCompletedIn (core : CoreValue) (old : World) (e : Event) (behind : List Event) (id : List ℕ) (t : Transaction) (outcome : Ending) : Type 0 where
+-- what a core shows of a transaction that an event of the old world prepared, and after it enough marker steps completed
+pub record IsCompletedIn (core : CoreValue) (old : World) (e : Event) (behind : List Event) (id : List ℕ) (t : Transaction) (outcome : TransactionResult) : Type 0 where
   -- in its world, unless it is down
   pub world : core.down ≡ false → IsCompleted old core.world e t outcome
-  -- behind some of the events the id's record was complete
+  -- after some of the events the id's record was complete
   pub record_complete : IsCompletedBy (step old e) behind id outcome
   -- and no marker step of the trail was refused
   pub unrefused : Each IsUnrefusedMark core.trail
@@ -64,45 +64,45 @@ pub record IsCompletedIn (core : CoreValue) (old : World) (e : Event) (behind : 
 -- ---- the trail
 
 -- the world at some place of the core's trail: where the entries before that place lead
-abbrev pub world_behind : CoreValue → List Entry → World
-world_behind core before = reached (first_world core.settings) (events_of before)
+abbrev pub world_after_entries : CoreValue → List Entry → World
+world_after_entries core before = world_after_events (first_world core.settings) (events_of before)
 
 -- what an entry tells of a transaction that stood open in the world in which its event was taken
 pub record TellsOf (w : World) (x : Entry) : Type 0 where
   -- an EndTxn that was answered no error prepared it, with the outcome that it names
   pub ended : (caller : Caller) (client : Option (List ℕ)) (r : EndTxnRequest) (reply : EndTxnReply) (t : Transaction) → x.event ≡ Ask caller client (EndTxn r) → x.reply ≡ replies.EndTxn reply → error_of reply ≡ codes.None
-      → recorded w.coordinator.transactions (ending_id r) ≡ Some t → t.phase ≡ Ongoing → IsPreparedBy w x.event (ending_id r) t (ending_outcome r)
+      → id_record w.coordinator.transactions (ending_id r) ≡ Some t → t.state ≡ Ongoing → IsPreparedBy w x.event (ending_id r) t (ending_outcome r)
   -- an InitProducerId that was told to come again aborts it
   pub taken_over : (caller : Caller) (client : Option (List ℕ)) (r : InitProducerIdRequest) (id : List ℕ) (t : Transaction) → x.event ≡ Ask caller client (InitProducerId r) → r.transactional_id ≡ Some id → x.reply ≡ replies.InitProducerId (init_error codes.ConcurrentTransactions)
-      → recorded w.coordinator.transactions id ≡ Some t → t.phase ≡ Ongoing → IsPreparedBy w x.event id t Abort
-  -- and so does a tick behind the end of its time
-  pub timed_out : (told : ℕ) (id : List ℕ) (t : Transaction) → x.event ≡ Tick told → recorded w.coordinator.transactions id ≡ Some t → is_due (moment_after w.moment told) t ≡ true → IsPreparedBy w x.event id t Abort
+      → id_record w.coordinator.transactions id ≡ Some t → t.state ≡ Ongoing → IsPreparedBy w x.event id t Abort
+  -- and so does a tick after the end of its time
+  pub timed_out : (told : ℕ) (id : List ℕ) (t : Transaction) → x.event ≡ Tick told → id_record w.coordinator.transactions id ≡ Some t → is_due (moment_after w.moment told) t ≡ true → IsPreparedBy w x.event id t Abort
 
 abbrev pub TrailTells : Type 0
-TrailTells = (core : CoreValue) → IsCore core → (before behind : List Entry) (x : Entry) → core.trail ≡ before ++ x ∷ behind → TellsOf (world_behind core before) x
+TrailTells = (core : CoreValue) → IsCore core → (before behind : List Entry) (x : Entry) → core.trail ≡ before ++ x ∷ behind → TellsOf (world_after_entries core before) x
 
--- If the event of an entry prepared a transaction, and behind it stand as many marker steps as markers stood then up to
+-- If the event of an entry prepared a transaction, and after it stand as many marker steps as markers stood then up to
 -- and including its last one, it is completed.
 abbrev pub CompletesOverATrail : Type 0
 CompletesOverATrail = (core : CoreValue) → IsCore core → (before behind : List Entry) (x : Entry) → core.trail ≡ before ++ x ∷ behind
-    → (id : List ℕ) (t : Transaction) (outcome : Ending) → IsPreparedBy (world_behind core before) x.event id t outcome
-    → up_to_last (step (world_behind core before) x.event).coordinator.warrants id ≤ marks (events_of behind)
-    → IsCompletedIn core (world_behind core before) x.event (events_of behind) id t outcome
+    → (id : List ℕ) (t : Transaction) (outcome : TransactionResult) → IsPreparedBy (world_after_entries core before) x.event id t outcome
+    → up_to_last (step (world_after_entries core before) x.event).coordinator.warrants id ≤ count_of_mark_events (events_of behind)
+    → IsCompletedIn core (world_after_entries core before) x.event (events_of behind) id t outcome
 
--- There is no need to count where a marker step behind it found nothing to write.
+-- There is no need to count where a marker step after it found nothing to write.
 abbrev pub CompletesBeforeIdle : Type 0
 CompletesBeforeIdle = (core : CoreValue) → IsCore core → (before between rest : List Entry) (x y : Entry) → core.trail ≡ before ++ x ∷ (between ++ y ∷ rest)
-    → (id : List ℕ) (t : Transaction) (outcome : Ending) → IsPreparedBy (world_behind core before) x.event id t outcome
+    → (id : List ℕ) (t : Transaction) (outcome : TransactionResult) → IsPreparedBy (world_after_entries core before) x.event id t outcome
     → y.event ≡ Mark → y.reply ≡ replies.Idle
-    → IsCompletedIn core (world_behind core before) x.event (events_of (between ++ y ∷ rest)) id t outcome
+    → IsCompletedIn core (world_after_entries core before) x.event (events_of (between ++ y ∷ rest)) id t outcome
 
 -- ---- a run
 
--- So it is if a run took such an event and so many marker steps behind it. It took those for which there is a receipt:
+-- So it is if a run took such an event and so many marker steps after it. It took those for which there is a receipt:
 -- all but the rest.
 abbrev pub CompletesOverARun : Type 0
-CompletesOverARun = (old new : CoreValue) (es : List Event) (rs : List ReceiptValue) (stop : Option Stop) → IsCore old → Ran old es rs stop new ⊎ NoRoom old rs stop new
+CompletesOverARun = (old new : CoreValue) (es : List Event) (rs : List ReceiptValue) (stop : Option Stop) → IsCore old → IsRun old es rs stop new ⊎ NoMemoryForReceipts old rs stop new
     → (before behind rest : List Event) (e : Event) → es ≡ before ++ e ∷ (behind ++ rest) → length rs ≡ length (before ++ e ∷ behind)
-    → (id : List ℕ) (t : Transaction) (outcome : Ending) → IsPreparedBy (reached old.world before) e id t outcome
-    → up_to_last (step (reached old.world before) e).coordinator.warrants id ≤ marks behind
-    → IsCompletedIn new (reached old.world before) e behind id t outcome
+    → (id : List ℕ) (t : Transaction) (outcome : TransactionResult) → IsPreparedBy (world_after_events old.world before) e id t outcome
+    → up_to_last (step (world_after_events old.world before) e).coordinator.warrants id ≤ count_of_mark_events behind
+    → IsCompletedIn new (world_after_events old.world before) e behind id t outcome

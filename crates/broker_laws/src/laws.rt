@@ -1,5 +1,5 @@
 //! The laws, each the contract of a function with nothing to do. Most hold of the world that any list of events reaches
-//! from any settings (`reached`), and so of each core that isn't down (`cores`).
+//! from any settings (`world_after_events`), and so of each core that isn't down (`cores`).
 
 ghost use Rattle.broker_world.specs.World.{World};
 ghost use Rattle.broker_laws.specs.Targets.{HasTargets};
@@ -41,7 +41,7 @@ pub fn events_are_moves()
     ensures all { EventsAreMoves }
 {}
 
-/// Each partition that a transaction takes in, and each to which a marker is owed, exists.
+/// Each partition that a transaction takes in, and each to which a marker is pending, exists.
 pub fn targets_exist()
     ensures reached { InReached HasTargets }
     ensures cores { InCores HasTargets }

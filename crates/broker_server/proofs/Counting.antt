@@ -10,8 +10,8 @@ use Rattle.request_handlers.specs.Seats.{SeatValue}
 use Rattle.session_pool.specs.Desks.{IsDeskCore}
 use Rattle.session_pool.specs.declared.session.SessionEnd.{SessionEnd}
 use Rattle.session_workers.specs.Ends.{AreEnds}
-use Rattle.settlement.specs.declared.books.Settled.{Settled}
-use Rattle.settlement.specs.Settle.{Settles}
+use Rattle.session_workers.specs.declared.settlement.Settled.{Settled}
+use Rattle.session_workers.specs.Settle.{Settles}
 use Rattle.broker_server.specs.Counted.{receipts_of, IsCounted}
 
 -- the keeper's is one of them

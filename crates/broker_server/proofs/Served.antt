@@ -1,7 +1,7 @@
 -- What stands written where a server ends.
 use Rattle.std.proofs.Common.{◌≡◌, ◌∙◌, ◌⊎◌, ℕ, ◌++◌, List, [], Option, Some, None, Result, ap, append-nil, append_assoc, inl, inr, refl, subst, sym}
 use Rattle.std.specs.Io.KnownBytes.{Appends}
-use Rattle.wire_types.specs.Device.{Wrote}
+use Rattle.byte_streams.specs.Device.{Wrote}
 use Rattle.settings.specs.declared.settings.Settings.{Settings}
 use Rattle.broker_server.specs.declared.lines.Unbegun.{Unbegun}
 use Rattle.broker_server.specs.Lines.{unbegun_line, listening_line}

@@ -1,7 +1,7 @@
 -- What the server prints.
 use Rattle.std.specs.Prelude.{ℕ, ◌++◌, List, codes, decimal}
-use Rattle.settlement.specs.declared.books.Settled.{Settled}
-use Rattle.settlement.specs.Settle.{fault_name as settle_fault_name}
+use Rattle.session_workers.specs.declared.settlement.Settled.{Settled}
+use Rattle.session_workers.specs.Settle.{fault_name as settle_fault_name}
 use Rattle.session_workers.specs.Faults.{fault_name as pool_fault_name}
 use Rattle.broker_server.specs.declared.lines.Unbegun.{Unbegun}
 use Rattle.broker_server.specs.declared.lines.Unbegun.TheVariants.{NoAddress, NoMemory}

@@ -2,7 +2,7 @@
 use Rattle.std.specs.Prelude.{◌≡◌, ℕ, ◌⊎◌, List, [], ◌++◌, Option}
 use Rattle.std.specs.Io.KnownBytes.{Appends}
 use Rattle.settings.specs.declared.settings.Settings.{Settings}
-use Rattle.settlement.specs.declared.books.Settled.{Settled}
+use Rattle.session_workers.specs.declared.settlement.Settled.{Settled}
 use Rattle.broker_server.specs.declared.lines.Failure.{Failure}
 use Rattle.broker_server.specs.declared.lines.Unbegun.{Unbegun}
 use Rattle.broker_server.specs.Counted.{IsCounted}

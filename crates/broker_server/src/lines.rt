@@ -3,8 +3,7 @@
 ghost use Rattle.std.specs.Prelude.{◌≡◌, IfOk, string_bytes};
 ghost use Rattle.broker_server.specs.Lines.{unbegun_line, listening_line, settled_line, failure_line};
 
-use session_workers::PoolFault;
-use settlement::{SettleFault, Settled};
+use session_workers::{PoolFault, SettleFault, Settled};
 use std::alloc::{AllocError, Global};
 use thiserror::Error;
 

@@ -12,11 +12,12 @@ use crate::lines::{Failure, Unbegun, failure_line, listening_line, settled_line}
 use broker_keeping::{
     Attendant, Control, LogWriter, OperatorLog, Started, Steering, Ticks, Timekeeper, Watch,
 };
+use byte_streams::write_whole;
 use request_handlers::{Core, MOST_SEATS, Receipt, Seat};
-use session_logins::Users;
-use session_pool::{Closing, DeskLedger, LockedDesk, SessionEnd};
-use session_workers::{ConnectionOptions, Ended, PoolFault, serve_connections};
-use settlement::{SettleFault, Settled, settle};
+use session_pool::{DeskLedger, LockedDesk, SessionEnd, ShutdownFlag, Users};
+use session_workers::{
+    ConnectionOptions, Ended, PoolFault, SettleFault, Settled, serve_connections, settle,
+};
 use std::alloc::{AllocError, Global};
 use std::io::{BufRead, Write};
 use std::marker::Brand;
@@ -25,7 +26,7 @@ use std::sync::Wait;
 use std::sync::ledger::Blank;
 use std::thread::Threads;
 use std::{thread, time};
-use wire_types::{Shared, write_whole};
+use wire_types::Shared;
 
 /// The exit status where all is served and settled.
 const SETTLED: u8 = 0;
@@ -104,7 +105,7 @@ fn serve_clocked<
     users: &'x Shared<Users>,
     listener: &'x TcpListener,
     options: ServeOptions,
-    closing: Option<&'x Closing>,
+    closing: Option<&'x ShutdownFlag>,
     log: &'x OperatorLog<'r, R>,
 ) -> Result<Ended<L>, PoolFault>
     ensures { IfOk result (λ ended. (owed : Option ℕ) × AreEnds owed ended.ends.items) }
@@ -288,7 +289,8 @@ fn serve_at<
 ) -> Result<(u64, Settled), Failure>
     requires settings { core.settings ≡ L.settings }
     requires empty { core.trail ≡ [] }
-    requires ledger { (blank.name ≡ L.name) × (blank.parts ≡ L.parts) × (blank.parts ≡ most_seats + 1) }
+    requires ledger { (blank.name ≡ L.name) × (blank.parts ≡ L.parts)
+        × (blank.parts ≡ most_seats + 1) }
     ensures { IfOk result (λ told. IsCounted L.settings told.0 told.1) }
 {
     let desk: LockedDesk<L, &'r R> = LockedDesk::new(core, blank, rt);
@@ -385,7 +387,8 @@ fn serve_told<
 
 /// The first line, of where a listener listens.
 fn first_line(alloc: Global, listener: &TcpListener) -> Result<String, Unbegun>
-    ensures { IfOk result (λ text. (address : List ℕ) × (string_bytes text ≡ listening_line address)) }
+    ensures { IfOk result
+        (λ text. (address : List ℕ) × (string_bytes text ≡ listening_line address)) }
 {
     let Ok(address) = listener.local_addr() else {
         return Err(Unbegun::NoAddress);
@@ -401,7 +404,8 @@ fn first_line(alloc: Global, listener: &TcpListener) -> Result<String, Unbegun>
 
 /// The last line, and the exit status.
 fn last_line(alloc: Global, outcome: Result<(u64, Settled), Failure>) -> Option<(String, u8)>
-    ensures { (settings : Settings) → IfOk outcome (λ told. IsCounted settings told.0 told.1) → IfSome result (λ told. IsLast settings told.1 (string_bytes told.0)) }
+    ensures { (settings : Settings) → IfOk outcome (λ told. IsCounted settings told.0 told.1)
+        → IfSome result (λ told. IsLast settings told.1 (string_bytes told.0)) }
 {
     match outcome {
         Ok((sessions, settled)) => Some((settled_line(alloc, sessions, settled).ok()?, SETTLED)),

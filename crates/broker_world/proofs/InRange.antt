@@ -8,7 +8,7 @@ use Rattle.settings.specs.declared.fault.OpenFault.{OpenFault}
 use Rattle.settings.specs.declared.fault.OpenFault.TheVariants as faults
 use Rattle.acl_binding.specs.Creatable.{is_creatable}
 use Rattle.settings.specs.Fault.{is_within, are_numbers_within, is_host_within, is_topic_within, are_topics_within, are_topic_names, are_distinct, are_bindings_within, is_binding_within, is_in_range, first_fault}
-use Rattle.broker_world.specs.First.{magnitude}
+use Rattle.broker_world.specs.First.{non_negative}
 
 passes : (b : Bool) (fault : OpenFault) (rest : Option OpenFault) → cond (not b) (Some fault) rest ≡ None → (b ≡ true) × (rest ≡ None)
 passes true fault rest h = (refl, h)
@@ -30,21 +30,21 @@ faultless s none =
 pub faultless_in_range : (s : Settings) → first_fault s ≡ None → is_in_range s ≡ true
 faultless_in_range s none = (faultless s none).in_range
 
-pub within_most : (low high : ℕ) (z : ℤ) → is_within low high z ≡ true → magnitude z ≤ high
+pub within_most : (low high : ℕ) (z : ℤ) → is_within low high z ≡ true → non_negative z ≤ high
 within_most low high (pos n) h = leb-true n high (and_parts (nat_le low n) (nat_le n high) h).1
 within_most low high (negsuc n) h = absurd (let clash : false ≡ true = h in cc)
 
 pub topics_in_range : (s : Settings) → is_in_range s ≡ true → list_all is_topic_within s.topics ≡ true
 topics_in_range s in_range =
-    let behind_numbers = and_parts (are_numbers_within s) _ in_range in
-    let behind_host = and_parts (is_host_within s.host) _ behind_numbers.1 in
-    let topics = and_parts (are_topics_within s.topics) _ behind_host.1 in
+    let after_numbers = and_parts (are_numbers_within s) _ in_range in
+    let after_host = and_parts (is_host_within s.host) _ after_numbers.1 in
+    let topics = and_parts (are_topics_within s.topics) _ after_host.1 in
     (and_parts (nat_le (length s.topics) 1000) (list_all is_topic_within s.topics) topics.0).1
 
 pub few_acls : (s : Settings) → is_in_range s ≡ true → length s.acls ≤ 100000
 few_acls s in_range =
-    let behind_numbers = and_parts (are_numbers_within s) _ in_range in
-    let behind_host = and_parts (is_host_within s.host) _ behind_numbers.1 in
-    let behind_topics = and_parts (are_topics_within s.topics) _ behind_host.1 in
-    let acls = and_parts (are_bindings_within s.acls) _ behind_topics.1 in
+    let after_numbers = and_parts (are_numbers_within s) _ in_range in
+    let after_host = and_parts (is_host_within s.host) _ after_numbers.1 in
+    let after_topics = and_parts (are_topics_within s.topics) _ after_host.1 in
+    let acls = and_parts (are_bindings_within s.acls) _ after_topics.1 in
     leb-true (length s.acls) 100000 (and_parts (nat_le (length s.acls) 100000) (list_all is_binding_within s.acls) acls.0).0

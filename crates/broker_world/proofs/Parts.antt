@@ -6,7 +6,7 @@ use Rattle.std.proofs.lemmas.Option.{slice_get_within, get_or_from_slice_get}
 use Rattle.acl_binding.specs.declared.binding.Binding.{Binding}
 use Rattle.acl_binding.specs.declared.words.Kind.{Kind}
 use Rattle.acl_binding.specs.declared.words.Kind.TheVariants.{Topic, Group, Cluster, TransactionalId}
-use Rattle.acl_binding.specs.Book.{BookValue, added}
+use Rattle.acl_binding.specs.Book.{BookValue, with_binding}
 use Rattle.acl_binding.specs.Creatable.{is_creatable, is_resource_name}
 use Rattle.authorizer.specs.Policy.{PolicyValue, policy_added}
 use Rattle.broker_world.specs.First.{with_bindings}
@@ -62,5 +62,5 @@ next_named acls i b lt is all =
 pub book_goes_on : (acls : List Binding) (i : ℕ) (b copy : Binding) (policy new : PolicyValue) (whole : BookValue) → i < length acls → b ≡ get_or acls i b → copy ≡ b → new ≡ policy_added policy copy
     → with_bindings policy.book (drop i acls) ≡ whole → with_bindings new.book (drop (i + 1) acls) ≡ whole
 book_goes_on acls i b copy policy new whole lt is same after so_far =
-    ap (λ p. with_bindings p.book (drop (i + 1) acls)) after ∙ ap (λ x. with_bindings (added policy.book x) (drop (i + 1) acls)) same
+    ap (λ p. with_bindings p.book (drop (i + 1) acls)) after ∙ ap (λ x. with_bindings (with_binding policy.book x) (drop (i + 1) acls)) same
     ∙ sym (ap (with_bindings policy.book) (drop_at acls i b lt is)) ∙ so_far

@@ -2,7 +2,7 @@
 use Rattle.std.specs.Prelude.{◌≡◌, None, refl}
 use Rattle.wire_types.specs.declared.error_code.ErrorCode.TheVariants as codes
 use Rattle.broker_world.specs.Clock.{last_moment, moment_after}
-use Rattle.broker_world.specs.Codes.{refused_by}
+use Rattle.broker_world.specs.Codes.{code_unless_none}
 
 -- ---- the moment: it goes on, never back, and stays at the last one
 
@@ -17,5 +17,5 @@ stays_at_the_last = refl
 
 -- ---- a code
 
-no_error_refuses_nothing : refused_by codes.None ≡ None
+no_error_refuses_nothing : code_unless_none codes.None ≡ None
 no_error_refuses_nothing = refl

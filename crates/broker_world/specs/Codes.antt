@@ -7,6 +7,6 @@ abbrev pub code_in : {A : Type 0} → Result A ErrorCode → ErrorCode
 code_in (Ok answer) = codes.None
 code_in (Err code) = code
 
-abbrev pub refused_by : ErrorCode → Option ErrorCode
-refused_by codes.None = None
-refused_by code = Some code
+abbrev pub code_unless_none : ErrorCode → Option ErrorCode
+code_unless_none codes.None = None
+code_unless_none code = Some code

@@ -1,10 +1,11 @@
 pub mod Partitions
+pub mod Brokers
 pub mod World
 pub mod First
 pub mod Logs
 pub mod Markers
 pub mod Clock
-pub mod Outcome
+pub mod HandlerResult
 pub mod Whole
 pub mod Questions
 pub mod Codes

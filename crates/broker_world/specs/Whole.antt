@@ -7,7 +7,7 @@ use Rattle.wire_types.specs.declared.error_code.ErrorCode.{ErrorCode}
 use Rattle.msg_admin.specs.declared.reply.Reply.{Reply}
 use Rattle.walk.specs.Codes.{refusal_code}
 use Rattle.broker_world.specs.World.{World, rules_of}
-use Rattle.broker_world.specs.Outcome.{Outcome}
+use Rattle.broker_world.specs.HandlerResult.{HandlerResult}
 
 -- what is answered, and the world after it, permission aside
 pub record Served : Type 0 where
@@ -15,10 +15,10 @@ pub record Served : Type 0 where
   pub reply : Reply
 
 -- by its refusal, if it is refused: then nothing is changed, and the answer has the code of the refusal
-abbrev pub whole_by : Option Refusal → World → (ErrorCode → Reply) → Served → Outcome
-whole_by None w refused served = record { world = served.world; reply = served.reply; refusals = [] }
-whole_by (Some r) w refused served = record { world = w; reply = refused (refusal_code r); refusals = r ∷ [] }
+abbrev pub whole_outcome_by : Option Refusal → World → (ErrorCode → Reply) → Served → HandlerResult
+whole_outcome_by None w refused served = record { world = served.world; reply = served.reply; refusals = [] }
+whole_outcome_by (Some r) w refused served = record { world = w; reply = refused (refusal_code r); refusals = r ∷ [] }
 
 -- the questions of the request are decided by the book at the event's start
-abbrev pub whole : World → List Question → (ErrorCode → Reply) → Served → Outcome
-whole w questions refused served = whole_by (part_refusal (rules_of w) questions) w refused served
+abbrev pub whole_outcome : World → List Question → (ErrorCode → Reply) → Served → HandlerResult
+whole_outcome w questions refused served = whole_outcome_by (part_refusal (rules_of w) questions) w refused served

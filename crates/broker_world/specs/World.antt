@@ -6,8 +6,8 @@ use Rattle.std.specs.Str.{bytes_eq}
 use Rattle.acl_binding.specs.Book.{BookValue}
 use Rattle.authorizer.specs.Asking.{Rules}
 use Rattle.record_batch.specs.Batch.{BatchData}
-use Rattle.transactions.specs.Coordinator.{CoordinatorValue}
-use Rattle.offset_tables.specs.declared.group.Group.{Group}
+use Rattle.txn_coordinator.specs.Coordinator.{CoordinatorValue}
+use Rattle.group_offsets.specs.declared.group.Group.{Group}
 use Rattle.broker_world.specs.declared.node.Node.{Node}
 use Rattle.broker_world.specs.declared.slot.Slot.{Slot}
 
@@ -26,7 +26,7 @@ pub record World : Type 0 where
   pub book : BookValue
   -- in the order of the settings
   pub topics : List TopicValue
-  -- transactional ids, the producer ids given out, and the markers that are owed
+  -- transactional ids, the producer ids given out, and the markers that are pending
   pub coordinator : CoordinatorValue
   -- in the order of their beginning
   pub groups : List Group

@@ -1,7 +1,7 @@
 //! The codes of answers.
 
 ghost use Rattle.std.specs.Prelude.{◌≡◌};
-ghost use Rattle.broker_world.specs.Codes.{code_in, refused_by};
+ghost use Rattle.broker_world.specs.Codes.{code_in, code_unless_none};
 
 use wire_types::ErrorCode;
 
@@ -17,7 +17,7 @@ pub fn code_in(answer: Result<(), ErrorCode>) -> ErrorCode
 
 /// Why something is refused by a code, unless that is no error.
 pub fn refused_by(code: ErrorCode) -> Option<ErrorCode>
-    ensures { result ≡ refused_by code }
+    ensures { result ≡ code_unless_none code }
 {
     match code {
         ErrorCode::None => None,

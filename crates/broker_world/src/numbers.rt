@@ -1,11 +1,11 @@
 //! Numbers that aren't negative.
 
 ghost use Rattle.std.specs.Prelude.{◌≡◌};
-ghost use Rattle.broker_world.specs.First.{magnitude};
+ghost use Rattle.broker_world.specs.First.{non_negative};
 
 /// The number, or 0 where it is negative.
-pub fn magnitude(number: i32) -> u32
-    ensures { result ≡ magnitude number }
+pub fn non_negative(number: i32) -> u32
+    ensures { result ≡ non_negative number }
 {
     if number < 0 { 0 } else { number as u32 }
 }

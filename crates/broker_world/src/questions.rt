@@ -2,7 +2,7 @@
 
 ghost use Rattle.std.specs.Prelude.{◌≡◌, IfOk};
 ghost use Rattle.acl_binding.specs.Creatable.{cluster_name};
-ghost use Rattle.acl_binding.specs.Verdict.{asked};
+ghost use Rattle.acl_binding.specs.Verdict.{question_of};
 ghost use Rattle.acl_binding.specs.declared.words.Kind.TheVariants.{Cluster};
 ghost use Rattle.broker_world.specs.Questions.{id_question, read_question};
 
@@ -26,7 +26,7 @@ pub fn read_question(caller: &Caller, group: &Text) -> Result<Question, AllocErr
 
 /// May the caller do this with the cluster?
 pub fn asks_cluster(alloc: Global, caller: &Caller, op: Operation) -> Result<Question, AllocError>
-    ensures { IfOk result (λ question. question ≡ asked caller.now op Cluster cluster_name) }
+    ensures { IfOk result (λ question. question ≡ question_of caller.now op Cluster cluster_name) }
 {
     let name = Text::of(alloc, CLUSTER_NAME)?;
     caller.asks(op, Kind::Cluster, &name)

@@ -9,6 +9,7 @@ ghost use Rattle.settings.specs.Fault.{first_fault};
 ghost use Rattle.broker_world.specs.World.{rules_of};
 ghost use Rattle.broker_world.specs.First.{first_world, with_bindings};
 
+use crate::cluster::Cluster;
 use crate::moment::Moment;
 use crate::node::Node;
 use crate::topics::Topics;
@@ -24,7 +25,7 @@ use wire_types::{Items, Text};
 
 /// The broker's world.
 pub struct State {
-    pub node: Node,
+    pub cluster: Cluster,
     pub policy: Policy,
     pub topics: Topics,
     pub coordinator: Coordinator,
@@ -33,11 +34,10 @@ pub struct State {
     pub events: u64,
 }
 
-/// Written out, so that a crate which lets a world go calls this once, and proves nothing of its tables.
 impl Drop for State {
     fn drop(self) {
         let State {
-            node: _node,
+            cluster: _cluster,
             policy: _policy,
             topics: _topics,
             coordinator: _coordinator,
@@ -54,7 +54,7 @@ impl Model for State {
 
     ghost Value = { World };
 
-    ghost view = { λ s. record { node = s.node; supers = s.policy.supers; book = s.policy.book; topics = s.topics; coordinator = s.coordinator; groups = s.groups; moment = s.moment; events = s.events } };
+    ghost view = { λ s. record { node = s.cluster; supers = s.policy.supers; book = s.policy.book; topics = s.topics; coordinator = s.coordinator; groups = s.groups; moment = s.moment; events = s.events } };
 }
 
 impl State {
@@ -76,7 +76,7 @@ impl State {
             groups: Groups::new(alloc, hasher),
             moment: Moment::first(),
             events: 0,
-            node,
+            cluster: Cluster::of(alloc, node)?,
         })
     }
 
@@ -84,7 +84,7 @@ impl State {
     pub fn node(&self) -> &Node
         ensures { result.now ≡ self.now.node }
     {
-        &self.node
+        self.cluster.node()
     }
 
     /// The policy in force.

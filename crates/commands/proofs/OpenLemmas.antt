@@ -1,7 +1,7 @@
 -- Settings that were read whole are those of the input.
 use Rattle.std.proofs.Common.{◌≡◌, ◌≤◌, ℕ, Bool, true, false, List, [], length, Option, Some, None, Result, Ok, Err, IfSome, ap, arith, subst, sym, ◌∙◌, if◌then◌else◌, nat_lt}
 use Rattle.std.proofs.lemmas.Bool.Decides.{nat_tests}
-use Rattle.wire_types.specs.declared.device.TheConstants.{INPUT_LIMIT}
+use Rattle.byte_streams.specs.declared.device.TheConstants.{INPUT_LIMIT}
 use Rattle.settings.specs.declared.settings.Settings.{Settings}
 use Rattle.settings_text.specs.Document.{document_of_text}
 use Rattle.settings_text.specs.declared.document.User.{User}

@@ -4,53 +4,53 @@ use Rattle.std.specs.Io.KnownBytes.{Appends}
 use Rattle.std.proofs.lemmas.Bool.{eqb-true}
 use Rattle.std.proofs.lemmas.List.{nil_from_length}
 use Rattle.std.proofs.KnownBytes.{Appends-nil, Appends-trans}
-use Rattle.wire_types.specs.Device.{Wrote}
+use Rattle.byte_streams.specs.Device.{Wrote}
 use Rattle.settings.specs.declared.settings.Settings.{Settings as SettingsValue}
 use Rattle.audit_trail.specs.declared.event.Event.{Event}
-use Rattle.script_lines.specs.Lines.{lines_of}
-use Rattle.commands.specs.Replay.{Answer, Turn, goes, ends, line_turn, after, after_turn, script_answer}
+use Rattle.commands.specs.Lines.{lines_of}
+use Rattle.commands.specs.Replay.{Answer, Transition, goes, ends, line_transition, with_text_before, answer_after, script_answer}
 use Rattle.commands.specs.declared.cause.Early.{Early}
 use Rattle.commands.specs.declared.cause.Early.TheVariants.{Settings, Write}
 use Rattle.commands.specs.Printed.{IsUnwritten, Printed, EndsEarly, Replayed, cut}
 
 -- a text of two parts before an answer
-after-after : (a b : List ℕ) (x : Answer) → after a (after b x) ≡ after (a ++ b) x
-after-after a b x = ap (λ (t : List ℕ). let y : Answer = record { text = t; status = x.status } in y) (sym (append_assoc a b x.text))
+with_text_before-after : (a b : List ℕ) (x : Answer) → with_text_before a (with_text_before b x) ≡ with_text_before (a ++ b) x
+with_text_before-after a b x = ap (λ (t : List ℕ). let y : Answer = record { text = t; status = x.status } in y) (sym (append_assoc a b x.text))
 
 -- a line that goes on, and one that ends the script
-goes_on : (s : SettingsValue) (w v : List Event) (n : ℕ) (line t : List ℕ) (lines : List (List ℕ)) → line_turn s w n line ≡ goes v t
-    → script_answer s w n (line ∷ lines) ≡ after t (script_answer s v (n + 1) lines)
-goes_on s w v n line t lines h = ap (λ (x : Turn). after_turn x (λ u. script_answer s u (n + 1) lines)) h
+goes_on : (s : SettingsValue) (w v : List Event) (n : ℕ) (line t : List ℕ) (lines : List (List ℕ)) → line_transition s w n line ≡ goes v t
+    → script_answer s w n (line ∷ lines) ≡ with_text_before t (script_answer s v (n + 1) lines)
+goes_on s w v n line t lines h = ap (λ (x : Transition). answer_after x (λ u. script_answer s u (n + 1) lines)) h
 
-ends_here : (s : SettingsValue) (w : List Event) (n : ℕ) (line t : List ℕ) (lines : List (List ℕ)) → line_turn s w n line ≡ ends t
+ends_here : (s : SettingsValue) (w : List Event) (n : ℕ) (line t : List ℕ) (lines : List (List ℕ)) → line_transition s w n line ≡ ends t
     → script_answer s w n (line ∷ lines) ≡ record { text = t; status = 1 }
-ends_here s w n line t lines h = ap (λ (x : Turn). after_turn x (λ u. script_answer s u (n + 1) lines)) h
+ends_here s w n line t lines h = ap (λ (x : Transition). answer_after x (λ u. script_answer s u (n + 1) lines)) h
 
 module _ (s own : SettingsValue) (is : own ≡ s) (w : List Event) (n : ℕ) (rest line more done t : List ℕ) (all : Answer)
-    (so_far : all ≡ after done (script_answer s w n (lines_of rest))) (first : lines_of rest ≡ line ∷ lines_of more) where
-  same_turn : line_turn s w n line ≡ line_turn own w n line
-  same_turn = ap (λ (x : SettingsValue). line_turn x w n line) (sym is)
+    (so_far : all ≡ with_text_before done (script_answer s w n (lines_of rest))) (first : lines_of rest ≡ line ∷ lines_of more) where
+  same_turn : line_transition s w n line ≡ line_transition own w n line
+  same_turn = ap (λ (x : SettingsValue). line_transition x w n line) (sym is)
 
   -- one line further
-  pub line_further : (v : List Event) → line_turn own w n line ≡ goes v t → all ≡ after (done ++ t) (script_answer s v (n + 1) (lines_of more))
+  pub line_further : (v : List Event) → line_transition own w n line ≡ goes v t → all ≡ with_text_before (done ++ t) (script_answer s v (n + 1) (lines_of more))
   line_further v turn =
-      so_far ∙ ap (λ (ls : List (List ℕ)). after done (script_answer s w n ls)) first
-      ∙ ap (after done) (goes_on s w v n line t (lines_of more) (same_turn ∙ turn)) ∙ after-after done t _
+      so_far ∙ ap (λ (ls : List (List ℕ)). with_text_before done (script_answer s w n ls)) first
+      ∙ ap (with_text_before done) (goes_on s w v n line t (lines_of more) (same_turn ∙ turn)) ∙ with_text_before-after done t _
 
   -- the last line
-  pub line_last : line_turn own w n line ≡ ends t → all ≡ after done (record { text = t; status = 1 })
+  pub line_last : line_transition own w n line ≡ ends t → all ≡ with_text_before done (record { text = t; status = 1 })
   line_last turn =
-      so_far ∙ ap (λ (ls : List (List ℕ)). after done (script_answer s w n ls)) first
-      ∙ ap (after done) (ends_here s w n line t (lines_of more) (same_turn ∙ turn))
+      so_far ∙ ap (λ (ls : List (List ℕ)). with_text_before done (script_answer s w n ls)) first
+      ∙ ap (with_text_before done) (ends_here s w n line t (lines_of more) (same_turn ∙ turn))
 
 -- a text whose test says so is empty
 pub empty_of : (text : List ℕ) (b : Bool) → b ≡ (length text == 0) → b ≡ true → text ≡ []
 empty_of text b is holds = nil_from_length text (eqb-true (length text) 0 (sym is ∙ holds))
 
 -- no line is left
-pub script_over : (s : SettingsValue) (w : List Event) (n : ℕ) (rest done : List ℕ) (all : Answer) → rest ≡ [] → all ≡ after done (script_answer s w n (lines_of rest)) → (all.text ≡ done) × (all.status ≡ 0)
+pub script_over : (s : SettingsValue) (w : List Event) (n : ℕ) (rest done : List ℕ) (all : Answer) → rest ≡ [] → all ≡ with_text_before done (script_answer s w n (lines_of rest)) → (all.text ≡ done) × (all.status ≡ 0)
 script_over s w n rest done all empty so_far =
-    let over : all ≡ after done (record { text = []; status = 0 }) = so_far ∙ ap (λ (l : List ℕ). after done (script_answer s w n (lines_of l))) empty in
+    let over : all ≡ with_text_before done (record { text = []; status = 0 }) = so_far ∙ ap (λ (l : List ℕ). with_text_before done (script_answer s w n (lines_of l))) empty in
     (ap (λ (a : Answer). a.text) over ∙ append-nil done, ap (λ (a : Answer). a.status) over)
 
 -- an Ok write appended the whole text

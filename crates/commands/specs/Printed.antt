@@ -6,7 +6,7 @@ use Rattle.settings_text.specs.declared.fault.SettingsFault.TheVariants as fault
 use Rattle.commands.specs.declared.cause.Early.{Early}
 use Rattle.commands.specs.declared.cause.Early.TheVariants.{Settings, Script}
 use Rattle.request_handlers.specs.Stop.{stop_line}
-use Rattle.commands.specs.Replay.{Answer, refused}
+use Rattle.commands.specs.Replay.{Answer, refused_line}
 
 -- nothing was written where memory was refused at the settings
 abbrev pub IsUnwritten : Early → List ℕ → Type 0
@@ -27,7 +27,7 @@ IsFrontOf text line = (rest : List ℕ) × (text ++ rest ≡ line)
 
 -- the last words of a run that ends early: one line where memory was refused, and else nothing
 abbrev pub last_words : Early → List ℕ
-last_words Settings = refused faults.NoMemory
+last_words Settings = refused_line faults.NoMemory
 last_words Script = stop_line NoMemory
 last_words early = []
 
@@ -36,7 +36,7 @@ abbrev pub EndsEarly : Option (List ℕ) → Option (List ℕ) → Early → Typ
 EndsEarly old new early = (last : List ℕ) × IsFrontOf last (last_words early) × Appends old new last
 
 -- A run with this status wrote the whole answer and has its status, or ended early with status 1. Then some of the
--- answer's text stands written, from its front, and a front of the last words behind it: those of refused settings only where
+-- answer's text stands written, from its front, and a front of the last words after it: those of refused settings only where
 -- nothing else is written.
 pub data Replayed (old new : Option (List ℕ)) (answer : Answer) (status : ℕ) : Type 0 where
   whole : Appends old new answer.text → status ≡ answer.status → Replayed old new answer status

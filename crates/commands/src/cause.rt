@@ -1,7 +1,7 @@
 //! Why a script or a run ends before its input does, in sentences.
 
+use crate::order::Unreadable;
 use request_handlers::Stop;
-use script_lines::Unreadable;
 use thiserror::Error;
 
 /// Why a line ends its script.
@@ -21,7 +21,7 @@ pub(crate) enum Early {
     /// A read failed.
     #[error("the input can't be read")]
     Read,
-    /// The input goes on behind the limit.
+    /// The input goes on after the limit.
     #[error("the input has more than 1,073,741,824 bytes")]
     TooLong,
     /// A write failed.

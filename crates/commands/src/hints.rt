@@ -1,7 +1,7 @@
 //! What a reader is told beside a fault: where a line stands in the input, and what may have brought it there. No contract speaks of
 //! these sentences.
 
-use script_lines::{content, split_line};
+use crate::lines::{content, split_line};
 
 /// How many lines an input has before its script.
 pub(crate) fn lines_before(input: &[u8], script: &[u8]) -> u64 {

@@ -1,20 +1,21 @@
 //! Settings in, a core out: what a server is started with.
 
 ghost use Rattle.std.specs.Prelude.{◌≡◌, IfOk, IfSome, length};
-ghost use Rattle.wire_types.specs.Device.{TakesWithin};
-ghost use Rattle.request_handlers.specs.Core.{opened};
+ghost use Rattle.byte_streams.specs.Device.{TakesWithin};
+ghost use Rattle.request_handlers.specs.Core.{first_core};
 ghost use Rattle.commands.specs.Check.{settings_answer, check_answer};
 ghost use Rattle.commands.specs.Opened.{Opens, OpensOr};
 
 use crate::cause::Early;
 use crate::run::{Place, end_early, explain, refuse};
+use byte_streams::{InputFault, read_input};
 use request_handlers::Core;
-use session_logins::Users;
+use session_pool::Users;
 use settings_text::{Document, SettingsFault, User, document_of_text, warnings};
 use std::alloc::Global;
 use std::hash::RandomState;
 use std::io::{Read, Write};
-use wire_types::{InputFault, Items, Shared, read_input};
+use wire_types::{Items, Shared};
 
 /// What a server is started with: a core that has answered nothing, and who may log in.
 #[derive(Drop)]
@@ -75,9 +76,10 @@ fn open_settings<W: Write, E: Write>(
     writer: &mut W,
     errors: &mut E,
 ) -> Result<Opened, Unopened>
-    ensures core { IfOk result (λ o. o.core ≡ opened o.core.settings) }
+    ensures core { IfOk result (λ o. o.core ≡ first_core o.core.settings) }
     ensures bindings { IfOk result (λ o. o.bindings ≡ length o.core.settings.acls) }
-    ensures opens { Opens (W.contents writer.old) (W.contents writer.new) input.now (settings_answer input.now) result }
+    ensures opens { Opens (W.contents writer.old) (W.contents writer.new) input.now
+        (settings_answer input.now) result }
 {
     let document = match document_of_text(alloc, input) {
         Ok(document) => document,
@@ -112,9 +114,11 @@ fn open_whole<R: Read, W: Write, E: Write>(
     writer: &mut W,
     errors: &mut E,
 ) -> Result<Opened, Unopened>
-    ensures core { IfOk result (λ o. o.core ≡ opened o.core.settings) }
+    ensures core { IfOk result (λ o. o.core ≡ first_core o.core.settings) }
     ensures bindings { IfOk result (λ o. o.bindings ≡ length o.core.settings.acls) }
-    ensures opens { IfSome (R.remaining reader.old) (λ input. Opens (W.contents writer.old) (W.contents writer.new) input (check_answer input) result) }
+    ensures opens { IfSome (R.remaining reader.old)
+        (λ input. Opens (W.contents writer.old) (W.contents writer.new) input (check_answer input)
+        result) }
     ensures bounded { TakesWithin (R.remaining reader.old) (R.remaining reader.new) }
 {
     match read_input(alloc, reader) {
@@ -134,9 +138,11 @@ pub fn open_and_explain<R: Read, W: Write, E: Write>(
     writer: &mut W,
     errors: &mut E,
 ) -> Result<Opened, u8>
-    ensures core { IfOk result (λ o. o.core ≡ opened o.core.settings) }
+    ensures core { IfOk result (λ o. o.core ≡ first_core o.core.settings) }
     ensures bindings { IfOk result (λ o. o.bindings ≡ length o.core.settings.acls) }
-    ensures opens { IfSome (R.remaining reader.old) (λ input. OpensOr (W.contents writer.old) (W.contents writer.new) input (check_answer input) result) }
+    ensures opens { IfSome (R.remaining reader.old)
+        (λ input. OpensOr (W.contents writer.old) (W.contents writer.new) input (check_answer input)
+        result) }
     ensures bounded { TakesWithin (R.remaining reader.old) (R.remaining reader.new) }
 {
     match open_whole(alloc, hasher, reader, writer, errors) {

@@ -2,9 +2,9 @@
 //! wrong with them out.
 
 ghost use Rattle.std.specs.Prelude.{◌≡◌, [], IfSome, IfErr};
-ghost use Rattle.wire_types.specs.Device.{TakesWithin, Wrote};
-ghost use Rattle.request_handlers.specs.Core.{opened};
-ghost use Rattle.script_lines.specs.Lines.{lines_of};
+ghost use Rattle.byte_streams.specs.Device.{TakesWithin, Wrote};
+ghost use Rattle.request_handlers.specs.Core.{first_core};
+ghost use Rattle.commands.specs.Lines.{lines_of};
 ghost use Rattle.commands.specs.Replay.{script_answer, refused_answer, input_answer, replay_answer};
 ghost use Rattle.commands.specs.Check.{settings_answer, check_answer, answer_to, command_answer};
 ghost use Rattle.commands.specs.Printed.{Printed, last_words, EndsEarly, Replayed};
@@ -13,16 +13,16 @@ ghost use Rattle.commands.specs.declared.cause.Early.TheVariants.{Write as Early
 use crate::cause::{Cause, Early};
 use crate::command::Command;
 use crate::hints::{has_return, lines_before, separator_hint};
+use crate::lines::{split_input, split_line};
 use crate::open::warn;
 use crate::text::{is_closed, refused_text};
 use crate::turn::{Turn, line_turn};
+use byte_streams::{InputFault, read_input, write_whole};
 use request_handlers::{Core, Stop};
-use script_lines::{split_input, split_line};
 use settings_text::{SettingsFault, document_of_text};
 use std::alloc::Global;
 use std::fmt::Display;
 use std::io::{Read, Write, sink};
-use wire_types::{InputFault, read_input, write_whole};
 
 /// Where an input has settings alone.
 const NO_SCRIPT: &str =
@@ -92,8 +92,9 @@ fn run_script<W: Write, E: Write>(
     writer: &mut W,
     errors: &mut E,
 ) -> Result<u8, Early>
-    requires { core ≡ opened core.settings }
-    ensures { Printed (W.contents writer.old) (W.contents writer.new) (script_answer core.settings [] 1 (lines_of script.now)) result }
+    requires { core ≡ first_core core.settings }
+    ensures { Printed (W.contents writer.old) (W.contents writer.new)
+        (script_answer core.settings [] 1 (lines_of script.now)) result }
 {
     let mut rest = script;
     let mut number: u64 = 1;
@@ -129,7 +130,8 @@ pub(crate) fn refuse<W: Write, E: Write>(
     writer: &mut W,
     errors: &mut E,
 ) -> Result<u8, Early>
-    ensures { Printed (W.contents writer.old) (W.contents writer.new) (refused_answer fault) result }
+    ensures { Printed (W.contents writer.old) (W.contents writer.new) (refused_answer fault)
+        result }
 {
     let Ok(line) = refused_text(alloc, fault) else {
         return Err(Early::Settings);
@@ -151,7 +153,8 @@ fn answer_input<W: Write, E: Write>(
     writer: &mut W,
     errors: &mut E,
 ) -> Result<u8, Early>
-    ensures { Printed (W.contents writer.old) (W.contents writer.new) (input_answer input.now) result }
+    ensures { Printed (W.contents writer.old) (W.contents writer.new) (input_answer input.now)
+        result }
 {
     let (text, script) = split_input(input);
     let settings = match document_of_text(alloc, text) {
@@ -179,7 +182,8 @@ fn check_settings<W: Write, E: Write>(
     writer: &mut W,
     errors: &mut E,
 ) -> Result<u8, Early>
-    ensures { Printed (W.contents writer.old) (W.contents writer.new) (settings_answer input.now) result }
+    ensures { Printed (W.contents writer.old) (W.contents writer.new) (settings_answer input.now)
+        result }
 {
     match document_of_text(alloc, input) {
         Ok(document) => {
@@ -200,7 +204,8 @@ fn answer_to<W: Write, E: Write>(
     writer: &mut W,
     errors: &mut E,
 ) -> Result<u8, Early>
-    ensures { Printed (W.contents writer.old) (W.contents writer.new) (answer_to command input.now) result }
+    ensures { Printed (W.contents writer.old) (W.contents writer.new) (answer_to command input.now)
+        result }
 {
     match command {
         Command::Replay => answer_input(alloc, input, writer, errors),
@@ -216,7 +221,9 @@ fn run_whole<R: Read, W: Write, E: Write>(
     writer: &mut W,
     errors: &mut E,
 ) -> Result<u8, Early>
-    ensures prints { IfSome (R.remaining reader.old) (λ input. Printed (W.contents writer.old) (W.contents writer.new) (command_answer command input) result) }
+    ensures prints { IfSome (R.remaining reader.old)
+        (λ input. Printed (W.contents writer.old) (W.contents writer.new)
+        (command_answer command input) result) }
     ensures bounded { TakesWithin (R.remaining reader.old) (R.remaining reader.new) }
 {
     match read_input(alloc, reader) {
@@ -253,7 +260,9 @@ fn run_and_explain<R: Read, W: Write, E: Write>(
     writer: &mut W,
     errors: &mut E,
 ) -> u8
-    ensures prints { IfSome (R.remaining reader.old) (λ input. Replayed (W.contents writer.old) (W.contents writer.new) (command_answer command input) result) }
+    ensures prints { IfSome (R.remaining reader.old)
+        (λ input. Replayed (W.contents writer.old) (W.contents writer.new)
+        (command_answer command input) result) }
     ensures bounded { TakesWithin (R.remaining reader.old) (R.remaining reader.new) }
 {
     match run_whole(alloc, command, reader, writer, errors) {
@@ -273,7 +282,9 @@ pub fn replay_and_explain<R: Read, W: Write, E: Write>(
     writer: &mut W,
     errors: &mut E,
 ) -> u8
-    ensures prints { IfSome (R.remaining reader.old) (λ input. Replayed (W.contents writer.old) (W.contents writer.new) (replay_answer input) result) }
+    ensures prints { IfSome (R.remaining reader.old)
+        (λ input. Replayed (W.contents writer.old) (W.contents writer.new) (replay_answer input)
+        result) }
     ensures bounded { TakesWithin (R.remaining reader.old) (R.remaining reader.new) }
 {
     run_and_explain(alloc, Command::Replay, reader, writer, errors)
@@ -282,7 +293,9 @@ pub fn replay_and_explain<R: Read, W: Write, E: Write>(
 /// The command `replay`: reads settings up to a line `---` or the end of the input, then a script; answers each of
 /// its lines, and gives the exit status.
 pub fn replay<R: Read, W: Write>(alloc: Global, reader: &mut R, writer: &mut W) -> u8
-    ensures prints { IfSome (R.remaining reader.old) (λ input. Replayed (W.contents writer.old) (W.contents writer.new) (replay_answer input) result) }
+    ensures prints { IfSome (R.remaining reader.old)
+        (λ input. Replayed (W.contents writer.old) (W.contents writer.new) (replay_answer input)
+        result) }
     ensures bounded { TakesWithin (R.remaining reader.old) (R.remaining reader.new) }
 {
     replay_and_explain(alloc, reader, writer, &mut sink())
@@ -295,7 +308,9 @@ pub fn check_and_explain<R: Read, W: Write, E: Write>(
     writer: &mut W,
     errors: &mut E,
 ) -> u8
-    ensures prints { IfSome (R.remaining reader.old) (λ input. Replayed (W.contents writer.old) (W.contents writer.new) (check_answer input) result) }
+    ensures prints { IfSome (R.remaining reader.old)
+        (λ input. Replayed (W.contents writer.old) (W.contents writer.new) (check_answer input)
+        result) }
     ensures bounded { TakesWithin (R.remaining reader.old) (R.remaining reader.new) }
 {
     run_and_explain(alloc, Command::Check, reader, writer, errors)
@@ -304,7 +319,9 @@ pub fn check_and_explain<R: Read, W: Write, E: Write>(
 /// The command `check`: reads settings up to the end of the input, prints `settings ok` or what is wrong with them
 /// first, and gives the exit status.
 pub fn check<R: Read, W: Write>(alloc: Global, reader: &mut R, writer: &mut W) -> u8
-    ensures prints { IfSome (R.remaining reader.old) (λ input. Replayed (W.contents writer.old) (W.contents writer.new) (check_answer input) result) }
+    ensures prints { IfSome (R.remaining reader.old)
+        (λ input. Replayed (W.contents writer.old) (W.contents writer.new) (check_answer input)
+        result) }
     ensures bounded { TakesWithin (R.remaining reader.old) (R.remaining reader.new) }
 {
     check_and_explain(alloc, reader, writer, &mut sink())

@@ -6,16 +6,17 @@ ghost use Rattle.audit_trail.specs.declared.event.Event.TheVariants as events;
 ghost use Rattle.api_dispatch.specs.Bounds.{EventFits};
 ghost use Rattle.request_handlers.specs.Core.{events_of};
 ghost use Rattle.audit_trail.specs.Line.{audit_lines};
-ghost use Rattle.commands.specs.Replay.{refusals_at, reply_line, Turns, step_turn, request_turn, frame_turn, unasked_turn, order_turn, line_turn};
+ghost use Rattle.commands.specs.Replay.{refusals_at, reply_line, IsTransition, step_transition, request_transition, frame_transition, unasked_transition, order_transition, line_transition};
 
 use crate::cause::Cause;
+use crate::lines::content;
+use crate::order::{Order, Sent, parse_order};
 use crate::text::{closed_text, no_request_text, reply_text, unreadable_text};
 use acl_binding::Caller;
 use audit_trail::{Event, push_audit_lines};
 use authorizer::Refusal;
 use msg_admin::{FRAME_LIMIT, Header, Request, read_request};
 use request_handlers::{Core, Receipt, Stop};
-use script_lines::{Order, Sent, content, parse_order};
 use std::alloc::{AllocError, Global};
 use wire_types::ReadFault;
 
@@ -45,7 +46,9 @@ fn receipt_text(
     correlation: i32,
     receipt: &Receipt,
 ) -> Result<String, AllocError>
-    ensures { IfOk result (λ text. string_bytes text ≡ reply_line correlation receipt.now.reply ++ audit_lines (refusals_at core.now.trail receipt.now.place)) }
+    ensures { IfOk result
+        (λ text. string_bytes text ≡ reply_line correlation receipt.now.reply
+        ++ audit_lines (refusals_at core.now.trail receipt.now.place)) }
 {
     let mut text = reply_text(alloc, correlation, receipt.reply())?;
     push_audit_lines(alloc, &mut text, refusals_at(core, receipt.place()))?;
@@ -56,7 +59,9 @@ fn receipt_text(
 fn step(alloc: Global, core: &mut Core, correlation: i32, event: Event) -> Result<Turn, AllocError>
     requires up { core.old.down ≡ false }
     requires fits { EventFits event }
-    ensures { IfOk result (Turns (step_turn core.old.settings (events_of core.old.trail) correlation event) core.old.settings core.new) }
+    ensures { IfOk result
+        (IsTransition (step_transition core.old.settings (events_of core.old.trail) correlation
+        event) core.old.settings core.new) }
 {
     match core.step(event) {
         Ok(receipt) => Ok(Turn::Goes(receipt_text(alloc, core, correlation, &receipt)?)),
@@ -75,14 +80,14 @@ fn ask(
 ) -> Result<Turn, AllocError>
     requires up { core.old.down ≡ false }
     requires fits { Fits request }
-    ensures { IfOk result (Turns (step_turn core.old.settings (events_of core.old.trail) header.correlation (events.Ask caller header.client request)) core.old.settings core.new) }
+    ensures { IfOk result
+        (IsTransition (step_transition core.old.settings (events_of core.old.trail)
+        header.correlation (events.Ask caller header.client request)) core.old.settings
+        core.new) }
 {
     let correlation = header.correlation;
-    let event = Event::Ask {
-        caller,
-        client: header.client,
-        request,
-    };
+    let caller = core.trail().share_caller(alloc, caller)?;
+    let event = Event::ask(alloc, caller, header.client, request)?;
     step(alloc, core, correlation, event)
 }
 
@@ -90,7 +95,9 @@ fn ask(
 fn request_turn(alloc: Global, core: &mut Core, sent: Sent) -> Result<Turn, AllocError>
     requires up { core.old.down ≡ false }
     requires fits { length sent.frame ≤ FRAME_LIMIT }
-    ensures { IfOk result (Turns (request_turn core.old.settings (events_of core.old.trail) sent (request_at sent.frame)) core.old.settings core.new) }
+    ensures { IfOk result
+        (IsTransition (request_transition core.old.settings (events_of core.old.trail) sent
+        (request_at sent.frame)) core.old.settings core.new) }
 {
     let Sent { caller, frame } = sent;
     match read_request(alloc, &frame) {
@@ -103,7 +110,9 @@ fn request_turn(alloc: Global, core: &mut Core, sent: Sent) -> Result<Turn, Allo
 /// Answers a frame.
 fn frame_turn(alloc: Global, core: &mut Core, sent: Sent) -> Result<Turn, AllocError>
     requires up { core.old.down ≡ false }
-    ensures { IfOk result (Turns (frame_turn core.old.settings (events_of core.old.trail) sent) core.old.settings core.new) }
+    ensures { IfOk result
+        (IsTransition (frame_transition core.old.settings (events_of core.old.trail) sent)
+        core.old.settings core.new) }
 {
     if sent.frame.len() > FRAME_LIMIT {
         return Ok(Turn::Goes(closed_text(alloc)?));
@@ -115,7 +124,9 @@ fn frame_turn(alloc: Global, core: &mut Core, sent: Sent) -> Result<Turn, AllocE
 fn unasked_turn(alloc: Global, core: &mut Core, event: Event) -> Result<Turn, AllocError>
     requires up { core.old.down ≡ false }
     requires fits { EventFits event }
-    ensures { IfOk result (Turns (unasked_turn core.old.settings (events_of core.old.trail) event) core.old.settings core.new) }
+    ensures { IfOk result
+        (IsTransition (unasked_transition core.old.settings (events_of core.old.trail) event)
+        core.old.settings core.new) }
 {
     step(alloc, core, 0, event)
 }
@@ -123,7 +134,9 @@ fn unasked_turn(alloc: Global, core: &mut Core, event: Event) -> Result<Turn, Al
 /// Does what was asked for.
 fn order_turn(alloc: Global, core: &mut Core, order: Order) -> Result<Turn, AllocError>
     requires up { core.old.down ≡ false }
-    ensures { IfOk result (Turns (order_turn core.old.settings (events_of core.old.trail) order) core.old.settings core.new) }
+    ensures { IfOk result
+        (IsTransition (order_transition core.old.settings (events_of core.old.trail) order)
+        core.old.settings core.new) }
 {
     match order {
         Order::Ask(sent) => frame_turn(alloc, core, sent),
@@ -140,7 +153,9 @@ pub(crate) fn line_turn(
     line: &[u8],
 ) -> Result<Turn, AllocError>
     requires up { core.old.down ≡ false }
-    ensures { IfOk result (Turns (line_turn core.old.settings (events_of core.old.trail) number line.now) core.old.settings core.new) }
+    ensures { IfOk result
+        (IsTransition (line_transition core.old.settings (events_of core.old.trail) number line.now)
+        core.old.settings core.new) }
 {
     match parse_order(alloc, content(line))? {
         Ok(order) => order_turn(alloc, core, order),

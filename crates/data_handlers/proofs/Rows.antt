@@ -1,7 +1,7 @@
 -- The definitions computed on worked cases.
 use Rattle.std.specs.Prelude.{◌≡◌, pos, [], ◌∷◌, Some, None, refl}
 use Rattle.wire_types.specs.declared.error_code.ErrorCode.TheVariants as codes
-use Rattle.transactions.specs.Coordinator.{no_transactions}
+use Rattle.txn_coordinator.specs.Coordinator.{no_transactions}
 use Rattle.data_handlers.specs.Judged.{held_code, partition_at}
 
 -- ---- a batch of a transaction, where there is none

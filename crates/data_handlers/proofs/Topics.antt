@@ -5,7 +5,7 @@ use Rattle.std.specs.Option.{option_to_list}
 use Rattle.acl_binding.specs.declared.question.Caller.{Caller}
 use Rattle.authorizer.specs.declared.answer.Refusal.{Refusal}
 use Rattle.authorizer.specs.Asking.{Rules, part_paid}
-use Rattle.authorizer.specs.Tally.{raised, counted}
+use Rattle.authorizer.specs.Tally.{count_after, count_after_parts}
 use Rattle.broker_world.specs.World.{World, rules_of}
 use Rattle.broker_world.specs.Questions.{topic_part, topic_refusal}
 use Rattle.broker_world.proofs.Parts.{drop_get}
@@ -23,5 +23,5 @@ described_at w caller names i name h = ap (λ l. plain_topics w (describable (ru
 
 -- what is spent for the topic at a place, and then for the rest
 pub counted_at : (rules : Rules) (caller : Caller) (n : ℕ) (names : List (List ℕ)) (i : ℕ) (name : List ℕ) → slice_get names i ≡ Some name
-    → counted rules n (map (topic_part caller) (drop i names)) ≡ counted rules (raised n (part_paid rules (topic_part caller name))) (map (topic_part caller) (drop (i + 1) names))
-counted_at rules caller n names i name h = ap (λ l. counted rules n (map (topic_part caller) l)) (drop_get names i name h)
+    → count_after_parts rules n (map (topic_part caller) (drop i names)) ≡ count_after_parts rules (count_after n (part_paid rules (topic_part caller name))) (map (topic_part caller) (drop (i + 1) names))
+counted_at rules caller n names i name h = ap (λ l. count_after_parts rules n (map (topic_part caller) l)) (drop_get names i name h)

@@ -5,7 +5,7 @@ use Rattle.std.proofs.Common.{zero-le}
 use Rattle.acl_binding.specs.declared.question.Caller.{Caller}
 use Rattle.acl_binding.specs.declared.words.Kind.TheVariants as kinds
 use Rattle.acl_binding.specs.declared.words.Operation.TheVariants as operations
-use Rattle.acl_binding.specs.Verdict.{asked}
+use Rattle.acl_binding.specs.Verdict.{question_of}
 use Rattle.wire_types.specs.declared.error_code.ErrorCode.{ErrorCode}
 use Rattle.wire_types.specs.declared.error_code.ErrorCode.TheVariants as codes
 use Rattle.record_batch.specs.Batch.{BatchData}
@@ -23,21 +23,21 @@ use Rattle.msg_admin.specs.declared.reply.Reply.TheVariants as replies
 use Rattle.walk.specs.Rule.{PartRule}
 use Rattle.walk.specs.Walk.{answers, refusals}
 use Rattle.walk.specs.Woven.{has_any}
-use Rattle.data_handlers.specs.declared.room.Room.{Room}
+use Rattle.data_handlers.specs.declared.fetch_budget.FetchBudget.{FetchBudget}
 use Rattle.broker_world.specs.World.{World, TopicValue, LogValue, rules_of}
-use Rattle.broker_world.specs.First.{magnitude}
-use Rattle.broker_world.specs.Outcome.{Outcome}
+use Rattle.broker_world.specs.First.{non_negative}
+use Rattle.broker_world.specs.HandlerResult.{HandlerResult}
 use Rattle.broker_world.specs.Logs.{log_at}
 
 -- ---- how much may be served
 
 -- the lesser of what is left of the request's bytes and what is wanted of the partition; a negative number is none
-abbrev pub room_for : Room → FetchPartition → ℕ
-room_for room p = min (magnitude p.max_bytes) room.left
+abbrev pub budget_for : FetchBudget → FetchPartition → ℕ
+budget_for room p = min (non_negative p.max_bytes) room.left
 
 -- what is left once the batches were given
-abbrev pub less : Room → List BatchData → Room
-less room batches = record { left = room.left - total_bytes batches; given = room.given || has_any batches }
+abbrev pub room_after_batches : FetchBudget → List BatchData → FetchBudget
+room_after_batches room batches = record { left = room.left - total_bytes batches; given = room.given || has_any batches }
 
 -- ---- a partition, permission aside
 
@@ -45,38 +45,38 @@ abbrev pub is_outside : LogValue → ℤ → Bool
 is_outside log offset = int_lt offset (pos 0) || int_lt (end_of log) offset
 
 -- What is served of a partition: where none of the answer was given a batch yet, one is forced.
-abbrev pub served_by : Isolation → Room → FetchPartition → Option LogValue → Result Served ErrorCode
+abbrev pub served_by : Isolation → FetchBudget → FetchPartition → Option LogValue → Result Served ErrorCode
 served_by level room p None = Err codes.UnknownTopicOrPartition
-served_by level room p (Some log) = if is_outside log p.offset then Err codes.OffsetOutOfRange else Ok (served_of log p.offset level (room_for room p) (not room.given))
+served_by level room p (Some log) = if is_outside log p.offset then Err codes.OffsetOutOfRange else Ok (served_of log p.offset level (budget_for room p) (not room.given))
 
-abbrev pub served_at : Isolation → List TopicValue → Room → List ℕ → FetchPartition → Result Served ErrorCode
+abbrev pub served_at : Isolation → List TopicValue → FetchBudget → List ℕ → FetchPartition → Result Served ErrorCode
 served_at level topics room name p = served_by level room p (log_at topics name p.index)
 
 abbrev pub fetched_error : ErrorCode → FetchPartition → FetchedRecords
 fetched_error code p = record { index = p.index; error = code; high_watermark = negsuc 0; last_stable_offset = negsuc 0; aborted = None; records = [] }
 
--- the batches, one behind the other
+-- the batches, one after the other
 abbrev pub batch_bytes : List BatchData → List ℕ
 batch_bytes batches = flat_map (λ (b : BatchData). b.bytes) batches
 
 -- read_committed is told the aborted transactions, of which there may be none, and read_uncommitted no list
-abbrev pub list_told : Isolation → List AbortedTransaction → Option (List AbortedTransaction)
-list_told levels.ReadUncommitted list = None
-list_told levels.ReadCommitted list = Some list
+abbrev pub aborted_list : Isolation → List AbortedTransaction → Option (List AbortedTransaction)
+aborted_list levels.ReadUncommitted list = None
+aborted_list levels.ReadCommitted list = Some list
 
-abbrev pub fetched : Isolation → FetchPartition → Result Served ErrorCode → FetchedRecords
-fetched level p (Err code) = fetched_error code p
-fetched level p (Ok s) = record { index = p.index; error = codes.None; high_watermark = s.high; last_stable_offset = s.stable; aborted = list_told level s.aborted; records = batch_bytes s.batches }
+abbrev pub fetched_partition : Isolation → FetchPartition → Result Served ErrorCode → FetchedRecords
+fetched_partition level p (Err code) = fetched_error code p
+fetched_partition level p (Ok s) = record { index = p.index; error = codes.None; high_watermark = s.high; last_stable_offset = s.stable; aborted = aborted_list level s.aborted; records = batch_bytes s.batches }
 
-abbrev pub room_after : Room → Result Served ErrorCode → Room
+abbrev pub room_after : FetchBudget → Result Served ErrorCode → FetchBudget
 room_after room (Err code) = room
-room_after room (Ok s) = less room s.batches
+room_after room (Ok s) = room_after_batches room s.batches
 
 -- it changes nothing but the room of its answer
-abbrev pub fetch_rule : Caller → Isolation → List TopicValue → PartRule FetchPartition FetchedRecords Room
+abbrev pub fetch_rule : Caller → Isolation → List TopicValue → PartRule FetchPartition FetchedRecords FetchBudget
 fetch_rule caller level topics = record {
-  questions = λ name p. asked caller operations.Read kinds.Topic name ∷ [];
-  plain = λ room name p. fetched level p (served_at level topics room name p);
+  questions = λ name p. question_of caller operations.Read kinds.Topic name ∷ [];
+  plain = λ room name p. fetched_partition level p (served_at level topics room name p);
   after = λ room name p. room_after room (served_at level topics room name p);
   refused = λ code name p. fetched_error code p;
   weight = λ p. 0;
@@ -86,12 +86,12 @@ fetch_rule caller level topics = record {
 
 -- ---- the request
 
-abbrev pub whole_room : FetchRequest → Room
-whole_room r = record { left = magnitude r.max_bytes; given = false }
+abbrev pub whole_budget : FetchRequest → FetchBudget
+whole_budget r = record { left = non_negative r.max_bytes; given = false }
 
-abbrev pub fetch_outcome : World → Caller → FetchRequest → Outcome
+abbrev pub fetch_outcome : World → Caller → FetchRequest → HandlerResult
 fetch_outcome w caller r = record {
   world = w;
-  reply = replies.Fetch (record { throttle = pos 0; topics = answers (fetch_rule caller r.isolation w.topics) (rules_of w) (whole_room r) r.topics });
+  reply = replies.Fetch (record { throttle = pos 0; topics = answers (fetch_rule caller r.isolation w.topics) (rules_of w) (whole_budget r) r.topics });
   refusals = refusals (fetch_rule caller r.isolation w.topics) (rules_of w) r.topics;
 }

@@ -5,7 +5,7 @@ use Rattle.std.proofs.Common.{zero-le}
 use Rattle.acl_binding.specs.declared.question.Caller.{Caller}
 use Rattle.acl_binding.specs.declared.words.Kind.TheVariants as kinds
 use Rattle.acl_binding.specs.declared.words.Operation.TheVariants as operations
-use Rattle.acl_binding.specs.Verdict.{asked}
+use Rattle.acl_binding.specs.Verdict.{question_of}
 use Rattle.wire_types.specs.declared.error_code.ErrorCode.{ErrorCode}
 use Rattle.wire_types.specs.declared.error_code.ErrorCode.TheVariants as codes
 use Rattle.partition_log.specs.Fetch.{limit_of}
@@ -17,7 +17,7 @@ use Rattle.msg_admin.specs.declared.reply.Reply.TheVariants as replies
 use Rattle.walk.specs.Rule.{PartRule}
 use Rattle.walk.specs.Walk.{answers, refusals}
 use Rattle.broker_world.specs.World.{World, TopicValue, LogValue, rules_of}
-use Rattle.broker_world.specs.Outcome.{Outcome}
+use Rattle.broker_world.specs.HandlerResult.{HandlerResult}
 use Rattle.broker_world.specs.Logs.{log_at}
 
 -- ---- a partition, permission aside
@@ -34,18 +34,18 @@ abbrev pub listed_in : Isolation → LogValue → WantedOffset → FoundOffset
 listed_in level log p = if int_eq p.timestamp (negsuc 0) then listed_at (limit_of level log) p else if int_eq p.timestamp (negsuc 1) then listed_at (pos 0) p else listed_error codes.InvalidRequest p
 
 -- whether the partition is there comes first
-abbrev pub listed_by : Isolation → WantedOffset → Option LogValue → FoundOffset
-listed_by level p None = listed_error codes.UnknownTopicOrPartition p
-listed_by level p (Some log) = listed_in level log p
+abbrev pub listed_offset_by : Isolation → WantedOffset → Option LogValue → FoundOffset
+listed_offset_by level p None = listed_error codes.UnknownTopicOrPartition p
+listed_offset_by level p (Some log) = listed_in level log p
 
-abbrev pub listed : Isolation → List TopicValue → List ℕ → WantedOffset → FoundOffset
-listed level topics name p = listed_by level p (log_at topics name p.index)
+abbrev pub listed_offset : Isolation → List TopicValue → List ℕ → WantedOffset → FoundOffset
+listed_offset level topics name p = listed_offset_by level p (log_at topics name p.index)
 
 -- it changes nothing
 abbrev pub list_rule : Caller → Isolation → List TopicValue → PartRule WantedOffset FoundOffset (Unit {0})
 list_rule caller level topics = record {
-  questions = λ name p. asked caller operations.Describe kinds.Topic name ∷ [];
-  plain = λ w name p. listed level topics name p;
+  questions = λ name p. question_of caller operations.Describe kinds.Topic name ∷ [];
+  plain = λ w name p. listed_offset level topics name p;
   after = λ w name p. w;
   refused = λ code name p. listed_error code p;
   weight = λ p. 0;
@@ -55,7 +55,7 @@ list_rule caller level topics = record {
 
 -- ---- the request
 
-abbrev pub list_offsets_outcome : World → Caller → ListOffsetsRequest → Outcome
+abbrev pub list_offsets_outcome : World → Caller → ListOffsetsRequest → HandlerResult
 list_offsets_outcome w caller r = record {
   world = w;
   reply = replies.ListOffsets (record { throttle = pos 0; topics = answers (list_rule caller r.isolation w.topics) (rules_of w) tt r.topics });

@@ -8,14 +8,13 @@ use Rattle.authorizer.specs.declared.answer.Refusal.{Refusal}
 use Rattle.authorizer.specs.Asking.{Rules}
 use Rattle.wire_types.specs.declared.error_code.ErrorCode.{ErrorCode}
 use Rattle.wire_types.specs.declared.error_code.ErrorCode.TheVariants as codes
-use Rattle.msg_data.specs.declared.metadata.BrokerInfo.{BrokerInfo}
 use Rattle.msg_data.specs.declared.metadata.TopicInfo.{TopicInfo}
 use Rattle.msg_data.specs.declared.metadata.MetadataRequest.{MetadataRequest}
 use Rattle.msg_data.specs.declared.metadata.MetadataReply.{MetadataReply}
-use Rattle.broker_world.specs.declared.node.Node.{Node}
+use Rattle.broker_world.specs.Brokers.{brokers_of}
 use Rattle.broker_world.specs.World.{World, TopicValue, rules_of, find_topic, topic_names}
 use Rattle.broker_world.specs.Partitions.{partitions_from}
-use Rattle.broker_world.specs.Outcome.{Outcome}
+use Rattle.broker_world.specs.HandlerResult.{HandlerResult}
 use Rattle.msg_admin.specs.declared.reply.Reply.TheVariants as replies
 use Rattle.walk.specs.Codes.{refusal_code}
 use Rattle.walk.specs.Weave.{weave}
@@ -67,12 +66,9 @@ metadata_parts w caller (Some names) = map (topic_part caller) names
 abbrev pub metadata_topics : World → Caller → Option (List (List ℕ)) → List TopicInfo
 metadata_topics w caller topics = weave (refused_topics (rules_of w) caller topics) (plain_topics w (allowed_topics w caller topics))
 
-abbrev pub broker_info : Node → BrokerInfo
-broker_info node = record { node = node.node_id; host = node.host; port = node.port; rack = None }
-
 -- the one node leads the cluster
 abbrev pub metadata_answer : World → Caller → MetadataRequest → MetadataReply
-metadata_answer w caller m = record { brokers = broker_info w.node ∷ []; controller = w.node.node_id; topics = metadata_topics w caller m.topics }
+metadata_answer w caller m = record { brokers = brokers_of w.node; controller = w.node.node_id; topics = metadata_topics w caller m.topics }
 
 -- one refusal for each refused part, in order
 abbrev pub topic_refusals : Rules → Caller → Option (List (List ℕ)) → List Refusal
@@ -82,7 +78,7 @@ topic_refusals rules caller (Some names) = filter_map (topic_refusal rules calle
 abbrev pub metadata_refusals : Rules → Caller → MetadataRequest → List Refusal
 metadata_refusals rules caller m = topic_refusals rules caller m.topics
 
-abbrev pub metadata_outcome : World → Caller → MetadataRequest → Outcome
+abbrev pub metadata_outcome : World → Caller → MetadataRequest → HandlerResult
 metadata_outcome w caller m = record { world = w; reply = replies.Metadata (metadata_answer w caller m); refusals = metadata_refusals (rules_of w) caller m }
 
 -- ---- one topic after the other

@@ -7,12 +7,12 @@ use Rattle.acl_binding.specs.declared.question.Caller.{Caller}
 use Rattle.acl_binding.specs.declared.question.Question.{Question}
 use Rattle.acl_binding.specs.declared.words.Kind.TheVariants as kinds
 use Rattle.acl_binding.specs.declared.words.Operation.TheVariants as operations
-use Rattle.acl_binding.specs.Verdict.{asked}
+use Rattle.acl_binding.specs.Verdict.{question_of}
 use Rattle.wire_types.specs.declared.error_code.ErrorCode.{ErrorCode}
 use Rattle.wire_types.specs.declared.error_code.ErrorCode.TheVariants as codes
 use Rattle.wire_types.specs.declared.topic.Topic.{Topic}
 use Rattle.record_batch.specs.Batch.{BatchData}
-use Rattle.transactions.specs.Coordinator.{CoordinatorValue}
+use Rattle.txn_coordinator.specs.Coordinator.{CoordinatorValue}
 use Rattle.msg_data.specs.declared.produce.ProduceRequest.{ProduceRequest}
 use Rattle.msg_data.specs.declared.produce.ProducedRecords.{ProducedRecords}
 use Rattle.msg_data.specs.declared.produce.ProducedOffset.{ProducedOffset}
@@ -21,17 +21,17 @@ use Rattle.msg_admin.specs.declared.reply.Reply.TheVariants as replies
 use Rattle.walk.specs.Rule.{PartRule}
 use Rattle.walk.specs.Walk.{world_after, answers, refusals}
 use Rattle.broker_world.specs.World.{World, TopicValue, LogValue, rules_of}
-use Rattle.broker_world.specs.First.{magnitude}
-use Rattle.broker_world.specs.Outcome.{Outcome}
-use Rattle.broker_world.specs.Logs.{log_at, room_of, offset_in}
-use Rattle.data_handlers.specs.Judged.{partition_at, judged, topics_produced, records_size}
+use Rattle.broker_world.specs.First.{non_negative}
+use Rattle.broker_world.specs.HandlerResult.{HandlerResult}
+use Rattle.broker_world.specs.Logs.{log_at, offsets_left, offset_in}
+use Rattle.data_handlers.specs.Judged.{partition_at, batch_to_append, topics_produced, records_size}
 use Rattle.data_handlers.specs.RoomLaws.{produce_takes}
 
 -- ---- what is asked
 
 -- to write with the transactional id, if one is given, and then to write the topic
 abbrev pub produce_questions : Caller → Option (List ℕ) → List ℕ → List Question
-produce_questions caller id name = cons_option (option_map (asked caller operations.Write kinds.TransactionalId) id) (asked caller operations.Write kinds.Topic name ∷ [])
+produce_questions caller id name = cons_option (option_map (question_of caller operations.Write kinds.TransactionalId) id) (question_of caller operations.Write kinds.Topic name ∷ [])
 
 -- ---- a partition, permission aside
 
@@ -47,41 +47,41 @@ produced_to p (Err code) = produced_error code p
 produced_to p (Ok offset) = produced_at offset p
 
 -- whether the partition is there comes before what is wrong with the batch
-abbrev pub unproduced : ErrorCode → ProducedRecords → Option LogValue → ProducedOffset
-unproduced code p None = produced_error codes.UnknownTopicOrPartition p
-unproduced code p (Some log) = produced_error code p
+abbrev pub produce_failure : ErrorCode → ProducedRecords → Option LogValue → ProducedOffset
+produce_failure code p None = produced_error codes.UnknownTopicOrPartition p
+produce_failure code p (Some log) = produced_error code p
 
-abbrev pub produced_by : Result BatchData ErrorCode → ProducedRecords → Option LogValue → ProducedOffset
-produced_by (Ok b) p log = produced_to p (offset_in b log)
-produced_by (Err code) p log = unproduced code p log
+abbrev pub produce_answer_by : Result BatchData ErrorCode → ProducedRecords → Option LogValue → ProducedOffset
+produce_answer_by (Ok b) p log = produced_to p (offset_in b log)
+produce_answer_by (Err code) p log = produce_failure code p log
 
-abbrev pub produced : Result BatchData ErrorCode → List TopicValue → List ℕ → ProducedRecords → ProducedOffset
-produced batch topics name p = produced_by batch p (log_at topics name p.index)
+abbrev pub produce_answer : Result BatchData ErrorCode → List TopicValue → List ℕ → ProducedRecords → ProducedOffset
+produce_answer batch topics name p = produce_answer_by batch p (log_at topics name p.index)
 
 -- A batch has no more records than bytes.
 abbrev pub produce_rule : Caller → ℕ → CoordinatorValue → Option (List ℕ) → ℤ → PartRule ProducedRecords ProducedOffset (List TopicValue)
 produce_rule caller most c id acks = record {
   questions = λ name p. produce_questions caller id name;
-  plain = λ topics name p. produced (judged most c id acks (partition_at name p.index) p.records) topics name p;
-  after = λ topics name p. topics_produced (judged most c id acks (partition_at name p.index) p.records) topics name p.index;
+  plain = λ topics name p. produce_answer (batch_to_append most c id acks (partition_at name p.index) p.records) topics name p;
+  after = λ topics name p. topics_produced (batch_to_append most c id acks (partition_at name p.index) p.records) topics name p.index;
   refused = λ code name p. produced_error code p;
   weight = λ p. records_size p.records;
-  room = room_of;
+  room = offsets_left;
   takes = λ topics name p. produce_takes most c id acks topics name p;
 }
 
 -- ---- the request
 
-abbrev pub producing : World → Caller → ProduceRequest → PartRule ProducedRecords ProducedOffset (List TopicValue)
-producing w caller r = produce_rule caller (magnitude w.node.max_batch) w.coordinator r.transactional_id r.acks
+abbrev pub producing_rule : World → Caller → ProduceRequest → PartRule ProducedRecords ProducedOffset (List TopicValue)
+producing_rule w caller r = produce_rule caller (non_negative w.node.max_batch) w.coordinator r.transactional_id r.acks
 
 -- with acks 0 nothing is sent
 abbrev pub produce_reply : ℤ → List (Topic ProducedOffset) → Reply
 produce_reply acks topics = if int_eq acks (pos 0) then replies.SilentProduce (record { topics = topics; throttle = pos 0 }) else replies.Produce (record { topics = topics; throttle = pos 0 })
 
-abbrev pub produce_outcome : World → Caller → ProduceRequest → Outcome
+abbrev pub produce_outcome : World → Caller → ProduceRequest → HandlerResult
 produce_outcome w caller r = record {
-  world = record w { topics = world_after (producing w caller r) (rules_of w) w.topics r.topics };
-  reply = produce_reply r.acks (answers (producing w caller r) (rules_of w) w.topics r.topics);
-  refusals = refusals (producing w caller r) (rules_of w) r.topics;
+  world = record w { topics = world_after (producing_rule w caller r) (rules_of w) w.topics r.topics };
+  reply = produce_reply r.acks (answers (producing_rule w caller r) (rules_of w) w.topics r.topics);
+  refusals = refusals (producing_rule w caller r) (rules_of w) r.topics;
 }

@@ -2,15 +2,15 @@
 
 ghost use Rattle.std.specs.Prelude.{◌≡◌, [], IfOk};
 ghost use Rattle.std.specs.Option.{option_copied};
-ghost use Rattle.authorizer.specs.Tally.{counted};
+ghost use Rattle.authorizer.specs.Tally.{count_after_parts};
 ghost use Rattle.walk.specs.Walk.{asked_in};
 ghost use Rattle.broker_world.specs.World.{rules_of};
-ghost use Rattle.data_handlers.specs.Fetch.{fetch_rule, room_for, less, served_by, served_at, fetched_error, batch_bytes, list_told, fetched, room_after, whole_room, fetch_outcome};
+ghost use Rattle.data_handlers.specs.Fetch.{fetch_rule, budget_for, room_after_batches, served_by, served_at, fetched_error, batch_bytes, aborted_list, fetched_partition, room_after, whole_budget, fetch_outcome};
 
-use crate::room::Room;
+use crate::fetch_budget::FetchBudget;
 use acl_binding::{Caller, Kind, Operation};
 use authorizer::{Paid, Policy, ask_one};
-use broker_world::{Outcome, State, Topics, magnitude, served_in_parts};
+use broker_world::{HandlerResult, State, Topics, non_negative, served_in_parts};
 use msg_admin::Reply;
 use msg_data::{
     AbortedTransaction, FetchPartition, FetchReply, FetchRequest, FetchedRecords, Isolation,
@@ -23,13 +23,13 @@ use wire_types::{ErrorCode, Items, Pieces, Text};
 
 /// Who fetches, what that reader sees of transactions, and from what.
 #[derive(Drop)]
-pub(crate) struct Fetching<'a> {
+pub(crate) struct FetchHandler<'a> {
     pub(crate) caller: &'a Caller,
     pub(crate) isolation: Isolation,
     pub(crate) topics: &'a Topics,
 }
 
-impl<'a> PartApi<FetchPartition, FetchedRecords, Room> for Fetching<'a> {
+impl<'a> PartApi<FetchPartition, FetchedRecords, FetchBudget> for FetchHandler<'a> {
     ghost use Rattle.std.specs.Prelude.{false};
     ghost use Rattle.data_handlers.specs.Fetch.{fetch_rule};
 
@@ -43,7 +43,7 @@ impl<'a> PartApi<FetchPartition, FetchedRecords, Room> for Fetching<'a> {
         &self,
         alloc: Global,
         policy: &Policy,
-        room: &mut Room,
+        room: &mut FetchBudget,
         name: &Text,
         part: &FetchPartition,
     ) -> Result<Part<FetchedRecords>, AllocError> {
@@ -69,11 +69,12 @@ fn serve(
     alloc: Global,
     topics: &Topics,
     isolation: Isolation,
-    room: Room,
+    room: FetchBudget,
     name: &Text,
     part: &FetchPartition,
 ) -> Result<Result<Served, ErrorCode>, AllocError>
-    ensures { IfOk result (λ served. served ≡ served_at isolation topics.now room name.now part.now) }
+    ensures { IfOk result
+        (λ served. served ≡ served_at isolation topics.now room name.now part.now) }
 {
     serve_from(alloc, topics.log(name, part.index), isolation, room, part)
 }
@@ -82,10 +83,11 @@ fn serve_from(
     alloc: Global,
     log: Option<&Log>,
     isolation: Isolation,
-    room: Room,
+    room: FetchBudget,
     part: &FetchPartition,
 ) -> Result<Result<Served, ErrorCode>, AllocError>
-    ensures { IfOk result (λ served. served ≡ served_by isolation room part.now (option_copied log.entry)) }
+    ensures { IfOk result
+        (λ served. served ≡ served_by isolation room part.now (option_copied log.entry)) }
 {
     let Some(log) = log else {
         return Ok(Err(ErrorCode::UnknownTopicOrPartition));
@@ -98,16 +100,16 @@ fn serve_from(
     }
 }
 
-impl Room {
+impl FetchBudget {
     /// How many bytes may be served of a partition.
     fn most_for(&self, part: &FetchPartition) -> u64
-        ensures { result ≡ room_for self.now part.now }
+        ensures { result ≡ budget_for self.now part.now }
     {
-        u64::from(magnitude(part.max_bytes)).min(self.left)
+        u64::from(non_negative(part.max_bytes)).min(self.left)
     }
 
-    /// What is left behind what was served of a partition.
-    fn after(&self, served: &Result<Served, ErrorCode>) -> Room
+    /// What is left after what was served of a partition.
+    fn after(&self, served: &Result<Served, ErrorCode>) -> FetchBudget
         ensures { result ≡ room_after self.now served.now }
     {
         match served {
@@ -116,15 +118,15 @@ impl Room {
         }
     }
 
-    /// What is left behind the batches.
-    fn less(&self, batches: &[Batch]) -> Room
-        ensures { result ≡ less self.now batches.now }
+    /// What is left after the batches.
+    fn less(&self, batches: &[Batch]) -> FetchBudget
+        ensures { result ≡ room_after_batches self.now batches.now }
     {
         let mut left = self.left;
         for batch in batches {
             left = left.saturating_sub(batch.bytes().len() as u64);
         }
-        Room {
+        FetchBudget {
             left,
             given: self.given || !batches.is_empty(),
         }
@@ -151,7 +153,7 @@ fn fetched(
     isolation: Isolation,
     served: Result<Served, ErrorCode>,
 ) -> Result<FetchedRecords, AllocError>
-    ensures { IfOk result (λ answer. answer ≡ fetched isolation part.now served) }
+    ensures { IfOk result (λ answer. answer ≡ fetched_partition isolation part.now served) }
 {
     match served {
         Ok(served) => Ok(FetchedRecords {
@@ -171,7 +173,7 @@ fn list_told(
     isolation: Isolation,
     aborted: Items<AbortedTransaction>,
 ) -> Option<Items<AbortedTransaction>>
-    ensures { result ≡ list_told isolation aborted }
+    ensures { result ≡ aborted_list isolation aborted }
 {
     match isolation {
         Isolation::ReadUncommitted => None,
@@ -179,7 +181,7 @@ fn list_told(
     }
 }
 
-/// The batches, one behind the other. They share their bytes with the log.
+/// The batches, one after the other. They share their bytes with the log.
 fn joined(alloc: Global, batches: &[Batch]) -> Result<Pieces, AllocError>
     ensures { IfOk result (λ bytes. bytes ≡ batch_bytes batches.now) }
 {
@@ -196,18 +198,23 @@ pub fn answer_fetch(
     state: &State,
     caller: &Caller,
     request: &FetchRequest,
-) -> Result<Outcome, AllocError>
-    ensures reply { IfOk result (λ o. o.reply ≡ (fetch_outcome state.now caller.now request.now).reply) }
-    ensures refusals { IfOk result (λ o. o.refusals ≡ (fetch_outcome state.now caller.now request.now).refusals) }
+) -> Result<HandlerResult, AllocError>
+    ensures reply { IfOk result
+        (λ o. o.reply ≡ (fetch_outcome state.now caller.now request.now).reply) }
+    ensures refusals { IfOk result
+        (λ o. o.refusals ≡ (fetch_outcome state.now caller.now request.now).refusals) }
     ensures paid { IfOk result (λ o. o.paid ≡ []) }
-    ensures spent { IfOk result (λ o. o.spent ≡ counted (rules_of state.now) 0 (asked_in (fetch_rule caller.now request.now.isolation state.now.topics) request.now.topics)) }
+    ensures spent { IfOk result
+        (λ o. o.spent ≡ count_after_parts (rules_of state.now) 0
+        (asked_in (fetch_rule caller.now request.now.isolation state.now.topics)
+        request.now.topics)) }
 {
-    let api = Fetching {
+    let api = FetchHandler {
         caller,
         isolation: request.isolation,
         topics: state.topics(),
     };
-    let mut room = whole_room(request);
+    let mut room = whole_budget(request);
     let walked = walk(
         alloc,
         &api,
@@ -223,11 +230,11 @@ pub fn answer_fetch(
 }
 
 /// The room of a whole answer.
-fn whole_room(request: &FetchRequest) -> Room
-    ensures { result ≡ whole_room request.now }
+fn whole_budget(request: &FetchRequest) -> FetchBudget
+    ensures { result ≡ whole_budget request.now }
 {
-    Room {
-        left: u64::from(magnitude(request.max_bytes)),
+    FetchBudget {
+        left: u64::from(non_negative(request.max_bytes)),
         given: false,
     }
 }

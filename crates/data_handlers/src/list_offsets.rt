@@ -2,14 +2,14 @@
 
 ghost use Rattle.std.specs.Prelude.{◌≡◌, [], IfOk};
 ghost use Rattle.std.specs.Option.{option_copied};
-ghost use Rattle.authorizer.specs.Tally.{counted};
+ghost use Rattle.authorizer.specs.Tally.{count_after_parts};
 ghost use Rattle.walk.specs.Walk.{asked_in};
 ghost use Rattle.broker_world.specs.World.{rules_of};
-ghost use Rattle.data_handlers.specs.ListOffsets.{list_rule, listed_error, listed_at, listed_by, listed, list_offsets_outcome};
+ghost use Rattle.data_handlers.specs.ListOffsets.{list_rule, listed_error, listed_at, listed_offset_by, listed_offset, list_offsets_outcome};
 
 use acl_binding::{Caller, Kind, Operation};
 use authorizer::{Paid, Policy, ask_one};
-use broker_world::{Outcome, State, Topics, served_in_parts};
+use broker_world::{HandlerResult, State, Topics, served_in_parts};
 use msg_admin::Reply;
 use msg_data::{FoundOffset, Isolation, ListOffsetsReply, ListOffsetsRequest, WantedOffset};
 use partition_log::Log;
@@ -25,13 +25,13 @@ const START: i64 = -2;
 
 /// Who asks for offsets, what that reader sees of transactions, and of what.
 #[derive(Drop)]
-pub(crate) struct Listing<'a> {
+pub(crate) struct ListOffsetsHandler<'a> {
     pub(crate) caller: &'a Caller,
     pub(crate) isolation: Isolation,
     pub(crate) topics: &'a Topics,
 }
 
-impl<'a> PartApi<WantedOffset, FoundOffset, ()> for Listing<'a> {
+impl<'a> PartApi<WantedOffset, FoundOffset, ()> for ListOffsetsHandler<'a> {
     ghost use Rattle.std.specs.Prelude.{false};
     ghost use Rattle.data_handlers.specs.ListOffsets.{list_rule};
 
@@ -66,14 +66,14 @@ impl<'a> PartApi<WantedOffset, FoundOffset, ()> for Listing<'a> {
 
 /// The answer for a topic's partition.
 fn listed(topics: &Topics, isolation: Isolation, name: &Text, part: &WantedOffset) -> FoundOffset
-    ensures { result ≡ listed isolation topics.now name.now part.now }
+    ensures { result ≡ listed_offset isolation topics.now name.now part.now }
 {
     listed_by(topics.log(name, part.index), isolation, part)
 }
 
 /// The answer for a partition, if it is there.
 fn listed_by(log: Option<&Log>, isolation: Isolation, part: &WantedOffset) -> FoundOffset
-    ensures { result ≡ listed_by isolation part.now (option_copied log.entry) }
+    ensures { result ≡ listed_offset_by isolation part.now (option_copied log.entry) }
 {
     match log {
         Some(log) if part.timestamp == END => listed_at(log.limit(isolation), part),
@@ -111,13 +111,18 @@ pub fn answer_list_offsets(
     state: &State,
     caller: &Caller,
     request: &ListOffsetsRequest,
-) -> Result<Outcome, AllocError>
-    ensures reply { IfOk result (λ o. o.reply ≡ (list_offsets_outcome state.now caller.now request.now).reply) }
-    ensures refusals { IfOk result (λ o. o.refusals ≡ (list_offsets_outcome state.now caller.now request.now).refusals) }
+) -> Result<HandlerResult, AllocError>
+    ensures reply { IfOk result
+        (λ o. o.reply ≡ (list_offsets_outcome state.now caller.now request.now).reply) }
+    ensures refusals { IfOk result
+        (λ o. o.refusals ≡ (list_offsets_outcome state.now caller.now request.now).refusals) }
     ensures paid { IfOk result (λ o. o.paid ≡ []) }
-    ensures spent { IfOk result (λ o. o.spent ≡ counted (rules_of state.now) 0 (asked_in (list_rule caller.now request.now.isolation state.now.topics) request.now.topics)) }
+    ensures spent { IfOk result
+        (λ o. o.spent ≡ count_after_parts (rules_of state.now) 0
+        (asked_in (list_rule caller.now request.now.isolation state.now.topics)
+        request.now.topics)) }
 {
-    let api = Listing {
+    let api = ListOffsetsHandler {
         caller,
         isolation: request.isolation,
         topics: state.topics(),

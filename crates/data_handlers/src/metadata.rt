@@ -1,22 +1,22 @@
 //! Metadata: the cluster's one broker, and topics with their partitions.
 
-ghost use Rattle.std.specs.Prelude.{◌≡◌, [], ◌∷◌, false, IfOk, Some, None, pos};
-ghost use Rattle.std.specs.Option.{option_map};
+ghost use Rattle.std.specs.Prelude.{◌≡◌, [], false, IfOk, Some, None};
 ghost use Rattle.authorizer.specs.Asking.{part_paid};
-ghost use Rattle.authorizer.specs.Tally.{counted};
-ghost use Rattle.broker_world.specs.World.{rules_of, topic_names};
-ghost use Rattle.data_handlers.specs.Metadata.{topic_error, plain_topic, plain_topics, topic_refusals, topic_answer, describable, described_topic, metadata_topics, metadata_parts, broker_info, metadata_answer, metadata_outcome};
+ghost use Rattle.authorizer.specs.Tally.{count_after_parts};
+ghost use Rattle.broker_world.specs.World.{rules_of};
+ghost use Rattle.data_handlers.specs.Metadata.{topic_error, plain_topic, topic_refusals, topic_answer, described_topic, metadata_topics, metadata_parts, metadata_outcome};
+ghost use Rattle.broker_world.specs.Brokers.{brokers_of};
 ghost use Rattle.broker_world.specs.Questions.{topic_part, topic_refusal};
 ghost use Rattle.walk.specs.Steps.{ending_by, refusal_in, spent_in};
 
 use acl_binding::{Caller, Kind, Operation};
 use authorizer::{Paid, Refusal, Tally, ask_one};
-use broker_world::{Node, Outcome, State, served_in_parts};
+use broker_world::{Cluster, HandlerResult, State, served_in_parts};
 use msg_admin::Reply;
-use msg_data::{BrokerInfo, MetadataReply, MetadataRequest, SharedItems, TopicInfo};
+use msg_data::{MetadataReply, MetadataRequest, SharedItems, TopicInfo};
 use std::alloc::{AllocError, Global};
 use walk::Part;
-use wire_types::{ErrorCode, Items, Text};
+use wire_types::{Boxed, ErrorCode, Items, Text};
 
 /// The answers to the parts of a request, the refusals of those that were refused, and how many permits were spent for
 /// the others.
@@ -35,8 +35,11 @@ fn wanted_topics(
     names: &Option<Items<Text>>,
 ) -> Result<Answered, AllocError>
     ensures topics { IfOk result (λ a. a.topics ≡ metadata_topics state.now caller.now names.now) }
-    ensures refusals { IfOk result (λ a. a.refusals ≡ topic_refusals (rules_of state.now) caller.now names.now) }
-    ensures spent { IfOk result (λ a. a.spent ≡ counted (rules_of state.now) 0 (metadata_parts state.now caller.now names.now)) }
+    ensures refusals { IfOk result
+        (λ a. a.refusals ≡ topic_refusals (rules_of state.now) caller.now names.now) }
+    ensures spent { IfOk result
+        (λ a. a.spent ≡ count_after_parts (rules_of state.now) 0
+        (metadata_parts state.now caller.now names.now)) }
 {
     match names {
         Some(names) => named_topics(alloc, state, caller, names.as_slice()),
@@ -47,18 +50,23 @@ fn wanted_topics(
 /// The reply with these topics.
 fn metadata_reply(
     alloc: Global,
-    node: &Node,
+    cluster: &Cluster,
     topics: Items<TopicInfo>,
-) -> Result<MetadataReply, AllocError>
-    ensures { IfOk result (λ reply. reply ≡ record { brokers = broker_info node.now ∷ []; controller = node.now.node_id; topics = topics }) }
+) -> Result<Reply, AllocError>
+    ensures { IfOk result
+        (λ reply. reply ≡ Reply.Metadata
+        (record {
+          brokers = brokers_of cluster.now;
+          controller = cluster.now.node_id;
+          topics = topics;
+        })) }
 {
-    let mut brokers = Items::new(alloc);
-    brokers.push(broker_info(node)?)?;
-    Ok(MetadataReply {
-        brokers,
-        controller: node.node_id,
+    let reply = MetadataReply {
+        brokers: cluster.brokers()?,
+        controller: cluster.node().node_id,
         topics,
-    })
+    };
+    Ok(Reply::Metadata(Boxed::new(alloc, reply)?))
 }
 
 /// What a Metadata is answered.
@@ -67,15 +75,19 @@ pub fn answer_metadata(
     state: &State,
     caller: &Caller,
     request: &MetadataRequest,
-) -> Result<Outcome, AllocError>
-    ensures reply { IfOk result (λ o. o.reply ≡ (metadata_outcome state.now caller.now request.now).reply) }
-    ensures refusals { IfOk result (λ o. o.refusals ≡ (metadata_outcome state.now caller.now request.now).refusals) }
+) -> Result<HandlerResult, AllocError>
+    ensures reply { IfOk result
+        (λ o. o.reply ≡ (metadata_outcome state.now caller.now request.now).reply) }
+    ensures refusals { IfOk result
+        (λ o. o.refusals ≡ (metadata_outcome state.now caller.now request.now).refusals) }
     ensures paid { IfOk result (λ o. o.paid ≡ []) }
-    ensures spent { IfOk result (λ o. o.spent ≡ counted (rules_of state.now) 0 (metadata_parts state.now caller.now request.now.topics)) }
+    ensures spent { IfOk result
+        (λ o. o.spent ≡ count_after_parts (rules_of state.now) 0
+        (metadata_parts state.now caller.now request.now.topics)) }
 {
     let answered = wanted_topics(alloc, state, caller, &request.topics)?;
-    let reply = metadata_reply(alloc, state.node(), answered.topics)?;
-    Ok(served_in_parts(Reply::Metadata(reply), answered.refusals, answered.spent))
+    let reply = metadata_reply(alloc, &state.cluster, answered.topics)?;
+    Ok(served_in_parts(reply, answered.refusals, answered.spent))
 }
 
 /// The answers for topics that are named, one after the other.
@@ -85,9 +97,13 @@ fn named_topics(
     caller: &Caller,
     names: &[Text],
 ) -> Result<Answered, AllocError>
-    ensures topics { IfOk result (λ a. a.topics ≡ metadata_topics state.now caller.now (Some names.now)) }
-    ensures refusals { IfOk result (λ a. a.refusals ≡ topic_refusals (rules_of state.now) caller.now (Some names.now)) }
-    ensures spent { IfOk result (λ a. a.spent ≡ counted (rules_of state.now) 0 (metadata_parts state.now caller.now (Some names.now))) }
+    ensures topics { IfOk result
+        (λ a. a.topics ≡ metadata_topics state.now caller.now (Some names.now)) }
+    ensures refusals { IfOk result
+        (λ a. a.refusals ≡ topic_refusals (rules_of state.now) caller.now (Some names.now)) }
+    ensures spent { IfOk result
+        (λ a. a.spent ≡ count_after_parts (rules_of state.now) 0
+        (metadata_parts state.now caller.now (Some names.now))) }
 {
     let mut topics = Items::new(alloc);
     let mut refusals = Items::new(alloc);
@@ -111,10 +127,17 @@ fn named_topic(
     caller: &Caller,
     name: &Text,
 ) -> Result<Part<TopicInfo>, AllocError>
-    ensures answer { IfOk result (λ part. part.answer ≡ topic_answer state.now caller.now name.now) }
-    ensures ending { IfOk result (λ part. part.ending ≡ ending_by false (topic_refusal (rules_of state.now) caller.now name.now) (topic_part caller.now name.now)) }
-    ensures refusal { IfOk result (λ part. refusal_in part.ending ≡ topic_refusal (rules_of state.now) caller.now name.now) }
-    ensures spent { IfOk result (λ part. spent_in part.ending ≡ part_paid (rules_of state.now) (topic_part caller.now name.now)) }
+    ensures answer { IfOk result
+        (λ part. part.answer ≡ topic_answer state.now caller.now name.now) }
+    ensures ending { IfOk result
+        (λ part. part.ending
+        ≡ ending_by false (topic_refusal (rules_of state.now) caller.now name.now)
+        (topic_part caller.now name.now)) }
+    ensures refusal { IfOk result
+        (λ part. refusal_in part.ending ≡ topic_refusal (rules_of state.now) caller.now name.now) }
+    ensures spent { IfOk result
+        (λ part. spent_in part.ending ≡ part_paid (rules_of state.now)
+        (topic_part caller.now name.now)) }
 {
     let question = caller.asks(Operation::Describe, Kind::Topic, name)?;
     let policy = state.policy();
@@ -134,7 +157,9 @@ fn named_topic(
 fn described_topics(alloc: Global, state: &State, caller: &Caller) -> Result<Answered, AllocError>
     ensures topics { IfOk result (λ a. a.topics ≡ metadata_topics state.now caller.now None) }
     ensures refusals { IfOk result (λ a. a.refusals ≡ []) }
-    ensures spent { IfOk result (λ a. a.spent ≡ counted (rules_of state.now) 0 (metadata_parts state.now caller.now None)) }
+    ensures spent { IfOk result
+        (λ a. a.spent ≡ count_after_parts (rules_of state.now) 0
+        (metadata_parts state.now caller.now None)) }
 {
     let mut topics = Items::new(alloc);
     let mut spent = Tally::none();
@@ -158,9 +183,15 @@ fn described_topic(
     caller: &Caller,
     name: &Text,
 ) -> Result<Part<Option<TopicInfo>>, AllocError>
-    ensures answer { IfOk result (λ part. part.answer ≡ described_topic state.now caller.now name.now) }
-    ensures ending { IfOk result (λ part. part.ending ≡ ending_by false (topic_refusal (rules_of state.now) caller.now name.now) (topic_part caller.now name.now)) }
-    ensures spent { IfOk result (λ part. spent_in part.ending ≡ part_paid (rules_of state.now) (topic_part caller.now name.now)) }
+    ensures answer { IfOk result
+        (λ part. part.answer ≡ described_topic state.now caller.now name.now) }
+    ensures ending { IfOk result
+        (λ part. part.ending
+        ≡ ending_by false (topic_refusal (rules_of state.now) caller.now name.now)
+        (topic_part caller.now name.now)) }
+    ensures spent { IfOk result
+        (λ part. spent_in part.ending ≡ part_paid (rules_of state.now)
+        (topic_part caller.now name.now)) }
 {
     let question = caller.asks(Operation::Describe, Kind::Topic, name)?;
     let policy = state.policy();
@@ -187,17 +218,6 @@ fn plain_topic(alloc: Global, state: &State, name: &Text) -> Result<TopicInfo, A
         }),
         None => topic_error(ErrorCode::UnknownTopicOrPartition, name),
     }
-}
-
-fn broker_info(node: &Node) -> Result<BrokerInfo, AllocError>
-    ensures { IfOk result (λ b. b ≡ broker_info node.now) }
-{
-    Ok(BrokerInfo {
-        node: node.node_id,
-        host: node.host.clone()?,
-        port: node.port,
-        rack: None,
-    })
 }
 
 fn topic_error(error: ErrorCode, name: &Text) -> Result<TopicInfo, AllocError>

@@ -3,33 +3,31 @@
 ghost use Rattle.std.specs.Prelude.{◌≡◌, ◌≤◌, ◌+◌, [], length, IfOk, OnOk};
 ghost use Rattle.std.specs.Option.{option_copied};
 ghost use Rattle.walk.specs.Walk.{asked_in, topics_weight};
-ghost use Rattle.authorizer.specs.Tally.{counted};
+ghost use Rattle.authorizer.specs.Tally.{count_after_parts};
 ghost use Rattle.broker_world.specs.World.{rules_of};
-ghost use Rattle.broker_world.specs.Logs.{MayWrite, room_of, most_end};
-ghost use Rattle.data_handlers.specs.Sent.{sent};
-ghost use Rattle.data_handlers.specs.Judged.{partition_at, pair_of, held_code, are_acks, given_code, producer_code, passed, batch_in, judged, topics_produced, records_size};
-ghost use Rattle.broker_world.specs.Codes.{refused_by};
-ghost use Rattle.data_handlers.specs.Produce.{produced_error, produced_at, produced_to, unproduced, produced, producing, produce_reply, produce_outcome};
+ghost use Rattle.broker_world.specs.Logs.{MayWrite, offsets_left, most_end};
+ghost use Rattle.data_handlers.specs.Sent.{batch_or_fault};
+ghost use Rattle.data_handlers.specs.Judged.{partition_at, id_and_epoch_of, held_code, are_acks, given_code, producer_code, batch_or_error, batch_in, batch_to_append, topics_produced, records_size};
+ghost use Rattle.data_handlers.specs.Produce.{produced_error, produced_at, produced_to, produce_failure, produce_answer, producing_rule, produce_reply, produce_outcome};
 
 use acl_binding::{Caller, Kind, Operation};
 use authorizer::{
     Paid, Permit, Policy, Settled, Spent, again_if_given, ask_given, settle_if_given,
 };
-use broker_world::{Outcome, State, Topics, magnitude, refused_by, served_in_parts};
+use broker_world::{HandlerResult, State, Topics, non_negative, refused_by, served_in_parts};
 use msg_admin::Reply;
 use msg_data::{ProduceReply, ProduceRequest, ProducedOffset, ProducedRecords};
 use partition_log::Log;
 use record_batch::{Batch, BatchFault, BatchHeader, SentBatch};
 use std::alloc::{AllocError, Global};
-use transactions::{Given, Pair, Target, TopicPartition};
-use txn_coordinator::Coordinator;
+use txn_coordinator::{Coordinator, ProducerIdAndEpoch, ProducerIdOwner, Target, TopicPartition};
 use walk::{Part, PartApi, refusal_code, walk};
 use wire_types::{ErrorCode, Items, Text, Topic};
 
 /// What a Produce says of all its partitions, what is said to writing with its transactional id, the greatest size of a batch, and
 /// the transactions that are open.
 #[derive(Drop)]
-pub(crate) struct Producing<'a> {
+pub(crate) struct ProduceHandler<'a> {
     pub(crate) caller: &'a Caller,
     pub(crate) id: &'a Option<Text>,
     pub(crate) asked: &'a Option<Settled>,
@@ -38,20 +36,20 @@ pub(crate) struct Producing<'a> {
     pub(crate) coordinator: &'a Coordinator,
 }
 
-impl<'a> PartApi<ProducedRecords, ProducedOffset, Topics> for Producing<'a> {
+impl<'a> PartApi<ProducedRecords, ProducedOffset, Topics> for ProduceHandler<'a> {
     ghost use Rattle.std.specs.Prelude.{false};
     ghost use Rattle.std.specs.Option.{option_map};
     ghost use Rattle.acl_binding.specs.declared.words.Kind.TheVariants as kinds;
     ghost use Rattle.acl_binding.specs.declared.words.Operation.TheVariants as operations;
-    ghost use Rattle.acl_binding.specs.Verdict.{asked};
-    ghost use Rattle.authorizer.specs.Settled.{settled_if_given};
+    ghost use Rattle.acl_binding.specs.Verdict.{question_of};
+    ghost use Rattle.authorizer.specs.Settled.{settled_value_if_given};
     ghost use Rattle.data_handlers.specs.Produce.{produce_rule};
 
     ghost rule = { λ api. produce_rule api.caller.now api.most api.coordinator.now api.id.now api.acks };
 
     ghost cuts = { λ _. false };
 
-    ghost settles = { λ api policy. api.asked.now ≡ settled_if_given policy (option_map (asked api.caller.now operations.Write kinds.TransactionalId) api.id.now) };
+    ghost settles = { λ api policy. api.asked.now ≡ settled_value_if_given policy (option_map (question_of api.caller.now operations.Write kinds.TransactionalId) api.id.now) };
 
     fn serve(
         &self,
@@ -81,7 +79,7 @@ impl<'a> PartApi<ProducedRecords, ProducedOffset, Topics> for Producing<'a> {
     }
 }
 
-impl<'a> Producing<'a> {
+impl<'a> ProduceHandler<'a> {
     /// Serves a part that was granted, whose target and records are also handed in.
     fn grant(
         &self,
@@ -96,10 +94,18 @@ impl<'a> Producing<'a> {
         requires permit { MayWrite policy.now name.now permit }
         requires target { target.now ≡ partition_at name.now part.now.index }
         requires records { records ≡ part.now.records }
-        requires room { records_size part.now.records ≤ room_of topics.old }
+        requires room { records_size part.now.records ≤ offsets_left topics.old }
         ensures spent { IfOk result (λ r. r.0 ≡ permit.question) }
-        ensures topics { OnOk result (topics.new ≡ topics_produced (judged self.now.most self.now.coordinator.now self.now.id.now self.now.acks (partition_at name.now part.now.index) part.now.records) topics.old name.now part.now.index) }
-        ensures answer { IfOk result (λ r. r.1 ≡ produced (judged self.now.most self.now.coordinator.now self.now.id.now self.now.acks (partition_at name.now part.now.index) part.now.records) topics.old name.now part.now) }
+        ensures topics { OnOk result
+            (topics.new ≡ topics_produced
+            (batch_to_append self.now.most self.now.coordinator.now self.now.id.now
+            self.now.acks (partition_at name.now part.now.index) part.now.records)
+            topics.old name.now part.now.index) }
+        ensures answer { IfOk result
+            (λ r. r.1 ≡ produce_answer
+            (batch_to_append self.now.most self.now.coordinator.now self.now.id.now
+            self.now.acks (partition_at name.now part.now.index) part.now.records)
+            topics.old name.now part.now) }
     {
         let batch = self.judge(target, records);
         produce(policy, permit, topics, name, part, batch)
@@ -107,7 +113,8 @@ impl<'a> Producing<'a> {
 
     /// The batch to be appended to a partition, or why none is, whether or not the partition is there.
     fn judge(&self, target: &Target, records: Option<SentBatch>) -> Result<Batch, ErrorCode>
-        ensures { result ≡ judged self.now.most self.now.coordinator.now self.now.id.now self.now.acks target.now records }
+        ensures { result ≡ batch_to_append self.now.most self.now.coordinator.now self.now.id.now
+            self.now.acks target.now records }
     {
         if !are_acks(self.acks) {
             return Err(ErrorCode::InvalidRequiredAcks);
@@ -128,8 +135,9 @@ fn produce(
     requires permit { MayWrite policy.now name.now permit }
     requires room { IfOk batch (λ b. most_end topics.old + length b.bytes ≤ 9223372036854775807) }
     ensures spent { IfOk result (λ r. r.0 ≡ permit.question) }
-    ensures topics { OnOk result (topics.new ≡ topics_produced batch topics.old name.now part.now.index) }
-    ensures answer { IfOk result (λ r. r.1 ≡ produced batch topics.old name.now part.now) }
+    ensures topics { OnOk result
+        (topics.new ≡ topics_produced batch topics.old name.now part.now.index) }
+    ensures answer { IfOk result (λ r. r.1 ≡ produce_answer batch topics.old name.now part.now) }
 {
     match batch {
         Ok(batch) => {
@@ -185,7 +193,7 @@ fn produced_to(part: &ProducedRecords, offset: Result<i64, ErrorCode>) -> Produc
 
 /// The answer where there is no batch to append.
 fn unproduced(code: ErrorCode, part: &ProducedRecords, log: Option<&Log>) -> ProducedOffset
-    ensures { result ≡ unproduced code part.now (option_copied log.entry) }
+    ensures { result ≡ produce_failure code part.now (option_copied log.entry) }
 {
     match log {
         Some(_) => produced_error(code, part),
@@ -218,7 +226,7 @@ fn passed(
     target: &Target,
     batch: Result<Batch, BatchFault>,
 ) -> Result<Batch, ErrorCode>
-    ensures { result ≡ passed coordinator.now id.now target.now batch }
+    ensures { result ≡ batch_or_error coordinator.now id.now target.now batch }
 {
     match batch {
         Ok(batch) => match producer_code(coordinator, id, target, batch.header()) {
@@ -237,7 +245,7 @@ fn are_acks(acks: i16) -> bool
 
 /// The batch that a producer sent, or its first fault, which was found when it was read.
 fn sent(records: SentBatch, most: u32) -> Result<Batch, BatchFault>
-    ensures { result ≡ sent most records }
+    ensures { result ≡ batch_or_fault most records }
 {
     records.batch(most)
 }
@@ -261,10 +269,10 @@ fn producer_code(
 }
 
 /// The producer that a batch names.
-fn pair_of(header: &BatchHeader) -> Pair
-    ensures { result ≡ pair_of header.now }
+fn pair_of(header: &BatchHeader) -> ProducerIdAndEpoch
+    ensures { result ≡ id_and_epoch_of header.now }
 {
-    Pair {
+    ProducerIdAndEpoch {
         producer: header.producer_id,
         epoch: header.producer_epoch,
     }
@@ -274,7 +282,7 @@ fn pair_of(header: &BatchHeader) -> Pair
 fn held_code(
     coordinator: &Coordinator,
     id: &Option<Text>,
-    pair: Pair,
+    pair: ProducerIdAndEpoch,
     target: &Target,
 ) -> Option<ErrorCode>
     ensures { result ≡ held_code coordinator.now id.now pair target.now }
@@ -286,13 +294,13 @@ fn held_code(
 }
 
 /// Why a batch that isn't of a transaction is refused by whom its producer id was given to.
-fn given_code(given: Given) -> Option<ErrorCode>
+fn given_code(given: ProducerIdOwner) -> Option<ErrorCode>
     ensures { result ≡ given_code given }
 {
     match given {
-        Given::Never => Some(ErrorCode::InvalidProducerIdMapping),
-        Given::Free => None,
-        Given::Owned => Some(ErrorCode::InvalidTxnState),
+        ProducerIdOwner::Never => Some(ErrorCode::InvalidProducerIdMapping),
+        ProducerIdOwner::Free => None,
+        ProducerIdOwner::Owned => Some(ErrorCode::InvalidTxnState),
     }
 }
 
@@ -317,23 +325,29 @@ pub fn answer_produce(
     state: &mut State,
     caller: &Caller,
     request: &ProduceRequest,
-) -> Result<Outcome, AllocError>
-    requires { topics_weight (producing state.old caller.now request.now) request.now.topics ≤ room_of state.old.topics }
-    ensures world { OnOk result (state.new ≡ (produce_outcome state.old caller.now request.now).world) }
-    ensures reply { IfOk result (λ o. o.reply ≡ (produce_outcome state.old caller.now request.now).reply) }
-    ensures refusals { IfOk result (λ o. o.refusals ≡ (produce_outcome state.old caller.now request.now).refusals) }
+) -> Result<HandlerResult, AllocError>
+    requires { topics_weight (producing_rule state.old caller.now request.now) request.now.topics
+        ≤ offsets_left state.old.topics }
+    ensures world { OnOk result
+        (state.new ≡ (produce_outcome state.old caller.now request.now).world) }
+    ensures reply { IfOk result
+        (λ o. o.reply ≡ (produce_outcome state.old caller.now request.now).reply) }
+    ensures refusals { IfOk result
+        (λ o. o.refusals ≡ (produce_outcome state.old caller.now request.now).refusals) }
     ensures paid { IfOk result (λ o. o.paid ≡ []) }
-    ensures spent { IfOk result (λ o. o.spent ≡ counted (rules_of state.old) 0 (asked_in (producing state.old caller.now request.now) request.now.topics)) }
+    ensures spent { IfOk result
+        (λ o. o.spent ≡ count_after_parts (rules_of state.old) 0
+        (asked_in (producing_rule state.old caller.now request.now) request.now.topics)) }
 {
     let id = &request.transactional_id;
     let asks = caller.asks_given(Operation::Write, Kind::TransactionalId, id)?;
     let asked = settle_if_given(&state.policy, asks);
-    let api = Producing {
+    let api = ProduceHandler {
         caller,
         id,
         asked: &asked,
         acks: request.acks,
-        most: magnitude(state.node.max_batch),
+        most: non_negative(state.cluster.node().max_batch),
         coordinator: &state.coordinator,
     };
     let topics = request.topics.as_slice();

@@ -85,7 +85,7 @@ impl Read for Peer<'_> {
     }
 }
 
-/// A peer that reads nothing: a write to it ends for its wait, or for want of a clock where it would wait without end.
+/// A peer that reads nothing: a write to it ends for its wait, or, where it would wait without end, since there is no clock.
 #[derive(Drop)]
 pub(crate) struct Deaf<'x> {
     pub(crate) clock: &'x Hand,

@@ -8,19 +8,19 @@ use Rattle.deadlines.specs.declared.limits.Limit.TheVariants.{Idle, Login, Frame
 use Rattle.deadlines.specs.declared.limits.Times.{Times}
 
 -- what is left of a time that began so many nanoseconds after the session: nothing, where it can't be told what time it is
-abbrev pub left : Duration → ℕ → Option Duration → ℕ
-left time since None = 0
-left time since (Some now) = as_nanos time - (as_nanos now - since)
+abbrev pub nanos_left : Duration → ℕ → Option Duration → ℕ
+nanos_left time since None = 0
+nanos_left time since (Some now) = as_nanos time - (as_nanos now - since)
 
 -- who is unheard has said no whole frame yet, and has the time of a first one
 abbrev pub login_time : Times → Bool → Duration
 login_time times unheard = if unheard then times.first else times.login
 
 -- what each limit leaves, if it holds: that of a login until the user is known, and that of a frame once it has begun
-abbrev pub left_by : Times → Bool → Bool → Option Duration → Option Duration → Limit → Option ℕ
-left_by times known unheard begun now Idle = option_map as_nanos times.idle
-left_by times known unheard begun now Login = if known then None else Some (left (login_time times unheard) 0 now)
-left_by times known unheard begun now Frame = option_map (λ since. left times.frame (as_nanos since) now) begun
+abbrev pub nanos_left_by : Times → Bool → Bool → Option Duration → Option Duration → Limit → Option ℕ
+nanos_left_by times known unheard begun now Idle = option_map as_nanos times.idle
+nanos_left_by times known unheard begun now Login = if known then None else Some (nanos_left (login_time times unheard) 0 now)
+nanos_left_by times known unheard begun now Frame = option_map (λ since. nanos_left times.frame (as_nanos since) now) begun
 
 -- the time of a first frame for who has waited for so long to be served: the rest of it, and the least time at least, unless there
 -- was less from the first

@@ -12,8 +12,8 @@ pub record Came : Type 0 where
   pub moment : Duration
 
 -- bytes that came at one moment
-abbrev pub at : Duration → List ℕ → List Came
-at moment bytes = map (λ byte. record { byte = byte; moment = moment }) bytes
+abbrev pub bytes_at : Duration → List ℕ → List Came
+bytes_at moment bytes = map (λ byte. record { byte = byte; moment = moment }) bytes
 
 abbrev pub bytes_of : List Came → List ℕ
 bytes_of came = map (λ c. c.byte) came
@@ -40,20 +40,20 @@ part_of zero = Nothing
 part_of (suc more) = Body more
 
 -- when a frame began: once its first byte came
-abbrev pub begun : List Came → Option Duration
-begun [] = None
-begun (first ∷ rest) = Some first.moment
+abbrev pub frame_start : List Came → Option Duration
+frame_start [] = None
+frame_start (first ∷ rest) = Some first.moment
 
 -- the frames one after the other, and what follows them
-abbrev pub joined : List (List Came) → List Came → List Came
-joined [] part = part
-joined (frame ∷ frames) part = frame ++ joined frames part
+abbrev pub all_bytes : List (List Came) → List Came → List Came
+all_bytes [] part = part
+all_bytes (frame ∷ frames) part = frame ++ all_bytes frames part
 
 -- what came is whole frames and a part of another, which is the one that is known
 pub record IsCut (came : List Came) (progress : Progress) : Type 0 where
   pub frames : List (List Came)
   pub part : List Came
-  pub joined : came ≡ joined frames part
+  pub joined : came ≡ all_bytes frames part
   pub whole : All IsFrame frames
   pub part_of : IsPart progress.part part
-  pub since : IfSome (begun part) (λ moment. progress.since ≡ moment)
+  pub since : IfSome (frame_start part) (λ moment. progress.since ≡ moment)

@@ -4,7 +4,7 @@ ghost use Rattle.std.specs.Prelude.{◌≡◌, IfSome, IfNone, None, Some, optio
 ghost use Rattle.std.specs.Duration.{as_nanos};
 ghost use Rattle.deadlines.specs.declared.limits.Limit.{Limit};
 ghost use Rattle.deadlines.specs.declared.limits.Times.{Times};
-ghost use Rattle.deadlines.specs.Limits.{IsBound, IsLeast, IsLesser, first_after, left, left_by, login_time};
+ghost use Rattle.deadlines.specs.Limits.{IsBound, IsLeast, IsLesser, first_after, nanos_left, nanos_left_by, login_time};
 
 use std::time::Duration;
 
@@ -41,7 +41,7 @@ pub(crate) struct Bound {
 
 /// What is left of a time that began at one moment: nothing, where it can't be told what time it is.
 fn left(time: Duration, since: Duration, now: Option<Duration>) -> Duration
-    ensures { as_nanos result ≡ left time (as_nanos since) now }
+    ensures { as_nanos result ≡ nanos_left time (as_nanos since) now }
 {
     match now {
         None => Duration::ZERO,
@@ -75,7 +75,8 @@ impl Times {
     /// time for its first frame, of which a quarter of a second stays if there was as much: those that wait behind many silent ones
     /// needn't wait for each of these as for the first.
     pub fn after(self, waited: Duration) -> Times
-        ensures first { as_nanos result.first ≡ first_after 250000000 (as_nanos self.first) (as_nanos waited) }
+        ensures first { as_nanos result.first ≡ first_after 250000000 (as_nanos self.first)
+            (as_nanos waited) }
         ensures others { result ≡ record self { first = result.first } }
     {
         let least = Duration::from_millis(LEAST);
@@ -109,7 +110,9 @@ impl Times {
 
     /// What is left of the login's time, until the user is known.
     fn login_bound(&self, known: bool, unheard: bool, now: Option<Duration>) -> Option<Bound>
-        ensures { (begun : _) → IsBound Limit.Login (left_by self.now known unheard begun now Limit.Login) result }
+        ensures { (begun : _)
+            → IsBound Limit.Login (nanos_left_by self.now known unheard begun now Limit.Login)
+            result }
     {
         if known {
             None
@@ -123,7 +126,9 @@ impl Times {
 
     /// What is left of a frame's time, once it has begun.
     fn frame_bound(&self, begun: Option<Duration>, now: Option<Duration>) -> Option<Bound>
-        ensures { (known unheard : _) → IsBound Limit.Frame (left_by self.now known unheard begun now Limit.Frame) result }
+        ensures { (known unheard : _)
+            → IsBound Limit.Frame (nanos_left_by self.now known unheard begun now Limit.Frame)
+            result }
     {
         match begun {
             None => None,
@@ -139,8 +144,9 @@ impl Times {
         begun: Option<Duration>,
         now: Option<Duration>,
     ) -> Option<Bound>
-        ensures some { IfSome result (IsLeast (left_by self.now known unheard begun now)) }
-        ensures none { IfNone result ((limit : Limit) → left_by self.now known unheard begun now limit ≡ None) }
+        ensures some { IfSome result (IsLeast (nanos_left_by self.now known unheard begun now)) }
+        ensures none { IfNone result
+            ((limit : Limit) → nanos_left_by self.now known unheard begun now limit ≡ None) }
     {
         let least = lesser(self.idle_bound(), self.login_bound(known, unheard, now));
         lesser(least, self.frame_bound(begun, now))

@@ -2,7 +2,7 @@
 
 ghost use Rattle.std.specs.Prelude.{◌≡◌, ◌≤◌, ◌<◌, ℕ, List, [], ◌++◌, length, take, Option};
 ghost use Rattle.std.specs.declared.time.Duration.{Duration};
-ghost use Rattle.deadlines.specs.Progress.{Came, IsCut, at, begun, part_of};
+ghost use Rattle.deadlines.specs.Progress.{Came, IsCut, bytes_at, frame_start, part_of};
 
 use std::time::Duration;
 
@@ -50,7 +50,7 @@ impl Progress {
 
     /// When the frame began that isn't whole, if one did.
     pub(crate) fn begun(&self) -> Option<Duration>
-        ensures { (came : List Came) → (cut : IsCut came self.now) → result ≡ begun cut.part }
+        ensures { (came : List Came) → (cut : IsCut came self.now) → result ≡ frame_start cut.part }
     {
         match self.part {
             Part::Nothing => None,
@@ -63,7 +63,8 @@ impl Progress {
         requires { 0 < length bytes.now }
         ensures some { 0 < result }
         ensures few { result ≤ length bytes.now }
-        ensures cut { (came : List Came) → IsCut came self.old → IsCut (came ++ at now (take result bytes.now)) self.new }
+        ensures cut { (came : List Came) → IsCut came self.old
+            → IsCut (came ++ bytes_at now (take result bytes.now)) self.new }
     {
         let byte = bytes[0];
         match self.part {
@@ -86,7 +87,8 @@ impl Progress {
 
     /// Takes in bytes that came now.
     pub(crate) fn pass(&mut self, bytes: &[u8], now: Duration)
-        ensures { (came : List Came) → IsCut came self.old → IsCut (came ++ at now bytes.now) self.new }
+        ensures { (came : List Came) → IsCut came self.old → IsCut (came ++ bytes_at now bytes.now)
+            self.new }
     {
         let mut passed = 0;
         while passed < bytes.len() {

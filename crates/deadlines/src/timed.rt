@@ -1,10 +1,10 @@
 //! A reader that keeps times.
 
-ghost use Rattle.std.specs.Prelude.{◌≡◌, ℕ, List, [], Option, ◌++◌, length, take, IfOk, OnErr};
+ghost use Rattle.std.specs.Prelude.{◌≡◌, ℕ, List, [], Option, ◌++◌, take, IfOk, OnErr};
 ghost use Rattle.std.specs.Io.{ReadsAtMost};
 ghost use Rattle.std.specs.Io.KnownBytes.{ReadConsumes};
 ghost use Rattle.std.specs.declared.time.Duration.{Duration};
-ghost use Rattle.deadlines.specs.Progress.{Came, IsCut, at};
+ghost use Rattle.deadlines.specs.Progress.{Came, IsCut, bytes_at};
 ghost use Rattle.deadlines.specs.Timed.{progress_of, timed_remaining};
 
 use crate::course::{Course, Notes, time_of};
@@ -67,7 +67,8 @@ impl<'x, S: Read + OpenStream, R: time::Clock> Timed<'x, S, R> {
     /// Takes in what was read. Where it can't be told what time it is, that came as the session began.
     fn take_in(&mut self, bytes: &[u8])
         ensures stream { self.new.stream ≡ self.old.stream }
-        ensures passed { (came : List Came) → IsCut came self.old.progress → (moment : Duration) × IsCut (came ++ at moment bytes.now) self.new.progress }
+        ensures passed { (came : List Came) → IsCut came self.old.progress → (moment : Duration)
+            × IsCut (came ++ bytes_at moment bytes.now) self.new.progress }
     {
         let now = self.course.now().unwrap_or(Duration::ZERO);
         self.course.count(bytes);
@@ -84,8 +85,11 @@ impl<'x, S: Read + OpenStream, R: time::Clock> Read for Timed<'x, S, R> {
     /// Reads as the stream does. Where a time is over, before the read or in it, that is noted, and it fails.
     fn read(&mut self, piece: &mut [u8]) -> io::Result<usize>
         ensures bound { ReadsAtMost result piece.new }
-        ensures bytes { ReadConsumes (timed_remaining S.remaining self.old) (timed_remaining S.remaining self.new) result piece.new }
-        ensures passed { IfOk result (λ count. (came : List Came) → IsCut came (progress_of self.old) → (moment : Duration) × IsCut (came ++ at moment (take count piece.new)) (progress_of self.new)) }
+        ensures bytes { ReadConsumes (timed_remaining S.remaining self.old)
+            (timed_remaining S.remaining self.new) result piece.new }
+        ensures passed { IfOk result
+            (λ count. (came : List Came) → IsCut came (progress_of self.old) → (moment : Duration)
+            × IsCut (came ++ bytes_at moment (take count piece.new)) (progress_of self.new)) }
         ensures same { OnErr result (progress_of self.new ≡ progress_of self.old) }
     {
         let bound = self.prepare()?;

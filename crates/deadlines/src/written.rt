@@ -53,7 +53,8 @@ impl<'x, S: Write + OpenStream, R: time::Clock> Write for TimedWriter<'x, S, R> 
     /// Writes as the stream does. Where a time is over, before the write or in it, that is noted, and it fails.
     fn write(&mut self, bytes: &[u8]) -> io::Result<usize>
         ensures bound { WritesAtMost result bytes.now }
-        ensures bytes { WriteAppends (timed_contents S.contents self.old) (timed_contents S.contents self.new) result bytes.now }
+        ensures bytes { WriteAppends (timed_contents S.contents self.old)
+            (timed_contents S.contents self.new) result bytes.now }
     {
         let bound = self.prepare()?;
         match self.stream.write(bytes) {
@@ -66,7 +67,8 @@ impl<'x, S: Write + OpenStream, R: time::Clock> Write for TimedWriter<'x, S, R> 
     }
 
     fn flush(&mut self) -> io::Result<()>
-        ensures bytes { Keeps (timed_contents S.contents self.old) (timed_contents S.contents self.new) }
+        ensures bytes { Keeps (timed_contents S.contents self.old)
+            (timed_contents S.contents self.new) }
     {
         self.stream.flush()
     }

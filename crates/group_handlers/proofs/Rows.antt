@@ -3,7 +3,7 @@ use Rattle.std.specs.Prelude.{◌≡◌, pos, negsuc, [], ◌∷◌, Some, None,
 use Rattle.acl_binding.specs.declared.words.Kind.TheVariants as kinds
 use Rattle.wire_types.specs.declared.error_code.ErrorCode.TheVariants as codes
 use Rattle.group_handlers.specs.FindCoordinator.{kind_of}
-use Rattle.group_handlers.specs.OffsetFetch.{told_as, fetched_code}
+use Rattle.group_handlers.specs.OffsetFetch.{listed_topic_of, fetched_code}
 
 -- ---- what a FindCoordinator asks for
 
@@ -21,8 +21,8 @@ nothing_below = refl
 
 -- ---- an OffsetFetch of all: a topic of which nothing is told is left out
 
-left_out : told_as (97 ∷ []) [] ≡ None
+left_out : listed_topic_of (97 ∷ []) [] ≡ None
 left_out = refl
 
-kept_in : told_as (97 ∷ []) (fetched_code codes.UnstableOffsetCommit (pos 0) ∷ []) ≡ Some (record { name = 97 ∷ []; partitions = fetched_code codes.UnstableOffsetCommit (pos 0) ∷ [] })
+kept_in : listed_topic_of (97 ∷ []) (fetched_code codes.UnstableOffsetCommit (pos 0) ∷ []) ≡ Some (record { name = 97 ∷ []; partitions = fetched_code codes.UnstableOffsetCommit (pos 0) ∷ [] })
 kept_in = refl

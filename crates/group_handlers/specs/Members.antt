@@ -13,12 +13,12 @@ use Rattle.msg_group.specs.declared.heartbeat.HeartbeatReply.{HeartbeatReply}
 use Rattle.msg_group.specs.declared.leave_group.LeaveGroupRequest.{LeaveGroupRequest}
 use Rattle.msg_group.specs.declared.leave_group.LeaveGroupReply.{LeaveGroupReply}
 use Rattle.msg_admin.specs.declared.reply.Reply.TheVariants as replies
-use Rattle.offset_tables.specs.declared.member.Joined.{Joined}
-use Rattle.offset_tables.specs.Turn.{answered}
-use Rattle.offset_tables.specs.Groups.{turned, join, sync, beat, leave}
+use Rattle.group_offsets.specs.declared.member.Joined.{Joined}
+use Rattle.group_offsets.specs.GroupTransition.{answer_of}
+use Rattle.group_offsets.specs.Groups.{groups_after, join, sync, beat, leave}
 use Rattle.broker_world.specs.World.{World}
-use Rattle.broker_world.specs.Outcome.{Outcome}
-use Rattle.broker_world.specs.Whole.{Served, whole}
+use Rattle.broker_world.specs.HandlerResult.{HandlerResult}
+use Rattle.broker_world.specs.Whole.{Served, whole_outcome}
 use Rattle.broker_world.specs.Questions.{read_question}
 use Rattle.broker_world.specs.Codes.{code_in}
 
@@ -44,11 +44,11 @@ join_reply (Ok j) r = join_welcome j
 join_reply (Err code) r = join_error code r
 
 -- a new member is named after the event's place
-abbrev pub joined : World → JoinGroupRequest → Served
-joined w r = record { world = record w { groups = turned w.groups (join w.groups r w.events w.moment) }; reply = replies.JoinGroup (join_reply (answered (join w.groups r w.events w.moment)) r) }
+abbrev pub served_join : World → JoinGroupRequest → Served
+served_join w r = record { world = record w { groups = groups_after w.groups (join w.groups r w.events w.moment) }; reply = replies.JoinGroup (join_reply (answer_of (join w.groups r w.events w.moment)) r) }
 
-abbrev pub join_group_outcome : World → Caller → JoinGroupRequest → Outcome
-join_group_outcome w caller r = whole w (read_question caller r.group ∷ []) (λ code. replies.JoinGroup (join_error code r)) (joined w r)
+abbrev pub join_group_outcome : World → Caller → JoinGroupRequest → HandlerResult
+join_group_outcome w caller r = whole_outcome w (read_question caller r.group ∷ []) (λ code. replies.JoinGroup (join_error code r)) (served_join w r)
 
 -- ---- SyncGroup
 
@@ -56,30 +56,30 @@ abbrev pub sync_reply : Result (List ℕ) ErrorCode → SyncGroupReply
 sync_reply (Ok assignment) = record { throttle = pos 0; error = codes.None; assignment = assignment }
 sync_reply (Err code) = record { throttle = pos 0; error = code; assignment = [] }
 
-abbrev pub synced : World → SyncGroupRequest → Served
-synced w r = record { world = record w { groups = turned w.groups (sync w.groups r w.moment) }; reply = replies.SyncGroup (sync_reply (answered (sync w.groups r w.moment))) }
+abbrev pub served_sync : World → SyncGroupRequest → Served
+served_sync w r = record { world = record w { groups = groups_after w.groups (sync w.groups r w.moment) }; reply = replies.SyncGroup (sync_reply (answer_of (sync w.groups r w.moment))) }
 
-abbrev pub sync_group_outcome : World → Caller → SyncGroupRequest → Outcome
-sync_group_outcome w caller r = whole w (read_question caller r.group ∷ []) (λ code. replies.SyncGroup (sync_reply (Err code))) (synced w r)
+abbrev pub sync_group_outcome : World → Caller → SyncGroupRequest → HandlerResult
+sync_group_outcome w caller r = whole_outcome w (read_question caller r.group ∷ []) (λ code. replies.SyncGroup (sync_reply (Err code))) (served_sync w r)
 
 -- ---- Heartbeat
 
 abbrev pub beat_reply : ErrorCode → HeartbeatReply
 beat_reply code = record { throttle = pos 0; error = code }
 
-abbrev pub heard : World → HeartbeatRequest → Served
-heard w r = record { world = record w { groups = turned w.groups (beat w.groups r w.moment) }; reply = replies.Heartbeat (beat_reply (code_in (answered (beat w.groups r w.moment)))) }
+abbrev pub served_heartbeat : World → HeartbeatRequest → Served
+served_heartbeat w r = record { world = record w { groups = groups_after w.groups (beat w.groups r w.moment) }; reply = replies.Heartbeat (beat_reply (code_in (answer_of (beat w.groups r w.moment)))) }
 
-abbrev pub heartbeat_outcome : World → Caller → HeartbeatRequest → Outcome
-heartbeat_outcome w caller r = whole w (read_question caller r.group ∷ []) (λ code. replies.Heartbeat (beat_reply code)) (heard w r)
+abbrev pub heartbeat_outcome : World → Caller → HeartbeatRequest → HandlerResult
+heartbeat_outcome w caller r = whole_outcome w (read_question caller r.group ∷ []) (λ code. replies.Heartbeat (beat_reply code)) (served_heartbeat w r)
 
 -- ---- LeaveGroup
 
 abbrev pub leave_reply : ErrorCode → LeaveGroupReply
 leave_reply code = record { throttle = pos 0; error = code }
 
-abbrev pub left : World → LeaveGroupRequest → Served
-left w r = record { world = record w { groups = turned w.groups (leave w.groups r) }; reply = replies.LeaveGroup (leave_reply (code_in (answered (leave w.groups r)))) }
+abbrev pub served_leave : World → LeaveGroupRequest → Served
+served_leave w r = record { world = record w { groups = groups_after w.groups (leave w.groups r) }; reply = replies.LeaveGroup (leave_reply (code_in (answer_of (leave w.groups r)))) }
 
-abbrev pub leave_group_outcome : World → Caller → LeaveGroupRequest → Outcome
-leave_group_outcome w caller r = whole w (read_question caller r.group ∷ []) (λ code. replies.LeaveGroup (leave_reply code)) (left w r)
+abbrev pub leave_group_outcome : World → Caller → LeaveGroupRequest → HandlerResult
+leave_group_outcome w caller r = whole_outcome w (read_question caller r.group ∷ []) (λ code. replies.LeaveGroup (leave_reply code)) (served_leave w r)

@@ -5,7 +5,7 @@ use Rattle.acl_binding.specs.declared.question.Caller.{Caller}
 use Rattle.acl_binding.specs.declared.question.Question.{Question}
 use Rattle.acl_binding.specs.declared.words.Kind.TheVariants as kinds
 use Rattle.acl_binding.specs.declared.words.Operation.TheVariants as operations
-use Rattle.acl_binding.specs.Verdict.{asked}
+use Rattle.acl_binding.specs.Verdict.{question_of}
 use Rattle.wire_types.specs.declared.error_code.ErrorCode.{ErrorCode}
 use Rattle.wire_types.specs.declared.error_code.ErrorCode.TheVariants as codes
 use Rattle.msg_group.specs.declared.offset_commit.OffsetCommitRequest.{OffsetCommitRequest}
@@ -14,12 +14,12 @@ use Rattle.msg_group.specs.declared.offset_commit.CommittedOffset.{CommittedOffs
 use Rattle.msg_admin.specs.declared.reply.Reply.TheVariants as replies
 use Rattle.walk.specs.Rule.{PartRule}
 use Rattle.walk.specs.Walk.{world_after, answers, refusals}
-use Rattle.offset_tables.specs.declared.event.PartitionOffset.{PartitionOffset}
-use Rattle.offset_tables.specs.declared.group.Group.{Group}
-use Rattle.offset_tables.specs.Turn.{answered}
-use Rattle.offset_tables.specs.Groups.{turned, commit}
+use Rattle.group_offsets.specs.declared.event.PartitionOffset.{PartitionOffset}
+use Rattle.group_offsets.specs.declared.group.Group.{Group}
+use Rattle.group_offsets.specs.GroupTransition.{answer_of}
+use Rattle.group_offsets.specs.Groups.{groups_after, commit}
 use Rattle.broker_world.specs.World.{World, TopicValue, LogValue, rules_of}
-use Rattle.broker_world.specs.Outcome.{Outcome}
+use Rattle.broker_world.specs.HandlerResult.{HandlerResult}
 use Rattle.broker_world.specs.Logs.{log_at}
 use Rattle.broker_world.specs.Questions.{read_question}
 use Rattle.broker_world.specs.Codes.{code_in}
@@ -30,12 +30,12 @@ pub record Committing : Type 0 where
   pub generation : ℤ
   pub member : List ℕ
 
-abbrev pub committing : OffsetCommitRequest → Committing
-committing r = record { group = r.group; generation = r.generation; member = r.member }
+abbrev pub committing_of : OffsetCommitRequest → Committing
+committing_of r = record { group = r.group; generation = r.generation; member = r.member }
 
 -- to read the group, and then to read the topic
 abbrev pub commit_questions : Caller → List ℕ → List ℕ → List Question
-commit_questions caller group name = read_question caller group ∷ asked caller operations.Read kinds.Topic name ∷ []
+commit_questions caller group name = read_question caller group ∷ question_of caller operations.Read kinds.Topic name ∷ []
 
 -- null metadata is kept as the empty text
 abbrev pub offset_of : List ℕ → OffsetToCommit → PartitionOffset
@@ -48,11 +48,11 @@ committed_code code p = record { index = p.index; error = code }
 
 abbrev pub code_by : Committing → List Group → List ℕ → OffsetToCommit → Option LogValue → ErrorCode
 code_by c gs name p None = codes.UnknownTopicOrPartition
-code_by c gs name p (Some log) = code_in (answered (commit gs c.group c.generation c.member (offset_of name p)))
+code_by c gs name p (Some log) = code_in (answer_of (commit gs c.group c.generation c.member (offset_of name p)))
 
 abbrev pub groups_by : Committing → List Group → List ℕ → OffsetToCommit → Option LogValue → List Group
 groups_by c gs name p None = gs
-groups_by c gs name p (Some log) = turned gs (commit gs c.group c.generation c.member (offset_of name p))
+groups_by c gs name p (Some log) = groups_after gs (commit gs c.group c.generation c.member (offset_of name p))
 
 abbrev pub commit_rule : Caller → Committing → List TopicValue → PartRule OffsetToCommit CommittedOffset (List Group)
 commit_rule caller c topics = record {
@@ -68,9 +68,9 @@ commit_rule caller c topics = record {
 -- ---- the request
 
 abbrev pub committing_rule : World → Caller → OffsetCommitRequest → PartRule OffsetToCommit CommittedOffset (List Group)
-committing_rule w caller r = commit_rule caller (committing r) w.topics
+committing_rule w caller r = commit_rule caller (committing_of r) w.topics
 
-abbrev pub offset_commit_outcome : World → Caller → OffsetCommitRequest → Outcome
+abbrev pub offset_commit_outcome : World → Caller → OffsetCommitRequest → HandlerResult
 offset_commit_outcome w caller r = record {
   world = record w { groups = world_after (committing_rule w caller r) (rules_of w) w.groups r.topics };
   reply = replies.OffsetCommit (record { topics = answers (committing_rule w caller r) (rules_of w) w.groups r.topics });

@@ -7,7 +7,7 @@ use Rattle.acl_binding.specs.declared.question.Caller.{Caller}
 use Rattle.acl_binding.specs.declared.question.Question.{Question}
 use Rattle.acl_binding.specs.declared.words.Kind.TheVariants as kinds
 use Rattle.acl_binding.specs.declared.words.Operation.TheVariants as operations
-use Rattle.acl_binding.specs.Verdict.{asked}
+use Rattle.acl_binding.specs.Verdict.{question_of}
 use Rattle.authorizer.specs.declared.answer.Refusal.{Refusal}
 use Rattle.authorizer.specs.Asking.{Rules, part_refusal}
 use Rattle.wire_types.specs.declared.error_code.ErrorCode.{ErrorCode}
@@ -20,19 +20,19 @@ use Rattle.msg_admin.specs.declared.reply.Reply.TheVariants as replies
 use Rattle.walk.specs.Rule.{PartRule}
 use Rattle.walk.specs.Walk.{answers, refusals}
 use Rattle.walk.specs.Codes.{refusal_code}
-use Rattle.offset_tables.specs.declared.event.PartitionOffset.{PartitionOffset}
-use Rattle.offset_tables.specs.declared.event.OffsetEvent.{OffsetEvent}
-use Rattle.offset_tables.specs.Groups.{group_of}
-use Rattle.offset_tables.specs.Offsets.{fetched, is_told}
+use Rattle.group_offsets.specs.declared.event.PartitionOffset.{PartitionOffset}
+use Rattle.group_offsets.specs.declared.event.OffsetEvent.{OffsetEvent}
+use Rattle.group_offsets.specs.Groups.{group_of}
+use Rattle.group_offsets.specs.Offsets.{fetch_result, is_listed}
 use Rattle.broker_world.specs.World.{World, TopicValue, rules_of}
-use Rattle.broker_world.specs.Outcome.{Outcome}
+use Rattle.broker_world.specs.HandlerResult.{HandlerResult}
 use Rattle.broker_world.specs.Questions.{topic_part, topic_refusal}
 
 -- ---- what is asked
 
 -- to describe the group
 abbrev pub group_question : Caller → List ℕ → Question
-group_question caller group = asked caller operations.Describe kinds.Group group
+group_question caller group = question_of caller operations.Describe kinds.Group group
 
 -- ---- a partition, permission aside
 
@@ -49,8 +49,8 @@ fetched_offset (Ok (Some o)) index = fetched_at o index
 
 abbrev pub offset_rule : Caller → List OffsetEvent → Bool → PartRule ℤ FetchedOffset (Unit {0})
 offset_rule caller es stable = record {
-  questions = λ name index. asked caller operations.Describe kinds.Topic name ∷ [];
-  plain = λ w name index. fetched_offset (fetched es stable name index) index;
+  questions = λ name index. question_of caller operations.Describe kinds.Topic name ∷ [];
+  plain = λ w name index. fetched_offset (fetch_result es stable name index) index;
   after = λ w name index. w;
   refused = λ code name index. fetched_code code index;
   weight = λ index. 0;
@@ -60,24 +60,24 @@ offset_rule caller es stable = record {
 
 -- ---- all partitions of which something is told, among the topics that may be described, in the settings' order
 
-abbrev pub told_at : List OffsetEvent → Bool → List ℕ → ℤ → List FetchedOffset
-told_at es stable name index = if is_told es stable name index then fetched_offset (fetched es stable name index) index ∷ [] else []
+abbrev pub listed_offset_at : List OffsetEvent → Bool → List ℕ → ℤ → List FetchedOffset
+listed_offset_at es stable name index = if is_listed es stable name index then fetched_offset (fetch_result es stable name index) index ∷ [] else []
 
 -- of so many partitions from this one on
-abbrev pub told_from : List OffsetEvent → Bool → List ℕ → ℕ → ℕ → List FetchedOffset
-told_from es stable name index zero = []
-told_from es stable name index (suc count) = told_at es stable name (pos index) ++ told_from es stable name (index + 1) count
+abbrev pub listed_offsets_from : List OffsetEvent → Bool → List ℕ → ℕ → ℕ → List FetchedOffset
+listed_offsets_from es stable name index zero = []
+listed_offsets_from es stable name index (suc count) = listed_offset_at es stable name (pos index) ++ listed_offsets_from es stable name (index + 1) count
 
 -- a topic of which nothing is told is left out
-abbrev pub told_as : List ℕ → List FetchedOffset → Option (Topic FetchedOffset)
-told_as name [] = None
-told_as name (p ∷ ps) = Some (record { name = name; partitions = p ∷ ps })
+abbrev pub listed_topic_of : List ℕ → List FetchedOffset → Option (Topic FetchedOffset)
+listed_topic_of name [] = None
+listed_topic_of name (p ∷ ps) = Some (record { name = name; partitions = p ∷ ps })
 
-abbrev pub told_topic : Rules → Caller → List OffsetEvent → Bool → TopicValue → Option (Topic FetchedOffset)
-told_topic rules caller es stable t = if is_none (topic_refusal rules caller t.name) then told_as t.name (told_from es stable t.name 0 (length t.partitions)) else None
+abbrev pub listed_topic : Rules → Caller → List OffsetEvent → Bool → TopicValue → Option (Topic FetchedOffset)
+listed_topic rules caller es stable t = if is_none (topic_refusal rules caller t.name) then listed_topic_of t.name (listed_offsets_from es stable t.name 0 (length t.partitions)) else None
 
-abbrev pub told_topics : Rules → Caller → List OffsetEvent → Bool → List TopicValue → List (Topic FetchedOffset)
-told_topics rules caller es stable topics = filter_map (told_topic rules caller es stable) topics
+abbrev pub listed_topics : Rules → Caller → List OffsetEvent → Bool → List TopicValue → List (Topic FetchedOffset)
+listed_topics rules caller es stable topics = filter_map (listed_topic rules caller es stable) topics
 
 -- ---- the parts for which permits are spent
 
@@ -87,12 +87,12 @@ parts_asked w caller None = map (λ (t : TopicValue). topic_part caller t.name) 
 parts_asked w caller (Some ts) = flat_map (λ (t : Topic ℤ). map (λ index. topic_part caller t.name) t.partitions) ts
 
 -- where the group is refused, nothing else is asked
-abbrev pub parts_behind : Option Refusal → World → Caller → Option (List (Topic ℤ)) → List (List Question)
-parts_behind None w caller ts = parts_asked w caller ts
-parts_behind (Some refusal) w caller ts = []
+abbrev pub parts_after : Option Refusal → World → Caller → Option (List (Topic ℤ)) → List (List Question)
+parts_after None w caller ts = parts_asked w caller ts
+parts_after (Some refusal) w caller ts = []
 
 abbrev pub fetch_parts : World → Caller → OffsetFetchRequest → List (List Question)
-fetch_parts w caller r = parts_behind (part_refusal (rules_of w) (group_question caller r.group ∷ [])) w caller r.topics
+fetch_parts w caller r = parts_after (part_refusal (rules_of w) (group_question caller r.group ∷ [])) w caller r.topics
 
 -- ---- the request
 
@@ -102,20 +102,20 @@ fetch_reply code topics = replies.OffsetFetch (record { throttle = pos 0; topics
 abbrev pub offsets_of : World → List ℕ → List OffsetEvent
 offsets_of w group = (group_of w.groups group).offsets
 
-abbrev pub named_outcome : World → Caller → List OffsetEvent → Bool → List (Topic ℤ) → Outcome
+abbrev pub named_outcome : World → Caller → List OffsetEvent → Bool → List (Topic ℤ) → HandlerResult
 named_outcome w caller es stable ts = record {
   world = w;
   reply = fetch_reply codes.None (answers (offset_rule caller es stable) (rules_of w) tt ts);
   refusals = refusals (offset_rule caller es stable) (rules_of w) ts;
 }
 
-abbrev pub fetched_outcome : World → Caller → List OffsetEvent → Bool → Option (List (Topic ℤ)) → Outcome
-fetched_outcome w caller es stable None = record { world = w; reply = fetch_reply codes.None (told_topics (rules_of w) caller es stable w.topics); refusals = [] }
+abbrev pub fetched_outcome : World → Caller → List OffsetEvent → Bool → Option (List (Topic ℤ)) → HandlerResult
+fetched_outcome w caller es stable None = record { world = w; reply = fetch_reply codes.None (listed_topics (rules_of w) caller es stable w.topics); refusals = [] }
 fetched_outcome w caller es stable (Some ts) = named_outcome w caller es stable ts
 
-abbrev pub offset_fetch_by : Option Refusal → World → Caller → OffsetFetchRequest → Outcome
+abbrev pub offset_fetch_by : Option Refusal → World → Caller → OffsetFetchRequest → HandlerResult
 offset_fetch_by None w caller r = fetched_outcome w caller (offsets_of w r.group) r.require_stable r.topics
 offset_fetch_by (Some refusal) w caller r = record { world = w; reply = fetch_reply (refusal_code refusal) []; refusals = refusal ∷ [] }
 
-abbrev pub offset_fetch_outcome : World → Caller → OffsetFetchRequest → Outcome
+abbrev pub offset_fetch_outcome : World → Caller → OffsetFetchRequest → HandlerResult
 offset_fetch_outcome w caller r = offset_fetch_by (part_refusal (rules_of w) (group_question caller r.group ∷ [])) w caller r

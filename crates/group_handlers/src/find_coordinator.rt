@@ -7,12 +7,12 @@ ghost use Rattle.group_handlers.specs.FindCoordinator.{kind_of, find_questions, 
 
 use acl_binding::{Caller, Kind, Operation};
 use authorizer::{Paid, ask_one};
-use broker_world::{Node, Outcome, State, refused_whole, served_whole};
+use broker_world::{HandlerResult, Node, State, refused_whole, served_whole};
 use msg_admin::Reply;
 use msg_txn::{FindCoordinatorReply, FindCoordinatorRequest};
 use std::alloc::{AllocError, Global};
 use walk::refusal_code;
-use wire_types::{ErrorCode, Text};
+use wire_types::{Boxed, ErrorCode, Text};
 
 /// What is coordinated, by its number.
 fn kind_of(key_type: i8) -> Option<Kind>
@@ -25,30 +25,32 @@ fn kind_of(key_type: i8) -> Option<Kind>
     }
 }
 
-fn found_node(node: &Node) -> Result<Reply, AllocError>
+fn found_node(alloc: Global, node: &Node) -> Result<Reply, AllocError>
     ensures { IfOk result (λ reply. reply ≡ Reply.FindCoordinator (found_node node.now)) }
 {
-    Ok(Reply::FindCoordinator(FindCoordinatorReply {
+    let reply = FindCoordinatorReply {
         throttle: 0,
         error: ErrorCode::None,
         message: None,
         node: node.node_id,
         host: node.host.clone()?,
         port: node.port,
-    }))
+    };
+    Ok(Reply::FindCoordinator(Boxed::new(alloc, reply)?))
 }
 
 fn find_error(alloc: Global, error: ErrorCode) -> Result<Reply, AllocError>
     ensures { IfOk result (λ reply. reply ≡ Reply.FindCoordinator (find_error error)) }
 {
-    Ok(Reply::FindCoordinator(FindCoordinatorReply {
+    let reply = FindCoordinatorReply {
         throttle: 0,
         error,
         message: None,
         node: -1,
         host: Text::of(alloc, "")?,
         port: -1,
-    }))
+    };
+    Ok(Reply::FindCoordinator(Boxed::new(alloc, reply)?))
 }
 
 /// What a FindCoordinator is answered.
@@ -57,10 +59,14 @@ pub fn answer_find_coordinator(
     state: &State,
     caller: &Caller,
     request: &FindCoordinatorRequest,
-) -> Result<Outcome, AllocError>
-    ensures reply { IfOk result (λ o. o.reply ≡ (find_coordinator_outcome state.now caller.now request.now).reply) }
-    ensures refusals { IfOk result (λ o. o.refusals ≡ (find_coordinator_outcome state.now caller.now request.now).refusals) }
-    ensures paid { IfOk result (λ o. o.paid ≡ part_paid (rules_of state.now) (find_questions caller.now (kind_of request.now.key_type) request.now.key)) }
+) -> Result<HandlerResult, AllocError>
+    ensures reply { IfOk result
+        (λ o. o.reply ≡ (find_coordinator_outcome state.now caller.now request.now).reply) }
+    ensures refusals { IfOk result
+        (λ o. o.refusals ≡ (find_coordinator_outcome state.now caller.now request.now).refusals) }
+    ensures paid { IfOk result
+        (λ o. o.paid ≡ part_paid (rules_of state.now)
+        (find_questions caller.now (kind_of request.now.key_type) request.now.key)) }
     ensures spent { IfOk result (λ o. o.spent ≡ 0) }
 {
     let Some(kind) = kind_of(request.key_type) else {
@@ -72,7 +78,7 @@ pub fn answer_find_coordinator(
     match ask_one(policy, question) {
         Ok(permit) => {
             let paid = Paid::one(permit.spend(policy));
-            Ok(served_whole(alloc, found_node(state.node())?, paid))
+            Ok(served_whole(alloc, found_node(alloc, state.node())?, paid))
         }
         Err(refusal) => {
             let reply = find_error(alloc, refusal_code(&refusal))?;

@@ -2,7 +2,7 @@
 
 ghost use Rattle.std.specs.Prelude.{◌≡◌, ◌<ℤ◌, ◌∷◌, [], pos, IfOk, OnOk};
 ghost use Rattle.authorizer.specs.Asking.{part_paid};
-ghost use Rattle.offset_tables.specs.Groups.{group_of};
+ghost use Rattle.group_offsets.specs.Groups.{group_of};
 ghost use Rattle.broker_world.specs.World.{rules_of};
 ghost use Rattle.broker_world.specs.Questions.{read_question};
 ghost use Rattle.broker_world.specs.Codes.{code_in};
@@ -10,16 +10,16 @@ ghost use Rattle.group_handlers.specs.Members.{join_welcome, join_error, join_re
 
 use acl_binding::{Caller, Kind, Operation, Question};
 use authorizer::{Paid, ask_one};
-use broker_world::{Outcome, State, code_in, read_question, refused_whole, served_whole};
+use broker_world::{HandlerResult, State, code_in, read_question, refused_whole, served_whole};
+use group_offsets::Joined;
 use msg_admin::Reply;
 use msg_group::{
     HeartbeatReply, HeartbeatRequest, JoinGroupReply, JoinGroupRequest, JoinedMember,
     LeaveGroupReply, LeaveGroupRequest, OfferedProtocol, SyncGroupReply, SyncGroupRequest,
 };
-use offset_tables::Joined;
 use std::alloc::{AllocError, Global};
 use walk::refusal_code;
-use wire_types::{Bytes, ErrorCode, Items, Text};
+use wire_types::{Boxed, Bytes, ErrorCode, Items, Text};
 
 /// What a member is told that has joined.
 fn join_welcome(alloc: Global, joined: Joined) -> Result<Reply, AllocError>
@@ -36,7 +36,7 @@ fn join_welcome(alloc: Global, joined: Joined) -> Result<Reply, AllocError>
         member: member.clone()?,
         metadata,
     })?;
-    Ok(Reply::JoinGroup(JoinGroupReply {
+    let reply = JoinGroupReply {
         throttle: 0,
         error: ErrorCode::None,
         generation,
@@ -44,7 +44,8 @@ fn join_welcome(alloc: Global, joined: Joined) -> Result<Reply, AllocError>
         leader: member.clone()?,
         member,
         members,
-    }))
+    };
+    Ok(Reply::JoinGroup(Boxed::new(alloc, reply)?))
 }
 
 fn join_error(
@@ -54,7 +55,7 @@ fn join_error(
 ) -> Result<Reply, AllocError>
     ensures { IfOk result (λ reply. reply ≡ Reply.JoinGroup (join_error error request.now)) }
 {
-    Ok(Reply::JoinGroup(JoinGroupReply {
+    let reply = JoinGroupReply {
         throttle: 0,
         error,
         generation: -1,
@@ -62,7 +63,8 @@ fn join_error(
         leader: Text::of(alloc, "")?,
         member: request.member.clone()?,
         members: Items::new(alloc),
-    }))
+    };
+    Ok(Reply::JoinGroup(Boxed::new(alloc, reply)?))
 }
 
 fn join_reply(
@@ -78,21 +80,22 @@ fn join_reply(
     }
 }
 
-fn sync_reply(assignment: Result<Bytes, ErrorCode>) -> Reply
-    ensures { result ≡ Reply.SyncGroup (sync_reply assignment) }
+fn sync_reply(alloc: Global, assignment: Result<Bytes, ErrorCode>) -> Result<Reply, AllocError>
+    ensures { IfOk result (λ reply. reply ≡ Reply.SyncGroup (sync_reply assignment)) }
 {
-    match assignment {
-        Ok(assignment) => Reply::SyncGroup(SyncGroupReply {
+    let reply = match assignment {
+        Ok(assignment) => SyncGroupReply {
             throttle: 0,
             error: ErrorCode::None,
             assignment,
-        }),
-        Err(error) => Reply::SyncGroup(SyncGroupReply {
+        },
+        Err(error) => SyncGroupReply {
             throttle: 0,
             error,
             assignment: Bytes::new(),
-        }),
-    }
+        },
+    };
+    Ok(Reply::SyncGroup(Boxed::new(alloc, reply)?))
 }
 
 fn beat_reply(error: ErrorCode) -> Reply
@@ -113,12 +116,17 @@ pub fn answer_join_group(
     state: &mut State,
     caller: &Caller,
     request: &JoinGroupRequest,
-) -> Result<Outcome, AllocError>
+) -> Result<HandlerResult, AllocError>
     requires { (group_of state.old.groups request.now.group).generation <ℤ pos 2147483647 }
-    ensures world { OnOk result (state.new ≡ (join_group_outcome state.old caller.now request.now).world) }
-    ensures reply { IfOk result (λ o. o.reply ≡ (join_group_outcome state.old caller.now request.now).reply) }
-    ensures refusals { IfOk result (λ o. o.refusals ≡ (join_group_outcome state.old caller.now request.now).refusals) }
-    ensures paid { IfOk result (λ o. o.paid ≡ part_paid (rules_of state.old) (read_question caller.now request.now.group ∷ [])) }
+    ensures world { OnOk result
+        (state.new ≡ (join_group_outcome state.old caller.now request.now).world) }
+    ensures reply { IfOk result
+        (λ o. o.reply ≡ (join_group_outcome state.old caller.now request.now).reply) }
+    ensures refusals { IfOk result
+        (λ o. o.refusals ≡ (join_group_outcome state.old caller.now request.now).refusals) }
+    ensures paid { IfOk result
+        (λ o. o.paid ≡ part_paid (rules_of state.old)
+        (read_question caller.now request.now.group ∷ [])) }
     ensures spent { IfOk result (λ o. o.spent ≡ 0) }
 {
     let question = read_question(caller, &request.group)?;
@@ -143,11 +151,16 @@ pub fn answer_sync_group(
     state: &mut State,
     caller: &Caller,
     request: &SyncGroupRequest,
-) -> Result<Outcome, AllocError>
-    ensures world { OnOk result (state.new ≡ (sync_group_outcome state.old caller.now request.now).world) }
-    ensures reply { IfOk result (λ o. o.reply ≡ (sync_group_outcome state.old caller.now request.now).reply) }
-    ensures refusals { IfOk result (λ o. o.refusals ≡ (sync_group_outcome state.old caller.now request.now).refusals) }
-    ensures paid { IfOk result (λ o. o.paid ≡ part_paid (rules_of state.old) (read_question caller.now request.now.group ∷ [])) }
+) -> Result<HandlerResult, AllocError>
+    ensures world { OnOk result
+        (state.new ≡ (sync_group_outcome state.old caller.now request.now).world) }
+    ensures reply { IfOk result
+        (λ o. o.reply ≡ (sync_group_outcome state.old caller.now request.now).reply) }
+    ensures refusals { IfOk result
+        (λ o. o.refusals ≡ (sync_group_outcome state.old caller.now request.now).refusals) }
+    ensures paid { IfOk result
+        (λ o. o.paid ≡ part_paid (rules_of state.old)
+        (read_question caller.now request.now.group ∷ [])) }
     ensures spent { IfOk result (λ o. o.spent ≡ 0) }
 {
     let question = read_question(caller, &request.group)?;
@@ -156,10 +169,11 @@ pub fn answer_sync_group(
             let moment = state.moment.milliseconds();
             let (groups, policy) = (&mut state.groups, &state.policy);
             let (spent, assignment) = groups.sync(policy, permit, request, moment);
-            Ok(served_whole(alloc, sync_reply(assignment?), Paid::one(spent)))
+            let reply = sync_reply(alloc, assignment?)?;
+            Ok(served_whole(alloc, reply, Paid::one(spent)))
         }
         Err(refusal) => {
-            let reply = sync_reply(Err(refusal_code(&refusal)));
+            let reply = sync_reply(alloc, Err(refusal_code(&refusal)))?;
             refused_whole(alloc, reply, refusal)
         }
     }
@@ -171,11 +185,16 @@ pub fn answer_heartbeat(
     state: &mut State,
     caller: &Caller,
     request: &HeartbeatRequest,
-) -> Result<Outcome, AllocError>
-    ensures world { OnOk result (state.new ≡ (heartbeat_outcome state.old caller.now request.now).world) }
-    ensures reply { IfOk result (λ o. o.reply ≡ (heartbeat_outcome state.old caller.now request.now).reply) }
-    ensures refusals { IfOk result (λ o. o.refusals ≡ (heartbeat_outcome state.old caller.now request.now).refusals) }
-    ensures paid { IfOk result (λ o. o.paid ≡ part_paid (rules_of state.old) (read_question caller.now request.now.group ∷ [])) }
+) -> Result<HandlerResult, AllocError>
+    ensures world { OnOk result
+        (state.new ≡ (heartbeat_outcome state.old caller.now request.now).world) }
+    ensures reply { IfOk result
+        (λ o. o.reply ≡ (heartbeat_outcome state.old caller.now request.now).reply) }
+    ensures refusals { IfOk result
+        (λ o. o.refusals ≡ (heartbeat_outcome state.old caller.now request.now).refusals) }
+    ensures paid { IfOk result
+        (λ o. o.paid ≡ part_paid (rules_of state.old)
+        (read_question caller.now request.now.group ∷ [])) }
     ensures spent { IfOk result (λ o. o.spent ≡ 0) }
 {
     let question = read_question(caller, &request.group)?;
@@ -199,11 +218,16 @@ pub fn answer_leave_group(
     state: &mut State,
     caller: &Caller,
     request: &LeaveGroupRequest,
-) -> Result<Outcome, AllocError>
-    ensures world { OnOk result (state.new ≡ (leave_group_outcome state.old caller.now request.now).world) }
-    ensures reply { IfOk result (λ o. o.reply ≡ (leave_group_outcome state.old caller.now request.now).reply) }
-    ensures refusals { IfOk result (λ o. o.refusals ≡ (leave_group_outcome state.old caller.now request.now).refusals) }
-    ensures paid { IfOk result (λ o. o.paid ≡ part_paid (rules_of state.old) (read_question caller.now request.now.group ∷ [])) }
+) -> Result<HandlerResult, AllocError>
+    ensures world { OnOk result
+        (state.new ≡ (leave_group_outcome state.old caller.now request.now).world) }
+    ensures reply { IfOk result
+        (λ o. o.reply ≡ (leave_group_outcome state.old caller.now request.now).reply) }
+    ensures refusals { IfOk result
+        (λ o. o.refusals ≡ (leave_group_outcome state.old caller.now request.now).refusals) }
+    ensures paid { IfOk result
+        (λ o. o.paid ≡ part_paid (rules_of state.old)
+        (read_question caller.now request.now.group ∷ [])) }
     ensures spent { IfOk result (λ o. o.spent ≡ 0) }
 {
     let question = read_question(caller, &request.group)?;

@@ -4,18 +4,17 @@ ghost use Rattle.std.specs.Prelude.{◌≡◌, [], IfOk, OnOk};
 ghost use Rattle.std.specs.Option.{option_copied};
 ghost use Rattle.acl_binding.specs.declared.words.Operation.TheVariants as operations;
 ghost use Rattle.group_offsets.specs.Permission.{MayUse};
-ghost use Rattle.authorizer.specs.Tally.{counted};
+ghost use Rattle.authorizer.specs.Tally.{count_after_parts};
 ghost use Rattle.walk.specs.Walk.{asked_in};
 ghost use Rattle.broker_world.specs.World.{rules_of};
 ghost use Rattle.group_handlers.specs.OffsetCommit.{committing_rule, offset_of, committed_code, code_by, groups_by, offset_commit_outcome};
 
 use acl_binding::{Caller, Kind, Operation};
 use authorizer::{Paid, Permit, Policy, Settled, Spent, TwoPermits, ask_two};
-use broker_world::{Outcome, State, Topics, code_in, read_question, served_in_parts};
-use group_offsets::Groups;
+use broker_world::{HandlerResult, State, Topics, code_in, read_question, served_in_parts};
+use group_offsets::{Groups, PartitionOffset};
 use msg_admin::Reply;
 use msg_group::{CommittedOffset, OffsetCommitReply, OffsetCommitRequest, OffsetToCommit};
-use offset_tables::PartitionOffset;
 use partition_log::Log;
 use std::alloc::{AllocError, Global};
 use walk::{Part, PartApi, refusal_code, walk};
@@ -23,7 +22,7 @@ use wire_types::{ErrorCode, Text};
 
 /// Who commits for which group, what is said to reading it, and what partitions there are.
 #[derive(Drop)]
-pub(crate) struct Committing<'a> {
+pub(crate) struct OffsetCommitHandler<'a> {
     pub(crate) caller: &'a Caller,
     pub(crate) group: &'a Text,
     pub(crate) asked: &'a Settled,
@@ -32,9 +31,9 @@ pub(crate) struct Committing<'a> {
     pub(crate) topics: &'a Topics,
 }
 
-impl<'a> PartApi<OffsetToCommit, CommittedOffset, Groups> for Committing<'a> {
+impl<'a> PartApi<OffsetToCommit, CommittedOffset, Groups> for OffsetCommitHandler<'a> {
     ghost use Rattle.std.specs.Prelude.{false};
-    ghost use Rattle.authorizer.specs.Settled.{settled};
+    ghost use Rattle.authorizer.specs.Settled.{settled_value};
     ghost use Rattle.broker_world.specs.Questions.{read_question};
     ghost use Rattle.group_handlers.specs.OffsetCommit.{commit_rule};
 
@@ -42,7 +41,7 @@ impl<'a> PartApi<OffsetToCommit, CommittedOffset, Groups> for Committing<'a> {
 
     ghost cuts = { λ _. false };
 
-    ghost settles = { λ api policy. api.asked.now ≡ settled policy (read_question api.caller.now api.group.now) };
+    ghost settles = { λ api policy. api.asked.now ≡ settled_value policy (read_question api.caller.now api.group.now) };
 
     fn serve(
         &self,
@@ -72,7 +71,7 @@ impl<'a> PartApi<OffsetToCommit, CommittedOffset, Groups> for Committing<'a> {
     }
 }
 
-impl<'a> Committing<'a> {
+impl<'a> OffsetCommitHandler<'a> {
     /// Commits the offset of a part that was granted, if the partition is there.
     fn commit(
         &self,
@@ -88,8 +87,22 @@ impl<'a> Committing<'a> {
         requires permit { MayUse policy.now operations.Read self.now.group.now permit }
         requires offset { offset ≡ offset_of name.now part.now }
         ensures spent { IfOk result (λ r. r.0 ≡ permit.question) }
-        ensures groups { OnOk result (groups.new ≡ groups_by (record { group = self.now.group.now; generation = self.now.generation; member = self.now.member.now }) groups.old name.now part.now (option_copied log.entry)) }
-        ensures answer { IfOk result (λ r. r.1 ≡ committed_code (code_by (record { group = self.now.group.now; generation = self.now.generation; member = self.now.member.now }) groups.old name.now part.now (option_copied log.entry)) part.now) }
+        ensures groups { OnOk result
+            (groups.new ≡ groups_by
+            (record {
+              group = self.now.group.now;
+              generation = self.now.generation;
+              member = self.now.member.now;
+            }) groups.old name.now part.now
+            (option_copied log.entry)) }
+        ensures answer { IfOk result
+            (λ r. r.1 ≡ committed_code
+            (code_by (record {
+              group = self.now.group.now;
+              generation = self.now.generation;
+              member = self.now.member.now;
+            }) groups.old name.now part.now
+            (option_copied log.entry)) part.now) }
     {
         if log.is_none() {
             let answer = committed_code(ErrorCode::UnknownTopicOrPartition, part);
@@ -128,15 +141,20 @@ pub fn answer_offset_commit(
     state: &mut State,
     caller: &Caller,
     request: &OffsetCommitRequest,
-) -> Result<Outcome, AllocError>
-    ensures world { OnOk result (state.new ≡ (offset_commit_outcome state.old caller.now request.now).world) }
-    ensures reply { IfOk result (λ o. o.reply ≡ (offset_commit_outcome state.old caller.now request.now).reply) }
-    ensures refusals { IfOk result (λ o. o.refusals ≡ (offset_commit_outcome state.old caller.now request.now).refusals) }
+) -> Result<HandlerResult, AllocError>
+    ensures world { OnOk result
+        (state.new ≡ (offset_commit_outcome state.old caller.now request.now).world) }
+    ensures reply { IfOk result
+        (λ o. o.reply ≡ (offset_commit_outcome state.old caller.now request.now).reply) }
+    ensures refusals { IfOk result
+        (λ o. o.refusals ≡ (offset_commit_outcome state.old caller.now request.now).refusals) }
     ensures paid { IfOk result (λ o. o.paid ≡ []) }
-    ensures spent { IfOk result (λ o. o.spent ≡ counted (rules_of state.old) 0 (asked_in (committing_rule state.old caller.now request.now) request.now.topics)) }
+    ensures spent { IfOk result
+        (λ o. o.spent ≡ count_after_parts (rules_of state.old) 0
+        (asked_in (committing_rule state.old caller.now request.now) request.now.topics)) }
 {
     let asked = state.policy.settle(read_question(caller, &request.group)?);
-    let api = Committing {
+    let api = OffsetCommitHandler {
         caller,
         group: &request.group,
         asked: &asked,

@@ -2,33 +2,33 @@
 
 ghost use Rattle.std.specs.Prelude.{◌≡◌, ◌≤◌, ◌<◌, ◌^◌, ◌∷◌, [], ◌++◌, false, length, map, pos, IfOk, OnOk};
 ghost use Rattle.authorizer.specs.Asking.{policy_rules, part_paid};
-ghost use Rattle.authorizer.specs.Tally.{counted};
+ghost use Rattle.authorizer.specs.Tally.{count_after_parts};
 ghost use Rattle.walk.specs.Steps.{ending_by, spent_in};
 ghost use Rattle.broker_world.specs.World.{TopicValue};
 ghost use Rattle.broker_world.specs.World.{rules_of};
 ghost use Rattle.broker_world.specs.Questions.{topic_part, topic_refusal};
-ghost use Rattle.group_handlers.specs.OffsetFetch.{group_question, fetched_code, fetched_at, fetched_offset, fetch_reply, told_at, told_from, told_as, told_topic, told_topics, parts_asked, fetch_parts, fetched_outcome, offset_fetch_outcome};
-ghost use Rattle.offset_tables.specs.Offsets.{fetched};
+ghost use Rattle.group_handlers.specs.OffsetFetch.{group_question, fetched_code, fetched_at, fetched_offset, fetch_reply, listed_offset_at, listed_offsets_from, listed_topic_of, listed_topic, listed_topics, parts_asked, fetch_parts, fetched_outcome, offset_fetch_outcome};
+ghost use Rattle.group_offsets.specs.Offsets.{fetch_result};
 
 use acl_binding::{Caller, Kind, Operation, Question};
 use authorizer::{Paid, Policy, Tally, ask_one};
-use broker_world::{Outcome, Slot, State, refused_whole};
+use broker_world::{HandlerResult, Slot, State, refused_whole};
+use group_offsets::{Offsets, PartitionOffset};
 use msg_admin::Reply;
 use msg_group::{FetchedOffset, OffsetFetchReply, OffsetFetchRequest};
-use offset_tables::{Offsets, PartitionOffset};
 use std::alloc::{AllocError, Global};
 use walk::{Part, PartApi, refusal_code, walk};
 use wire_types::{ErrorCode, Items, Text, Topic};
 
 /// Whose offsets are asked for, by whom, and whether only stable ones will do.
 #[derive(Drop)]
-pub(crate) struct Telling<'a> {
+pub(crate) struct OffsetFetchHandler<'a> {
     pub(crate) caller: &'a Caller,
     pub(crate) offsets: &'a Offsets,
     pub(crate) stable: bool,
 }
 
-impl<'a> PartApi<i32, FetchedOffset, ()> for Telling<'a> {
+impl<'a> PartApi<i32, FetchedOffset, ()> for OffsetFetchHandler<'a> {
     ghost use Rattle.std.specs.Prelude.{false};
     ghost use Rattle.group_handlers.specs.OffsetFetch.{offset_rule};
 
@@ -92,7 +92,7 @@ fn fetched_at(offset: &PartitionOffset, index: i32) -> Result<FetchedOffset, All
     })
 }
 
-/// What is told of a partition.
+/// The offset that is answered for a partition.
 fn fetched(
     alloc: Global,
     offsets: &Offsets,
@@ -100,7 +100,8 @@ fn fetched(
     name: &Text,
     index: i32,
 ) -> Result<FetchedOffset, AllocError>
-    ensures { IfOk result (λ answer. answer ≡ fetched_offset (fetched offsets.now stable name.now index) index) }
+    ensures { IfOk result
+        (λ answer. answer ≡ fetched_offset (fetch_result offsets.now stable name.now index) index) }
 {
     match offsets.fetched(stable, name, index) {
         Ok(Some(offset)) => fetched_at(offset, index),
@@ -128,7 +129,7 @@ fn told_from(
     count: u32,
 ) -> Result<Items<FetchedOffset>, AllocError>
     requires { count ≤ 1000 }
-    ensures { IfOk result (λ told. told ≡ told_from offsets.now stable name.now 0 count) }
+    ensures { IfOk result (λ told. told ≡ listed_offsets_from offsets.now stable name.now 0 count) }
 {
     let mut told = Items::new(alloc);
     for index in 0..count {
@@ -147,7 +148,8 @@ fn push_told(
     index: u32,
 ) -> Result<(), AllocError>
     requires { index < 2 ^ 31 }
-    ensures { OnOk result (told.new ≡ told.old ++ told_at offsets.now stable name.now (pos index)) }
+    ensures { OnOk result
+        (told.new ≡ told.old ++ listed_offset_at offsets.now stable name.now (pos index)) }
 {
     let index = index as i32;
     if offsets.is_told(stable, name, index) {
@@ -163,7 +165,9 @@ fn told_as(
     stable: bool,
     slot: &Slot,
 ) -> Result<Option<Topic<FetchedOffset>>, AllocError>
-    ensures { IfOk result (λ told. told ≡ told_as slot.now.name (told_from offsets.now stable slot.now.name 0 (length slot.now.partitions))) }
+    ensures { IfOk result
+        (λ told. told ≡ listed_topic_of slot.now.name
+        (listed_offsets_from offsets.now stable slot.now.name 0 (length slot.now.partitions))) }
 {
     let count = slot.partitions.len();
     let partitions = told_from(alloc, offsets, stable, &slot.name, count)?;
@@ -183,9 +187,16 @@ fn told_topic(
     stable: bool,
     slot: &Slot,
 ) -> Result<Part<Option<Topic<FetchedOffset>>>, AllocError>
-    ensures answer { IfOk result (λ part. part.answer ≡ told_topic (policy_rules policy.now) caller.now offsets.now stable slot.now) }
-    ensures ending { IfOk result (λ part. part.ending ≡ ending_by false (topic_refusal (policy_rules policy.now) caller.now slot.now.name) (topic_part caller.now slot.now.name)) }
-    ensures spent { IfOk result (λ part. spent_in part.ending ≡ part_paid (policy_rules policy.now) (topic_part caller.now slot.now.name)) }
+    ensures answer { IfOk result
+        (λ part. part.answer ≡ listed_topic (policy_rules policy.now) caller.now offsets.now stable
+        slot.now) }
+    ensures ending { IfOk result
+        (λ part. part.ending
+        ≡ ending_by false (topic_refusal (policy_rules policy.now) caller.now slot.now.name)
+        (topic_part caller.now slot.now.name)) }
+    ensures spent { IfOk result
+        (λ part. spent_in part.ending ≡ part_paid (policy_rules policy.now)
+        (topic_part caller.now slot.now.name)) }
 {
     let question = caller.asks(Operation::Describe, Kind::Topic, &slot.name)?;
     match ask_one(policy, question) {
@@ -208,8 +219,12 @@ fn told_topics(
     slots: &[Slot],
     spent: &mut Tally,
 ) -> Result<Items<Topic<FetchedOffset>>, AllocError>
-    ensures spent { OnOk result (spent.new ≡ counted (policy_rules policy.now) spent.old (map (λ (t : TopicValue). topic_part caller.now t.name) slots.now)) }
-    ensures told { IfOk result (λ told. told ≡ told_topics (policy_rules policy.now) caller.now offsets.now stable slots.now) }
+    ensures spent { OnOk result
+        (spent.new ≡ count_after_parts (policy_rules policy.now) spent.old
+        (map (λ (t : TopicValue). topic_part caller.now t.name) slots.now)) }
+    ensures told { IfOk result
+        (λ told. told ≡ listed_topics (policy_rules policy.now) caller.now offsets.now stable
+        slots.now) }
 {
     let mut topics = Items::new(alloc);
     for slot in slots {
@@ -226,11 +241,17 @@ pub fn answer_offset_fetch(
     state: &State,
     caller: &Caller,
     request: &OffsetFetchRequest,
-) -> Result<Outcome, AllocError>
-    ensures reply { IfOk result (λ o. o.reply ≡ (offset_fetch_outcome state.now caller.now request.now).reply) }
-    ensures refusals { IfOk result (λ o. o.refusals ≡ (offset_fetch_outcome state.now caller.now request.now).refusals) }
-    ensures paid { IfOk result (λ o. o.paid ≡ part_paid (rules_of state.now) (group_question caller.now request.now.group ∷ [])) }
-    ensures spent { IfOk result (λ o. o.spent ≡ counted (rules_of state.now) 0 (fetch_parts state.now caller.now request.now)) }
+) -> Result<HandlerResult, AllocError>
+    ensures reply { IfOk result
+        (λ o. o.reply ≡ (offset_fetch_outcome state.now caller.now request.now).reply) }
+    ensures refusals { IfOk result
+        (λ o. o.refusals ≡ (offset_fetch_outcome state.now caller.now request.now).refusals) }
+    ensures paid { IfOk result
+        (λ o. o.paid ≡ part_paid (rules_of state.now)
+        (group_question caller.now request.now.group ∷ [])) }
+    ensures spent { IfOk result
+        (λ o. o.spent ≡ count_after_parts (rules_of state.now) 0
+        (fetch_parts state.now caller.now request.now)) }
 {
     let question = group_question(caller, &request.group)?;
     let policy = state.policy();
@@ -254,11 +275,18 @@ fn fetched_offsets(
     offsets: &Offsets,
     request: &OffsetFetchRequest,
     paid: Paid,
-) -> Result<Outcome, AllocError>
-    ensures reply { IfOk result (λ o. o.reply ≡ (fetched_outcome state.now caller.now offsets.now request.now.require_stable request.now.topics).reply) }
-    ensures refusals { IfOk result (λ o. o.refusals ≡ (fetched_outcome state.now caller.now offsets.now request.now.require_stable request.now.topics).refusals) }
+) -> Result<HandlerResult, AllocError>
+    ensures reply { IfOk result
+        (λ o. o.reply ≡ (fetched_outcome state.now caller.now offsets.now request.now.require_stable
+        request.now.topics).reply) }
+    ensures refusals { IfOk result
+        (λ o. o.refusals
+        ≡ (fetched_outcome state.now caller.now offsets.now request.now.require_stable
+        request.now.topics).refusals) }
     ensures paid { IfOk result (λ o. o.paid ≡ paid) }
-    ensures spent { IfOk result (λ o. o.spent ≡ counted (rules_of state.now) 0 (parts_asked state.now caller.now request.now.topics)) }
+    ensures spent { IfOk result
+        (λ o. o.spent ≡ count_after_parts (rules_of state.now) 0
+        (parts_asked state.now caller.now request.now.topics)) }
 {
     let stable = request.require_stable;
     let policy = state.policy();
@@ -267,7 +295,7 @@ fn fetched_offsets(
             let slots = state.topics().slots();
             let mut spent = Tally::none();
             let topics = told_topics(alloc, caller, policy, offsets, stable, slots, &mut spent)?;
-            Ok(Outcome {
+            Ok(HandlerResult {
                 reply: fetch_reply(ErrorCode::None, topics),
                 refusals: Items::new(alloc),
                 paid,
@@ -275,13 +303,13 @@ fn fetched_offsets(
             })
         }
         Some(topics) => {
-            let api = Telling {
+            let api = OffsetFetchHandler {
                 caller,
                 offsets,
                 stable,
             };
             let walked = walk(alloc, &api, policy, &mut (), topics.as_slice())?;
-            Ok(Outcome {
+            Ok(HandlerResult {
                 reply: fetch_reply(ErrorCode::None, walked.topics),
                 refusals: walked.refusals,
                 paid,

@@ -7,12 +7,12 @@ use Rattle.std.specs.Str.{bytes_eq}
 use Rattle.std.specs.declared.string.String.{String}
 use Rattle.std.specs.declared.alloc.Global.{Global}
 use Rattle.keyed_tables.proofs.Tables.{is_under, same_test, found_in as found_by, set_same, keyed_set, keyed_changed}
-use Rattle.offset_tables.specs.declared.group.Group.{Group}
-use Rattle.offset_tables.specs.Turn.{Turn, Stays, Puts, answered, group_after}
-use Rattle.offset_tables.specs.Group.{fresh_group, expired}
-use Rattle.offset_tables.specs.Groups.{find_group, group_of, put, turned, place_of}
-use Rattle.offset_tables.proofs.Places.{found_name}
-use Rattle.offset_tables.proofs.Apart.{expired_name}
+use Rattle.group_offsets.specs.declared.group.Group.{Group}
+use Rattle.group_offsets.specs.GroupTransition.{GroupTransition, Stays, Puts, answer_of, group_after}
+use Rattle.group_offsets.specs.Group.{fresh_group, without_lapsed}
+use Rattle.group_offsets.specs.Groups.{find_group, group_of, groups_with, groups_after, place_of}
+use Rattle.group_offsets.proofs.Places.{found_name}
+use Rattle.group_offsets.proofs.Apart.{expired_name}
 use Rattle.group_offsets.specs.Named.{name_of, AreNamed, all_expired}
 
 abbrev Entry : Type 0
@@ -40,32 +40,32 @@ none_in es asked name same h found = no_place (values_of es) name (found_in es a
 
 -- ---- what a call leaves
 
-set_put : (es : List Entry) (name : List ℕ) (g new : Group) → new.name ≡ name → AreNamed es → Some g ≡ lookup (is_under name) es → values_of (set_value (is_under name) es new) ≡ put (values_of es) new
+set_put : (es : List Entry) (name : List ℕ) (g new : Group) → new.name ≡ name → AreNamed es → Some g ≡ lookup (is_under name) es → values_of (set_value (is_under name) es new) ≡ groups_with (values_of es) new
 set_put [] name g new named h found = absurd (let clash : Some g ≡ None = found in cc)
 set_put (e ∷ es) name g new named h found =
     by_test (is_under name e.0) found (set_put es name g new named h.1)
-    ∙ ap (λ (b : Bool). cond b (new ∷ values_of es) (e.1 ∷ put (values_of es) new)) (same_test name_of name e h.0 ∙ ap (bytes_eq e.1.name) (sym named)) where
-      by_test : (b : Bool) → Some g ≡ cond b (Some e.1) (lookup (is_under name) es) → (Some g ≡ lookup (is_under name) es → values_of (set_value (is_under name) es new) ≡ put (values_of es) new)
-          → values_of (cond b ((e.0, new) ∷ es) (e ∷ set_value (is_under name) es new)) ≡ cond b (new ∷ values_of es) (e.1 ∷ put (values_of es) new)
+    ∙ ap (λ (b : Bool). cond b (new ∷ values_of es) (e.1 ∷ groups_with (values_of es) new)) (same_test name_of name e h.0 ∙ ap (bytes_eq e.1.name) (sym named)) where
+      by_test : (b : Bool) → Some g ≡ cond b (Some e.1) (lookup (is_under name) es) → (Some g ≡ lookup (is_under name) es → values_of (set_value (is_under name) es new) ≡ groups_with (values_of es) new)
+          → values_of (cond b ((e.0, new) ∷ es) (e ∷ set_value (is_under name) es new)) ≡ cond b (new ∷ values_of es) (e.1 ∷ groups_with (values_of es) new)
       by_test true found more = refl
       by_test false found more = ap (λ (l : List Group). e.1 ∷ l) (more found)
 
--- the group of the name as its turn leaves it, the others as before
-pub turned_in : {A : Type 0} (es new_es : List Entry) (asked name : List ℕ) (g new : Group) (turn : Group → Turn A) → asked ≡ name → AreNamed es → Some g ≡ lookup (is_under asked) es
-    → new_es ≡ set_value (is_under asked) es new → new ≡ group_after g (turn g) → new.name ≡ g.name → values_of new_es ≡ turned (values_of es) (turn (group_of (values_of es) name))
-turned_in {A = A} es new_es asked name g new turn same h found written made named =
-    ap values_of written ∙ ap (λ (n : List ℕ). values_of (set_value (is_under n) es new)) same ∙ by_turn (turn g) made
-    ∙ ap (λ (x : Group). turned (values_of es) (turn x)) (sym (group_in es asked name g same h found)) where
+-- the group of the name as its transition leaves it, the others as before
+pub turned_in : {A : Type 0} (es new_es : List Entry) (asked name : List ℕ) (g new : Group) (transition : Group → GroupTransition A) → asked ≡ name → AreNamed es → Some g ≡ lookup (is_under asked) es
+    → new_es ≡ set_value (is_under asked) es new → new ≡ group_after g (transition g) → new.name ≡ g.name → values_of new_es ≡ groups_after (values_of es) (transition (group_of (values_of es) name))
+turned_in {A = A} es new_es asked name g new transition same h found written made named =
+    ap values_of written ∙ ap (λ (n : List ℕ). values_of (set_value (is_under n) es new)) same ∙ by_transition (transition g) made
+    ∙ ap (λ (x : Group). groups_after (values_of es) (transition x)) (sym (group_in es asked name g same h found)) where
       own : Some g ≡ lookup (is_under name) es
       own = found ∙ ap (λ (n : List ℕ). lookup (is_under n) es) same
 
-      by_turn : (t : Turn A) → new ≡ group_after g t → values_of (set_value (is_under name) es new) ≡ turned (values_of es) t
-      by_turn (Stays code) e = ap (λ (x : Group). values_of (set_value (is_under name) es x)) e ∙ set_same es (is_under name) g own
-      by_turn (Puts answer x) e = set_put es name g new (named ∙ found_name (values_of es) g name (found_in es asked name (Some g) same h found)) h own ∙ ap (put (values_of es)) e
+      by_transition : (t : GroupTransition A) → new ≡ group_after g t → values_of (set_value (is_under name) es new) ≡ groups_after (values_of es) t
+      by_transition (Stays code) e = ap (λ (x : Group). values_of (set_value (is_under name) es x)) e ∙ set_same es (is_under name) g own
+      by_transition (Puts answer x) e = set_put es name g new (named ∙ found_name (values_of es) g name (found_in es asked name (Some g) same h found)) h own ∙ ap (groups_with (values_of es)) e
 
-pub answered_in : {A : Type 0} (es : List Entry) (asked name : List ℕ) (g : Group) (turn : Group → Turn A) → asked ≡ name → AreNamed es → Some g ≡ lookup (is_under asked) es
-    → answered (turn g) ≡ answered (turn (group_of (values_of es) name))
-answered_in es asked name g turn same h found = ap (λ (x : Group). answered (turn x)) (sym (group_in es asked name g same h found))
+pub answered_in : {A : Type 0} (es : List Entry) (asked name : List ℕ) (g : Group) (transition : Group → GroupTransition A) → asked ≡ name → AreNamed es → Some g ≡ lookup (is_under asked) es
+    → answer_of (transition g) ≡ answer_of (transition (group_of (values_of es) name))
+answered_in es asked name g transition same h found = ap (λ (x : Group). answer_of (transition x)) (sym (group_in es asked name g same h found))
 
 -- a call that fails leaves all as before
 pub unchanged_in : (es new_es : List Entry) (asked : List ℕ) (g new : Group) → Some g ≡ lookup (is_under asked) es → new_es ≡ set_value (is_under asked) es new → new ≡ g → values_of new_es ≡ values_of es
@@ -77,4 +77,4 @@ named_in es new_es asked g new found written named h = subst AreNamed (sym writt
 -- ---- all that expire
 
 pub named_expired : (moment : ℕ) (es : List Entry) → AreNamed es → AreNamed (all_expired moment es)
-named_expired moment es h = keyed_changed name_of (expired moment) es (expired_name moment) h
+named_expired moment es h = keyed_changed name_of (without_lapsed moment) es (expired_name moment) h

@@ -1,2 +1,10 @@
+pub mod Offsets
+pub mod GroupTransition
+pub mod Group
+pub mod Joining
+pub mod Groups
+pub mod Laws
+pub mod Partitions
+pub mod Kept
 pub mod Permission
 pub mod Named

@@ -3,9 +3,9 @@ use Rattle.std.specs.Prelude.{◌≡◌, ℕ, List, []}
 use Rattle.std.specs.declared.string.String.{String}
 use Rattle.std.specs.declared.alloc.Global.{Global}
 use Rattle.keyed_tables.specs.Keyed.{AreKeyed, each_changed}
-use Rattle.offset_tables.specs.declared.event.OffsetEvent.{OffsetEvent}
-use Rattle.offset_tables.specs.declared.group.Group.{Group}
-use Rattle.offset_tables.specs.Group.{expired}
+use Rattle.group_offsets.specs.declared.event.OffsetEvent.{OffsetEvent}
+use Rattle.group_offsets.specs.declared.group.Group.{Group}
+use Rattle.group_offsets.specs.Group.{without_lapsed}
 
 abbrev pub name_of : Group → List ℕ
 name_of g = g.name
@@ -21,4 +21,4 @@ pub record IsKept (table : List (String Global × Group)) (nothing : List Offset
 
 -- the groups, each under its name, once the members are let go that were not heard of in time
 abbrev pub all_expired : ℕ → List (String Global × Group) → List (String Global × Group)
-all_expired moment es = each_changed (expired moment) es
+all_expired moment es = each_changed (without_lapsed moment) es

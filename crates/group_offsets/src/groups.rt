@@ -2,17 +2,20 @@
 
 ghost use Rattle.std.specs.Prelude.{◌≡◌, ◌↔◌, IsTrue, ◌<ℤ◌, pos, [], ◌∷◌, ◌++◌, if◌then◌else◌, is_ok, map, IfOk, OnOk, OnErr, None};
 ghost use Rattle.acl_binding.specs.declared.words.Operation.TheVariants as operations;
-ghost use Rattle.offset_tables.specs.Turn.{answered};
-ghost use Rattle.offset_tables.specs.Group.{expired};
-ghost use Rattle.offset_tables.specs.Groups.{group_of, find_group, turned, join, sync, beat, leave, commit, stage, decide, nobody};
+ghost use Rattle.group_offsets.specs.GroupTransition.{answer_of};
+ghost use Rattle.group_offsets.specs.Group.{without_lapsed};
+ghost use Rattle.group_offsets.specs.Groups.{group_of, find_group, groups_after, join, sync, beat, leave, commit, stage, decide, unknown_group_error};
 ghost use Rattle.group_offsets.specs.Named.{all_expired};
 ghost use Rattle.group_offsets.specs.Permission.{MayUse};
 
+use crate::event::PartitionOffset;
+use crate::group::Group;
+use crate::member::Joined;
+use crate::offsets::Offsets;
 use authorizer::{Permit, Policy, Spent};
 use indexmap::IndexMap;
 use msg_group::{HeartbeatRequest, JoinGroupRequest, LeaveGroupRequest, SyncGroupRequest};
-use offset_tables::{Group, Joined, Offsets, PartitionOffset};
-use record_batch::Outcome;
+use record_batch::TransactionResult;
 use std::alloc::{AllocError, Global};
 use std::hash::RandomState;
 use std::marker::Model;
@@ -26,7 +29,7 @@ pub struct Groups {
 
 impl Model for Groups {
     ghost use Rattle.std.specs.Prelude.{List};
-    ghost use Rattle.offset_tables.specs.declared.group.Group.{Group};
+    ghost use Rattle.group_offsets.specs.declared.group.Group.{Group};
 
     ghost Value = { List Group };
 
@@ -38,7 +41,6 @@ impl Model for Groups {
     ghost invariant = { λ g. IsKept g.table.entries g.nothing };
 }
 
-/// Written out, so that a proof has one call where groups are let go, and not the drops of a table.
 impl Drop for Groups {
     fn drop(self) {
         let Groups {
@@ -89,8 +91,10 @@ impl Groups {
         requires permit { MayUse policy.now operations.Read request.now.group permit }
         requires generation { (group_of self.old request.now.group).generation <ℤ pos 2147483647 }
         ensures spent { result.0 ≡ permit.question }
-        ensures groups { OnOk result.1 (self.new ≡ turned self.old (join self.old request.now place moment)) }
-        ensures answer { IfOk result.1 (λ answer. answer ≡ answered (join self.old request.now place moment)) }
+        ensures groups { OnOk result.1
+            (self.new ≡ groups_after self.old (join self.old request.now place moment)) }
+        ensures answer { IfOk result.1
+            (λ answer. answer ≡ answer_of (join self.old request.now place moment)) }
         ensures err { OnErr result.1 (self.new ≡ self.old) }
     {
         (
@@ -107,8 +111,10 @@ impl Groups {
         moment: u64,
     ) -> Result<Result<Joined, ErrorCode>, AllocError>
         requires generation { (group_of self.old request.now.group).generation <ℤ pos 2147483647 }
-        ensures groups { OnOk result (self.new ≡ turned self.old (join self.old request.now place moment)) }
-        ensures answer { IfOk result (λ answer. answer ≡ answered (join self.old request.now place moment)) }
+        ensures groups { OnOk result
+            (self.new ≡ groups_after self.old (join self.old request.now place moment)) }
+        ensures answer { IfOk result
+            (λ answer. answer ≡ answer_of (join self.old request.now place moment)) }
         ensures err { OnErr result (self.new ≡ self.old) }
     {
         if let Some(group) = self.table.get_mut(request.group.as_str()) {
@@ -130,8 +136,10 @@ impl Groups {
     ) -> (Spent, Result<Result<Bytes, ErrorCode>, AllocError>)
         requires { MayUse policy.now operations.Read request.now.group permit }
         ensures spent { result.0 ≡ permit.question }
-        ensures groups { OnOk result.1 (self.new ≡ turned self.old (sync self.old request.now moment)) }
-        ensures answer { IfOk result.1 (λ answer. answer ≡ answered (sync self.old request.now moment)) }
+        ensures groups { OnOk result.1
+            (self.new ≡ groups_after self.old (sync self.old request.now moment)) }
+        ensures answer { IfOk result.1
+            (λ answer. answer ≡ answer_of (sync self.old request.now moment)) }
         ensures err { OnErr result.1 (self.new ≡ self.old) }
     {
         (permit.spend(policy), self.sync_group(request, moment))
@@ -142,12 +150,14 @@ impl Groups {
         request: &SyncGroupRequest,
         moment: u64,
     ) -> Result<Result<Bytes, ErrorCode>, AllocError>
-        ensures groups { OnOk result (self.new ≡ turned self.old (sync self.old request.now moment)) }
-        ensures answer { IfOk result (λ answer. answer ≡ answered (sync self.old request.now moment)) }
+        ensures groups { OnOk result
+            (self.new ≡ groups_after self.old (sync self.old request.now moment)) }
+        ensures answer { IfOk result
+            (λ answer. answer ≡ answer_of (sync self.old request.now moment)) }
         ensures err { OnErr result (self.new ≡ self.old) }
     {
         let Some(group) = self.table.get_mut(request.group.as_str()) else {
-            return Ok(Err(nobody(&request.group)));
+            return Ok(Err(unknown_group_error(&request.group)));
         };
         group.sync(request, moment)
     }
@@ -162,18 +172,18 @@ impl Groups {
     ) -> (Spent, Result<(), ErrorCode>)
         requires { MayUse policy.now operations.Read request.now.group permit }
         ensures spent { result.0 ≡ permit.question }
-        ensures groups { self.new ≡ turned self.old (beat self.old request.now moment) }
-        ensures answer { result.1 ≡ answered (beat self.old request.now moment) }
+        ensures groups { self.new ≡ groups_after self.old (beat self.old request.now moment) }
+        ensures answer { result.1 ≡ answer_of (beat self.old request.now moment) }
     {
         (permit.spend(policy), self.beat_group(request, moment))
     }
 
     fn beat_group(&mut self, request: &HeartbeatRequest, moment: u64) -> Result<(), ErrorCode>
-        ensures groups { self.new ≡ turned self.old (beat self.old request.now moment) }
-        ensures answer { result ≡ answered (beat self.old request.now moment) }
+        ensures groups { self.new ≡ groups_after self.old (beat self.old request.now moment) }
+        ensures answer { result ≡ answer_of (beat self.old request.now moment) }
     {
         let Some(group) = self.table.get_mut(request.group.as_str()) else {
-            return Err(nobody(&request.group));
+            return Err(unknown_group_error(&request.group));
         };
         group.beat(request, moment)
     }
@@ -187,18 +197,18 @@ impl Groups {
     ) -> (Spent, Result<(), ErrorCode>)
         requires { MayUse policy.now operations.Read request.now.group permit }
         ensures spent { result.0 ≡ permit.question }
-        ensures groups { self.new ≡ turned self.old (leave self.old request.now) }
-        ensures answer { result.1 ≡ answered (leave self.old request.now) }
+        ensures groups { self.new ≡ groups_after self.old (leave self.old request.now) }
+        ensures answer { result.1 ≡ answer_of (leave self.old request.now) }
     {
         (permit.spend(policy), self.leave_group(request))
     }
 
     fn leave_group(&mut self, request: &LeaveGroupRequest) -> Result<(), ErrorCode>
-        ensures groups { self.new ≡ turned self.old (leave self.old request.now) }
-        ensures answer { result ≡ answered (leave self.old request.now) }
+        ensures groups { self.new ≡ groups_after self.old (leave self.old request.now) }
+        ensures answer { result ≡ answer_of (leave self.old request.now) }
     {
         let Some(group) = self.table.get_mut(request.group.as_str()) else {
-            return Err(nobody(&request.group));
+            return Err(unknown_group_error(&request.group));
         };
         group.leave(request)
     }
@@ -216,8 +226,11 @@ impl Groups {
     ) -> (Spent, Result<Result<(), ErrorCode>, AllocError>)
         requires { MayUse policy.now operations.Read name.now permit }
         ensures spent { result.0 ≡ permit.question }
-        ensures groups { OnOk result.1 (self.new ≡ turned self.old (commit self.old name.now generation member.now offset)) }
-        ensures answer { IfOk result.1 (λ answer. answer ≡ answered (commit self.old name.now generation member.now offset)) }
+        ensures groups { OnOk result.1
+            (self.new ≡ groups_after self.old
+            (commit self.old name.now generation member.now offset)) }
+        ensures answer { IfOk result.1
+            (λ answer. answer ≡ answer_of (commit self.old name.now generation member.now offset)) }
         ensures err { OnErr result.1 (self.new ≡ self.old) }
     {
         let spent = permit.spend(policy);
@@ -235,8 +248,11 @@ impl Groups {
         member: &Text,
         offset: PartitionOffset,
     ) -> Result<Result<(), ErrorCode>, AllocError>
-        ensures groups { OnOk result (self.new ≡ turned self.old (commit self.old name.now generation member.now offset)) }
-        ensures answer { IfOk result (λ answer. answer ≡ answered (commit self.old name.now generation member.now offset)) }
+        ensures groups { OnOk result
+            (self.new ≡ groups_after self.old
+            (commit self.old name.now generation member.now offset)) }
+        ensures answer { IfOk result
+            (λ answer. answer ≡ answer_of (commit self.old name.now generation member.now offset)) }
         ensures err { OnErr result (self.new ≡ self.old) }
     {
         if let Some(group) = self.table.get_mut(name.as_str()) {
@@ -262,8 +278,12 @@ impl Groups {
     ) -> (Spent, Result<Result<(), ErrorCode>, AllocError>)
         requires { MayUse policy.now operations.Read name.now permit }
         ensures spent { result.0 ≡ permit.question }
-        ensures groups { OnOk result.1 (self.new ≡ turned self.old (stage self.old name.now producer generation member.now offset)) }
-        ensures answer { IfOk result.1 (λ answer. answer ≡ answered (stage self.old name.now producer generation member.now offset)) }
+        ensures groups { OnOk result.1
+            (self.new ≡ groups_after self.old
+            (stage self.old name.now producer generation member.now offset)) }
+        ensures answer { IfOk result.1
+            (λ answer. answer
+            ≡ answer_of (stage self.old name.now producer generation member.now offset)) }
         ensures err { OnErr result.1 (self.new ≡ self.old) }
     {
         (
@@ -281,8 +301,12 @@ impl Groups {
         member: &Text,
         offset: PartitionOffset,
     ) -> Result<Result<(), ErrorCode>, AllocError>
-        ensures groups { OnOk result (self.new ≡ turned self.old (stage self.old name.now producer generation member.now offset)) }
-        ensures answer { IfOk result (λ answer. answer ≡ answered (stage self.old name.now producer generation member.now offset)) }
+        ensures groups { OnOk result
+            (self.new ≡ groups_after self.old
+            (stage self.old name.now producer generation member.now offset)) }
+        ensures answer { IfOk result
+            (λ answer. answer
+            ≡ answer_of (stage self.old name.now producer generation member.now offset)) }
         ensures err { OnErr result (self.new ≡ self.old) }
     {
         if let Some(group) = self.table.get_mut(name.as_str()) {
@@ -300,9 +324,10 @@ impl Groups {
         alloc: Global,
         name: &Text,
         producer: i64,
-        outcome: Outcome,
+        outcome: TransactionResult,
     ) -> Result<(), AllocError>
-        ensures ok { OnOk result (self.new ≡ turned self.old (decide self.old name.now producer outcome)) }
+        ensures ok { OnOk result
+            (self.new ≡ groups_after self.old (decide self.old name.now producer outcome)) }
         ensures err { OnErr result (self.new ≡ self.old) }
     {
         if let Some(group) = self.table.get_mut(name.as_str()) {
@@ -334,7 +359,8 @@ impl Groups {
     /// Keeps a group that begins, where its first call wasn't refused.
     fn keep<A>(&mut self, group: Group, answer: &Result<A, ErrorCode>) -> Result<(), AllocError>
         requires { find_group self.old group.name ≡ None }
-        ensures ok { OnOk result (self.new ≡ (if is_ok answer.now then self.old ++ group ∷ [] else self.old)) }
+        ensures ok { OnOk result
+            (self.new ≡ (if is_ok answer.now then self.old ++ group ∷ [] else self.old)) }
         ensures err { OnErr result (self.new ≡ self.old) }
     {
         if answer.is_ok() {
@@ -356,7 +382,7 @@ impl Groups {
 
     /// Lets each member go that was not heard of for longer than its session timeout.
     pub fn expire(&mut self, moment: u64)
-        ensures { self.new ≡ map (expired moment) self.old }
+        ensures { self.new ≡ map (without_lapsed moment) self.old }
     {
         expire_all(&mut self.table, moment);
     }
@@ -372,8 +398,8 @@ fn expire_all(groups: &mut IndexMap<String, Group, RandomState>, moment: u64)
 }
 
 /// Why a group that nobody joined yet refuses its member's calls.
-fn nobody(name: &Text) -> ErrorCode
-    ensures { result ≡ nobody name.now }
+fn unknown_group_error(name: &Text) -> ErrorCode
+    ensures { result ≡ unknown_group_error name.now }
 {
     if name.as_bytes().is_empty() {
         ErrorCode::InvalidGroupId

@@ -3,7 +3,7 @@
 use libc::STDIN_FILENO;
 use libc::net::{POLLIN, poll};
 use libc::types::pollfd;
-use session_pool::Closing;
+use session_pool::ShutdownFlag;
 use std::io;
 use std::io::Read;
 use std::sync::Wait;
@@ -26,12 +26,12 @@ fn is_ready(milliseconds: i32) -> bool {
 pub(crate) struct Awaited<'r, 'x, R, I> {
     rt: &'r R,
     input: I,
-    closing: &'x Closing,
+    closing: &'x ShutdownFlag,
 }
 
 impl<'r, 'x, R: Wait, I: Read> Awaited<'r, 'x, R, I> {
     /// Reads standard input by this reader, which takes nothing of it before that is asked for, until it is closed.
-    pub(crate) fn new(rt: &'r R, input: I, closing: &'x Closing) -> Awaited<'r, 'x, R, I> {
+    pub(crate) fn new(rt: &'r R, input: I, closing: &'x ShutdownFlag) -> Awaited<'r, 'x, R, I> {
         Awaited { rt, input, closing }
     }
 }

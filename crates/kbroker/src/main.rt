@@ -5,12 +5,11 @@ mod awaited;
 
 use crate::awaited::Awaited;
 use admission::Rate;
-use arguments::{Ending, Job, Serving, Showing, VERSION, arguments};
+use arguments::{Job, Serving, Showing, ShutdownOptions, VERSION, arguments};
 use broker_keeping::Steering;
 use broker_server::{ServeOptions, serve};
 use commands::{Opened, check_and_explain, open_and_explain, replay_and_explain};
-use session_logins::ListedVersions;
-use session_pool::Closing;
+use session_pool::{ListedVersions, ShutdownFlag};
 use session_workers::{ConnectionOptions, SessionOptions};
 use show::{Noted, explain, explain_by, show_and_explain};
 use std::alloc::{AllocError, Global};
@@ -52,7 +51,7 @@ fn texts<'a>(alloc: Global, words: &'a [String]) -> Result<Vec<&'a str>, AllocEr
 
 /// How long open connections are served after a stop. Where lines steer the broker and nothing is said of it, to their end.
 fn grace_of(serving: Serving<'_>) -> Option<Duration> {
-    let Ending { grace_seconds, .. } = serving.ending;
+    let ShutdownOptions { grace_seconds, .. } = serving.ending;
     match grace_seconds {
         Some(seconds) => Some(Duration::from_secs(seconds)),
         None if serving.control => None,
@@ -314,7 +313,7 @@ fn serve_by<
 where
     T::Reader: Send,
 {
-    let closing = Closing::new();
+    let closing = ShutdownFlag::new();
     let steering = if serving.control || serving.ending.with_input {
         let Ok(lines) = BufReader::new(alloc, Awaited::new(rt, rt.reader(), &closing)) else {
             return fail(alloc, writer, &mut errors, "", STANDARD_INPUT, NO_MEMORY);

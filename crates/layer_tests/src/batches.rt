@@ -1,6 +1,6 @@
 //! Vectors from outside: batches that another encoder made, in hexadecimal digits.
 
-use record_batch::{Batch, BatchFault, BatchHeader, Outcome, RecordAt};
+use record_batch::{Batch, BatchFault, BatchHeader, RecordAt, TransactionResult};
 use std::alloc::{AllocError, Global};
 use std::test::Fail;
 use wire_types::{Bytes, Items, write_varint};
@@ -157,7 +157,10 @@ fn written(alloc: Global, batch: &Batch) -> Result<Vec<u8>, AllocError> {
 /// Of producer 7 in epoch 1 at the moment 1000.
 #[test]
 fn markers(rt: HostRuntime) -> Result<(), Fail> {
-    for (outcome, digits) in [(Outcome::Commit, COMMIT), (Outcome::Abort, ABORT)] {
+    for (outcome, digits) in [
+        (TransactionResult::Commit, COMMIT),
+        (TransactionResult::Abort, ABORT),
+    ] {
         let marker = Batch::control(rt.alloc(), outcome, 7, 1, 1_000)?;
         let bytes = hex::decode(rt.alloc(), digits)?;
         assert!(rt; written(rt.alloc(), &marker)?.as_slice() == bytes.as_slice());

@@ -11,14 +11,14 @@ use Rattle.msg_admin.specs.declared.api.Api.{Api}
 use Rattle.msg_admin.specs.declared.reply.Reply.{Reply}
 use Rattle.msg_admin.specs.Header.{response_header}
 use Rattle.msg_admin.specs.Bodies.{reply_body}
-use Rattle.msg_admin.specs.Request.{alone, Answers}
+use Rattle.msg_admin.specs.Request.{whole_body, Answers}
 use Rattle.msg_admin.specs.Response.{IsResponse}
 use Rattle.message_words.specs.Reading.{response_at}
 
-alone_ok : {A : Type 0} (x : A × List ℕ) (y : A) → alone x ≡ Ok y → (x.1 ≡ []) × (x.0 ≡ y)
+alone_ok : {A : Type 0} (x : A × List ℕ) (y : A) → whole_body x ≡ Ok y → (x.1 ≡ []) × (x.0 ≡ y)
 alone_ok x y e = let p = pass_ok (eqb (length x.1) 0) Rest x.0 y e in (nil_from_length x.1 (eqb-true _ _ p.0), p.1)
 
--- two texts behind one another, the last of which ends the bytes
+-- two texts after one another, the last of which ends the bytes
 joined : (bytes a b after rest : List ℕ) → bytes ≡ a ++ after → after ≡ b ++ rest → rest ≡ [] → bytes ≡ a ++ b
 joined bytes a b after rest p q none =
     p ∙ ap (λ (t : List ℕ). a ++ t) (q ∙ ap (λ (t : List ℕ). b ++ t) none ∙ append-nil b)
@@ -26,9 +26,9 @@ joined bytes a b after rest p q none =
 response_found : (api : Api) (bytes : List ℕ) (x : ℤ × Reply) → response_at api bytes ≡ Ok x → IsResponse api bytes x.0 x.1
 unfolding response_at
 response_found api bytes x e =
-    let c = bind_ok ((response_header api).reading bytes) (λ s. (reply_body api).reading s.1 >>= λ y. alone y >>= λ r. Ok (s.0, r)) x e in
-    let d = bind_ok ((reply_body api).reading c.0.1) (λ y. alone y >>= λ r. Ok (c.0.0, r)) x c.2 in
-    let f = bind_ok (alone d.0) (λ r. Ok (c.0.0, r)) x d.2 in
+    let c = bind_ok ((response_header api).reading bytes) (λ s. (reply_body api).reading s.1 >>= λ y. whole_body y >>= λ r. Ok (s.0, r)) x e in
+    let d = bind_ok ((reply_body api).reading c.0.1) (λ y. whole_body y >>= λ r. Ok (c.0.0, r)) x c.2 in
+    let f = bind_ok (whole_body d.0) (λ r. Ok (c.0.0, r)) x d.2 in
     let w = alone_ok d.0 f.0 f.1 in
     let q = (response_header api).sound bytes c.0.0 c.0.1 c.1 in
     let s = (reply_body api).sound c.0.1 d.0.0 d.0.1 d.1 in

@@ -6,12 +6,12 @@ use Rattle.msg_admin.specs.declared.api.Api.{Api}
 use Rattle.msg_admin.specs.declared.reply.Reply.{Reply}
 use Rattle.msg_admin.specs.Header.{response_header}
 use Rattle.msg_admin.specs.Bodies.{reply_body}
-use Rattle.msg_admin.specs.Request.{alone}
+use Rattle.msg_admin.specs.Request.{whole_body}
 
--- The correlation id and the answer of an api that stand behind a size field, or the first fault from left to right.
+-- The correlation id and the answer of an api that stand after a size field, or the first fault from left to right.
 unfoldable pub response_at : Api → List ℕ → Result (ℤ × Reply) Malformed
 response_at api bytes =
     (response_header api).reading bytes >>= λ c.
     (reply_body api).reading c.1 >>= λ x.
-    alone x >>= λ r.
+    whole_body x >>= λ r.
     Ok (c.0, r)

@@ -22,8 +22,8 @@ fn is_short(alloc: Global, frame: &Bytes, count: usize) -> Result<bool, AllocErr
 
 /// How many bytes of a frame, from the front, show its first fault: with one byte less they are only too few.
 ///
-/// So it is where the field that is at fault ends, a text with its last byte and a count behind its own bytes. Where the bytes
-/// are too few it is the end of the frame; where there are bytes behind the body, the end of the body. The frame is given
+/// So it is where the field that is at fault ends, a text with its last byte and a count after its own bytes. Where the bytes
+/// are too few it is the end of the frame; where there are bytes after the body, the end of the body. The frame is given
 /// without its size field.
 pub fn fault_end(alloc: Global, frame: &Bytes) -> Result<usize, AllocError>
     ensures { IfOk result (λ end. IsFaultEnd frame.now end) }

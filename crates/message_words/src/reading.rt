@@ -4,7 +4,7 @@ ghost use Rattle.std.specs.Prelude.{ℤ, Ok, IfOk};
 ghost use Rattle.wire_types.specs.Schema.{int32};
 ghost use Rattle.wire_types.specs.Reading.{Reads};
 ghost use Rattle.msg_admin.specs.declared.reply.Reply.{Reply as AnyReply};
-ghost use Rattle.msg_admin.specs.Header.{headed};
+ghost use Rattle.msg_admin.specs.Header.{with_header_tags};
 ghost use Rattle.msg_admin.specs.Bodies.{reply_body};
 ghost use Rattle.msg_admin.specs.Request.{Answers};
 ghost use Rattle.msg_admin.specs.Response.{IsResponse};
@@ -17,7 +17,7 @@ use wire_types::{Bytes, Cursor, Malformed, ReadFault, Wire};
 
 /// The correlation id, in a header of a flexible version or a plain one.
 fn read_correlation(flexible: bool, cursor: &mut Cursor<'_>) -> Result<i32, ReadFault>
-    ensures { Reads ((headed flexible int32).reading cursor.old) result cursor.new }
+    ensures { Reads ((with_header_tags flexible int32).reading cursor.old) result cursor.new }
 {
     let correlation = cursor.read_i32()?;
     if flexible {

@@ -1,4 +1,4 @@
-//! Record batches one behind the other, with their records.
+//! Record batches one after the other, with their records.
 
 use crate::codes::compression_name;
 use crate::sheet::{Fields, Sheet};
@@ -16,7 +16,7 @@ const LEAST_LENGTH: i32 = 49;
 /// The message format whose batches are read.
 const MAGIC: i8 = 2;
 
-/// A batch's bytes, and those behind it.
+/// A batch's bytes, and those after it.
 #[derive(Drop)]
 struct FirstBatch {
     batch: Bytes,
@@ -227,7 +227,7 @@ fn split_first(bytes: &Bytes) -> Result<Option<FirstBatch>, AllocError> {
     }))
 }
 
-/// An entry for the first batch, and what stands behind it.
+/// An entry for the first batch, and what stands after it.
 fn push_first(sheet: &mut Sheet, bytes: &Bytes) -> Result<Bytes, AllocError> {
     sheet.begin_entry();
     let rest = match split_first(bytes)? {

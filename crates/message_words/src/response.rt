@@ -54,8 +54,8 @@ fn asked_of(frame: &Bytes) -> Option<(Api, i32)> {
     Some((api, cursor.read_i32().ok()?))
 }
 
-/// The bytes behind a size field that counts them.
-fn behind_size(response: &Bytes) -> Result<Option<Bytes>, AllocError> {
+/// The bytes after a size field that counts them.
+fn after_size(response: &Bytes) -> Result<Option<Bytes>, AllocError> {
     let mut cursor = Cursor::over(response);
     match cursor.read_u32() {
         Ok(size) => {
@@ -86,7 +86,7 @@ pub fn push_response(sheet: &mut Sheet, frame: &Bytes, response: &Bytes) -> Resu
     let Some((api, asked)) = asked_of(frame) else {
         return push_no_answer(sheet, "a response, though no api is asked that is served");
     };
-    let Some(body) = behind_size(response)? else {
+    let Some(body) = after_size(response)? else {
         return push_no_answer(
             sheet,
             "a response whose first four bytes are not the number of bytes behind them",

@@ -37,7 +37,7 @@ create_acls_reply = struct
     (int32  -- throttle_time_ms
     ⨟ array created_acl)  -- results
 
--- ---- the texts of an answer behind a length of two bytes
+-- ---- the texts of an answer after a length of two bytes
 
 abbrev pub created_acl_strings : CreatedAcl → List (List ℕ)
 created_acl_strings c = text_of c.message

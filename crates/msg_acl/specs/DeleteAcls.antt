@@ -49,7 +49,7 @@ delete_acls_reply = struct
     (int32  -- throttle_time_ms
     ⨟ array deleted_acls)  -- filter_results
 
--- ---- the texts of an answer behind a length of two bytes
+-- ---- the texts of an answer after a length of two bytes
 
 abbrev pub deleted_acl_strings : DeletedAcl → List (List ℕ)
 deleted_acl_strings d = text_of d.message ++ binding_strings d.binding

@@ -53,7 +53,7 @@ describe_acls_reply = struct
     ⨟ nullable_string  -- error_message
     ⨟ array described_resource)  -- resources
 
--- ---- the texts of an answer behind a length of two bytes
+-- ---- the texts of an answer after a length of two bytes
 
 abbrev pub described_acl_strings : DescribedAcl → List (List ℕ)
 described_acl_strings d = d.principal ∷ d.host ∷ []

@@ -34,6 +34,6 @@ filter_entry = struct
     ⨟ int8  -- operation
     ⨟ int8)  -- permission_type
 
--- the texts behind a length of two bytes
+-- the texts after a length of two bytes
 abbrev pub binding_strings : BindingEntry → List (List ℕ)
 binding_strings b = b.name ∷ b.principal ∷ b.host ∷ []

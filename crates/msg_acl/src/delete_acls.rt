@@ -4,7 +4,7 @@ use crate::entries::{BindingEntry, FilterEntry};
 use std::alloc::Global;
 use wire_types::{
     Cursor, ErrorCode, Items, ReadFault, Text, Wire, WriteFault, array_room, nullable_room,
-    read_array, room_behind, write_array, write_i32, write_nullable,
+    read_array, room_after, write_array, write_i32, write_nullable,
 };
 
 /// Asks for the bindings that the filters pick to be deleted.
@@ -134,7 +134,7 @@ impl Wire for DeleteAclsReply {
     }
 
     fn room_left(&self, room: usize) -> Option<usize> {
-        let room = room_behind(4, room)?;
+        let room = room_after(4, room)?;
         array_room(&self.results, room)
     }
 }

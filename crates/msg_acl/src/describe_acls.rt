@@ -4,7 +4,7 @@ use crate::entries::FilterEntry;
 use std::alloc::Global;
 use wire_types::{
     Cursor, ErrorCode, Items, ReadFault, Text, Wire, WriteFault, array_room, nullable_room,
-    read_array, room_behind, string_room, write_array, write_i8, write_i32, write_nullable,
+    read_array, room_after, string_room, write_array, write_i8, write_i32, write_nullable,
     write_string,
 };
 
@@ -90,8 +90,8 @@ impl Wire for DescribedAcl {
     fn room_left(&self, room: usize) -> Option<usize> {
         let room = string_room(&self.principal, room)?;
         let room = string_room(&self.host, room)?;
-        let room = room_behind(1, room)?;
-        room_behind(1, room)
+        let room = room_after(1, room)?;
+        room_after(1, room)
     }
 }
 
@@ -122,9 +122,9 @@ impl Wire for DescribedResource {
     }
 
     fn room_left(&self, room: usize) -> Option<usize> {
-        let room = room_behind(1, room)?;
+        let room = room_after(1, room)?;
         let room = string_room(&self.name, room)?;
-        let room = room_behind(1, room)?;
+        let room = room_after(1, room)?;
         array_room(&self.acls, room)
     }
 }
@@ -156,7 +156,7 @@ impl Wire for DescribeAclsReply {
     }
 
     fn room_left(&self, room: usize) -> Option<usize> {
-        let room = room_behind(4, room)?;
+        let room = room_after(4, room)?;
         let room = self.error.room_left(room)?;
         let room = nullable_room(&self.message, room)?;
         array_room(&self.resources, room)

@@ -2,7 +2,7 @@
 
 use std::alloc::Global;
 use wire_types::{
-    Cursor, ReadFault, Text, Wire, WriteFault, nullable_room, room_behind, string_room, write_i8,
+    Cursor, ReadFault, Text, Wire, WriteFault, nullable_room, room_after, string_room, write_i8,
     write_nullable, write_string,
 };
 
@@ -66,13 +66,13 @@ impl Wire for BindingEntry {
     }
 
     fn room_left(&self, room: usize) -> Option<usize> {
-        let room = room_behind(1, room)?;
+        let room = room_after(1, room)?;
         let room = string_room(&self.name, room)?;
-        let room = room_behind(1, room)?;
+        let room = room_after(1, room)?;
         let room = string_room(&self.principal, room)?;
         let room = string_room(&self.host, room)?;
-        let room = room_behind(1, room)?;
-        room_behind(1, room)
+        let room = room_after(1, room)?;
+        room_after(1, room)
     }
 }
 
@@ -112,12 +112,12 @@ impl Wire for FilterEntry {
     }
 
     fn room_left(&self, room: usize) -> Option<usize> {
-        let room = room_behind(1, room)?;
+        let room = room_after(1, room)?;
         let room = nullable_room(&self.name, room)?;
-        let room = room_behind(1, room)?;
+        let room = room_after(1, room)?;
         let room = nullable_room(&self.principal, room)?;
         let room = nullable_room(&self.host, room)?;
-        let room = room_behind(1, room)?;
-        room_behind(1, room)
+        let room = room_after(1, room)?;
+        room_after(1, room)
     }
 }

@@ -41,11 +41,11 @@ use Rattle.msg_admin.specs.declared.reply.Reply.{Reply}
 use Rattle.msg_admin.specs.Api.{api_at, is_flexible}
 use Rattle.msg_admin.specs.Header.{header, request_header, response_header, least_header}
 use Rattle.msg_admin.specs.Bodies.{api_of, sent_as, request_body, reply_body, asked_produce, produce-asked, asked_fetch, fetch-asked, asked_list_offsets, list_offsets-asked, asked_metadata, metadata-asked, asked_offset_commit, offset_commit-asked, asked_offset_fetch, offset_fetch-asked, asked_find_coordinator, find_coordinator-asked, asked_join_group, join_group-asked, asked_heartbeat, heartbeat-asked, asked_leave_group, leave_group-asked, asked_sync_group, sync_group-asked, asked_init_producer_id, init_producer_id-asked, asked_add_partitions_to_txn, add_partitions_to_txn-asked, asked_add_offsets_to_txn, add_offsets_to_txn-asked, asked_end_txn_0, end_txn_0-asked, asked_end_txn_1, end_txn_1-asked, asked_end_txn_2, end_txn_2-asked, asked_end_txn_3, end_txn_3-asked, asked_end_txn_4, end_txn_4-asked, asked_end_txn_5, end_txn_5-asked, asked_txn_offset_commit, txn_offset_commit-asked, asked_describe_acls, describe_acls-asked, asked_create_acls, create_acls-asked, asked_delete_acls, delete_acls-asked, asked_sasl_handshake, sasl_handshake-asked, asked_sasl_authenticate, sasl_authenticate-asked}
-use Rattle.msg_admin.specs.Frame.{framed}
+use Rattle.msg_admin.specs.Frame.{frame_bytes}
 use Rattle.msg_admin.specs.Request.{IsRequest, Fits, request_text, is_writable}
 use Rattle.msg_admin.specs.Response.{response_as, response_text, IsResponse, sendable_as}
 use Rattle.msg_admin.specs.Laws.{OneRequest, FoundIsRequest, WrittenIsRead, SpellsFitting, FitsIsWritable, OneReply, OneResponse, WrittenReplyIsRead}
-use Rattle.msg_admin.proofs.Headers.{headed-in_type, headed-fits, header_len, least_len, least_fits}
+use Rattle.msg_admin.proofs.Headers.{with_header_tags-in_type, with_header_tags-fits, header_len, least_len, least_fits}
 use Rattle.msg_admin.proofs.Readings.{request-found, request-again}
 use Rattle.msg_admin.proofs.Replies.{sendable, int32_len}
 
@@ -62,7 +62,7 @@ unfolding is_writable
 written_is_read h r types served writable =
     let head = request_header (api_of r) in
     let fits = and_parts (head.fits h) ((request_body (api_of r)).fits r) (and_parts (head.fits h && (request_body (api_of r)).fits r) _ writable).0 in
-    (head.written h, (request_body (api_of r)).written r, api_of r, refl, head.canonical h (headed-in_type header (is_flexible (api_of r)) h types.0) fits.0, served, (request_body (api_of r)).canonical r types.1 fits.1)
+    (head.written h, (request_body (api_of r)).written r, api_of r, refl, head.canonical h (with_header_tags-in_type header (is_flexible (api_of r)) h types.0) fits.0, served, (request_body (api_of r)).canonical r types.1 fits.1)
 
 -- ---- what was read fits
 
@@ -117,7 +117,7 @@ unfolding is_writable
 fits_is_writable h r none fits =
     let head = request_header (api_of r) in
     let body = request_body (api_of r) in
-    let fits_head : head.fits h ≡ true = headed-fits header (is_flexible (api_of r)) h (least_fits h none) in
+    let fits_head : head.fits h ≡ true = with_header_tags-fits header (is_flexible (api_of r)) h (least_fits h none) in
     let len : length (request_text h r) ≡ length (head.written h) + length (body.written r) = length-append (head.written h) (body.written r) in
     let short : ltb (length (request_text h r)) (2 ^ 31) ≡ true = lt-ltb _ _ (omega (arith, len, least_len (is_flexible (api_of r)) h none, fits.1)) in
     rw (fits_head, fits.0, short) refl
@@ -131,11 +131,11 @@ one_value {A} g x y tx ty fx fy e =
     let b : g.reading (g.written y ++ []) ≡ Ok (y, []) = g.complete (g.written y) [] y (g.canonical y ty fy) in
     ap (λ (z : A × List ℕ). z.0) (ok_is (x, []) (y, []) (sym a ∙ ap (λ (t : List ℕ). g.reading (t ++ [])) e ∙ b))
 
--- the bytes behind the size field
-behind_size : (text : List ℕ) → drop 4 (framed text) ≡ text
-behind_size text = drop_at (int32.written (pos (length text))) text 4 (int32_len (pos (length text)))
+-- the bytes after the size field
+after_size : (text : List ℕ) → drop 4 (frame_bytes text) ≡ text
+after_size text = drop_at (int32.written (pos (length text))) text 4 (int32_len (pos (length text)))
 
-as_api : (o : Option Api) (api : Api) (c : ℤ) (r : Reply) → o ≡ Some api → response_as o c r ≡ framed (response_text c api r)
+as_api : (o : Option Api) (api : Api) (c : ℤ) (r : Reply) → o ≡ Some api → response_as o c r ≡ frame_bytes (response_text c api r)
 as_api o api c r e = ap (λ (x : Option Api). response_as x c r) e
 
 fits_as : (o : Option Api) (api : Api) (c : ℤ) (r : Reply) → o ≡ Some api → sendable_as o c r ≡ true → ((response_header api).fits c && (reply_body api).fits r) ≡ true
@@ -144,11 +144,11 @@ fits_as o api c r e all = (and_parts ((response_header api).fits c && (reply_bod
 pub one_reply : OneReply
 one_reply api c d q r as_q as_r type_q type_r short_q short_r e =
     let both : Grammar (ℤ × Reply) = response_header api ⨟ reply_body api in
-    let typed : (z : ℤ) → int32.InType z → (response_header api).InType z = headed-in_type int32 (is_flexible api) in
+    let typed : (z : ℤ) → int32.InType z → (response_header api).InType z = with_header_tags-in_type int32 (is_flexible api) in
     let fit_q = fits_as (sent_as q) api c q as_q (sendable c q short_q) in
     let fit_r = fits_as (sent_as r) api d r as_r (sendable d r short_r) in
-    let frames : framed (response_text c api q) ≡ framed (response_text d api r) = sym (as_api (sent_as q) api c q as_q) ∙ e ∙ as_api (sent_as r) api d r as_r in
-    let texts : response_text c api q ≡ response_text d api r = sym (behind_size (response_text c api q)) ∙ ap (drop 4) frames ∙ behind_size (response_text d api r) in
+    let frames : frame_bytes (response_text c api q) ≡ frame_bytes (response_text d api r) = sym (as_api (sent_as q) api c q as_q) ∙ e ∙ as_api (sent_as r) api d r as_r in
+    let texts : response_text c api q ≡ response_text d api r = sym (after_size (response_text c api q)) ∙ ap (drop 4) frames ∙ after_size (response_text d api r) in
     let same : (c, q) ≡ (d, r) = one_value both (c, q) (d, r) (typed c type_q.0, type_q.1) (typed d type_r.0, type_r.1) fit_q fit_r texts in
     (ap (λ (x : ℤ × Reply). x.0) same, ap (λ (x : ℤ × Reply). x.1) same)
 
@@ -176,5 +176,5 @@ written_reply_is_read api c r sent types short =
     let head = response_header api in
     let body = reply_body api in
     let fits = and_parts (head.fits c) (body.fits r) (fits_as (sent_as r) api c r sent (sendable c r short)) in
-    let is : IsResponse api (response_text c api r) c r = (head.written c, body.written r, refl, head.canonical c (headed-in_type int32 (is_flexible api) c types.0) fits.0, body.canonical r types.1 fits.1) in
+    let is : IsResponse api (response_text c api r) c r = (head.written c, body.written r, refl, head.canonical c (with_header_tags-in_type int32 (is_flexible api) c types.0) fits.0, body.canonical r types.1 fits.1) in
     (response_text c api r, as_api (sent_as r) api c r sent, is)

@@ -10,7 +10,7 @@ use Rattle.wire_types.specs.Spelling.{room_left}
 use Rattle.wire_types.specs.Writing.{Writes}
 use Rattle.wire_types.specs.Combinators.{◌⨟◌}
 use Rattle.wire_types.specs.Schema.{int32}
-use Rattle.msg_admin.specs.Frame.{framed, frame_fits, GivesFrame, TellsSize}
+use Rattle.msg_admin.specs.Frame.{frame_bytes, frame_fits, GivesFrame, TellsSize}
 
 some_where : (fits : Bool) (n room : ℕ) → IsSome (room_left fits n room) ↔ ((fits ≡ true) × (n ≤ room))
 unfolding room_left
@@ -98,7 +98,7 @@ body_refused f g x y e r whole new h is = passed_on (f ⨟ g) (x, y) e r (refuse
 
 -- the size, the header and the body, one after the other
 pub frame_is : {A B : Type 0} (f : Grammar A) (g : Grammar B) (x : A) (y : B) (size : ℕ) (sized headed whole : List ℕ)
-    → size ≡ length ((f ⨟ g).written (x, y)) → sized ≡ int32.written (pos size) → headed ≡ f.put sized x → whole ≡ g.put headed y → whole ≡ framed ((f ⨟ g).written (x, y))
+    → size ≡ length ((f ⨟ g).written (x, y)) → sized ≡ int32.written (pos size) → headed ≡ f.put sized x → whole ≡ g.put headed y → whole ≡ frame_bytes ((f ⨟ g).written (x, y))
 frame_is {A} {B} f g x y size sized headed whole is first second third =
     let both : Grammar (A × B) = f ⨟ g in
     let put : whole ≡ both.put sized (x, y) = third ∙ ap (λ (t : List ℕ). g.put t y) second in
@@ -111,5 +111,5 @@ pub alone_refused : {A : Type 0} (g : Grammar A) (x : A) (e : WriteFault) (r : R
 unfolding frame_fits
 alone_refused g x e r whole new h is = passed_on g x e r (refused (g.fits x) (frame_fits g x) e whole new (λ no. rw no refl) h) is
 
-pub alone_is : {A : Type 0} (g : Grammar A) (x : A) (size : ℕ) (sized whole : List ℕ) → size ≡ length (g.written x) → sized ≡ int32.written (pos size) → whole ≡ g.put sized x → whole ≡ framed (g.written x)
+pub alone_is : {A : Type 0} (g : Grammar A) (x : A) (size : ℕ) (sized whole : List ℕ) → size ≡ length (g.written x) → sized ≡ int32.written (pos size) → whole ≡ g.put sized x → whole ≡ frame_bytes (g.written x)
 alone_is g x size sized whole is first second = second ∙ g.puts sized x ∙ ap (λ (t : List ℕ). t ++ g.written x) (first ∙ ap (λ (n : ℕ). int32.written (pos n)) is)

@@ -10,7 +10,7 @@ use Rattle.wire_types.specs.declared.fault.Malformed.TheVariants.{Unknown}
 use Rattle.wire_types.specs.declared.fault.WriteFault.{WriteFault}
 use Rattle.wire_types.specs.declared.fault.WriteFault.TheVariants as faults
 use Rattle.wire_types.specs.Reading.{Found}
-use Rattle.wire_types.specs.Spelling.{int_written, behind_written, behind_fits, many_written, many_fit, null_count_fits}
+use Rattle.wire_types.specs.Spelling.{int_written, after_count_written, after_count_fits, many_written, many_fit, null_count_fits}
 use Rattle.wire_types.specs.Combinators.{◌⨟◌}
 use Rattle.wire_types.specs.Schema.{int32}
 use Rattle.msg_login.specs.declared.api_versions.ApiVersionsReply.{ApiVersionsReply}
@@ -19,7 +19,7 @@ use Rattle.msg_admin.specs.Frame.{frame_fits, GivesFrame}
 use Rattle.msg_admin.specs.Api.{api_at, all_apis, key_of, version_of}
 use Rattle.msg_admin.specs.Header.{names}
 use Rattle.msg_admin.specs.Request.{request_at}
-use Rattle.msg_admin.specs.Versions.{start, AsksUnsupported, asked_unsupported, unsupported_at, unsupported_reply}
+use Rattle.msg_admin.specs.Versions.{header_start, AsksUnsupported, asked_unsupported, unsupported_at, unsupported_reply}
 
 other_version : (version : ℤ) → Decides (not (int_eq version (pos 0))) (version ≡ pos 0 → ⊥)
 other_version version = Decides-not (int_eq version (pos 0)) (Decides-int_eq version (pos 0))
@@ -31,27 +31,27 @@ told : (b : Bool) (x y : ℤ) → cond b (Some x) None ≡ Some y → (b ≡ tru
 told true x y e = (refl, cc)
 told false x y e = absurd cc
 
-found_in : (bytes : List ℕ) (o : Found ((ℤ × ℤ) × ℤ)) (c : ℤ) → start.reading bytes ≡ o → option_and_then (λ x. asked_unsupported x.0) (result_ok o) ≡ Some c → AsksUnsupported bytes c
+found_in : (bytes : List ℕ) (o : Found ((ℤ × ℤ) × ℤ)) (c : ℤ) → header_start.reading bytes ≡ o → option_and_then (λ x. asked_unsupported x.0) (result_ok o) ≡ Some c → AsksUnsupported bytes c
 found_in bytes (Err e) c is said = absurd cc
 found_in bytes (Ok x) c is said =
     let key = x.0.0.0 in
     let version = x.0.0.1 in
-    let p = start.sound bytes x.0 x.1 is in
+    let p = header_start.sound bytes x.0 x.1 is in
     let t = told (int_eq key (pos 18) && not (int_eq version (pos 0))) x.0.1 c said in
     let d = (asks key version).0 t.0 in
-    let named : start.Spells p.0 ((pos 18, version), x.0.1) = subst (λ (k : ℤ). start.Spells p.0 ((k, version), x.0.1)) d.0 p.2 in
-    (p.0, x.1, version, p.1, subst (λ (z : ℤ). start.Spells p.0 ((pos 18, version), z)) t.1 named, d.1)
+    let named : header_start.Spells p.0 ((pos 18, version), x.0.1) = subst (λ (k : ℤ). header_start.Spells p.0 ((k, version), x.0.1)) d.0 p.2 in
+    (p.0, x.1, version, p.1, subst (λ (z : ℤ). header_start.Spells p.0 ((pos 18, version), z)) t.1 named, d.1)
 
 pub asked : (bytes : List ℕ) (o : Option ℤ) → o ≡ unsupported_at bytes → IfSome o (AsksUnsupported bytes)
 unfolding unsupported_at
 asked bytes None e = tt
-asked bytes (Some c) e = found_in bytes (start.reading bytes) c refl (sym e)
+asked bytes (Some c) e = found_in bytes (header_start.reading bytes) c refl (sym e)
 
 pub asked-again : (bytes : List ℕ) (c : ℤ) → AsksUnsupported bytes c → unsupported_at bytes ≡ Some c
 unfolding unsupported_at
 asked-again bytes c i =
     let other : not (int_eq i.2 (pos 0)) ≡ true = (other_version i.2).1 i.5 in
-    ap unsupported_at i.3 ∙ rw (start.complete i.0 i.1 ((pos 18, i.2), c) i.4, other) refl
+    ap unsupported_at i.3 ∙ rw (header_start.complete i.0 i.1 ((pos 18, i.2), c) i.4, other) refl
 
 unknown : (version : ℤ) → (version ≡ pos 0 → ⊥) → api_at (pos 18) version ≡ None
 unfolding api_at all_apis key_of version_of
@@ -74,7 +74,7 @@ unread bytes (Some c) i = unread_bytes bytes c i
 -- ---- the answer
 
 answer_fits : (c : ℤ) → frame_fits (int32 ⨟ api_versions_reply) (c, unsupported_reply) ≡ true
-unfolding frame_fits int_written behind_written behind_fits many_written many_fit null_count_fits key_of version_of
+unfolding frame_fits int_written after_count_written after_count_fits many_written many_fit null_count_fits key_of version_of
 answer_fits c = refl
 
 pub never_long : (c : ℤ) (r : ApiVersionsReply) (e : WriteFault) → r ≡ unsupported_reply → e ≡ faults.TooLong → GivesFrame (int32 ⨟ api_versions_reply) (c, r) (Err e) → ⊥

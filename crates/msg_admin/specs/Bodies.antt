@@ -57,7 +57,7 @@ use Rattle.msg_txn.specs.declared.end_txn.FlexibleEnded.{FlexibleEnded}
 use Rattle.msg_txn.specs.declared.end_txn.EndedWithPair.{EndedWithPair}
 use Rattle.msg_txn.specs.declared.end_txn.EndTxnReply.{EndTxnReply}
 use Rattle.msg_txn.specs.declared.end_txn.EndTxnReply.TheVariants as ended_as
-use Rattle.msg_txn.specs.EndTxn.{end_txn, flexible_end_txn, ended, flexible_ended, ended_with_pair}
+use Rattle.msg_txn.specs.EndTxn.{end_txn, flexible_end_txn, end_txn_answer, flexible_end_txn_answer, end_txn_answer_with_producer}
 use Rattle.msg_txn.specs.declared.txn_offset_commit.TxnOffsetCommitRequest.{TxnOffsetCommitRequest}
 use Rattle.msg_txn.specs.declared.txn_offset_commit.TxnOffsetCommitReply.{TxnOffsetCommitReply}
 use Rattle.msg_txn.specs.TxnOffsetCommit.{txn_offset_commit_request, txn_offset_commit_reply}
@@ -153,7 +153,7 @@ sent_as (replies.Marked left) = None
 sent_as replies.Idle = None
 sent_as (replies.Ticked left) = None
 
--- the texts of a reply that stand behind a length of two bytes
+-- the texts of a reply that stand after a length of two bytes
 abbrev pub strings_of : Reply → List (List ℕ)
 strings_of (replies.Produce r) = produce_strings r
 strings_of (replies.SilentProduce r) = produce_strings r
@@ -706,12 +706,12 @@ reply_body apis.ApiVersions = variant replies.ApiVersions answered_api_versions 
 reply_body apis.InitProducerId = variant replies.InitProducerId answered_init_producer_id (λ x. refl) init_producer_id-answered init_producer_id_reply
 reply_body apis.AddPartitionsToTxn = variant replies.AddPartitionsToTxn answered_add_partitions_to_txn (λ x. refl) add_partitions_to_txn-answered add_partitions_to_txn_reply
 reply_body apis.AddOffsetsToTxn = variant replies.AddOffsetsToTxn answered_add_offsets_to_txn (λ x. refl) add_offsets_to_txn-answered add_offsets_to_txn_reply
-reply_body apis.EndTxn0 = variant (λ x. replies.EndTxn (ended_as.Version0 x)) answered_end_txn_0 (λ x. refl) end_txn_0-answered ended
-reply_body apis.EndTxn1 = variant (λ x. replies.EndTxn (ended_as.Version1 x)) answered_end_txn_1 (λ x. refl) end_txn_1-answered ended
-reply_body apis.EndTxn2 = variant (λ x. replies.EndTxn (ended_as.Version2 x)) answered_end_txn_2 (λ x. refl) end_txn_2-answered ended
-reply_body apis.EndTxn3 = variant (λ x. replies.EndTxn (ended_as.Version3 x)) answered_end_txn_3 (λ x. refl) end_txn_3-answered flexible_ended
-reply_body apis.EndTxn4 = variant (λ x. replies.EndTxn (ended_as.Version4 x)) answered_end_txn_4 (λ x. refl) end_txn_4-answered flexible_ended
-reply_body apis.EndTxn5 = variant (λ x. replies.EndTxn (ended_as.Version5 x)) answered_end_txn_5 (λ x. refl) end_txn_5-answered ended_with_pair
+reply_body apis.EndTxn0 = variant (λ x. replies.EndTxn (ended_as.Version0 x)) answered_end_txn_0 (λ x. refl) end_txn_0-answered end_txn_answer
+reply_body apis.EndTxn1 = variant (λ x. replies.EndTxn (ended_as.Version1 x)) answered_end_txn_1 (λ x. refl) end_txn_1-answered end_txn_answer
+reply_body apis.EndTxn2 = variant (λ x. replies.EndTxn (ended_as.Version2 x)) answered_end_txn_2 (λ x. refl) end_txn_2-answered end_txn_answer
+reply_body apis.EndTxn3 = variant (λ x. replies.EndTxn (ended_as.Version3 x)) answered_end_txn_3 (λ x. refl) end_txn_3-answered flexible_end_txn_answer
+reply_body apis.EndTxn4 = variant (λ x. replies.EndTxn (ended_as.Version4 x)) answered_end_txn_4 (λ x. refl) end_txn_4-answered flexible_end_txn_answer
+reply_body apis.EndTxn5 = variant (λ x. replies.EndTxn (ended_as.Version5 x)) answered_end_txn_5 (λ x. refl) end_txn_5-answered end_txn_answer_with_producer
 reply_body apis.TxnOffsetCommit = variant replies.TxnOffsetCommit answered_txn_offset_commit (λ x. refl) txn_offset_commit-answered txn_offset_commit_reply
 reply_body apis.DescribeAcls = variant replies.DescribeAcls answered_describe_acls (λ x. refl) describe_acls-answered describe_acls_reply
 reply_body apis.CreateAcls = variant replies.CreateAcls answered_create_acls (λ x. refl) create_acls-answered create_acls_reply

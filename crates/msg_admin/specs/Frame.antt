@@ -6,8 +6,8 @@ use Rattle.wire_types.specs.Grammar.{Grammar}
 use Rattle.wire_types.specs.Schema.{int32}
 
 -- size => INT32, and the bytes that it counts
-abbrev pub framed : List ℕ → List ℕ
-framed text = int32.written (pos (length text)) ++ text
+abbrev pub frame_bytes : List ℕ → List ℕ
+frame_bytes text = int32.written (pos (length text)) ++ text
 
 -- the value has a spelling, whose size can be told
 unfoldable pub frame_fits : {A : Type 0} → Grammar A → A → Bool
@@ -21,7 +21,7 @@ Gives fits whole (Err faults.TooLong) = fits ≡ false
 
 -- ... the frame of a value
 abbrev pub GivesFrame : {A : Type 0} → Grammar A → A → Result (List ℕ) WriteFault → Type 0
-GivesFrame g x = Gives (frame_fits g x) (framed (g.written x))
+GivesFrame g x = Gives (frame_fits g x) (frame_bytes (g.written x))
 
 -- the size of the value's spelling, where it fits
 abbrev pub TellsSize : {A : Type 0} → Grammar A → A → Option ℕ → Type 0

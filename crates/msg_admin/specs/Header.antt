@@ -2,15 +2,15 @@
 use Rattle.std.specs.Prelude.{ℤ, ℕ, List, Bool, true, false, Option, refl}
 use Rattle.wire_types.specs.Grammar.{Grammar}
 use Rattle.wire_types.specs.Combinators.{struct, ◌⨟◌}
-use Rattle.wire_types.specs.Schema.{int16, int32, nullable_string, tagged}
+use Rattle.wire_types.specs.Schema.{int16, int32, nullable_string, tagged_struct}
 use Rattle.msg_admin.specs.declared.api.Api.{Api}
 use Rattle.msg_admin.specs.declared.header.Header.{Header}
 use Rattle.msg_admin.specs.Api.{is_flexible}
 
--- Behind what a header of a flexible version has in common with a plain one, a tagged section stands.
-abbrev pub headed : {A : Type 0} → Bool → Grammar A → Grammar A
-headed false g = g
-headed true g = tagged (λ x. x) (λ x. x) (λ x. refl) (λ x. refl) g
+-- After what a header of a flexible version has in common with a plain one, a tagged section stands.
+abbrev pub with_header_tags : {A : Type 0} → Bool → Grammar A → Grammar A
+with_header_tags false g = g
+with_header_tags true g = tagged_struct (λ x. x) (λ x. x) (λ x. refl) (λ x. refl) g
 
 -- request_api_key request_api_version
 abbrev pub names : Grammar (ℤ × ℤ)
@@ -33,11 +33,11 @@ header = struct
 
 -- Request Header v1, and for a flexible version Request Header v2 => the same and TAG_BUFFER
 abbrev pub request_header : Api → Grammar Header
-request_header api = headed (is_flexible api) header
+request_header api = with_header_tags (is_flexible api) header
 
 -- Response Header v0 => correlation_id, and for a flexible version Response Header v1 => correlation_id TAG_BUFFER
 abbrev pub response_header : Api → Grammar ℤ
-response_header api = headed (is_flexible api) int32
+response_header api = with_header_tags (is_flexible api) int32
 
 -- the bytes of a request's header whose client is null
 abbrev pub least_header : Bool → ℕ

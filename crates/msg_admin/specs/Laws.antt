@@ -8,7 +8,7 @@ use Rattle.msg_admin.specs.declared.reply.Reply.{Reply}
 use Rattle.msg_admin.specs.Api.{api_at}
 use Rattle.msg_admin.specs.Header.{header}
 use Rattle.msg_admin.specs.Bodies.{api_of, sent_as, request_body, reply_body}
-use Rattle.msg_admin.specs.Frame.{framed}
+use Rattle.msg_admin.specs.Frame.{frame_bytes}
 use Rattle.msg_admin.specs.Request.{IsRequest, Fits, request_at, request_text, is_writable}
 use Rattle.msg_admin.specs.Response.{response, IsResponse, IsTooLong, is_sendable}
 
@@ -32,7 +32,7 @@ WrittenIsRead = (h : Header) (r : Request) → RequestInType h r → api_at h.ke
 abbrev pub SpellsFitting : List ℕ → Type 0
 SpellsFitting bytes = length bytes ≤ 104857600 → (h : Header) (r : Request) → IsRequest bytes h r → Fits r
 
--- a request that fits can be written behind a header without a client
+-- a request that fits can be written after a header without a client
 abbrev pub FitsIsWritable : Type 0
 FitsIsWritable = (h : Header) (r : Request) → h.client ≡ None → Fits r → is_writable h r ≡ true
 
@@ -45,14 +45,14 @@ abbrev pub OneReply : Type 0
 OneReply = (api : Api) (c d : ℤ) (q r : Reply) → sent_as q ≡ Some api → sent_as r ≡ Some api → ReplyInType api c q → ReplyInType api d r
     → (IsTooLong c q → ⊥) → (IsTooLong d r → ⊥) → response c q ≡ response d r → (c ≡ d) × (q ≡ r)
 
--- the bytes behind a response's size field spell one reply at most, the api known that it answers
+-- the bytes after a response's size field spell one reply at most, the api known that it answers
 abbrev pub OneResponse : Type 0
 OneResponse = (api : Api) (bytes : List ℕ) (c d : ℤ) (q r : Reply) → IsResponse api bytes c q → IsResponse api bytes d r → (c ≡ d) × (q ≡ r)
 
 -- what is written of a reply is spelled so, and so read back
 abbrev pub WrittenReplyIsRead : Type 0
 WrittenReplyIsRead = (api : Api) (c : ℤ) (r : Reply) → sent_as r ≡ Some api → ReplyInType api c r → (IsTooLong c r → ⊥)
-    → (text : List ℕ) × (response c r ≡ framed text) × IsResponse api text c r
+    → (text : List ℕ) × (response c r ≡ frame_bytes text) × IsResponse api text c r
 
 -- a reply can be sent exactly where it isn't too long
 abbrev pub SendableIsShort : Type 0

@@ -16,7 +16,7 @@ use Rattle.msg_admin.specs.declared.api.Api.{Api}
 use Rattle.msg_admin.specs.declared.api.Api.TheVariants as apis
 use Rattle.msg_admin.specs.Api.{key_of, version_of, all_apis}
 use Rattle.msg_admin.specs.Header.{names}
-use Rattle.msg_admin.specs.Frame.{framed}
+use Rattle.msg_admin.specs.Frame.{frame_bytes}
 
 -- the first version in which an api is served, and the last: one, but of EndTxn 0 to 5
 abbrev pub first_version : Api → ℤ
@@ -83,13 +83,13 @@ served_in-listed apis.SaslAuthenticate = refl
 -- ---- asked in a version that is not served
 
 -- what each request header starts with: request_api_key request_api_version correlation_id
-abbrev pub start : Grammar ((ℤ × ℤ) × ℤ)
-start = names ⨟ int32
+abbrev pub header_start : Grammar ((ℤ × ℤ) × ℤ)
+header_start = names ⨟ int32
 
 -- The bytes start as a request of ApiVersions, whose key is 18, in another version than 0. Whatever follows is not looked at.
 abbrev pub AsksUnsupported : List ℕ → ℤ → Type 0
 AsksUnsupported bytes correlation = (front rest : List ℕ) × (version : ℤ) × (bytes ≡ front ++ rest)
-    × start.Spells front ((pos 18, version), correlation) × (version ≡ pos 0 → ⊥)
+    × header_start.Spells front ((pos 18, version), correlation) × (version ≡ pos 0 → ⊥)
 
 -- ---- the same as it is read
 
@@ -98,7 +98,7 @@ asked_unsupported ((key, version), correlation) = if int_eq key (pos 18) && not 
 
 -- the correlation id of such a request
 unfoldable pub unsupported_at : List ℕ → Option ℤ
-unsupported_at bytes = option_and_then (λ x. asked_unsupported x.0) (result_ok (start.reading bytes))
+unsupported_at bytes = option_and_then (λ x. asked_unsupported x.0) (result_ok (header_start.reading bytes))
 
 -- ---- its answer
 
@@ -108,4 +108,4 @@ unsupported_reply = record { error = codes.UnsupportedVersion; apis = served_in 
 
 -- the whole response, in version 0, which each client can read
 abbrev pub unsupported_response : ℤ → List ℕ
-unsupported_response correlation = framed (int32.written correlation ++ api_versions_reply.written unsupported_reply)
+unsupported_response correlation = frame_bytes (int32.written correlation ++ api_versions_reply.written unsupported_reply)

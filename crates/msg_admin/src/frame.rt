@@ -1,8 +1,8 @@
-//! A header and a body behind their size.
+//! A header and a body after their size.
 
 ghost use Rattle.std.specs.Prelude.{◌≡◌};
 ghost use Rattle.wire_types.specs.Combinators.{◌⨟◌};
-ghost use Rattle.msg_admin.specs.Header.{headed};
+ghost use Rattle.msg_admin.specs.Header.{with_header_tags};
 ghost use Rattle.msg_admin.specs.Frame.{GivesFrame, TellsSize};
 
 use crate::header::{header_room, write_header};
@@ -19,7 +19,8 @@ pub(crate) fn write_frame<H: Wire, B: Wire>(
     header: &H,
     body: &B,
 ) -> Result<Bytes, WriteFault>
-    ensures { GivesFrame (headed flexible H.grammar ⨟ B.grammar) (header.now, body.now) result }
+    ensures { GivesFrame (with_header_tags flexible H.grammar ⨟ B.grammar) (header.now, body.now)
+        result }
 {
     let Some(size) = frame_size(flexible, header, body) else {
         return Err(WriteFault::TooLong);
@@ -33,22 +34,24 @@ pub(crate) fn write_frame<H: Wire, B: Wire>(
 
 /// What the size field tells of a header and a body, if it can.
 fn frame_size<H: Wire, B: Wire>(flexible: bool, header: &H, body: &B) -> Option<usize>
-    ensures { TellsSize (headed flexible H.grammar ⨟ B.grammar) (header.now, body.now) result }
+    ensures { TellsSize (with_header_tags flexible H.grammar ⨟ B.grammar) (header.now, body.now)
+        result }
 {
-    match room_behind_both(flexible, header, body, GREATEST) {
+    match room_after_both(flexible, header, body, GREATEST) {
         Some(left) => Some(GREATEST - left),
         None => None,
     }
 }
 
 /// What a header and a body leave of a room.
-fn room_behind_both<H: Wire, B: Wire>(
+fn room_after_both<H: Wire, B: Wire>(
     flexible: bool,
     header: &H,
     body: &B,
     room: usize,
 ) -> Option<usize>
-    ensures { result ≡ (headed flexible H.grammar ⨟ B.grammar).left (header.now, body.now) room }
+    ensures { result ≡ (with_header_tags flexible H.grammar ⨟ B.grammar).left (header.now, body.now)
+        room }
 {
     let room = header_room(flexible, header, room)?;
     body.room_left(room)
@@ -60,7 +63,7 @@ pub(crate) fn write_header_frame<H: Wire>(
     flexible: bool,
     header: &H,
 ) -> Result<Bytes, WriteFault>
-    ensures { GivesFrame (headed flexible H.grammar) header.now result }
+    ensures { GivesFrame (with_header_tags flexible H.grammar) header.now result }
 {
     let Some(count) = header_size(flexible, header) else {
         return Err(WriteFault::TooLong);
@@ -73,7 +76,7 @@ pub(crate) fn write_header_frame<H: Wire>(
 
 /// What the size field tells of a header alone, if it can.
 fn header_size<H: Wire>(flexible: bool, header: &H) -> Option<usize>
-    ensures { TellsSize (headed flexible H.grammar) header.now result }
+    ensures { TellsSize (with_header_tags flexible H.grammar) header.now result }
 {
     match header_room(flexible, header, GREATEST) {
         Some(room) => Some(GREATEST - room),

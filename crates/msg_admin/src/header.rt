@@ -3,12 +3,12 @@
 ghost use Rattle.std.specs.Prelude.{◌≡◌, Some};
 ghost use Rattle.wire_types.specs.Reading.{Reads};
 ghost use Rattle.wire_types.specs.Writing.{Puts};
-ghost use Rattle.msg_admin.specs.Header.{headed, sender, least_header};
+ghost use Rattle.msg_admin.specs.Header.{with_header_tags, sender, least_header};
 
 use crate::api::Api;
 use std::alloc::Global;
 use wire_types::{
-    Cursor, ReadFault, Text, Wire, WriteFault, nullable_room, room_behind, write_i16, write_i32,
+    Cursor, ReadFault, Text, Wire, WriteFault, nullable_room, room_after, write_i16, write_i32,
     write_no_tags, write_nullable,
 };
 
@@ -70,9 +70,9 @@ impl Wire for Header {
     }
 
     fn room_left(&self, room: usize) -> Option<usize> {
-        let room = room_behind(2, room)?;
-        let room = room_behind(2, room)?;
-        let room = room_behind(4, room)?;
+        let room = room_after(2, room)?;
+        let room = room_after(2, room)?;
+        let room = room_after(4, room)?;
         nullable_room(&self.client, room)
     }
 }
@@ -84,13 +84,13 @@ pub(crate) fn least_header(flexible: bool) -> usize
     if flexible { 11 } else { 10 }
 }
 
-/// What stands behind key and version: the correlation id and the client.
+/// What stands after key and version: the correlation id and the client.
 pub(crate) fn read_sender(
     alloc: Global,
     flexible: bool,
     cursor: &mut Cursor<'_>,
 ) -> Result<(i32, Option<Text>), ReadFault>
-    ensures { Reads ((headed flexible sender).reading cursor.old) result cursor.new }
+    ensures { Reads ((with_header_tags flexible sender).reading cursor.old) result cursor.new }
 {
     let correlation = cursor.read_i32()?;
     let client = cursor.read_nullable(alloc)?;
@@ -100,13 +100,14 @@ pub(crate) fn read_sender(
     Ok((correlation, client))
 }
 
-/// Puts a header behind what is there.
+/// Puts a header after what is there.
 pub(crate) fn write_header<H: Wire>(
     out: &mut Vec<u8>,
     flexible: bool,
     header: &H,
 ) -> Result<(), WriteFault>
-    ensures { Puts (headed flexible H.grammar) header.now out.old.items result out.new.items }
+    ensures { Puts (with_header_tags flexible H.grammar) header.now out.old.items result
+        out.new.items }
 {
     header.write(out)?;
     if flexible {
@@ -117,11 +118,11 @@ pub(crate) fn write_header<H: Wire>(
 
 /// What a header leaves of a room.
 pub(crate) fn header_room<H: Wire>(flexible: bool, header: &H, room: usize) -> Option<usize>
-    ensures { result ≡ (headed flexible H.grammar).left header.now room }
+    ensures { result ≡ (with_header_tags flexible H.grammar).left header.now room }
 {
     let room = header.room_left(room)?;
     if flexible {
-        room_behind(1, room)
+        room_after(1, room)
     } else {
         Some(room)
     }

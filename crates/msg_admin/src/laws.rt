@@ -22,7 +22,7 @@ pub fn read_fits(frame: &[u8])
     ensures { SpellsFitting frame.now }
 {}
 
-/// What fits can be written behind a header without a client.
+/// What fits can be written after a header without a client.
 pub fn fits_is_writable()
     ensures { FitsIsWritable }
 {}

@@ -1,4 +1,4 @@
-//! Requests and replies as the frames that travel: headers, the apis that are served, and what stands behind each.
+//! Requests and replies as the frames that travel: headers, the apis that are served, and what stands after each.
 //!
 //! `read_request` and `write_reply` are a broker's side, `write_request` a client's. A new api is a variant of
 //! `Api`, `Request` and `Reply`, a line where each of them is dispatched, and its grammar in `specs/Bodies.antt`.

@@ -18,9 +18,10 @@ use msg_txn::{
     InitProducerIdReply, TxnOffsetCommitReply,
 };
 use std::alloc::Global;
-use wire_types::{Bytes, WriteFault};
+use wire_types::{Boxed, Bytes, WriteFault};
 
-/// What an event is answered. Only an answer to a request is sent.
+/// What an event is answered. Only an answer to a request is sent. The larger bodies stand in blocks of their own, so that a
+/// reply is small where it is kept.
 #[derive(PartialEq, Eq)]
 pub enum Reply {
     Produce(ProduceReply),
@@ -28,14 +29,14 @@ pub enum Reply {
     SilentProduce(ProduceReply),
     Fetch(FetchReply),
     ListOffsets(ListOffsetsReply),
-    Metadata(MetadataReply),
+    Metadata(Boxed<MetadataReply>),
     OffsetCommit(OffsetCommitReply),
     OffsetFetch(OffsetFetchReply),
-    FindCoordinator(FindCoordinatorReply),
-    JoinGroup(JoinGroupReply),
+    FindCoordinator(Boxed<FindCoordinatorReply>),
+    JoinGroup(Boxed<JoinGroupReply>),
     Heartbeat(HeartbeatReply),
     LeaveGroup(LeaveGroupReply),
-    SyncGroup(SyncGroupReply),
+    SyncGroup(Boxed<SyncGroupReply>),
     SaslHandshake(SaslHandshakeReply),
     ApiVersions(ApiVersionsReply),
     InitProducerId(InitProducerIdReply),
@@ -43,19 +44,18 @@ pub enum Reply {
     AddOffsetsToTxn(AddOffsetsToTxnReply),
     EndTxn(EndTxnReply),
     TxnOffsetCommit(TxnOffsetCommitReply),
-    DescribeAcls(DescribeAclsReply),
+    DescribeAcls(Boxed<DescribeAclsReply>),
     CreateAcls(CreateAclsReply),
     DeleteAcls(DeleteAclsReply),
-    SaslAuthenticate(SaslAuthenticateReply),
-    /// A marker was written, and so many are still owed.
+    SaslAuthenticate(Boxed<SaslAuthenticateReply>),
+    /// A marker was written, and so many are still pending.
     Marked { left: u64 },
-    /// No marker was owed.
+    /// No marker was pending.
     Idle,
-    /// The moment was set, and so many markers are owed.
+    /// The moment was set, and so many markers are pending.
     Ticked { left: u64 },
 }
 
-/// Written out, so that a crate which lets a reply go calls this once, and proves nothing of the bodies.
 impl Drop for Reply {
     fn drop(self) {
         match self {

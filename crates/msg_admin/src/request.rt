@@ -25,40 +25,39 @@ use msg_txn::{
     FindCoordinatorRequest, FlexibleEndTxn, InitProducerIdRequest, TxnOffsetCommitRequest,
 };
 use std::alloc::Global;
-use wire_types::{Bytes, Cursor, Malformed, ReadFault, Wire, WriteFault, room_behind};
+use wire_types::{Boxed, Bytes, Cursor, Malformed, ReadFault, Wire, WriteFault, room_after};
 
 /// The greatest size that a request's frame may tell of itself.
 pub const FRAME_LIMIT: usize = 104_857_600;
 
-/// What a client asks for.
+/// What a client asks for. Each body stands in a block of its own, so that a request is small where it is kept or handed on.
 #[derive(PartialEq, Eq)]
 pub enum Request {
-    Produce(ProduceRequest),
-    Fetch(FetchRequest),
-    ListOffsets(ListOffsetsRequest),
-    Metadata(MetadataRequest),
-    OffsetCommit(OffsetCommitRequest),
-    OffsetFetch(OffsetFetchRequest),
-    FindCoordinator(FindCoordinatorRequest),
-    JoinGroup(JoinGroupRequest),
-    Heartbeat(HeartbeatRequest),
-    LeaveGroup(LeaveGroupRequest),
-    SyncGroup(SyncGroupRequest),
-    SaslHandshake(SaslHandshakeRequest),
+    Produce(Boxed<ProduceRequest>),
+    Fetch(Boxed<FetchRequest>),
+    ListOffsets(Boxed<ListOffsetsRequest>),
+    Metadata(Boxed<MetadataRequest>),
+    OffsetCommit(Boxed<OffsetCommitRequest>),
+    OffsetFetch(Boxed<OffsetFetchRequest>),
+    FindCoordinator(Boxed<FindCoordinatorRequest>),
+    JoinGroup(Boxed<JoinGroupRequest>),
+    Heartbeat(Boxed<HeartbeatRequest>),
+    LeaveGroup(Boxed<LeaveGroupRequest>),
+    SyncGroup(Boxed<SyncGroupRequest>),
+    SaslHandshake(Boxed<SaslHandshakeRequest>),
     /// Its body is empty.
     ApiVersions,
-    InitProducerId(InitProducerIdRequest),
-    AddPartitionsToTxn(AddPartitionsToTxnRequest),
-    AddOffsetsToTxn(AddOffsetsToTxnRequest),
-    EndTxn(EndTxnRequest),
-    TxnOffsetCommit(TxnOffsetCommitRequest),
-    DescribeAcls(DescribeAclsRequest),
-    CreateAcls(CreateAclsRequest),
-    DeleteAcls(DeleteAclsRequest),
-    SaslAuthenticate(SaslAuthenticateRequest),
+    InitProducerId(Boxed<InitProducerIdRequest>),
+    AddPartitionsToTxn(Boxed<AddPartitionsToTxnRequest>),
+    AddOffsetsToTxn(Boxed<AddOffsetsToTxnRequest>),
+    EndTxn(Boxed<EndTxnRequest>),
+    TxnOffsetCommit(Boxed<TxnOffsetCommitRequest>),
+    DescribeAcls(Boxed<DescribeAclsRequest>),
+    CreateAcls(Boxed<CreateAclsRequest>),
+    DeleteAcls(Boxed<DeleteAclsRequest>),
+    SaslAuthenticate(Boxed<SaslAuthenticateRequest>),
 }
 
-/// Written out, so that a crate which lets a request go calls this once, and proves nothing of the bodies.
 impl Drop for Request {
     fn drop(self) {
         match self {
@@ -105,7 +104,8 @@ fn ending_api(request: &EndTxnRequest) -> Api
 /// What an EndTxn's body leaves of a room.
 #[tactic(auto, unfolding(crate::specs::Bodies::request_body))]
 fn ending_room(request: &EndTxnRequest, room: usize) -> Option<usize>
-    ensures { result ≡ (request_body (ending_api request.now)).left (Request.EndTxn request.now) room }
+    ensures { result ≡ (request_body (ending_api request.now)).left (Request.EndTxn request.now)
+        room }
 {
     match request {
         EndTxnRequest::Version0(body) => body.room_left(room),
@@ -139,7 +139,7 @@ impl Request {
             Request::InitProducerId(_) => Api::InitProducerId,
             Request::AddPartitionsToTxn(_) => Api::AddPartitionsToTxn,
             Request::AddOffsetsToTxn(_) => Api::AddOffsetsToTxn,
-            Request::EndTxn(body) => ending_api(body),
+            Request::EndTxn(body) => ending_api(body.value()),
             Request::TxnOffsetCommit(_) => Api::TxnOffsetCommit,
             Request::DescribeAcls(_) => Api::DescribeAcls,
             Request::CreateAcls(_) => Api::CreateAcls,
@@ -148,7 +148,7 @@ impl Request {
         }
     }
 
-    /// Whether the request can be written, behind a header whose client is null in a frame
+    /// Whether the request can be written, after a header whose client is null in a frame
     /// whose size is within `FRAME_LIMIT`.
     pub fn fits(&self) -> bool
         ensures { IsTrue result ↔ Fits self.now }
@@ -175,11 +175,11 @@ impl Request {
             Request::LeaveGroup(body) => body.room_left(room),
             Request::SyncGroup(body) => body.room_left(room),
             Request::SaslHandshake(body) => body.room_left(room),
-            Request::ApiVersions => room_behind(0, room),
+            Request::ApiVersions => room_after(0, room),
             Request::InitProducerId(body) => body.room_left(room),
             Request::AddPartitionsToTxn(body) => body.room_left(room),
             Request::AddOffsetsToTxn(body) => body.room_left(room),
-            Request::EndTxn(body) => ending_room(body, room),
+            Request::EndTxn(body) => ending_room(body.value(), room),
             Request::TxnOffsetCommit(body) => body.room_left(room),
             Request::DescribeAcls(body) => body.room_left(room),
             Request::CreateAcls(body) => body.room_left(room),
@@ -195,90 +195,51 @@ fn read_body(alloc: Global, api: Api, cursor: &mut Cursor<'_>) -> Result<Request
     ensures { Reads ((request_body api).reading cursor.old) result cursor.new }
 {
     match api {
-        Api::Produce => Ok(Request::Produce(ProduceRequest::read(alloc, cursor)?)),
-        Api::Fetch => Ok(Request::Fetch(FetchRequest::read(alloc, cursor)?)),
-        Api::ListOffsets => Ok(Request::ListOffsets(ListOffsetsRequest::read(alloc, cursor)?)),
-        Api::Metadata => Ok(Request::Metadata(MetadataRequest::read(alloc, cursor)?)),
-        Api::OffsetCommit => {
-            let body = OffsetCommitRequest::read(alloc, cursor)?;
-            Ok(Request::OffsetCommit(body))
-        }
-        Api::OffsetFetch => {
-            let body = OffsetFetchRequest::read(alloc, cursor)?;
-            Ok(Request::OffsetFetch(body))
-        }
-        Api::FindCoordinator => {
-            let body = FindCoordinatorRequest::read(alloc, cursor)?;
-            Ok(Request::FindCoordinator(body))
-        }
-        Api::JoinGroup => {
-            let body = JoinGroupRequest::read(alloc, cursor)?;
-            Ok(Request::JoinGroup(body))
-        }
-        Api::Heartbeat => {
-            let body = HeartbeatRequest::read(alloc, cursor)?;
-            Ok(Request::Heartbeat(body))
-        }
-        Api::LeaveGroup => {
-            let body = LeaveGroupRequest::read(alloc, cursor)?;
-            Ok(Request::LeaveGroup(body))
-        }
-        Api::SyncGroup => {
-            let body = SyncGroupRequest::read(alloc, cursor)?;
-            Ok(Request::SyncGroup(body))
-        }
-        Api::SaslHandshake => {
-            let body = SaslHandshakeRequest::read(alloc, cursor)?;
-            Ok(Request::SaslHandshake(body))
-        }
+        Api::Produce => Ok(Request::Produce(Wire::read(alloc, cursor)?)),
+        Api::Fetch => Ok(Request::Fetch(Wire::read(alloc, cursor)?)),
+        Api::ListOffsets => Ok(Request::ListOffsets(Wire::read(alloc, cursor)?)),
+        Api::Metadata => Ok(Request::Metadata(Wire::read(alloc, cursor)?)),
+        Api::OffsetCommit => Ok(Request::OffsetCommit(Wire::read(alloc, cursor)?)),
+        Api::OffsetFetch => Ok(Request::OffsetFetch(Wire::read(alloc, cursor)?)),
+        Api::FindCoordinator => Ok(Request::FindCoordinator(Wire::read(alloc, cursor)?)),
+        Api::JoinGroup => Ok(Request::JoinGroup(Wire::read(alloc, cursor)?)),
+        Api::Heartbeat => Ok(Request::Heartbeat(Wire::read(alloc, cursor)?)),
+        Api::LeaveGroup => Ok(Request::LeaveGroup(Wire::read(alloc, cursor)?)),
+        Api::SyncGroup => Ok(Request::SyncGroup(Wire::read(alloc, cursor)?)),
+        Api::SaslHandshake => Ok(Request::SaslHandshake(Wire::read(alloc, cursor)?)),
         Api::ApiVersions => Ok(Request::ApiVersions),
-        Api::InitProducerId => {
-            let body = InitProducerIdRequest::read(alloc, cursor)?;
-            Ok(Request::InitProducerId(body))
-        }
-        Api::AddPartitionsToTxn => {
-            let body = AddPartitionsToTxnRequest::read(alloc, cursor)?;
-            Ok(Request::AddPartitionsToTxn(body))
-        }
-        Api::AddOffsetsToTxn => {
-            let body = AddOffsetsToTxnRequest::read(alloc, cursor)?;
-            Ok(Request::AddOffsetsToTxn(body))
-        }
+        Api::InitProducerId => Ok(Request::InitProducerId(Wire::read(alloc, cursor)?)),
+        Api::AddPartitionsToTxn => Ok(Request::AddPartitionsToTxn(Wire::read(alloc, cursor)?)),
+        Api::AddOffsetsToTxn => Ok(Request::AddOffsetsToTxn(Wire::read(alloc, cursor)?)),
         Api::EndTxn0 => {
-            let body = EndTxn::read(alloc, cursor)?;
-            Ok(Request::EndTxn(EndTxnRequest::Version0(body)))
+            let body = EndTxnRequest::Version0(EndTxn::read(alloc, cursor)?);
+            Ok(Request::EndTxn(Boxed::new(alloc, body)?))
         }
         Api::EndTxn1 => {
-            let body = EndTxn::read(alloc, cursor)?;
-            Ok(Request::EndTxn(EndTxnRequest::Version1(body)))
+            let body = EndTxnRequest::Version1(EndTxn::read(alloc, cursor)?);
+            Ok(Request::EndTxn(Boxed::new(alloc, body)?))
         }
         Api::EndTxn2 => {
-            let body = EndTxn::read(alloc, cursor)?;
-            Ok(Request::EndTxn(EndTxnRequest::Version2(body)))
+            let body = EndTxnRequest::Version2(EndTxn::read(alloc, cursor)?);
+            Ok(Request::EndTxn(Boxed::new(alloc, body)?))
         }
         Api::EndTxn3 => {
-            let body = FlexibleEndTxn::read(alloc, cursor)?;
-            Ok(Request::EndTxn(EndTxnRequest::Version3(body)))
+            let body = EndTxnRequest::Version3(FlexibleEndTxn::read(alloc, cursor)?);
+            Ok(Request::EndTxn(Boxed::new(alloc, body)?))
         }
         Api::EndTxn4 => {
-            let body = FlexibleEndTxn::read(alloc, cursor)?;
-            Ok(Request::EndTxn(EndTxnRequest::Version4(body)))
+            let body = EndTxnRequest::Version4(FlexibleEndTxn::read(alloc, cursor)?);
+            Ok(Request::EndTxn(Boxed::new(alloc, body)?))
         }
         Api::EndTxn5 => {
-            let body = FlexibleEndTxn::read(alloc, cursor)?;
-            Ok(Request::EndTxn(EndTxnRequest::Version5(body)))
+            let body = EndTxnRequest::Version5(FlexibleEndTxn::read(alloc, cursor)?);
+            Ok(Request::EndTxn(Boxed::new(alloc, body)?))
         }
-        Api::TxnOffsetCommit => {
-            let body = TxnOffsetCommitRequest::read(alloc, cursor)?;
-            Ok(Request::TxnOffsetCommit(body))
-        }
-        Api::DescribeAcls => Ok(Request::DescribeAcls(DescribeAclsRequest::read(alloc, cursor)?)),
-        Api::CreateAcls => Ok(Request::CreateAcls(CreateAclsRequest::read(alloc, cursor)?)),
-        Api::DeleteAcls => Ok(Request::DeleteAcls(DeleteAclsRequest::read(alloc, cursor)?)),
-        Api::SaslAuthenticate => {
-            let body = SaslAuthenticateRequest::read(alloc, cursor)?;
-            Ok(Request::SaslAuthenticate(body))
-        }
+        Api::TxnOffsetCommit => Ok(Request::TxnOffsetCommit(Wire::read(alloc, cursor)?)),
+        Api::DescribeAcls => Ok(Request::DescribeAcls(Wire::read(alloc, cursor)?)),
+        Api::CreateAcls => Ok(Request::CreateAcls(Wire::read(alloc, cursor)?)),
+        Api::DeleteAcls => Ok(Request::DeleteAcls(Wire::read(alloc, cursor)?)),
+        Api::SaslAuthenticate => Ok(Request::SaslAuthenticate(Wire::read(alloc, cursor)?)),
     }
 }
 
@@ -328,6 +289,27 @@ pub fn read_request(alloc: Global, frame: &Bytes) -> Result<(Header, Request), R
     read_whole(alloc, frame)
 }
 
+/// The whole frame of an EndTxn in its version, with its size field.
+#[tactic(auto, unfolding(crate::specs::Request::is_writable, crate::specs::Bodies::request_body, crate::specs::Frame::frame_fits))]
+fn write_ending(
+    alloc: Global,
+    header: &Header,
+    request: &EndTxnRequest,
+) -> Result<Bytes, WriteFault>
+    requires { api_at header.now.key header.now.version ≡ Some (ending_api request.now) }
+    ensures { GivesRequest header.now (Request.EndTxn request.now) result }
+{
+    let flexible = ending_api(request).is_flexible();
+    match request {
+        EndTxnRequest::Version0(body) => write_frame(alloc, flexible, header, body),
+        EndTxnRequest::Version1(body) => write_frame(alloc, flexible, header, body),
+        EndTxnRequest::Version2(body) => write_frame(alloc, flexible, header, body),
+        EndTxnRequest::Version3(body) => write_frame(alloc, flexible, header, body),
+        EndTxnRequest::Version4(body) => write_frame(alloc, flexible, header, body),
+        EndTxnRequest::Version5(body) => write_frame(alloc, flexible, header, body),
+    }
+}
+
 /// The whole frame of a request, with its size field.
 #[tactic(auto, unfolding(crate::specs::Request::is_writable, crate::specs::Bodies::request_body, crate::specs::Frame::frame_fits))]
 pub fn write_request(alloc: Global, header: &Header, request: &Request) -> Result<Bytes, WriteFault>
@@ -352,24 +334,7 @@ pub fn write_request(alloc: Global, header: &Header, request: &Request) -> Resul
         Request::InitProducerId(body) => write_frame(alloc, flexible, header, body),
         Request::AddPartitionsToTxn(body) => write_frame(alloc, flexible, header, body),
         Request::AddOffsetsToTxn(body) => write_frame(alloc, flexible, header, body),
-        Request::EndTxn(EndTxnRequest::Version0(body)) => write_frame(
-            alloc, flexible, header, body,
-        ),
-        Request::EndTxn(EndTxnRequest::Version1(body)) => write_frame(
-            alloc, flexible, header, body,
-        ),
-        Request::EndTxn(EndTxnRequest::Version2(body)) => write_frame(
-            alloc, flexible, header, body,
-        ),
-        Request::EndTxn(EndTxnRequest::Version3(body)) => write_frame(
-            alloc, flexible, header, body,
-        ),
-        Request::EndTxn(EndTxnRequest::Version4(body)) => write_frame(
-            alloc, flexible, header, body,
-        ),
-        Request::EndTxn(EndTxnRequest::Version5(body)) => write_frame(
-            alloc, flexible, header, body,
-        ),
+        Request::EndTxn(body) => write_ending(alloc, header, body.value()),
         Request::TxnOffsetCommit(body) => write_frame(alloc, flexible, header, body),
         Request::DescribeAcls(body) => write_frame(alloc, flexible, header, body),
         Request::CreateAcls(body) => write_frame(alloc, flexible, header, body),

@@ -7,7 +7,7 @@ ghost use Rattle.std.specs.Prelude.{◌≡◌, ℤ, map, filter, IfOk, IfSome, O
 ghost use Rattle.wire_types.specs.declared.fault.Malformed.TheVariants.{Unknown};
 ghost use Rattle.wire_types.specs.Reading.{Takes};
 ghost use Rattle.msg_admin.specs.Request.{request_at};
-ghost use Rattle.msg_admin.specs.Versions.{start, served_in, is_first, versions_reply, AsksUnsupported, unsupported_at, unsupported_reply, unsupported_response};
+ghost use Rattle.msg_admin.specs.Versions.{header_start, served_in, is_first, versions_reply, AsksUnsupported, unsupported_at, unsupported_reply, unsupported_response};
 
 use crate::api::Api;
 use crate::frame::write_frame;
@@ -52,7 +52,7 @@ pub fn versions_reply(alloc: Global) -> Result<ApiVersionsReply, AllocError>
 
 /// Key, version and correlation id.
 fn read_start(cursor: &mut Cursor<'_>) -> Result<((i16, i16), i32), Malformed>
-    ensures { Takes (start.reading cursor.old) result cursor.new }
+    ensures { Takes (header_start.reading cursor.old) result cursor.new }
 {
     let key = cursor.read_i16()?;
     let version = cursor.read_i16()?;

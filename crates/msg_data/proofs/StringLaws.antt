@@ -7,13 +7,13 @@ use Rattle.std.proofs.lemmas.List.{length-append}
 use Rattle.std.proofs.lemmas.List.Folds.{list_all-append}
 use Rattle.std.proofs.lemmas.List.Concat.{flat_map-cons}
 use Rattle.wire_types.specs.Grammar.{Grammar}
-use Rattle.wire_types.specs.Spelling.{int_written, bool_written, behind_written, behind_fits, null_behind_written, null_behind_fits, null_count_fits, many_fit, many_written}
+use Rattle.wire_types.specs.Spelling.{int_written, bool_written, after_count_written, after_count_fits, after_null_count_written, after_null_count_fits, null_count_fits, many_fit, many_written}
 use Rattle.wire_types.specs.ListLaws.{and_parts}
 use Rattle.wire_types.specs.NumberLaws.{IsWide}
 use Rattle.wire_types.specs.Combinators.{◌⨟◌, struct}
 use Rattle.wire_types.specs.Schema.{int_grammar, int32, boolean, string, nullable_string, bytes, array, nullable_array}
 use Rattle.msg_data.specs.Strings.{is_short, text_of}
-use Rattle.wire_types.specs.Coded.{coded}
+use Rattle.wire_types.specs.Coded.{coded_value}
 
 pub record TellsStrings {A : Type 0} (g : Grammar A) (strings : A → List (List ℕ)) : Type 0 where
   pub short : (x : A) → g.fits x ≡ true → list_all is_short (strings x) ≡ true
@@ -70,7 +70,7 @@ pub struct_strings : {A S : Type 0} (make : A → S) (parts : S → A) (parts_ma
 struct_strings make parts parts_make make_parts g s p = record { short = λ x. p.short (parts x); fits = λ x. p.fits (parts x); some = λ x. p.some (parts x) }
 
 pub coded_strings : {A S : Type 0} (code : S → A) (named : A → Option S) (told : (s : S) → named (code s) ≡ Some s) (tells : (a : A) (s : S) → named a ≡ Some s → code s ≡ a) (g : Grammar A)
-    → TellsStrings g no_strings → TellsStrings (coded code named told tells g) no_strings
+    → TellsStrings g no_strings → TellsStrings (coded_value code named told tells g) no_strings
 coded_strings code named told tells g p = record { short = λ x. p.short (code x); fits = λ x. p.fits (code x); some = λ x. p.some (code x) }
 
 -- ---- texts
@@ -90,11 +90,11 @@ one_is : (t : List ℕ) → list_all is_short (t ∷ []) ≡ true → is_short t
 one_is t all = (and_parts (is_short t) true all).0
 
 string_some : (t : List ℕ) → 0 < length (string.written t)
-unfolding behind_written int_written
+unfolding after_count_written int_written
 string_some t = omega arith
 
 pub string_strings : TellsStrings string (λ t. t ∷ [])
-unfolding behind_fits
+unfolding after_count_fits
 string_strings = record {
   short = λ t e. one_short t (fits_short t (and_parts (null_count_fits (2 ^ 15) (Some (length t))) true e).0);
   fits = λ t all lt. rw (short_fits t (one_is t all)) refl;
@@ -102,17 +102,17 @@ string_strings = record {
 }
 
 nullable_short : (o : Option (List ℕ)) → nullable_string.fits o ≡ true → list_all is_short (text_of o) ≡ true
-unfolding null_behind_fits
+unfolding after_null_count_fits
 nullable_short None e = refl
 nullable_short (Some t) e = one_short t (fits_short t (and_parts (null_count_fits (2 ^ 15) (Some (length t))) true e).0)
 
 nullable_fits : (o : Option (List ℕ)) → list_all is_short (text_of o) ≡ true → nullable_string.fits o ≡ true
-unfolding null_behind_fits null_count_fits
+unfolding after_null_count_fits null_count_fits
 nullable_fits None all = refl
 nullable_fits (Some t) all = rw (short_fits t (one_is t all)) refl
 
 nullable_some : (o : Option (List ℕ)) → 0 < length (nullable_string.written o)
-unfolding null_behind_written int_written
+unfolding after_null_count_written int_written
 nullable_some None = omega arith
 nullable_some (Some t) = omega arith
 
@@ -149,7 +149,7 @@ unfolding int_written
 count_len n = refl
 
 array_len : {A : Type 0} (g : Grammar A) (xs : List A) → length ((array g).written xs) ≡ 4 + length (many_written g.written xs)
-unfolding behind_written
+unfolding after_count_written
 array_len g xs = length-append (int32.written (pos (length xs))) (many_written g.written xs) ∙ ap (λ (n : ℕ). n + length (many_written g.written xs)) (count_len (length xs))
 
 count_fits : (n : ℕ) → n < 2 ^ 31 → null_count_fits (2 ^ 31) (Some n) ≡ true
@@ -157,7 +157,7 @@ unfolding null_count_fits
 count_fits n lt = lt-ltb _ _ lt
 
 pub array_strings : {A : Type 0} {g : Grammar A} {s : A → List (List ℕ)} → TellsStrings g s → TellsStrings (array g) (flat_map s)
-unfolding behind_fits
+unfolding after_count_fits
 array_strings {g = g} {s = s} p = record {
   short = λ xs e. many_short g s p xs (and_parts (null_count_fits (2 ^ 31) (Some (length xs))) (many_fit g.fits xs) e).1;
   fits = λ xs all lt.
@@ -180,11 +180,11 @@ plain_array p =
 -- ---- bytes, and items that may be null
 
 bytes_len : (t : List ℕ) → length (bytes.written t) ≡ 4 + length t
-unfolding behind_written
+unfolding after_count_written
 bytes_len t = length-append (int32.written (pos (length t))) t ∙ ap (λ (n : ℕ). n + length t) (count_len (length t))
 
 pub bytes_strings : TellsStrings bytes no_strings
-unfolding behind_fits
+unfolding after_count_fits
 bytes_strings = record {
   short = λ t e. refl;
   fits = λ t all lt. let counted = count_fits (length t) (omega (arith, lt, bytes_len t)) in rw counted refl;
@@ -192,12 +192,12 @@ bytes_strings = record {
 }
 
 nullable_fit : {A : Type 0} (g : Grammar A) → TellsStrings (array g) no_strings → (o : Option (List A)) → length ((nullable_array g).written o) < 2 ^ 31 → (nullable_array g).fits o ≡ true
-unfolding null_behind_written null_behind_fits null_count_fits behind_written behind_fits
+unfolding after_null_count_written after_null_count_fits null_count_fits after_count_written after_count_fits
 nullable_fit g p None lt = refl
 nullable_fit g p (Some xs) lt = p.fits xs refl lt
 
 nullable_len : {A : Type 0} (g : Grammar A) → TellsStrings (array g) no_strings → (o : Option (List A)) → 0 < length ((nullable_array g).written o)
-unfolding null_behind_written behind_written int_written
+unfolding after_null_count_written after_count_written int_written
 nullable_len g p None = omega arith
 nullable_len g p (Some xs) = p.some xs
 

@@ -4,7 +4,7 @@ use Rattle.wire_types.specs.Grammar.{Grammar}
 use Rattle.wire_types.specs.Schema.{int8}
 use Rattle.msg_data.specs.declared.isolation.Isolation.{Isolation}
 use Rattle.msg_data.specs.declared.isolation.Isolation.TheVariants as levels
-use Rattle.wire_types.specs.Coded.{coded}
+use Rattle.wire_types.specs.Coded.{coded_value}
 
 abbrev pub level_of : Isolation → ℤ
 level_of levels.ReadUncommitted = pos 0
@@ -32,4 +32,4 @@ level_of-isolation_of (negsuc n) level e = absurd cc
 
 -- INT8
 abbrev pub isolation : Grammar Isolation
-isolation = coded level_of isolation_of isolation_of-level_of level_of-isolation_of int8
+isolation = coded_value level_of isolation_of isolation_of-level_of level_of-isolation_of int8

@@ -4,7 +4,7 @@ use crate::isolation::Isolation;
 use std::alloc::Global;
 use wire_types::{
     Cursor, ErrorCode, Items, Pieces, ReadFault, Topic, Wire, WriteFault, array_room,
-    nullable_array_room, pieces_room, read_array, read_nullable_array, room_behind, write_array,
+    nullable_array_room, pieces_room, read_array, read_nullable_array, room_after, write_array,
     write_i32, write_i64, write_nullable_array, write_pieces,
 };
 
@@ -79,9 +79,9 @@ impl Wire for FetchPartition {
     }
 
     fn room_left(&self, room: usize) -> Option<usize> {
-        let room = room_behind(4, room)?;
-        let room = room_behind(8, room)?;
-        room_behind(4, room)
+        let room = room_after(4, room)?;
+        let room = room_after(8, room)?;
+        room_after(4, room)
     }
 }
 
@@ -118,10 +118,10 @@ impl Wire for FetchRequest {
     }
 
     fn room_left(&self, room: usize) -> Option<usize> {
-        let room = room_behind(4, room)?;
-        let room = room_behind(4, room)?;
-        let room = room_behind(4, room)?;
-        let room = room_behind(4, room)?;
+        let room = room_after(4, room)?;
+        let room = room_after(4, room)?;
+        let room = room_after(4, room)?;
+        let room = room_after(4, room)?;
         let room = self.isolation.room_left(room)?;
         array_room(&self.topics, room)
     }
@@ -148,8 +148,8 @@ impl Wire for AbortedTransaction {
     }
 
     fn room_left(&self, room: usize) -> Option<usize> {
-        let room = room_behind(8, room)?;
-        room_behind(8, room)
+        let room = room_after(8, room)?;
+        room_after(8, room)
     }
 }
 
@@ -186,10 +186,10 @@ impl Wire for FetchedRecords {
     }
 
     fn room_left(&self, room: usize) -> Option<usize> {
-        let room = room_behind(4, room)?;
+        let room = room_after(4, room)?;
         let room = self.error.room_left(room)?;
-        let room = room_behind(8, room)?;
-        let room = room_behind(8, room)?;
+        let room = room_after(8, room)?;
+        let room = room_after(8, room)?;
         let room = nullable_array_room(&self.aborted, room)?;
         pieces_room(&self.records, room)
     }
@@ -213,7 +213,7 @@ impl Wire for FetchReply {
     }
 
     fn room_left(&self, room: usize) -> Option<usize> {
-        let room = room_behind(4, room)?;
+        let room = room_after(4, room)?;
         array_room(&self.topics, room)
     }
 }

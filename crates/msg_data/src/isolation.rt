@@ -1,7 +1,7 @@
 //! Which records a reader may see.
 
 use std::alloc::Global;
-use wire_types::{Cursor, Malformed, ReadFault, Wire, WriteFault, room_behind, write_i8};
+use wire_types::{Cursor, Malformed, ReadFault, Wire, WriteFault, room_after, write_i8};
 
 /// How far a read goes into transactions that may yet be aborted.
 #[derive(Clone, Copy, Debug, PartialEq, Eq)]
@@ -30,6 +30,6 @@ impl Wire for Isolation {
     }
 
     fn room_left(&self, room: usize) -> Option<usize> {
-        room_behind(1, room)
+        room_after(1, room)
     }
 }

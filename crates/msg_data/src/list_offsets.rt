@@ -4,7 +4,7 @@ use crate::isolation::Isolation;
 use std::alloc::Global;
 use wire_types::{
     Cursor, ErrorCode, Items, ReadFault, Topic, Wire, WriteFault, array_room, read_array,
-    room_behind, write_array, write_i32, write_i64,
+    room_after, write_array, write_i32, write_i64,
 };
 
 /// A partition, and the time of the offset that is wanted, or -1 for the end and -2 for the start.
@@ -57,8 +57,8 @@ impl Wire for WantedOffset {
     }
 
     fn room_left(&self, room: usize) -> Option<usize> {
-        let room = room_behind(4, room)?;
-        room_behind(8, room)
+        let room = room_after(4, room)?;
+        room_after(8, room)
     }
 }
 
@@ -86,7 +86,7 @@ impl Wire for ListOffsetsRequest {
     }
 
     fn room_left(&self, room: usize) -> Option<usize> {
-        let room = room_behind(4, room)?;
+        let room = room_after(4, room)?;
         let room = self.isolation.room_left(room)?;
         array_room(&self.topics, room)
     }
@@ -119,10 +119,10 @@ impl Wire for FoundOffset {
     }
 
     fn room_left(&self, room: usize) -> Option<usize> {
-        let room = room_behind(4, room)?;
+        let room = room_after(4, room)?;
         let room = self.error.room_left(room)?;
-        let room = room_behind(8, room)?;
-        room_behind(8, room)
+        let room = room_after(8, room)?;
+        room_after(8, room)
     }
 }
 
@@ -144,7 +144,7 @@ impl Wire for ListOffsetsReply {
     }
 
     fn room_left(&self, room: usize) -> Option<usize> {
-        let room = room_behind(4, room)?;
+        let room = room_after(4, room)?;
         array_room(&self.topics, room)
     }
 }

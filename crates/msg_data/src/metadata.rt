@@ -4,7 +4,7 @@ use crate::shared_items::SharedItems;
 use std::alloc::Global;
 use wire_types::{
     Cursor, ErrorCode, Items, ReadFault, Text, Wire, WriteFault, array_room, nullable_array_room,
-    nullable_room, read_array, read_nullable_array, room_behind, string_room, write_array,
+    nullable_room, read_array, read_nullable_array, room_after, string_room, write_array,
     write_bool, write_i32, write_nullable, write_nullable_array, write_string,
 };
 
@@ -45,7 +45,7 @@ pub struct TopicInfo {
 /// What the cluster consists of.
 #[derive(Drop, PartialEq, Eq)]
 pub struct MetadataReply {
-    pub brokers: Items<BrokerInfo>,
+    pub brokers: SharedItems<BrokerInfo>,
     pub controller: i32,
     pub topics: Items<TopicInfo>,
 }
@@ -97,9 +97,9 @@ impl Wire for BrokerInfo {
     }
 
     fn room_left(&self, room: usize) -> Option<usize> {
-        let room = room_behind(4, room)?;
+        let room = room_after(4, room)?;
         let room = string_room(&self.host, room)?;
-        let room = room_behind(4, room)?;
+        let room = room_after(4, room)?;
         nullable_room(&self.rack, room)
     }
 }
@@ -135,8 +135,8 @@ impl Wire for PartitionInfo {
 
     fn room_left(&self, room: usize) -> Option<usize> {
         let room = self.error.room_left(room)?;
-        let room = room_behind(4, room)?;
-        let room = room_behind(4, room)?;
+        let room = room_after(4, room)?;
+        let room = room_after(4, room)?;
         let room = self.replicas.room_left(room)?;
         self.in_sync.room_left(room)
     }
@@ -171,7 +171,7 @@ impl Wire for TopicInfo {
     fn room_left(&self, room: usize) -> Option<usize> {
         let room = self.error.room_left(room)?;
         let room = string_room(&self.name, room)?;
-        let room = room_behind(1, room)?;
+        let room = room_after(1, room)?;
         self.partitions.room_left(room)
     }
 }
@@ -182,7 +182,7 @@ impl Wire for MetadataReply {
     ghost grammar = { metadata_reply };
 
     fn read(alloc: Global, cursor: &mut Cursor<'_>) -> Result<MetadataReply, ReadFault> {
-        let brokers = read_array(alloc, cursor)?;
+        let brokers = SharedItems::read(alloc, cursor)?;
         let controller = cursor.read_i32()?;
         let topics = read_array(alloc, cursor)?;
         Ok(MetadataReply {
@@ -193,15 +193,15 @@ impl Wire for MetadataReply {
     }
 
     fn put(&self, out: &mut Vec<u8>) -> Result<(), WriteFault> {
-        write_array(out, &self.brokers)?;
+        self.brokers.put(out)?;
         write_i32(out, self.controller)?;
         write_array(out, &self.topics)?;
         Ok(())
     }
 
     fn room_left(&self, room: usize) -> Option<usize> {
-        let room = array_room(&self.brokers, room)?;
-        let room = room_behind(4, room)?;
+        let room = self.brokers.room_left(room)?;
+        let room = room_after(4, room)?;
         array_room(&self.topics, room)
     }
 }

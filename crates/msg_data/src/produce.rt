@@ -10,7 +10,7 @@ use record_batch::SentBatch;
 use std::alloc::Global;
 use wire_types::{
     Cursor, ErrorCode, Items, ReadFault, Text, Topic, Wire, WriteFault, array_room, bytes_room,
-    nullable_bytes_room, nullable_room, read_array, room_behind, write_array, write_bytes,
+    nullable_bytes_room, nullable_room, read_array, room_after, write_array, write_bytes,
     write_i16, write_i32, write_i64, write_nullable, write_nullable_bytes,
 };
 
@@ -56,7 +56,7 @@ fn read_records(alloc: Global, cursor: &mut Cursor<'_>) -> Result<Option<SentBat
     }
 }
 
-#[tactic(auto, unfolding(wire_types::specs::Spelling::behind_fits, wire_types::specs::Spelling::null_behind_fits, wire_types::specs::Spelling::null_behind_put, wire_types::specs::Spelling::null_count_fits))]
+#[tactic(auto, unfolding(wire_types::specs::Spelling::after_count_fits, wire_types::specs::Spelling::after_null_count_fits, wire_types::specs::Spelling::after_null_count_put, wire_types::specs::Spelling::null_count_fits))]
 fn write_records(out: &mut Vec<u8>, records: &Option<SentBatch>) -> Result<(), WriteFault>
     ensures spelled { Puts nullable_bytes records.now out.old.items result out.new.items }
     ensures err { OnErr result (out.new.items ≡ out.old.items) }
@@ -68,7 +68,7 @@ fn write_records(out: &mut Vec<u8>, records: &Option<SentBatch>) -> Result<(), W
     }
 }
 
-#[tactic(auto, unfolding(wire_types::specs::Spelling::null_behind_left, wire_types::specs::Spelling::null_count_fits))]
+#[tactic(auto, unfolding(wire_types::specs::Spelling::after_null_count_left, wire_types::specs::Spelling::null_count_fits))]
 fn records_room(records: &Option<SentBatch>, room: usize) -> Option<usize>
     ensures { result ≡ nullable_bytes.left records.now room }
 {
@@ -96,7 +96,7 @@ impl Wire for ProducedRecords {
     }
 
     fn room_left(&self, room: usize) -> Option<usize> {
-        let room = room_behind(4, room)?;
+        let room = room_after(4, room)?;
         records_room(&self.records, room)
     }
 }
@@ -129,8 +129,8 @@ impl Wire for ProduceRequest {
 
     fn room_left(&self, room: usize) -> Option<usize> {
         let room = nullable_room(&self.transactional_id, room)?;
-        let room = room_behind(2, room)?;
-        let room = room_behind(4, room)?;
+        let room = room_after(2, room)?;
+        let room = room_after(4, room)?;
         array_room(&self.topics, room)
     }
 }
@@ -162,10 +162,10 @@ impl Wire for ProducedOffset {
     }
 
     fn room_left(&self, room: usize) -> Option<usize> {
-        let room = room_behind(4, room)?;
+        let room = room_after(4, room)?;
         let room = self.error.room_left(room)?;
-        let room = room_behind(8, room)?;
-        room_behind(8, room)
+        let room = room_after(8, room)?;
+        room_after(8, room)
     }
 }
 
@@ -188,6 +188,6 @@ impl Wire for ProduceReply {
 
     fn room_left(&self, room: usize) -> Option<usize> {
         let room = array_room(&self.topics, room)?;
-        room_behind(4, room)
+        room_after(4, room)
     }
 }

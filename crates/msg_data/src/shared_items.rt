@@ -5,7 +5,7 @@ ghost use Rattle.std.specs.Prelude.{◌≡◌, [], IfOk};
 use std::alloc::{AllocError, Global};
 use std::marker::Model;
 use wire_types::{
-    Cursor, Items, ReadFault, Shared, Wire, WriteFault, array_room, read_array, room_behind,
+    Cursor, Items, ReadFault, Shared, Wire, WriteFault, array_room, read_array, room_after,
     write_array, write_count,
 };
 
@@ -23,7 +23,6 @@ impl<T> Model for SharedItems<T> {
     ghost view = { λ s. unwrap_or s.list [] };
 }
 
-/// Written out, so that a proof above has one call where a list is let go.
 impl<T: Drop> Drop for SharedItems<T> {
     fn drop(self) {
         let SharedItems { list: _list } = self;
@@ -102,7 +101,7 @@ impl<T: Wire> Wire for SharedItems<T> {
         Ok(SharedItems::of(alloc, items)?)
     }
 
-    #[tactic(auto, unfolding(wire_types::specs::Spelling::behind_fits, wire_types::specs::Spelling::many_fit, wire_types::specs::Spelling::many_written))]
+    #[tactic(auto, unfolding(wire_types::specs::Spelling::after_count_fits, wire_types::specs::Spelling::many_fit, wire_types::specs::Spelling::many_written))]
     fn put(&self, out: &mut Vec<u8>) -> Result<(), WriteFault> {
         match &self.list {
             None => write_count(out, 0),
@@ -113,7 +112,7 @@ impl<T: Wire> Wire for SharedItems<T> {
     #[tactic(auto, unfolding(wire_types::specs::Spelling::many_left, wire_types::specs::Spelling::null_count_fits))]
     fn room_left(&self, room: usize) -> Option<usize> {
         match &self.list {
-            None => room_behind(4, room),
+            None => room_after(4, room),
             Some(list) => array_room(list.value(), room),
         }
     }

@@ -2,7 +2,7 @@
 use Rattle.std.specs.Prelude.{refl}
 use Rattle.wire_types.specs.Grammar.{Grammar}
 use Rattle.wire_types.specs.Combinators.{◌⨟◌}
-use Rattle.wire_types.specs.Schema.{int32, int64, boolean, compact_string, compact_nullable_string, compact_array, compact_nullable_array, tagged}
+use Rattle.wire_types.specs.Schema.{int32, int64, boolean, compact_string, compact_nullable_string, compact_array, compact_nullable_array, tagged_struct}
 use Rattle.wire_types.specs.ErrorCode.{error_code}
 use Rattle.wire_types.specs.Topic.{flexible_topic_of}
 use Rattle.msg_group.specs.declared.offset_fetch.OffsetFetchRequest.{OffsetFetchRequest}
@@ -12,7 +12,7 @@ use Rattle.msg_group.specs.declared.offset_fetch.OffsetFetchReply.{OffsetFetchRe
 -- OffsetFetch Request => group_id [topics] require_stable TAG_BUFFER
 --   topics => name [partition_indexes] TAG_BUFFER
 abbrev pub offset_fetch_request : Grammar OffsetFetchRequest
-offset_fetch_request = tagged
+offset_fetch_request = tagged_struct
     (λ (group, (topics, require_stable)). record { group = group; topics = topics; require_stable = require_stable })
     (λ r. (r.group, (r.topics, r.require_stable)))
     (λ x. refl) (λ r. refl)
@@ -22,7 +22,7 @@ offset_fetch_request = tagged
 
 -- partitions => partition_index committed_offset committed_leader_epoch metadata error_code TAG_BUFFER
 abbrev pub fetched_offset : Grammar FetchedOffset
-fetched_offset = tagged
+fetched_offset = tagged_struct
     (λ (index, (offset, (leader_epoch, (metadata, error)))). record { index = index; offset = offset; leader_epoch = leader_epoch; metadata = metadata; error = error })
     (λ p. (p.index, (p.offset, (p.leader_epoch, (p.metadata, p.error)))))
     (λ x. refl) (λ p. refl)
@@ -34,7 +34,7 @@ fetched_offset = tagged
 
 -- OffsetFetch Response => throttle_time_ms [topics] error_code TAG_BUFFER
 abbrev pub offset_fetch_reply : Grammar OffsetFetchReply
-offset_fetch_reply = tagged
+offset_fetch_reply = tagged_struct
     (λ (throttle, (topics, error)). record { throttle = throttle; topics = topics; error = error })
     (λ r. (r.throttle, (r.topics, r.error)))
     (λ x. refl) (λ r. refl)

@@ -2,7 +2,7 @@
 
 use std::alloc::Global;
 use wire_types::{
-    Cursor, ErrorCode, ReadFault, Text, Wire, WriteFault, room_behind, string_room, write_i32,
+    Cursor, ErrorCode, ReadFault, Text, Wire, WriteFault, room_after, string_room, write_i32,
     write_string,
 };
 
@@ -46,7 +46,7 @@ impl Wire for HeartbeatRequest {
 
     fn room_left(&self, room: usize) -> Option<usize> {
         let room = string_room(&self.group, room)?;
-        let room = room_behind(4, room)?;
+        let room = room_after(4, room)?;
         string_room(&self.member, room)
     }
 }
@@ -69,7 +69,7 @@ impl Wire for HeartbeatReply {
     }
 
     fn room_left(&self, room: usize) -> Option<usize> {
-        let room = room_behind(4, room)?;
+        let room = room_after(4, room)?;
         self.error.room_left(room)
     }
 }

@@ -3,7 +3,7 @@
 use std::alloc::Global;
 use wire_types::{
     Bytes, Cursor, ErrorCode, Items, ReadFault, Text, Wire, WriteFault, array_room, bytes_room,
-    read_array, room_behind, string_room, write_array, write_bytes, write_i32, write_string,
+    read_array, room_after, string_room, write_array, write_bytes, write_i32, write_string,
 };
 
 /// A protocol that a member speaks, and what it tells the group under it.
@@ -101,8 +101,8 @@ impl Wire for JoinGroupRequest {
 
     fn room_left(&self, room: usize) -> Option<usize> {
         let room = string_room(&self.group, room)?;
-        let room = room_behind(4, room)?;
-        let room = room_behind(4, room)?;
+        let room = room_after(4, room)?;
+        let room = room_after(4, room)?;
         let room = string_room(&self.member, room)?;
         let room = string_room(&self.protocol_type, room)?;
         array_room(&self.protocols, room)
@@ -168,9 +168,9 @@ impl Wire for JoinGroupReply {
     }
 
     fn room_left(&self, room: usize) -> Option<usize> {
-        let room = room_behind(4, room)?;
+        let room = room_after(4, room)?;
         let room = self.error.room_left(room)?;
-        let room = room_behind(4, room)?;
+        let room = room_after(4, room)?;
         let room = string_room(&self.protocol, room)?;
         let room = string_room(&self.leader, room)?;
         let room = string_room(&self.member, room)?;

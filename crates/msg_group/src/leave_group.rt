@@ -2,7 +2,7 @@
 
 use std::alloc::Global;
 use wire_types::{
-    Cursor, ErrorCode, ReadFault, Text, Wire, WriteFault, room_behind, string_room, write_i32,
+    Cursor, ErrorCode, ReadFault, Text, Wire, WriteFault, room_after, string_room, write_i32,
     write_string,
 };
 
@@ -61,7 +61,7 @@ impl Wire for LeaveGroupReply {
     }
 
     fn room_left(&self, room: usize) -> Option<usize> {
-        let room = room_behind(4, room)?;
+        let room = room_after(4, room)?;
         self.error.room_left(room)
     }
 }

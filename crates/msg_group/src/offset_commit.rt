@@ -3,7 +3,7 @@
 use std::alloc::Global;
 use wire_types::{
     Cursor, ErrorCode, Items, ReadFault, Text, Topic, Wire, WriteFault, array_room, nullable_room,
-    read_array, room_behind, string_room, write_array, write_i32, write_i64, write_nullable,
+    read_array, room_after, string_room, write_array, write_i32, write_i64, write_nullable,
     write_string,
 };
 
@@ -63,8 +63,8 @@ impl Wire for OffsetToCommit {
     }
 
     fn room_left(&self, room: usize) -> Option<usize> {
-        let room = room_behind(4, room)?;
-        let room = room_behind(8, room)?;
+        let room = room_after(4, room)?;
+        let room = room_after(8, room)?;
         nullable_room(&self.metadata, room)
     }
 }
@@ -100,9 +100,9 @@ impl Wire for OffsetCommitRequest {
 
     fn room_left(&self, room: usize) -> Option<usize> {
         let room = string_room(&self.group, room)?;
-        let room = room_behind(4, room)?;
+        let room = room_after(4, room)?;
         let room = string_room(&self.member, room)?;
-        let room = room_behind(8, room)?;
+        let room = room_after(8, room)?;
         array_room(&self.topics, room)
     }
 }
@@ -125,7 +125,7 @@ impl Wire for CommittedOffset {
     }
 
     fn room_left(&self, room: usize) -> Option<usize> {
-        let room = room_behind(4, room)?;
+        let room = room_after(4, room)?;
         self.error.room_left(room)
     }
 }

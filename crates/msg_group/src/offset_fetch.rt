@@ -4,7 +4,7 @@ use std::alloc::Global;
 use wire_types::{
     Cursor, ErrorCode, Items, ReadFault, Text, Topic, Wire, WriteFault, compact_nullable_room,
     compact_string_room, flexible_topics_room, nullable_flexible_topics_room, read_flexible_topics,
-    read_nullable_flexible_topics, room_behind, write_bool, write_compact_nullable,
+    read_nullable_flexible_topics, room_after, write_bool, write_compact_nullable,
     write_compact_string, write_flexible_topics, write_i32, write_i64, write_no_tags,
     write_nullable_flexible_topics,
 };
@@ -63,8 +63,8 @@ impl Wire for OffsetFetchRequest {
     fn room_left(&self, room: usize) -> Option<usize> {
         let room = compact_string_room(&self.group, room)?;
         let room = nullable_flexible_topics_room(&self.topics, room)?;
-        let room = room_behind(1, room)?;
-        room_behind(1, room)
+        let room = room_after(1, room)?;
+        room_after(1, room)
     }
 }
 
@@ -100,12 +100,12 @@ impl Wire for FetchedOffset {
     }
 
     fn room_left(&self, room: usize) -> Option<usize> {
-        let room = room_behind(4, room)?;
-        let room = room_behind(8, room)?;
-        let room = room_behind(4, room)?;
+        let room = room_after(4, room)?;
+        let room = room_after(8, room)?;
+        let room = room_after(4, room)?;
         let room = compact_nullable_room(&self.metadata, room)?;
         let room = self.error.room_left(room)?;
-        room_behind(1, room)
+        room_after(1, room)
     }
 }
 
@@ -135,9 +135,9 @@ impl Wire for OffsetFetchReply {
     }
 
     fn room_left(&self, room: usize) -> Option<usize> {
-        let room = room_behind(4, room)?;
+        let room = room_after(4, room)?;
         let room = flexible_topics_room(&self.topics, room)?;
         let room = self.error.room_left(room)?;
-        room_behind(1, room)
+        room_after(1, room)
     }
 }

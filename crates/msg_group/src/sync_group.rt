@@ -3,7 +3,7 @@
 use std::alloc::Global;
 use wire_types::{
     Bytes, Cursor, ErrorCode, Items, ReadFault, Text, Wire, WriteFault, array_room, bytes_room,
-    read_array, room_behind, string_room, write_array, write_bytes, write_i32, write_string,
+    read_array, room_after, string_room, write_array, write_bytes, write_i32, write_string,
 };
 
 /// A member, and what it is assigned.
@@ -81,7 +81,7 @@ impl Wire for SyncGroupRequest {
 
     fn room_left(&self, room: usize) -> Option<usize> {
         let room = string_room(&self.group, room)?;
-        let room = room_behind(4, room)?;
+        let room = room_after(4, room)?;
         let room = string_room(&self.member, room)?;
         array_room(&self.assignments, room)
     }
@@ -111,7 +111,7 @@ impl Wire for SyncGroupReply {
     }
 
     fn room_left(&self, room: usize) -> Option<usize> {
-        let room = room_behind(4, room)?;
+        let room = room_after(4, room)?;
         let room = self.error.room_left(room)?;
         bytes_room(&self.assignment, room)
     }

@@ -33,9 +33,9 @@ sasl_handshake_strings r = r.mechanisms
 -- ---- what is offered
 
 -- PLAIN alone (RFC 4616, "The PLAIN Simple Authentication and Security Layer (SASL) Mechanism")
-abbrev pub plain : List ℕ
-plain = codes "PLAIN"
+abbrev pub plain_mechanism : List ℕ
+plain_mechanism = codes "PLAIN"
 
 -- it is listed beside each error
 abbrev pub handshake_reply : ErrorCode → SaslHandshakeReply
-handshake_reply error = record { error = error; mechanisms = plain ∷ [] }
+handshake_reply error = record { error = error; mechanisms = plain_mechanism ∷ [] }

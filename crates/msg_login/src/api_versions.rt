@@ -2,7 +2,7 @@
 
 use std::alloc::Global;
 use wire_types::{
-    Cursor, ErrorCode, Items, ReadFault, Wire, WriteFault, array_room, read_array, room_behind,
+    Cursor, ErrorCode, Items, ReadFault, Wire, WriteFault, array_room, read_array, room_after,
     write_array, write_i16,
 };
 
@@ -41,9 +41,9 @@ impl Wire for ServedVersions {
     }
 
     fn room_left(&self, room: usize) -> Option<usize> {
-        let room = room_behind(2, room)?;
-        let room = room_behind(2, room)?;
-        room_behind(2, room)
+        let room = room_after(2, room)?;
+        let room = room_after(2, room)?;
+        room_after(2, room)
     }
 }
 

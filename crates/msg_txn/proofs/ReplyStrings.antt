@@ -4,7 +4,7 @@ use Rattle.wire_types.proofs.StringLaws.{TellsStrings, both_strings, front_strin
 use Rattle.msg_txn.specs.InitProducerId.{init_producer_id_reply}
 use Rattle.msg_txn.specs.AddPartitions.{added_partition, add_partitions_to_txn_reply, add_partitions_to_txn_strings}
 use Rattle.msg_txn.specs.AddOffsets.{add_offsets_to_txn_reply}
-use Rattle.msg_txn.specs.EndTxn.{ended, flexible_ended, ended_with_pair}
+use Rattle.msg_txn.specs.EndTxn.{end_txn_answer, flexible_end_txn_answer, end_txn_answer_with_producer}
 use Rattle.msg_txn.specs.TxnOffsetCommit.{staged_offset, txn_offset_commit_reply}
 use Rattle.msg_txn.specs.FindCoordinator.{find_coordinator_reply, find_coordinator_strings}
 
@@ -20,13 +20,13 @@ add_partitions_to_txn_tells = struct_strings _ _ _ _ _ _ (both_strings int32_str
 pub add_offsets_to_txn_tells : TellsStrings add_offsets_to_txn_reply no_strings
 add_offsets_to_txn_tells = struct_strings _ _ _ _ _ _ (both_strings int32_strings error_code_strings)
 
-pub ended_tells : TellsStrings ended no_strings
+pub ended_tells : TellsStrings end_txn_answer no_strings
 ended_tells = struct_strings _ _ _ _ _ _ (both_strings int32_strings error_code_strings)
 
-pub flexible_ended_tells : TellsStrings flexible_ended no_strings
+pub flexible_ended_tells : TellsStrings flexible_end_txn_answer no_strings
 flexible_ended_tells = tagged_strings _ _ _ _ _ (both_strings int32_strings error_code_strings)
 
-pub ended_with_pair_tells : TellsStrings ended_with_pair no_strings
+pub ended_with_pair_tells : TellsStrings end_txn_answer_with_producer no_strings
 ended_with_pair_tells = tagged_strings _ _ _ _ _ (both_strings int32_strings (both_strings error_code_strings (both_strings int64_strings int16_strings)))
 
 staged_offset_tells : TellsStrings staged_offset no_strings

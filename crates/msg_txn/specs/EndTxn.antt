@@ -4,7 +4,7 @@ use Rattle.std.specs.Prelude.{refl}
 use Rattle.wire_types.specs.declared.error_code.ErrorCode.{ErrorCode}
 use Rattle.wire_types.specs.Grammar.{Grammar}
 use Rattle.wire_types.specs.Combinators.{struct, ◌⨟◌}
-use Rattle.wire_types.specs.Schema.{int16, int32, int64, boolean, string, compact_string, tagged}
+use Rattle.wire_types.specs.Schema.{int16, int32, int64, boolean, string, compact_string, tagged_struct}
 use Rattle.wire_types.specs.ErrorCode.{error_code}
 use Rattle.msg_txn.specs.declared.end_txn.EndTxn.{EndTxn}
 use Rattle.msg_txn.specs.declared.end_txn.FlexibleEndTxn.{FlexibleEndTxn}
@@ -18,13 +18,13 @@ use Rattle.msg_txn.specs.declared.end_txn.EndTxnReply.TheVariants as replies
 
 -- ---- what all versions have
 
-abbrev pub asked : EndTxnRequest → EndTxn
-asked (requests.Version0 r) = r
-asked (requests.Version1 r) = r
-asked (requests.Version2 r) = r
-asked (requests.Version3 r) = r.asked
-asked (requests.Version4 r) = r.asked
-asked (requests.Version5 r) = r.asked
+abbrev pub end_txn_of : EndTxnRequest → EndTxn
+end_txn_of (requests.Version0 r) = r
+end_txn_of (requests.Version1 r) = r
+end_txn_of (requests.Version2 r) = r
+end_txn_of (requests.Version3 r) = r.asked
+end_txn_of (requests.Version4 r) = r.asked
+end_txn_of (requests.Version5 r) = r.asked
 
 abbrev pub error_of : EndTxnReply → ErrorCode
 error_of (replies.Version0 r) = r.error
@@ -49,7 +49,7 @@ end_txn = struct
 
 -- EndTxn Request => transactional_id producer_id producer_epoch committed TAG_BUFFER
 abbrev pub flexible_end_txn : Grammar FlexibleEndTxn
-flexible_end_txn = tagged
+flexible_end_txn = tagged_struct
     (λ (transactional_id, (producer, (epoch, committed))). record { asked = record { transactional_id = transactional_id; producer = producer; epoch = epoch; committed = committed } })
     (λ r. (r.asked.transactional_id, (r.asked.producer, (r.asked.epoch, r.asked.committed))))
     (λ x. refl) (λ r. refl)
@@ -59,8 +59,8 @@ flexible_end_txn = tagged
     ⨟ boolean)  -- committed
 
 -- EndTxn Response => throttle_time_ms error_code
-abbrev pub ended : Grammar Ended
-ended = struct
+abbrev pub end_txn_answer : Grammar Ended
+end_txn_answer = struct
     (λ (throttle, error). record { throttle = throttle; error = error })
     (λ r. (r.throttle, r.error))
     (λ x. refl) (λ r. refl)
@@ -68,8 +68,8 @@ ended = struct
     ⨟ error_code)  -- error_code
 
 -- EndTxn Response => throttle_time_ms error_code TAG_BUFFER
-abbrev pub flexible_ended : Grammar FlexibleEnded
-flexible_ended = tagged
+abbrev pub flexible_end_txn_answer : Grammar FlexibleEnded
+flexible_end_txn_answer = tagged_struct
     (λ (throttle, error). record { throttle = throttle; error = error })
     (λ r. (r.throttle, r.error))
     (λ x. refl) (λ r. refl)
@@ -77,8 +77,8 @@ flexible_ended = tagged
     ⨟ error_code)  -- error_code
 
 -- EndTxn Response => throttle_time_ms error_code producer_id producer_epoch TAG_BUFFER
-abbrev pub ended_with_pair : Grammar EndedWithPair
-ended_with_pair = tagged
+abbrev pub end_txn_answer_with_producer : Grammar EndedWithPair
+end_txn_answer_with_producer = tagged_struct
     (λ (throttle, (error, (producer, epoch))). record { throttle = throttle; error = error; producer = producer; epoch = epoch })
     (λ r. (r.throttle, (r.error, (r.producer, r.epoch))))
     (λ x. refl) (λ r. refl)

@@ -2,7 +2,7 @@
 use Rattle.std.specs.Prelude.{refl}
 use Rattle.wire_types.specs.Grammar.{Grammar}
 use Rattle.wire_types.specs.Combinators.{◌⨟◌}
-use Rattle.wire_types.specs.Schema.{int16, int32, int64, compact_string, compact_nullable_string, compact_array, tagged}
+use Rattle.wire_types.specs.Schema.{int16, int32, int64, compact_string, compact_nullable_string, compact_array, tagged_struct}
 use Rattle.wire_types.specs.ErrorCode.{error_code}
 use Rattle.wire_types.specs.Topic.{flexible_topic_of}
 use Rattle.msg_txn.specs.declared.txn_offset_commit.OffsetToStage.{OffsetToStage}
@@ -12,7 +12,7 @@ use Rattle.msg_txn.specs.declared.txn_offset_commit.TxnOffsetCommitReply.{TxnOff
 
 -- partitions => partition_index committed_offset committed_leader_epoch committed_metadata TAG_BUFFER
 abbrev pub offset_to_stage : Grammar OffsetToStage
-offset_to_stage = tagged
+offset_to_stage = tagged_struct
     (λ (index, (offset, (leader_epoch, metadata))). record { index = index; offset = offset; leader_epoch = leader_epoch; metadata = metadata })
     (λ p. (p.index, (p.offset, (p.leader_epoch, p.metadata))))
     (λ x. refl) (λ p. refl)
@@ -23,7 +23,7 @@ offset_to_stage = tagged
 
 -- TxnOffsetCommit Request => transactional_id group_id producer_id producer_epoch generation_id member_id group_instance_id [topics] TAG_BUFFER
 abbrev pub txn_offset_commit_request : Grammar TxnOffsetCommitRequest
-txn_offset_commit_request = tagged
+txn_offset_commit_request = tagged_struct
     (λ (transactional_id, (group, (producer, (epoch, (generation, (member, (instance, topics))))))). record {
       transactional_id = transactional_id;
       group = group;
@@ -47,7 +47,7 @@ txn_offset_commit_request = tagged
 
 -- partitions => partition_index error_code TAG_BUFFER
 abbrev pub staged_offset : Grammar StagedOffset
-staged_offset = tagged
+staged_offset = tagged_struct
     (λ (index, error). record { index = index; error = error })
     (λ p. (p.index, p.error))
     (λ x. refl) (λ p. refl)
@@ -56,7 +56,7 @@ staged_offset = tagged
 
 -- TxnOffsetCommit Response => throttle_time_ms [topics] TAG_BUFFER
 abbrev pub txn_offset_commit_reply : Grammar TxnOffsetCommitReply
-txn_offset_commit_reply = tagged
+txn_offset_commit_reply = tagged_struct
     (λ (throttle, topics). record { throttle = throttle; topics = topics })
     (λ r. (r.throttle, r.topics))
     (λ x. refl) (λ r. refl)

@@ -2,7 +2,7 @@
 
 use std::alloc::Global;
 use wire_types::{
-    Cursor, ErrorCode, ReadFault, Text, Wire, WriteFault, room_behind, string_room, write_i16,
+    Cursor, ErrorCode, ReadFault, Text, Wire, WriteFault, room_after, string_room, write_i16,
     write_i32, write_i64, write_string,
 };
 
@@ -15,7 +15,7 @@ pub struct AddOffsetsToTxnRequest {
     pub group: Text,
 }
 
-/// How the adding came off.
+/// How the adding went.
 #[derive(Drop, PartialEq, Eq)]
 pub struct AddOffsetsToTxnReply {
     pub throttle: i32,
@@ -50,8 +50,8 @@ impl Wire for AddOffsetsToTxnRequest {
 
     fn room_left(&self, room: usize) -> Option<usize> {
         let room = string_room(&self.transactional_id, room)?;
-        let room = room_behind(8, room)?;
-        let room = room_behind(2, room)?;
+        let room = room_after(8, room)?;
+        let room = room_after(2, room)?;
         string_room(&self.group, room)
     }
 }
@@ -74,7 +74,7 @@ impl Wire for AddOffsetsToTxnReply {
     }
 
     fn room_left(&self, room: usize) -> Option<usize> {
-        let room = room_behind(4, room)?;
+        let room = room_after(4, room)?;
         self.error.room_left(room)
     }
 }

@@ -3,7 +3,7 @@
 use std::alloc::Global;
 use wire_types::{
     Cursor, ErrorCode, Items, ReadFault, Text, Topic, Wire, WriteFault, array_room, read_array,
-    room_behind, string_room, write_array, write_i16, write_i32, write_i64, write_string,
+    room_after, string_room, write_array, write_i16, write_i32, write_i64, write_string,
 };
 
 /// Asks to add partitions to a producer's transaction.
@@ -15,7 +15,7 @@ pub struct AddPartitionsToTxnRequest {
     pub topics: Items<Topic<i32>>,
 }
 
-/// How the adding of a partition came off.
+/// How the adding of a partition went.
 #[derive(Drop, PartialEq, Eq)]
 pub struct AddedPartition {
     pub index: i32,
@@ -60,8 +60,8 @@ impl Wire for AddPartitionsToTxnRequest {
 
     fn room_left(&self, room: usize) -> Option<usize> {
         let room = string_room(&self.transactional_id, room)?;
-        let room = room_behind(8, room)?;
-        let room = room_behind(2, room)?;
+        let room = room_after(8, room)?;
+        let room = room_after(2, room)?;
         array_room(&self.topics, room)
     }
 }
@@ -84,7 +84,7 @@ impl Wire for AddedPartition {
     }
 
     fn room_left(&self, room: usize) -> Option<usize> {
-        let room = room_behind(4, room)?;
+        let room = room_after(4, room)?;
         self.error.room_left(room)
     }
 }
@@ -107,7 +107,7 @@ impl Wire for AddPartitionsToTxnReply {
     }
 
     fn room_left(&self, room: usize) -> Option<usize> {
-        let room = room_behind(4, room)?;
+        let room = room_after(4, room)?;
         array_room(&self.topics, room)
     }
 }

@@ -2,11 +2,11 @@
 //! version 5 answers the pair that the transactional id has from then on (KIP-890).
 
 ghost use Rattle.std.specs.Prelude.{◌≡◌};
-ghost use Rattle.msg_txn.specs.EndTxn.{asked, error_of};
+ghost use Rattle.msg_txn.specs.EndTxn.{end_txn_of, error_of};
 
 use std::alloc::Global;
 use wire_types::{
-    Cursor, ErrorCode, ReadFault, Text, Wire, WriteFault, compact_string_room, room_behind,
+    Cursor, ErrorCode, ReadFault, Text, Wire, WriteFault, compact_string_room, room_after,
     string_room, write_bool, write_compact_string, write_i16, write_i32, write_i64, write_no_tags,
     write_string,
 };
@@ -37,21 +37,21 @@ pub enum EndTxnRequest {
     Version5(FlexibleEndTxn),
 }
 
-/// How the ending came off.
+/// How the ending went.
 #[derive(Drop, PartialEq, Eq)]
 pub struct Ended {
     pub throttle: i32,
     pub error: ErrorCode,
 }
 
-/// How the ending came off, in the form of versions 3 and 4.
+/// How the ending went, in the form of versions 3 and 4.
 #[derive(Drop, PartialEq, Eq)]
 pub struct FlexibleEnded {
     pub throttle: i32,
     pub error: ErrorCode,
 }
 
-/// How the ending came off, in the form of version 5: with an error code the pair is -1 and -1.
+/// How the ending went, in the form of version 5: with an error code the pair is -1 and -1.
 #[derive(Drop, PartialEq, Eq)]
 pub struct EndedWithPair {
     pub throttle: i32,
@@ -60,7 +60,7 @@ pub struct EndedWithPair {
     pub epoch: i16,
 }
 
-/// How the ending came off, in the version that asked for it.
+/// How the ending went, in the version that asked for it.
 #[derive(Drop, PartialEq, Eq)]
 pub enum EndTxnReply {
     Version0(Ended),
@@ -74,7 +74,7 @@ pub enum EndTxnReply {
 impl EndTxnRequest {
     /// What is asked, whatever the version.
     pub fn asked(&self) -> &EndTxn
-        ensures { result.now ≡ asked self.now }
+        ensures { result.now ≡ end_txn_of self.now }
     {
         match self {
             EndTxnRequest::Version0(body) => body,
@@ -131,9 +131,9 @@ impl Wire for EndTxn {
 
     fn room_left(&self, room: usize) -> Option<usize> {
         let room = string_room(&self.transactional_id, room)?;
-        let room = room_behind(8, room)?;
-        let room = room_behind(2, room)?;
-        room_behind(1, room)
+        let room = room_after(8, room)?;
+        let room = room_after(2, room)?;
+        room_after(1, room)
     }
 }
 
@@ -169,17 +169,17 @@ impl Wire for FlexibleEndTxn {
 
     fn room_left(&self, room: usize) -> Option<usize> {
         let room = compact_string_room(&self.asked.transactional_id, room)?;
-        let room = room_behind(8, room)?;
-        let room = room_behind(2, room)?;
-        let room = room_behind(1, room)?;
-        room_behind(1, room)
+        let room = room_after(8, room)?;
+        let room = room_after(2, room)?;
+        let room = room_after(1, room)?;
+        room_after(1, room)
     }
 }
 
 impl Wire for Ended {
-    ghost use Rattle.msg_txn.specs.EndTxn.{ended};
+    ghost use Rattle.msg_txn.specs.EndTxn.{end_txn_answer};
 
-    ghost grammar = { ended };
+    ghost grammar = { end_txn_answer };
 
     fn read(alloc: Global, cursor: &mut Cursor<'_>) -> Result<Ended, ReadFault> {
         let throttle = cursor.read_i32()?;
@@ -194,15 +194,15 @@ impl Wire for Ended {
     }
 
     fn room_left(&self, room: usize) -> Option<usize> {
-        let room = room_behind(4, room)?;
+        let room = room_after(4, room)?;
         self.error.room_left(room)
     }
 }
 
 impl Wire for FlexibleEnded {
-    ghost use Rattle.msg_txn.specs.EndTxn.{flexible_ended};
+    ghost use Rattle.msg_txn.specs.EndTxn.{flexible_end_txn_answer};
 
-    ghost grammar = { flexible_ended };
+    ghost grammar = { flexible_end_txn_answer };
 
     fn read(alloc: Global, cursor: &mut Cursor<'_>) -> Result<FlexibleEnded, ReadFault> {
         let throttle = cursor.read_i32()?;
@@ -219,16 +219,16 @@ impl Wire for FlexibleEnded {
     }
 
     fn room_left(&self, room: usize) -> Option<usize> {
-        let room = room_behind(4, room)?;
+        let room = room_after(4, room)?;
         let room = self.error.room_left(room)?;
-        room_behind(1, room)
+        room_after(1, room)
     }
 }
 
 impl Wire for EndedWithPair {
-    ghost use Rattle.msg_txn.specs.EndTxn.{ended_with_pair};
+    ghost use Rattle.msg_txn.specs.EndTxn.{end_txn_answer_with_producer};
 
-    ghost grammar = { ended_with_pair };
+    ghost grammar = { end_txn_answer_with_producer };
 
     fn read(alloc: Global, cursor: &mut Cursor<'_>) -> Result<EndedWithPair, ReadFault> {
         let throttle = cursor.read_i32()?;
@@ -254,10 +254,10 @@ impl Wire for EndedWithPair {
     }
 
     fn room_left(&self, room: usize) -> Option<usize> {
-        let room = room_behind(4, room)?;
+        let room = room_after(4, room)?;
         let room = self.error.room_left(room)?;
-        let room = room_behind(8, room)?;
-        let room = room_behind(2, room)?;
-        room_behind(1, room)
+        let room = room_after(8, room)?;
+        let room = room_after(2, room)?;
+        room_after(1, room)
     }
 }

@@ -2,7 +2,7 @@
 
 use std::alloc::Global;
 use wire_types::{
-    Cursor, ErrorCode, ReadFault, Text, Wire, WriteFault, nullable_room, room_behind, string_room,
+    Cursor, ErrorCode, ReadFault, Text, Wire, WriteFault, nullable_room, room_after, string_room,
     write_i8, write_i32, write_nullable, write_string,
 };
 
@@ -44,7 +44,7 @@ impl Wire for FindCoordinatorRequest {
 
     fn room_left(&self, room: usize) -> Option<usize> {
         let room = string_room(&self.key, room)?;
-        room_behind(1, room)
+        room_after(1, room)
     }
 }
 
@@ -81,11 +81,11 @@ impl Wire for FindCoordinatorReply {
     }
 
     fn room_left(&self, room: usize) -> Option<usize> {
-        let room = room_behind(4, room)?;
+        let room = room_after(4, room)?;
         let room = self.error.room_left(room)?;
         let room = nullable_room(&self.message, room)?;
-        let room = room_behind(4, room)?;
+        let room = room_after(4, room)?;
         let room = string_room(&self.host, room)?;
-        room_behind(4, room)
+        room_after(4, room)
     }
 }

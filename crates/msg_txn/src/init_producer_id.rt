@@ -2,7 +2,7 @@
 
 use std::alloc::Global;
 use wire_types::{
-    Cursor, ErrorCode, ReadFault, Text, Wire, WriteFault, nullable_room, room_behind, write_i16,
+    Cursor, ErrorCode, ReadFault, Text, Wire, WriteFault, nullable_room, room_after, write_i16,
     write_i32, write_i64, write_nullable,
 };
 
@@ -44,7 +44,7 @@ impl Wire for InitProducerIdRequest {
 
     fn room_left(&self, room: usize) -> Option<usize> {
         let room = nullable_room(&self.transactional_id, room)?;
-        room_behind(4, room)
+        room_after(4, room)
     }
 }
 
@@ -75,9 +75,9 @@ impl Wire for InitProducerIdReply {
     }
 
     fn room_left(&self, room: usize) -> Option<usize> {
-        let room = room_behind(4, room)?;
+        let room = room_after(4, room)?;
         let room = self.error.room_left(room)?;
-        let room = room_behind(8, room)?;
-        room_behind(2, room)
+        let room = room_after(8, room)?;
+        room_after(2, room)
     }
 }

@@ -3,7 +3,7 @@
 use std::alloc::Global;
 use wire_types::{
     Cursor, ErrorCode, Items, ReadFault, Text, Topic, Wire, WriteFault, compact_nullable_room,
-    compact_string_room, flexible_topics_room, read_flexible_topics, room_behind,
+    compact_string_room, flexible_topics_room, read_flexible_topics, room_after,
     write_compact_nullable, write_compact_string, write_flexible_topics, write_i16, write_i32,
     write_i64, write_no_tags,
 };
@@ -75,11 +75,11 @@ impl Wire for OffsetToStage {
     }
 
     fn room_left(&self, room: usize) -> Option<usize> {
-        let room = room_behind(4, room)?;
-        let room = room_behind(8, room)?;
-        let room = room_behind(4, room)?;
+        let room = room_after(4, room)?;
+        let room = room_after(8, room)?;
+        let room = room_after(4, room)?;
         let room = compact_nullable_room(&self.metadata, room)?;
-        room_behind(1, room)
+        room_after(1, room)
     }
 }
 
@@ -126,13 +126,13 @@ impl Wire for TxnOffsetCommitRequest {
     fn room_left(&self, room: usize) -> Option<usize> {
         let room = compact_string_room(&self.transactional_id, room)?;
         let room = compact_string_room(&self.group, room)?;
-        let room = room_behind(8, room)?;
-        let room = room_behind(2, room)?;
-        let room = room_behind(4, room)?;
+        let room = room_after(8, room)?;
+        let room = room_after(2, room)?;
+        let room = room_after(4, room)?;
         let room = compact_string_room(&self.member, room)?;
         let room = compact_nullable_room(&self.instance, room)?;
         let room = flexible_topics_room(&self.topics, room)?;
-        room_behind(1, room)
+        room_after(1, room)
     }
 }
 
@@ -156,9 +156,9 @@ impl Wire for StagedOffset {
     }
 
     fn room_left(&self, room: usize) -> Option<usize> {
-        let room = room_behind(4, room)?;
+        let room = room_after(4, room)?;
         let room = self.error.room_left(room)?;
-        room_behind(1, room)
+        room_after(1, room)
     }
 }
 
@@ -182,8 +182,8 @@ impl Wire for TxnOffsetCommitReply {
     }
 
     fn room_left(&self, room: usize) -> Option<usize> {
-        let room = room_behind(4, room)?;
+        let room = room_after(4, room)?;
         let room = flexible_topics_room(&self.topics, room)?;
-        room_behind(1, room)
+        room_after(1, room)
     }
 }

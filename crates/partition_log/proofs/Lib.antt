@@ -9,7 +9,7 @@ pub mod Runs
 pub mod Longest
 pub mod Fetched
 pub mod Rows
-pub mod Openings
+pub mod OngoingTxns
 pub mod OpenTable
 pub mod Stable
 pub mod Index

@@ -12,10 +12,10 @@ use Rattle.msg_admin.specs.declared.request.Request.TheVariants.{Produce, Fetch,
 use Rattle.walk.specs.Codes.{refusal_code}
 use Rattle.audit_trail.specs.declared.event.Event.TheVariants.{Ask}
 use Rattle.broker_world.specs.World.{World, rules_of}
-use Rattle.api_dispatch.specs.Step.{counted, step}
+use Rattle.api_dispatch.specs.Step.{with_event_counted, step}
 use Rattle.api_dispatch.specs.Refusals.{request_refusals}
-use Rattle.plain_broker.specs.Allowed.{Allowed, Rest, Cut, Nothing, refused_itself, refused_at, kept_names, kept_topic, kept_topics, kept, rest_or_nothing, whole_or_cut, allowed}
-use Rattle.plain_broker.specs.Plain.{put_together}
+use Rattle.plain_broker.specs.Allowed.{Allowed, Rest, Cut, Nothing, refused_itself, refused_at, unrefused_names, unrefused_topic, unrefused_topics, unrefused_request, rest_or_nothing, whole_or_cut, allowed_part}
+use Rattle.plain_broker.specs.Plain.{with_refusals}
 use Rattle.plain_broker.specs.Without.{RefusedChangesNothing}
 use Rattle.plain_broker.proofs.Together.{plain_of_allowed}
 
@@ -27,29 +27,29 @@ parts_again true (p ∷ ps) = ap (λ l. p ∷ l) (parts_again true ps)
 parts_again false (p ∷ ps) = parts_again false ps
 
 module _ (refused : List ℕ → Option Refusal) where
-  names_again : (names : List (List ℕ)) → kept_names refused (kept_names refused names) ≡ kept_names refused names
+  names_again : (names : List (List ℕ)) → unrefused_names refused (unrefused_names refused names) ≡ unrefused_names refused names
   names_again [] = refl
   names_again (n ∷ ns) = by_kept (is_none (refused n)) refl (names_again ns) where
-    by_kept : (b : Bool) → is_none (refused n) ≡ b → kept_names refused (kept_names refused ns) ≡ kept_names refused ns
-        → kept_names refused (cond b (n ∷ kept_names refused ns) (kept_names refused ns)) ≡ cond b (n ∷ kept_names refused ns) (kept_names refused ns)
-    by_kept true is rest = ap (λ (b : Bool). cond b (n ∷ kept_names refused (kept_names refused ns)) (kept_names refused (kept_names refused ns))) is ∙ ap (λ (l : List (List ℕ)). n ∷ l) rest
+    by_kept : (b : Bool) → is_none (refused n) ≡ b → unrefused_names refused (unrefused_names refused ns) ≡ unrefused_names refused ns
+        → unrefused_names refused (cond b (n ∷ unrefused_names refused ns) (unrefused_names refused ns)) ≡ cond b (n ∷ unrefused_names refused ns) (unrefused_names refused ns)
+    by_kept true is rest = ap (λ (b : Bool). cond b (n ∷ unrefused_names refused (unrefused_names refused ns)) (unrefused_names refused (unrefused_names refused ns))) is ∙ ap (λ (l : List (List ℕ)). n ∷ l) rest
     by_kept false is rest = rest
 
-  topics_again : {P : Type 0} (ts : List (Topic P)) → kept_topics refused (kept_topics refused ts) ≡ kept_topics refused ts
+  topics_again : {P : Type 0} (ts : List (Topic P)) → unrefused_topics refused (unrefused_topics refused ts) ≡ unrefused_topics refused ts
   topics_again [] = refl
   topics_again {P = P} (t ∷ ts) =
-      ap (λ (ps : List P). record { name = t.name; partitions = ps } ∷ kept_topics refused (kept_topics refused ts)) (parts_again (is_none (refused t.name)) t.partitions)
-      ∙ ap (λ (l : List (Topic P)). kept_topic refused t ∷ l) (topics_again ts)
+      ap (λ (ps : List P). record { name = t.name; partitions = ps } ∷ unrefused_topics refused (unrefused_topics refused ts)) (parts_again (is_none (refused t.name)) t.partitions)
+      ∙ ap (λ (l : List (Topic P)). unrefused_topic refused t ∷ l) (topics_again ts)
 
-  named_again : (names : Option (List (List ℕ))) → option_map (kept_names refused) (option_map (kept_names refused) names) ≡ option_map (kept_names refused) names
+  named_again : (names : Option (List (List ℕ))) → option_map (unrefused_names refused) (option_map (unrefused_names refused) names) ≡ option_map (unrefused_names refused) names
   named_again None = refl
   named_again (Some names) = ap (λ (l : List (List ℕ)). Some l) (names_again names)
 
-  listed_again : (ts : Option (List (Topic ℤ))) → option_map (kept_topics refused) (option_map (kept_topics refused) ts) ≡ option_map (kept_topics refused) ts
+  listed_again : (ts : Option (List (Topic ℤ))) → option_map (unrefused_topics refused) (option_map (unrefused_topics refused) ts) ≡ option_map (unrefused_topics refused) ts
   listed_again None = refl
   listed_again (Some ts) = ap (λ (l : List (Topic ℤ)). Some l) (topics_again ts)
 
-  kept_again : (request : Request) → kept refused (kept refused request) ≡ kept refused request
+  kept_again : (request : Request) → unrefused_request refused (unrefused_request refused request) ≡ unrefused_request refused request
   kept_again (Produce r) = ap (λ ts. Produce (record r { topics = ts })) (topics_again r.topics)
   kept_again (Fetch r) = ap (λ ts. Fetch (record r { topics = ts })) (topics_again r.topics)
   kept_again (ListOffsets r) = ap (λ ts. ListOffsets (record r { topics = ts })) (topics_again r.topics)
@@ -77,18 +77,18 @@ module _ (refused : List ℕ → Option Refusal) where
 
 module _ (rules : Rules) (caller : Caller) where
   abbrev left : Request → Request
-  left request = kept (refused_at rules caller request) request
+  left request = unrefused_request (refused_at rules caller request) request
 
   -- by the refusal of the request itself
-  again_by : (request rest : Request) (o : Option Refusal) → allowed rules caller (left request) ≡ rest_or_nothing (left request) o → rest_or_nothing (left request) o ≡ Rest rest → allowed rules caller rest ≡ Rest rest
-  again_by request rest None same is = let kept_so : left request ≡ rest = (let whole : Rest (left request) ≡ Rest rest = is in cc) in subst (λ (x : Request). allowed rules caller x ≡ Rest x) kept_so same
+  again_by : (request rest : Request) (o : Option Refusal) → allowed_part rules caller (left request) ≡ rest_or_nothing (left request) o → rest_or_nothing (left request) o ≡ Rest rest → allowed_part rules caller rest ≡ Rest rest
+  again_by request rest None same is = let kept_so : left request ≡ rest = (let whole : Rest (left request) ≡ Rest rest = is in cc) in subst (λ (x : Request). allowed_part rules caller x ≡ Rest x) kept_so same
   again_by request rest (Some r) same is = absurd (let clash : Nothing (refusal_code r) ≡ Rest rest = is in cc)
 
-  again_cut : (request rest : Request) (cut : AddPartitionsToTxnRequest) (rs : List Refusal) → allowed rules caller request ≡ whole_or_cut request cut rs → whole_or_cut request cut rs ≡ Rest rest → allowed rules caller rest ≡ Rest rest
-  again_cut request rest cut [] same is = let kept_so : request ≡ rest = (let whole : Rest request ≡ Rest rest = is in cc) in subst (λ (x : Request). allowed rules caller x ≡ Rest x) kept_so same
+  again_cut : (request rest : Request) (cut : AddPartitionsToTxnRequest) (rs : List Refusal) → allowed_part rules caller request ≡ whole_or_cut request cut rs → whole_or_cut request cut rs ≡ Rest rest → allowed_part rules caller rest ≡ Rest rest
+  again_cut request rest cut [] same is = let kept_so : request ≡ rest = (let whole : Rest request ≡ Rest rest = is in cc) in subst (λ (x : Request). allowed_part rules caller x ≡ Rest x) kept_so same
   again_cut request rest cut (r ∷ rs) same is = absurd (let clash : Cut cut ≡ Rest rest = is in cc)
 
-  again : (request rest : Request) → allowed rules caller request ≡ Rest rest → allowed rules caller rest ≡ Rest rest
+  again : (request rest : Request) → allowed_part rules caller request ≡ Rest rest → allowed_part rules caller rest ≡ Rest rest
   again (AddPartitionsToTxn r) rest is = again_cut (AddPartitionsToTxn r) rest _ (request_refusals rules caller (AddPartitionsToTxn r)) refl is
   again (Produce r) rest is = again_by (Produce r) rest (refused_itself rules caller (Produce r)) (ap (λ x. Rest x) (kept_again (refused_at rules caller (Produce r)) (Produce r))) is
   again (Fetch r) rest is = again_by (Fetch r) rest (refused_itself rules caller (Fetch r)) (ap (λ x. Rest x) (kept_again (refused_at rules caller (Fetch r)) (Fetch r))) is
@@ -115,8 +115,8 @@ module _ (rules : Rules) (caller : Caller) where
 -- ---- the world
 
 module _ (w : World) (caller : Caller) (client : Option (List ℕ)) (request : Request) where
-  left_by : (a : Allowed) → allowed (rules_of w) caller request ≡ a → step w (Ask caller client request) ≡ counted (put_together w caller request a).world
-  left_by a is = (plain_of_allowed w caller client request).world ∙ ap (λ (x : Allowed). counted (put_together w caller request x).world) is
+  left_by : (a : Allowed) → allowed_part (rules_of w) caller request ≡ a → step w (Ask caller client request) ≡ with_event_counted (with_refusals w caller request a).world
+  left_by a is = (plain_of_allowed w caller client request).world ∙ ap (λ (x : Allowed). with_event_counted (with_refusals w caller request x).world) is
 
 pub refused_changes_nothing : RefusedChangesNothing
 refused_changes_nothing = record {

@@ -12,8 +12,8 @@ use Rattle.wire_types.specs.declared.error_code.ErrorCode.{ErrorCode}
 use Rattle.wire_types.specs.declared.error_code.ErrorCode.TheVariants as codes
 use Rattle.wire_types.specs.declared.topic.Topic.{Topic}
 use Rattle.partition_log.specs.declared.served.Served.{Served}
-use Rattle.partition_log.specs.Log.{IsLog, stable}
-use Rattle.partition_log.specs.Fetch.{reaching, below, fitting, at_least_one, served_of, run_of, list_of}
+use Rattle.partition_log.specs.Log.{IsLog, last_stable_offset}
+use Rattle.partition_log.specs.Fetch.{batches_from, batches_below, fitting_batches, at_least_one, served_of, run_of, list_of}
 use Rattle.partition_log.proofs.Longest.{fitting_longest}
 use Rattle.partition_log.proofs.Numbers.{le_is}
 use Rattle.partition_log.proofs.Fetched.{filtered_committed}
@@ -31,12 +31,12 @@ use Rattle.walk.specs.Codes.{permission_code}
 use Rattle.walk.specs.Rule.{refusal_of}
 use Rattle.walk.specs.Walk.{answers}
 use Rattle.walk.specs.Steps.{answer_by}
-use Rattle.walk.specs.Headline.{at, world_before}
+use Rattle.walk.specs.Headline.{element_at, world_before}
 use Rattle.walk.proofs.Headlines.{answers_each_part}
-use Rattle.data_handlers.specs.declared.room.Room.{Room}
+use Rattle.data_handlers.specs.declared.fetch_budget.FetchBudget.{FetchBudget}
 use Rattle.broker_world.specs.World.{World, TopicValue, LogValue, rules_of}
 use Rattle.broker_world.specs.Logs.{log_at, HoldLogs}
-use Rattle.data_handlers.specs.Fetch.{room_for, is_outside, served_by, fetched, fetch_rule, whole_room}
+use Rattle.data_handlers.specs.Fetch.{budget_for, is_outside, served_by, fetched_partition, fetch_rule, whole_budget}
 use Rattle.plain_broker.specs.ReadCommitted.{ShowsCommitted, ReadsCommitted, room_left, FetchesShowCommitted}
 use Rattle.broker_world.proofs.Held.{log_is}
 
@@ -46,17 +46,17 @@ module _ (limit : ℤ) where
   abbrev Ends : List BatchData → Type 0
   Ends bs = AllByRecursion (λ (b : BatchData). next_offset b ≤ℤ limit) bs
 
-  below_ends : (bs : List BatchData) → Ends (below limit bs)
+  below_ends : (bs : List BatchData) → Ends (batches_below limit bs)
   below_ends [] = tt
   below_ends (b ∷ rest) = by_test (int_le (next_offset b) limit) refl (below_ends rest) where
-    by_test : (t : Bool) → int_le (next_offset b) limit ≡ t → Ends (below limit rest) → Ends (cond t (b ∷ below limit rest) [])
+    by_test : (t : Bool) → int_le (next_offset b) limit ≡ t → Ends (batches_below limit rest) → Ends (cond t (b ∷ batches_below limit rest) [])
     by_test true is all = (le_is (next_offset b) limit is, all)
     by_test false is all = tt
 
-  fitting_ends : (room : ℕ) (bs : List BatchData) → Ends bs → Ends (fitting room bs)
+  fitting_ends : (room : ℕ) (bs : List BatchData) → Ends bs → Ends (fitting_batches room bs)
   fitting_ends room [] all = tt
   fitting_ends room (b ∷ rest) all = by_test (nat_le (length b.bytes) room) (fitting_ends (room - length b.bytes) rest all.1) where
-    by_test : (t : Bool) → Ends (fitting (room - length b.bytes) rest) → Ends (cond t (b ∷ fitting (room - length b.bytes) rest) [])
+    by_test : (t : Bool) → Ends (fitting_batches (room - length b.bytes) rest) → Ends (cond t (b ∷ fitting_batches (room - length b.bytes) rest) [])
     by_test true more = (all.0, more)
     by_test false more = tt
 
@@ -73,14 +73,14 @@ has_no_room : (size room : ℕ) → nat_le size room ≡ false → room < size
 has_no_room size room h = grind (arith, nat_tests)
 
 -- nothing fits, and none is forced
-none_fits : (given : Bool) (room : ℕ) (b : BatchData) (rest : List BatchData) → at_least_one (not given) (b ∷ rest) (fitting room (b ∷ rest)) ≡ [] → (given ≡ true) × (room < length b.bytes)
+none_fits : (given : Bool) (room : ℕ) (b : BatchData) (rest : List BatchData) → at_least_one (not given) (b ∷ rest) (fitting_batches room (b ∷ rest)) ≡ [] → (given ≡ true) × (room < length b.bytes)
 none_fits given room b rest h = by_test (nat_le (length b.bytes) room) refl h where
   by_given : (given : Bool) → cond (not given) (b ∷ []) [] ≡ [] → given ≡ true
   by_given true h = refl
   by_given false h = absurd (let clash : b ∷ [] ≡ [] = h in cc)
 
-  by_test : (t : Bool) → nat_le (length b.bytes) room ≡ t → at_least_one (not given) (b ∷ rest) (cond t (b ∷ fitting (room - length b.bytes) rest) []) ≡ [] → (given ≡ true) × (room < length b.bytes)
-  by_test true is h = absurd (let clash : b ∷ fitting (room - length b.bytes) rest ≡ [] = h in cc)
+  by_test : (t : Bool) → nat_le (length b.bytes) room ≡ t → at_least_one (not given) (b ∷ rest) (cond t (b ∷ fitting_batches (room - length b.bytes) rest) []) ≡ [] → (given ≡ true) × (room < length b.bytes)
+  by_test true is h = absurd (let clash : b ∷ fitting_batches (room - length b.bytes) rest ≡ [] = h in cc)
   by_test false is h = (by_given given h, has_no_room (length b.bytes) room is)
 
 -- what is served is no shorter than what fits
@@ -90,33 +90,33 @@ no_shorter forced candidates (b ∷ run) = omega arith
 
 -- ---- a partition
 
-module _ (topics : List TopicValue) (name : List ℕ) (p : FetchPartition) (room : Room) where
+module _ (topics : List TopicValue) (name : List ℕ) (p : FetchPartition) (room : FetchBudget) where
   abbrev told : Result Served ErrorCode → FetchedRecords
-  told s = fetched ReadCommitted p s
+  told s = fetched_partition ReadCommitted p s
 
-  shown : (log : LogValue) → log_at topics name p.index ≡ Some log → IsLog log → ShowsCommitted topics name p room (told (Ok (served_of log p.offset ReadCommitted (room_for room p) (not room.given))))
+  shown : (log : LogValue) → log_at topics name p.index ≡ Some log → IsLog log → ShowsCommitted topics name p room (told (Ok (served_of log p.offset ReadCommitted (budget_for room p) (not room.given))))
   shown log there is = record {
     log = log;
     there = there;
-    batches = run_of log p.offset ReadCommitted (room_for room p) (not room.given);
-    list = list_of ReadCommitted log p.offset (run_of log p.offset ReadCommitted (room_for room p) (not room.given));
+    batches = run_of log p.offset ReadCommitted (budget_for room p) (not room.given);
+    list = list_of ReadCommitted log p.offset (run_of log p.offset ReadCommitted (budget_for room p) (not room.given));
     run = refl;
-    ends = served_ends (stable log) (not room.given) (below (stable log) (reaching p.offset log)) (fitting (room_for room p) (below (stable log) (reaching p.offset log))) (below_ends (stable log) (reaching p.offset log))
-        (fitting_ends (stable log) (room_for room p) (below (stable log) (reaching p.offset log)) (below_ends (stable log) (reaching p.offset log)));
-    none = λ empty b rest are. none_fits room.given (room_for room p) b rest (ap (λ (l : List BatchData). at_least_one (not room.given) l (fitting (room_for room p) l)) (sym are) ∙ empty);
+    ends = served_ends (last_stable_offset log) (not room.given) (batches_below (last_stable_offset log) (batches_from p.offset log)) (fitting_batches (budget_for room p) (batches_below (last_stable_offset log) (batches_from p.offset log))) (below_ends (last_stable_offset log) (batches_from p.offset log))
+        (fitting_ends (last_stable_offset log) (budget_for room p) (batches_below (last_stable_offset log) (batches_from p.offset log)) (below_ends (last_stable_offset log) (batches_from p.offset log)));
+    none = λ empty b rest are. none_fits room.given (budget_for room p) b rest (ap (λ (l : List BatchData). at_least_one (not room.given) l (fitting_batches (budget_for room p) l)) (sym are) ∙ empty);
     most = λ longer rest parts fits.
-        let candidates = below (stable log) (reaching p.offset log) in
-        le_trans ((fitting_longest (room_for room p) candidates).1 longer rest parts fits) (no_shorter (not room.given) candidates (fitting (room_for room p) candidates));
+        let candidates = batches_below (last_stable_offset log) (batches_from p.offset log) in
+        le_trans ((fitting_longest (budget_for room p) candidates).1 longer rest parts fits) (no_shorter (not room.given) candidates (fitting_batches (budget_for room p) candidates));
     records = refl;
     aborted = refl;
     high = refl;
     last_stable = refl;
-    shown = filtered_committed log p.offset (room_for room p) (not room.given) is;
+    shown = filtered_committed log p.offset (budget_for room p) (not room.given) is;
   }
 
   by_place : (log : LogValue) → log_at topics name p.index ≡ Some log → IsLog log → (outside : Bool)
-      → (told (cond outside (Err codes.OffsetOutOfRange) (Ok (served_of log p.offset ReadCommitted (room_for room p) (not room.given))))).error ≡ codes.None
-      → ShowsCommitted topics name p room (told (cond outside (Err codes.OffsetOutOfRange) (Ok (served_of log p.offset ReadCommitted (room_for room p) (not room.given)))))
+      → (told (cond outside (Err codes.OffsetOutOfRange) (Ok (served_of log p.offset ReadCommitted (budget_for room p) (not room.given))))).error ≡ codes.None
+      → ShowsCommitted topics name p room (told (cond outside (Err codes.OffsetOutOfRange) (Ok (served_of log p.offset ReadCommitted (budget_for room p) (not room.given)))))
   by_place log there is true none = absurd (let clash : codes.OffsetOutOfRange ≡ codes.None = none in cc)
   by_place log there is false none = shown log there is
 
@@ -142,24 +142,24 @@ same_topics : (xs ys : List (Topic FetchedRecords)) → replies.Fetch (record { 
 same_topics xs ys h = let same : record { throttle = pos 0; topics = xs } ≡ record { throttle = pos 0; topics = ys } = cc in ap (λ (r : FetchReply). r.topics) same
 
 module _ (w : World) (caller : Caller) (hold : HoldLogs w.topics) where
-  by_refusal : (o : Option Refusal) (room : Room) (name : List ℕ) (p : FetchPartition) → (answer_by (fetch_rule caller ReadCommitted w.topics) o room name p).error ≡ codes.None → ShowsCommitted w.topics name p room (answer_by (fetch_rule caller ReadCommitted w.topics) o room name p)
+  by_refusal : (o : Option Refusal) (room : FetchBudget) (name : List ℕ) (p : FetchPartition) → (answer_by (fetch_rule caller ReadCommitted w.topics) o room name p).error ≡ codes.None → ShowsCommitted w.topics name p room (answer_by (fetch_rule caller ReadCommitted w.topics) o room name p)
   by_refusal (Some r) room name p none = absurd (named_code r.question.kind none)
   by_refusal None room name p none = reads_committed w.topics room name p hold none
 
-  part_shows : (o : Option Refusal) (room : Room) (name : List ℕ) (p : FetchPartition) (a : FetchedRecords) → a ≡ answer_by (fetch_rule caller ReadCommitted w.topics) o room name p → a.error ≡ codes.None → ShowsCommitted w.topics name p room a
+  part_shows : (o : Option Refusal) (room : FetchBudget) (name : List ℕ) (p : FetchPartition) (a : FetchedRecords) → a ≡ answer_by (fetch_rule caller ReadCommitted w.topics) o room name p → a.error ≡ codes.None → ShowsCommitted w.topics name p room a
   part_shows o room name p a is none =
       subst (ShowsCommitted w.topics name p room) (sym is) (by_refusal o room name p (ap (λ (x : FetchedRecords). x.error) (sym is) ∙ none))
 
-  request_shows : (r : FetchRequest) (level : Isolation) → level ≡ ReadCommitted → (answered : List (Topic FetchedRecords)) → answers (fetch_rule caller level w.topics) (rules_of w) (whole_room r) r.topics ≡ answered
-      → (i j : ℕ) (t : Topic FetchPartition) (p : FetchPartition) (told : Topic FetchedRecords) (a : FetchedRecords) → at r.topics i ≡ Some t → at t.partitions j ≡ Some p → at answered i ≡ Some told → at told.partitions j ≡ Some a
+  request_shows : (r : FetchRequest) (level : Isolation) → level ≡ ReadCommitted → (answered : List (Topic FetchedRecords)) → answers (fetch_rule caller level w.topics) (rules_of w) (whole_budget r) r.topics ≡ answered
+      → (i j : ℕ) (t : Topic FetchPartition) (p : FetchPartition) (told : Topic FetchedRecords) (a : FetchedRecords) → element_at r.topics i ≡ Some t → element_at t.partitions j ≡ Some p → element_at answered i ≡ Some told → element_at told.partitions j ≡ Some a
       → a.error ≡ codes.None → ShowsCommitted w.topics t.name p (room_left w caller r i t j) a
   request_shows r level only answered is i j t p told a here there answer part none =
-      let whole : answers (fetch_rule caller ReadCommitted w.topics) (rules_of w) (whole_room r) r.topics ≡ answered = ap (λ (l : Isolation). answers (fetch_rule caller l w.topics) (rules_of w) (whole_room r) r.topics) (sym only) ∙ is in
-      let place = answers_each_part.places (fetch_rule caller ReadCommitted w.topics) (rules_of w) (whole_room r) r.topics i t here in
-      let same : told ≡ place.0 = same_some told place.0 (sym answer ∙ ap (λ (l : List (Topic FetchedRecords)). at l i) (sym whole) ∙ place.1.0) in
-      let room : Room = world_before (fetch_rule caller ReadCommitted w.topics) (rules_of w) (whole_room r) r.topics i t j in
+      let whole : answers (fetch_rule caller ReadCommitted w.topics) (rules_of w) (whole_budget r) r.topics ≡ answered = ap (λ (l : Isolation). answers (fetch_rule caller l w.topics) (rules_of w) (whole_budget r) r.topics) (sym only) ∙ is in
+      let place = answers_each_part.places (fetch_rule caller ReadCommitted w.topics) (rules_of w) (whole_budget r) r.topics i t here in
+      let same : told ≡ place.0 = same_some told place.0 (sym answer ∙ ap (λ (l : List (Topic FetchedRecords)). element_at l i) (sym whole) ∙ place.1.0) in
+      let room : FetchBudget = world_before (fetch_rule caller ReadCommitted w.topics) (rules_of w) (whole_budget r) r.topics i t j in
       let refusal = refusal_of (fetch_rule caller ReadCommitted w.topics) (rules_of w) t.name p in
-      let at_part : at told.partitions j ≡ Some (answer_by (fetch_rule caller ReadCommitted w.topics) refusal room t.name p) = ap (λ (x : Topic FetchedRecords). at x.partitions j) same ∙ place.1.1.places j p there in
+      let at_part : element_at told.partitions j ≡ Some (answer_by (fetch_rule caller ReadCommitted w.topics) refusal room t.name p) = ap (λ (x : Topic FetchedRecords). element_at x.partitions j) same ∙ place.1.1.places j p there in
       part_shows refusal room t.name p a (same_some a _ (sym part ∙ at_part)) none
 
 pub fetches_committed : FetchesShowCommitted

@@ -18,17 +18,17 @@ use Rattle.walk.specs.Walk.{plain_parts, plain_topics, answers, parts_refused, r
 use Rattle.walk.specs.Woven.{has_any}
 use Rattle.broker_world.specs.World.{World, TopicValue, rules_of}
 use Rattle.broker_world.specs.Logs.{log_at}
-use Rattle.broker_world.specs.Outcome.{Outcome}
+use Rattle.broker_world.specs.HandlerResult.{HandlerResult}
 use Rattle.broker_world.specs.Whole.{Served}
 use Rattle.txn_handlers.specs.AddPartitions.{add_questions, added_partition, cut_code, cut_rule, is_missing, add_reply, cut_outcome, added_outcome, add_partitions_outcome}
-use Rattle.api_dispatch.specs.Step.{counted}
+use Rattle.api_dispatch.specs.Step.{with_event_counted}
 use Rattle.api_dispatch.specs.Questions.{partition_parts}
 use Rattle.api_dispatch.specs.Refusals.{refusals_in}
 use Rattle.api_dispatch.proofs.Told.{walk_told}
-use Rattle.plain_broker.specs.Allowed.{kept_topics, whole_or_cut}
-use Rattle.plain_broker.specs.PutBack.{put_topics, put_back}
+use Rattle.plain_broker.specs.Allowed.{unrefused_topics, whole_or_cut}
+use Rattle.plain_broker.specs.PutBack.{topics_with_refused, reply_with_refused}
 use Rattle.plain_broker.specs.Exactly.{is_granted}
-use Rattle.plain_broker.specs.Plain.{unbound, plain, plain_cut, put_together, IsPlainOfAllowed}
+use Rattle.plain_broker.specs.Plain.{unrestricted_world, plain_outcome, plain_cut, with_refusals, IsPlainOfAllowed}
 use Rattle.plain_broker.proofs.Freed.{freed}
 use Rattle.plain_broker.proofs.Terms.{refused_by, refused_answer}
 use Rattle.plain_broker.proofs.Walking.{free_answers, free_refusals, walk_answers}
@@ -67,17 +67,17 @@ module _ (rules : Rules) (caller : Caller) (id : List ℕ) (topics : List TopicV
         ap (λ (o : Option Refusal). weave (option_map (λ (r : Refusal). added_partition (refusal_code r) p) o ∷ map (λ (y : ℤ). refused_answer rules (add_questions caller id name) (λ (code : ErrorCode). added_partition code y)) ps) (x ∷ xs)) (head_nothing (part_refusal rules (add_questions caller id name)) (parts_refused (cut_rule caller id topics) rules name ps) none)
         ∙ ap (λ (l : List AddedPartition). x ∷ l) (none_put ps xs (tail_nothing (part_refusal rules (add_questions caller id name)) (parts_refused (cut_rule caller id topics) rules name ps) none))
 
-  all_topics_stay : (ts : List (Topic ℤ)) → refusals (cut_rule caller id topics) rules ts ≡ [] → kept_topics (refused_by rules (add_questions caller id)) ts ≡ ts
+  all_topics_stay : (ts : List (Topic ℤ)) → refusals (cut_rule caller id topics) rules ts ≡ [] → unrefused_topics (refused_by rules (add_questions caller id)) ts ≡ ts
   all_topics_stay [] none = refl
   all_topics_stay (t ∷ ts) none =
-      ap (λ (l : List ℤ). record { name = t.name; partitions = l } ∷ kept_topics (refused_by rules (add_questions caller id)) ts) (all_stay t.name t.partitions (first_nothing (parts_refused (cut_rule caller id topics) rules t.name t.partitions) (refusals (cut_rule caller id topics) rules ts) none))
+      ap (λ (l : List ℤ). record { name = t.name; partitions = l } ∷ unrefused_topics (refused_by rules (add_questions caller id)) ts) (all_stay t.name t.partitions (first_nothing (parts_refused (cut_rule caller id topics) rules t.name t.partitions) (refusals (cut_rule caller id topics) rules ts) none))
       ∙ ap (λ (l : List (Topic ℤ)). t ∷ l) (all_topics_stay ts (rest_nothing (parts_refused (cut_rule caller id topics) rules t.name t.partitions) (refusals (cut_rule caller id topics) rules ts) none))
 
-  no_topic_put : (ts : List (Topic ℤ)) (xs : List (Topic AddedPartition)) → refusals (cut_rule caller id topics) rules ts ≡ [] → put_topics (refused_by rules (add_questions caller id)) added_partition ts xs ≡ xs
+  no_topic_put : (ts : List (Topic ℤ)) (xs : List (Topic AddedPartition)) → refusals (cut_rule caller id topics) rules ts ≡ [] → topics_with_refused (refused_by rules (add_questions caller id)) added_partition ts xs ≡ xs
   no_topic_put [] xs none = refl
   no_topic_put (t ∷ ts) [] none = refl
   no_topic_put (t ∷ ts) (x ∷ xs) none =
-      ap (λ (l : List AddedPartition). record { name = x.name; partitions = l } ∷ put_topics (refused_by rules (add_questions caller id)) added_partition ts xs) (none_put t.name t.partitions x.partitions (first_nothing (parts_refused (cut_rule caller id topics) rules t.name t.partitions) (refusals (cut_rule caller id topics) rules ts) none))
+      ap (λ (l : List AddedPartition). record { name = x.name; partitions = l } ∷ topics_with_refused (refused_by rules (add_questions caller id)) added_partition ts xs) (none_put t.name t.partitions x.partitions (first_nothing (parts_refused (cut_rule caller id topics) rules t.name t.partitions) (refusals (cut_rule caller id topics) rules ts) none))
       ∙ ap (λ (l : List (Topic AddedPartition)). x ∷ l) (no_topic_put ts xs (rest_nothing (parts_refused (cut_rule caller id topics) rules t.name t.partitions) (refusals (cut_rule caller id topics) rules ts) none))
 
   -- ---- the plain cut
@@ -99,48 +99,48 @@ module _ (w : World) (caller : Caller) (client : Option (List ℕ)) (r : AddPart
   asks = add_questions caller r.transactional_id
 
   abbrev cut : AddPartitionsToTxnRequest
-  cut = record r { topics = kept_topics (refused_by (rules_of w) asks) r.topics }
+  cut = record r { topics = unrefused_topics (refused_by (rules_of w) asks) r.topics }
 
-  all_freed : (name : List ℕ) (index : ℤ) → part_refusal (rules_of (unbound w caller)) (asks name) ≡ None
+  all_freed : (name : List ℕ) (index : ℤ) → part_refusal (rules_of (unrestricted_world w caller)) (asks name) ≡ None
   all_freed name index = freed w caller (asks name) (refl, (refl, tt))
 
   walked : answers (cut_rule caller r.transactional_id w.topics) (rules_of w) tt r.topics
-      ≡ put_topics (refused_by (rules_of w) asks) added_partition r.topics (answers (cut_rule caller r.transactional_id w.topics) (rules_of (unbound w caller)) tt (kept_topics (refused_by (rules_of w) asks) r.topics))
-  walked = walk_answers (cut_rule caller r.transactional_id w.topics) (rules_of w) asks added_partition (record { questions = λ name p. refl; refused = λ code name p. refl }) (rules_of (unbound w caller)) all_freed tt r.topics
+      ≡ topics_with_refused (refused_by (rules_of w) asks) added_partition r.topics (answers (cut_rule caller r.transactional_id w.topics) (rules_of (unrestricted_world w caller)) tt (unrefused_topics (refused_by (rules_of w) asks) r.topics))
+  walked = walk_answers (cut_rule caller r.transactional_id w.topics) (rules_of w) asks added_partition (record { questions = λ name p. refl; refused = λ code name p. refl }) (rules_of (unrestricted_world w caller)) all_freed tt r.topics
 
   -- some part is refused
-  cut_is : answers (cut_rule caller r.transactional_id w.topics) (rules_of w) tt r.topics ≡ put_topics (refused_by (rules_of w) asks) added_partition r.topics (map (plain_cut w.topics) (kept_topics (refused_by (rules_of w) asks) r.topics))
+  cut_is : answers (cut_rule caller r.transactional_id w.topics) (rules_of w) tt r.topics ≡ topics_with_refused (refused_by (rules_of w) asks) added_partition r.topics (map (plain_cut w.topics) (unrefused_topics (refused_by (rules_of w) asks) r.topics))
   cut_is =
       walked
-      ∙ ap (put_topics (refused_by (rules_of w) asks) added_partition r.topics)
-      (free_answers (cut_rule caller r.transactional_id w.topics) (rules_of (unbound w caller)) all_freed tt (kept_topics (refused_by (rules_of w) asks) r.topics) ∙ cut_topics (rules_of w) caller r.transactional_id w.topics (kept_topics (refused_by (rules_of w) asks) r.topics))
+      ∙ ap (topics_with_refused (refused_by (rules_of w) asks) added_partition r.topics)
+      (free_answers (cut_rule caller r.transactional_id w.topics) (rules_of (unrestricted_world w caller)) all_freed tt (unrefused_topics (refused_by (rules_of w) asks) r.topics) ∙ cut_topics (rules_of w) caller r.transactional_id w.topics (unrefused_topics (refused_by (rules_of w) asks) r.topics))
 
   -- none is
-  plain_is : plain w caller (AddPartitionsToTxn r) ≡ cond (is_missing w.topics r.topics) (cut_outcome (unbound w caller) caller r) (added_outcome (unbound w caller) r)
-  plain_is = ap (λ (rs : List Refusal). cond (has_any rs || is_missing w.topics r.topics) (cut_outcome (unbound w caller) caller r) (added_outcome (unbound w caller) r)) (free_refusals (cut_rule caller r.transactional_id w.topics) (rules_of (unbound w caller)) all_freed r.topics)
+  plain_is : plain_outcome w caller (AddPartitionsToTxn r) ≡ cond (is_missing w.topics r.topics) (cut_outcome (unrestricted_world w caller) caller r) (added_outcome (unrestricted_world w caller) r)
+  plain_is = ap (λ (rs : List Refusal). cond (has_any rs || is_missing w.topics r.topics) (cut_outcome (unrestricted_world w caller) caller r) (added_outcome (unrestricted_world w caller) r)) (free_refusals (cut_rule caller r.transactional_id w.topics) (rules_of (unrestricted_world w caller)) all_freed r.topics)
 
   module _ (none : refusals (cut_rule caller r.transactional_id w.topics) (rules_of w) r.topics ≡ []) where
     by_missing : (b : Bool) → ◌≡◌ {A = Served} (record { world = (cond b (cut_outcome w caller r) (added_outcome w r)).world; reply = (cond b (cut_outcome w caller r) (added_outcome w r)).reply })
-        (record { world = record (cond b (cut_outcome (unbound w caller) caller r) (added_outcome (unbound w caller) r)).world { supers = w.supers }; reply = put_back (rules_of w) caller (AddPartitionsToTxn r) (cond b (cut_outcome (unbound w caller) caller r) (added_outcome (unbound w caller) r)).reply })
+        (record { world = record (cond b (cut_outcome (unrestricted_world w caller) caller r) (added_outcome (unrestricted_world w caller) r)).world { supers = w.supers }; reply = reply_with_refused (rules_of w) caller (AddPartitionsToTxn r) (cond b (cut_outcome (unrestricted_world w caller) caller r) (added_outcome (unrestricted_world w caller) r)).reply })
     by_missing true =
         ap (λ (l : List (Topic AddedPartition)). record { world = w; reply = add_reply l })
-        (walked ∙ ap (λ (ts : List (Topic ℤ)). put_topics (refused_by (rules_of w) asks) added_partition r.topics (answers (cut_rule caller r.transactional_id w.topics) (rules_of (unbound w caller)) tt ts)) (all_topics_stay (rules_of w) caller r.transactional_id w.topics r.topics none))
+        (walked ∙ ap (λ (ts : List (Topic ℤ)). topics_with_refused (refused_by (rules_of w) asks) added_partition r.topics (answers (cut_rule caller r.transactional_id w.topics) (rules_of (unrestricted_world w caller)) tt ts)) (all_topics_stay (rules_of w) caller r.transactional_id w.topics r.topics none))
     by_missing false =
         ap (λ (l : List (Topic AddedPartition)). record { world = (added_outcome w r).world; reply = add_reply l })
         (sym (no_topic_put (rules_of w) caller r.transactional_id w.topics r.topics _ none))
 
   by_refusals : (rs : List Refusal) → refusals (cut_rule caller r.transactional_id w.topics) (rules_of w) r.topics ≡ rs
-      → record { world = (add_partitions_outcome w caller r).world; reply = (add_partitions_outcome w caller r).reply } ≡ put_together w caller (AddPartitionsToTxn r) (whole_or_cut (AddPartitionsToTxn r) cut rs)
+      → record { world = (add_partitions_outcome w caller r).world; reply = (add_partitions_outcome w caller r).reply } ≡ with_refusals w caller (AddPartitionsToTxn r) (whole_or_cut (AddPartitionsToTxn r) cut rs)
   by_refusals (x ∷ xs) is =
       ap (λ (rs : List Refusal). record { world = (cond (has_any rs || is_missing w.topics r.topics) (cut_outcome w caller r) (added_outcome w r)).world; reply = (cond (has_any rs || is_missing w.topics r.topics) (cut_outcome w caller r) (added_outcome w r)).reply }) is
       ∙ ap (λ (l : List (Topic AddedPartition)). record { world = w; reply = add_reply l }) cut_is
   by_refusals [] is =
       ap (λ (rs : List Refusal). record { world = (cond (has_any rs || is_missing w.topics r.topics) (cut_outcome w caller r) (added_outcome w r)).world; reply = (cond (has_any rs || is_missing w.topics r.topics) (cut_outcome w caller r) (added_outcome w r)).reply }) is
       ∙ by_missing is (is_missing w.topics r.topics)
-      ∙ sym (ap (λ (o : Outcome). record { world = record o.world { supers = w.supers }; reply = put_back (rules_of w) caller (AddPartitionsToTxn r) o.reply }) plain_is)
+      ∙ sym (ap (λ (o : HandlerResult). record { world = record o.world { supers = w.supers }; reply = reply_with_refused (rules_of w) caller (AddPartitionsToTxn r) o.reply }) plain_is)
 
-  told_is : record { world = (add_partitions_outcome w caller r).world; reply = (add_partitions_outcome w caller r).reply } ≡ put_together w caller (AddPartitionsToTxn r) (whole_or_cut (AddPartitionsToTxn r) cut (refusals_in (rules_of w) (partition_parts asks r.topics)))
+  told_is : record { world = (add_partitions_outcome w caller r).world; reply = (add_partitions_outcome w caller r).reply } ≡ with_refusals w caller (AddPartitionsToTxn r) (whole_or_cut (AddPartitionsToTxn r) cut (refusals_in (rules_of w) (partition_parts asks r.topics)))
   told_is = by_refusals (refusals_in (rules_of w) (partition_parts asks r.topics)) (walk_told (rules_of w) asks (cut_rule caller r.transactional_id w.topics) (λ name index. refl) r.topics)
 
   pub adds : IsPlainOfAllowed w caller client (AddPartitionsToTxn r)
-  adds = record { reply = ap (λ (s : Served). s.reply) told_is; world = ap (λ (s : Served). counted s.world) told_is }
+  adds = record { reply = ap (λ (s : Served). s.reply) told_is; world = ap (λ (s : Served). with_event_counted s.world) told_is }

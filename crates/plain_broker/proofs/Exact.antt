@@ -17,11 +17,11 @@ use Rattle.data_handlers.specs.Produce.{produce_questions}
 use Rattle.group_handlers.specs.OffsetCommit.{commit_questions}
 use Rattle.group_handlers.specs.OffsetFetch.{group_question}
 use Rattle.txn_handlers.specs.AddPartitions.{add_questions}
-use Rattle.txn_handlers.specs.TxnOffsetCommit.{staging, stage_questions}
+use Rattle.txn_handlers.specs.TxnOffsetCommit.{staging_of, stage_questions}
 use Rattle.api_dispatch.specs.Questions.{fetch_questions, partition_parts, topic_parts, offset_parts, parts_of}
-use Rattle.api_dispatch.specs.Refusals.{refusals_in, told_alone, request_refusals}
+use Rattle.api_dispatch.specs.Refusals.{refusals_in, refusal_or_rest, request_refusals}
 use Rattle.std.specs.Option.{option_map}
-use Rattle.plain_broker.specs.Allowed.{allowed, kept_names, kept_topics, whole_or_cut, rest_or_nothing}
+use Rattle.plain_broker.specs.Allowed.{allowed_part, unrefused_names, unrefused_topics, whole_or_cut, rest_or_nothing}
 use Rattle.plain_broker.specs.Exactly.{is_granted, IsExact, AllowedIsExact, RefusedAnswers}
 use Rattle.plain_broker.proofs.Terms.{refused_by}
 
@@ -36,28 +36,28 @@ module _ (rules : Rules) where
     by_grant rest true = ap (λ (l : List (List Question)). qs ∷ l) rest
     by_grant rest false = rest
 
-  granted_walk : {P : Type 0} (asks : List ℕ → List Question) (ts : List (Topic P)) → partition_parts asks (kept_topics (refused_by rules asks) ts) ≡ filter (is_granted rules) (partition_parts asks ts)
+  granted_walk : {P : Type 0} (asks : List ℕ → List Question) (ts : List (Topic P)) → partition_parts asks (unrefused_topics (refused_by rules asks) ts) ≡ filter (is_granted rules) (partition_parts asks ts)
   granted_walk asks [] = refl
   granted_walk {P = P} asks (t ∷ ts) =
-      ap (λ (l : List (List Question)). l ++ partition_parts asks (kept_topics (refused_by rules asks) ts)) (granted_parts (asks t.name) t.partitions)
+      ap (λ (l : List (List Question)). l ++ partition_parts asks (unrefused_topics (refused_by rules asks) ts)) (granted_parts (asks t.name) t.partitions)
       ∙ ap (λ (l : List (List Question)). filter (is_granted rules) (map (λ (p : P). asks t.name) t.partitions) ++ l) (granted_walk asks ts)
       ∙ sym (filter-append (is_granted rules) (map (λ (p : P). asks t.name) t.partitions) (partition_parts asks ts))
 
   -- ---- names
 
-  granted_list : (caller : Caller) (names : List (List ℕ)) → map (topic_part caller) (kept_names (refused_by rules (topic_part caller)) names) ≡ filter (is_granted rules) (map (topic_part caller) names)
+  granted_list : (caller : Caller) (names : List (List ℕ)) → map (topic_part caller) (unrefused_names (refused_by rules (topic_part caller)) names) ≡ filter (is_granted rules) (map (topic_part caller) names)
   granted_list caller [] = refl
   granted_list caller (name ∷ names) = by_grant (granted_list caller names) (is_granted rules (topic_part caller name)) where
-    by_grant : map (topic_part caller) (kept_names (refused_by rules (topic_part caller)) names) ≡ filter (is_granted rules) (map (topic_part caller) names) → (b : Bool)
-        → map (topic_part caller) (cond b (name ∷ kept_names (refused_by rules (topic_part caller)) names) (kept_names (refused_by rules (topic_part caller)) names)) ≡ cond b (topic_part caller name ∷ filter (is_granted rules) (map (topic_part caller) names)) (filter (is_granted rules) (map (topic_part caller) names))
+    by_grant : map (topic_part caller) (unrefused_names (refused_by rules (topic_part caller)) names) ≡ filter (is_granted rules) (map (topic_part caller) names) → (b : Bool)
+        → map (topic_part caller) (cond b (name ∷ unrefused_names (refused_by rules (topic_part caller)) names) (unrefused_names (refused_by rules (topic_part caller)) names)) ≡ cond b (topic_part caller name ∷ filter (is_granted rules) (map (topic_part caller) names)) (filter (is_granted rules) (map (topic_part caller) names))
     by_grant rest true = ap (λ (l : List (List Question)). topic_part caller name ∷ l) rest
     by_grant rest false = rest
 
-  granted_topics : (caller : Caller) (topics : Option (List (List ℕ))) → topic_parts caller (option_map (kept_names (refused_by rules (topic_part caller))) topics) ≡ filter (is_granted rules) (topic_parts caller topics)
+  granted_topics : (caller : Caller) (topics : Option (List (List ℕ))) → topic_parts caller (option_map (unrefused_names (refused_by rules (topic_part caller))) topics) ≡ filter (is_granted rules) (topic_parts caller topics)
   granted_topics caller None = refl
   granted_topics caller (Some names) = granted_list caller names
 
-  granted_offsets : (caller : Caller) (topics : Option (List (Topic ℤ))) → offset_parts caller (option_map (kept_topics (refused_by rules (topic_part caller))) topics) ≡ filter (is_granted rules) (offset_parts caller topics)
+  granted_offsets : (caller : Caller) (topics : Option (List (Topic ℤ))) → offset_parts caller (option_map (unrefused_topics (refused_by rules (topic_part caller))) topics) ≡ filter (is_granted rules) (offset_parts caller topics)
   granted_offsets caller None = refl
   granted_offsets caller (Some ts) = granted_walk (topic_part caller) ts
 
@@ -86,18 +86,18 @@ module _ (rules : Rules) where
       by_refusal (Some r) is = (r, refusals ∙ ap (λ (o : Option Refusal). cons_option o []) is, refl)
 
     offsets : (r : OffsetFetchRequest) (o : Option Refusal) → part_refusal rules (group_question caller r.group ∷ []) ≡ o
-        → IsExact rules caller (OffsetFetch r) (rest_or_nothing (OffsetFetch (record r { topics = option_map (kept_topics (refused_by rules (topic_part caller))) r.topics })) o)
+        → IsExact rules caller (OffsetFetch r) (rest_or_nothing (OffsetFetch (record r { topics = option_map (unrefused_topics (refused_by rules (topic_part caller))) r.topics })) o)
     offsets r None is =
         ap (λ (l : List (List Question)). (group_question caller r.group ∷ []) ∷ l) (granted_offsets caller r.topics)
         ∙ sym (ap (λ (o : Option Refusal). cond (is_none o) ((group_question caller r.group ∷ []) ∷ filter (is_granted rules) (offset_parts caller r.topics)) (filter (is_granted rules) (offset_parts caller r.topics))) is)
-    offsets r (Some x) is = (x, ap (λ (o : Option Refusal). told_alone o (refusals_in rules (offset_parts caller r.topics))) is, refl)
+    offsets r (Some x) is = (x, ap (λ (o : Option Refusal). refusal_or_rest o (refusals_in rules (offset_parts caller r.topics))) is, refl)
 
     cuts : (r : AddPartitionsToTxnRequest) (rs : List Refusal) → refusals_in rules (partition_parts (add_questions caller r.transactional_id) r.topics) ≡ rs
-        → IsExact rules caller (AddPartitionsToTxn r) (whole_or_cut (AddPartitionsToTxn r) (record r { topics = kept_topics (refused_by rules (add_questions caller r.transactional_id)) r.topics }) rs)
+        → IsExact rules caller (AddPartitionsToTxn r) (whole_or_cut (AddPartitionsToTxn r) (record r { topics = unrefused_topics (refused_by rules (add_questions caller r.transactional_id)) r.topics }) rs)
     cuts r [] is = sym (all_granted (partition_parts (add_questions caller r.transactional_id) r.topics) is)
     cuts r (x ∷ xs) is = granted_walk (add_questions caller r.transactional_id) r.topics
 
-    exact : (request : Request) → IsExact rules caller request (allowed rules caller request)
+    exact : (request : Request) → IsExact rules caller request (allowed_part rules caller request)
     exact (Produce r) = granted_walk (produce_questions caller r.transactional_id) r.topics
     exact (Fetch r) = granted_walk (fetch_questions caller) r.topics
     exact (ListOffsets r) = granted_walk (topic_part caller) r.topics
@@ -105,7 +105,7 @@ module _ (rules : Rules) where
     exact (OffsetCommit r) = granted_walk (commit_questions caller r.group) r.topics
     exact (OffsetFetch r) = offsets r (part_refusal rules (group_question caller r.group ∷ [])) refl
     exact (AddPartitionsToTxn r) = cuts r (refusals_in rules (partition_parts (add_questions caller r.transactional_id) r.topics)) refl
-    exact (TxnOffsetCommit r) = granted_walk (stage_questions caller (staging r)) r.topics
+    exact (TxnOffsetCommit r) = granted_walk (stage_questions caller (staging_of r)) r.topics
     exact (FindCoordinator r) = whole (FindCoordinator r) _ refl refl
     exact (JoinGroup r) = whole (JoinGroup r) _ refl refl
     exact (Heartbeat r) = whole (Heartbeat r) _ refl refl

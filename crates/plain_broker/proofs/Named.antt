@@ -11,7 +11,7 @@ use Rattle.authorizer.specs.Policy.{is_super}
 use Rattle.authorizer.specs.Asking.{Rules, refusal_by, question_refusal, first_of, part_refusal}
 use Rattle.msg_admin.specs.declared.request.Request.TheVariants.{Produce, Fetch, ListOffsets, Metadata, OffsetCommit, OffsetFetch, FindCoordinator, JoinGroup, Heartbeat, LeaveGroup, SyncGroup, SaslHandshake, ApiVersions, InitProducerId, AddPartitionsToTxn, AddOffsetsToTxn, EndTxn, TxnOffsetCommit, DescribeAcls, CreateAcls, DeleteAcls, SaslAuthenticate}
 use Rattle.api_dispatch.specs.Questions.{asks_itself, offset_parts, parts_of}
-use Rattle.api_dispatch.specs.Refusals.{refusals_in, told_alone}
+use Rattle.api_dispatch.specs.Refusals.{refusals_in, refusal_or_rest}
 use Rattle.plain_broker.specs.Named.{IsRightRefusal, RefusalsAreRight}
 
 module _ (rules : Rules) where
@@ -37,15 +37,15 @@ module _ (rules : Rules) where
   of_part [] = tt
   of_part (q ∷ qs) = of_first (question_refusal rules q) (part_refusal rules qs) (of_question q) (of_part qs)
 
-  behind : (o : Option Refusal) (rs : List Refusal) → IsRight o → AllByRecursion (IsRightRefusal rules) rs → AllByRecursion (IsRightRefusal rules) (cons_option o rs)
-  behind None rs right all = all
-  behind (Some r) rs right all = (right, all)
+  after : (o : Option Refusal) (rs : List Refusal) → IsRight o → AllByRecursion (IsRightRefusal rules) rs → AllByRecursion (IsRightRefusal rules) (cons_option o rs)
+  after None rs right all = all
+  after (Some r) rs right all = (right, all)
 
   of_parts : (parts : List (List Question)) → AllByRecursion (IsRightRefusal rules) (refusals_in rules parts)
   of_parts [] = tt
-  of_parts (qs ∷ parts) = behind (part_refusal rules qs) (refusals_in rules parts) (of_part qs) (of_parts parts)
+  of_parts (qs ∷ parts) = after (part_refusal rules qs) (refusals_in rules parts) (of_part qs) (of_parts parts)
 
-  alone : (o : Option Refusal) (rs : List Refusal) → IsRight o → AllByRecursion (IsRightRefusal rules) rs → AllByRecursion (IsRightRefusal rules) (told_alone o rs)
+  alone : (o : Option Refusal) (rs : List Refusal) → IsRight o → AllByRecursion (IsRightRefusal rules) rs → AllByRecursion (IsRightRefusal rules) (refusal_or_rest o rs)
   alone (Some r) rs right all = (right, tt)
   alone None rs right all = all
 

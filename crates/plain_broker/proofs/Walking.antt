@@ -14,8 +14,8 @@ use Rattle.walk.specs.Rule.{PartRule, refusal_of}
 use Rattle.walk.specs.Walk.{allowed_parts, allowed_topics, plain_parts_world, plain_parts, plain_world, plain_topics, refused_part, weave_topics, world_after, answers, parts_refused, refusals}
 use Rattle.walk.specs.Steps.{answer_by, world_by, parts_world, parts_answers, topics_world, topics_answers}
 use Rattle.walk.proofs.Weaving.{woven}
-use Rattle.plain_broker.specs.Allowed.{kept_topic, kept_topics}
-use Rattle.plain_broker.specs.PutBack.{put_topics}
+use Rattle.plain_broker.specs.Allowed.{unrefused_topic, unrefused_topics}
+use Rattle.plain_broker.specs.PutBack.{topics_with_refused}
 use Rattle.plain_broker.specs.Exactly.{is_granted}
 use Rattle.plain_broker.proofs.Terms.{refused_by, refused_answer}
 
@@ -74,11 +74,11 @@ module _ {P A W : Type 0} (api : PartRule P A W) (rules : Rules) (asks : List �
       ap (λ (qs : List Question). cond (is_granted rules qs) (p ∷ allowed_parts api rules name ps) (allowed_parts api rules name ps)) (by.questions name p)
       ∙ ap (λ (l : List P). cond (is_granted rules (asks name)) (p ∷ l) l) (same_parts name ps)
 
-  pub same_topics : (ts : List (Topic P)) → allowed_topics api rules ts ≡ kept_topics (refused_by rules asks) ts
+  pub same_topics : (ts : List (Topic P)) → allowed_topics api rules ts ≡ unrefused_topics (refused_by rules asks) ts
   same_topics [] = refl
   same_topics (t ∷ ts) =
       ap (λ (l : List P). record { name = t.name; partitions = l } ∷ allowed_topics api rules ts) (same_parts t.name t.partitions)
-      ∙ ap (λ (l : List (Topic P)). kept_topic (refused_by rules asks) t ∷ l) (same_topics ts)
+      ∙ ap (λ (l : List (Topic P)). unrefused_topic (refused_by rules asks) t ∷ l) (same_topics ts)
 
   same_refused : (name : List ℕ) (p : P) → refused_part api rules name p ≡ refused_answer rules (asks name) (λ (code : ErrorCode). told code p)
   same_refused name p = ap (λ (qs : List Question). option_map (λ (r : Refusal). api.refused (refusal_code r) name p) (part_refusal rules qs)) (by.questions name p) ∙ by_refusal (part_refusal rules (asks name)) where
@@ -92,7 +92,7 @@ module _ {P A W : Type 0} (api : PartRule P A W) (rules : Rules) (asks : List �
       ap (λ (o : Option A). o ∷ map (refused_part api rules name) ps) (same_refused name p)
       ∙ ap (λ (l : List (Option A)). refused_answer rules (asks name) (λ (code : ErrorCode). told code p) ∷ l) (same_gaps name ps)
 
-  pub same_put : (ts : List (Topic P)) (xs : List (Topic A)) → weave_topics api rules ts xs ≡ put_topics (refused_by rules asks) told ts xs
+  pub same_put : (ts : List (Topic P)) (xs : List (Topic A)) → weave_topics api rules ts xs ≡ topics_with_refused (refused_by rules asks) told ts xs
   same_put [] xs = refl
   same_put (t ∷ ts) [] = refl
   same_put (t ∷ ts) (a ∷ xs) =
@@ -102,11 +102,11 @@ module _ {P A W : Type 0} (api : PartRule P A W) (rules : Rules) (asks : List �
   -- ---- the walk
 
   module _ (free : Rules) (all : GrantsAll api free) where
-    pub walk_world : (w : W) (ts : List (Topic P)) → world_after api rules w ts ≡ world_after api free w (kept_topics (refused_by rules asks) ts)
-    walk_world w ts = ap (plain_world api w) (same_topics ts) ∙ sym (free_world api free all w (kept_topics (refused_by rules asks) ts))
+    pub walk_world : (w : W) (ts : List (Topic P)) → world_after api rules w ts ≡ world_after api free w (unrefused_topics (refused_by rules asks) ts)
+    walk_world w ts = ap (plain_world api w) (same_topics ts) ∙ sym (free_world api free all w (unrefused_topics (refused_by rules asks) ts))
 
-    pub walk_answers : (w : W) (ts : List (Topic P)) → answers api rules w ts ≡ put_topics (refused_by rules asks) told ts (answers api free w (kept_topics (refused_by rules asks) ts))
+    pub walk_answers : (w : W) (ts : List (Topic P)) → answers api rules w ts ≡ topics_with_refused (refused_by rules asks) told ts (answers api free w (unrefused_topics (refused_by rules asks) ts))
     walk_answers w ts =
         ap (λ (l : List (Topic P)). weave_topics api rules ts (plain_topics api w l)) (same_topics ts)
-        ∙ same_put ts (plain_topics api w (kept_topics (refused_by rules asks) ts))
-        ∙ ap (put_topics (refused_by rules asks) told ts) (sym (free_answers api free all w (kept_topics (refused_by rules asks) ts)))
+        ∙ same_put ts (plain_topics api w (unrefused_topics (refused_by rules asks) ts))
+        ∙ ap (topics_with_refused (refused_by rules asks) told ts) (sym (free_answers api free all w (unrefused_topics (refused_by rules asks) ts)))

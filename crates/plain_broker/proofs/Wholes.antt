@@ -22,60 +22,60 @@ use Rattle.msg_acl.specs.declared.describe_acls.DescribeAclsRequest.{DescribeAcl
 use Rattle.msg_acl.specs.declared.create_acls.CreateAclsRequest.{CreateAclsRequest}
 use Rattle.msg_acl.specs.declared.delete_acls.DeleteAclsRequest.{DeleteAclsRequest}
 use Rattle.broker_world.specs.World.{World, rules_of}
-use Rattle.broker_world.specs.Outcome.{Outcome}
-use Rattle.broker_world.specs.Whole.{Served, whole_by, whole}
+use Rattle.broker_world.specs.HandlerResult.{HandlerResult}
+use Rattle.broker_world.specs.Whole.{Served, whole_outcome_by, whole_outcome}
 use Rattle.group_handlers.specs.FindCoordinator.{kind_of, find_questions}
 use Rattle.broker_world.specs.Questions.{read_question}
 use Rattle.txn_handlers.specs.EndTxn.{end_questions}
-use Rattle.txn_handlers.specs.InitProducerId.{init_question, is_waived, init_questions, init_error, initialized}
+use Rattle.txn_handlers.specs.InitProducerId.{init_question, is_waived, init_questions, init_error, served_init}
 use Rattle.txn_handlers.specs.AddOffsets.{add_offsets_questions}
 use Rattle.acl_handlers.specs.DescribeAcls.{describe_acls_questions}
 use Rattle.acl_handlers.specs.CreateAcls.{alter_questions}
-use Rattle.api_dispatch.specs.Step.{request_outcome, counted}
-use Rattle.plain_broker.specs.Allowed.{allowed, rest_or_nothing}
-use Rattle.plain_broker.specs.PutBack.{put_back, refused_whole}
-use Rattle.plain_broker.specs.Plain.{unbound, plain, put_together, IsPlainOfAllowed}
+use Rattle.api_dispatch.specs.Step.{request_outcome, with_event_counted}
+use Rattle.plain_broker.specs.Allowed.{allowed_part, rest_or_nothing}
+use Rattle.plain_broker.specs.PutBack.{reply_with_refused, refused_whole}
+use Rattle.plain_broker.specs.Plain.{unrestricted_world, plain_outcome, with_refusals, IsPlainOfAllowed}
 use Rattle.plain_broker.proofs.Freed.{freed}
 
 -- the request is served whole or refused whole, by these questions, and served alike in the plain broker's world
 pub record IsWhole (w : World) (caller : Caller) (request : Request) (questions : List Question) (refused : ErrorCode → Reply) (served free : Served) : Type 0 where
-  pub here : request_outcome w caller request ≡ whole w questions refused served
-  pub there : plain w caller request ≡ whole (unbound w caller) questions refused free
-  pub granted : part_refusal (rules_of (unbound w caller)) questions ≡ None
+  pub here : request_outcome w caller request ≡ whole_outcome w questions refused served
+  pub there : plain_outcome w caller request ≡ whole_outcome (unrestricted_world w caller) questions refused free
+  pub granted : part_refusal (rules_of (unrestricted_world w caller)) questions ≡ None
   pub same : served ≡ record { world = record free.world { supers = w.supers }; reply = free.reply }
-  pub by_parts : allowed (rules_of w) caller request ≡ rest_or_nothing request (part_refusal (rules_of w) questions)
+  pub by_parts : allowed_part (rules_of w) caller request ≡ rest_or_nothing request (part_refusal (rules_of w) questions)
   pub told : (code : ErrorCode) → refused code ≡ refused_whole code request
-  pub put : (reply : Reply) → put_back (rules_of w) caller request reply ≡ reply
+  pub put : (reply : Reply) → reply_with_refused (rules_of w) caller request reply ≡ reply
 
 module _ (w : World) (caller : Caller) (client : Option (List ℕ)) where
   module _ (request : Request) (questions : List Question) (refused : ErrorCode → Reply) (served free : Served) (is : IsWhole w caller request questions refused served free) where
-    plain_is : plain w caller request ≡ record { world = free.world; reply = free.reply; refusals = [] }
-    plain_is = is.there ∙ ap (λ (o : Option Refusal). whole_by o (unbound w caller) refused free) is.granted
+    plain_is : plain_outcome w caller request ≡ record { world = free.world; reply = free.reply; refusals = [] }
+    plain_is = is.there ∙ ap (λ (o : Option Refusal). whole_outcome_by o (unrestricted_world w caller) refused free) is.granted
 
-    put_is : (o : Option Refusal) → record { world = (whole_by o w refused served).world; reply = (whole_by o w refused served).reply } ≡ put_together w caller request (rest_or_nothing request o)
+    put_is : (o : Option Refusal) → record { world = (whole_outcome_by o w refused served).world; reply = (whole_outcome_by o w refused served).reply } ≡ with_refusals w caller request (rest_or_nothing request o)
     put_is (Some r) = ap (λ (reply : Reply). record { world = w; reply = reply }) (is.told _)
     put_is None =
         is.same
         ∙ sym (ap (λ (reply : Reply). record { world = record free.world { supers = w.supers }; reply = reply }) (is.put free.reply))
-        ∙ sym (ap (λ (o : Outcome). record { world = record o.world { supers = w.supers }; reply = put_back (rules_of w) caller request o.reply }) plain_is)
+        ∙ sym (ap (λ (o : HandlerResult). record { world = record o.world { supers = w.supers }; reply = reply_with_refused (rules_of w) caller request o.reply }) plain_is)
 
-    told_is : record { world = (request_outcome w caller request).world; reply = (request_outcome w caller request).reply } ≡ put_together w caller request (allowed (rules_of w) caller request)
+    told_is : record { world = (request_outcome w caller request).world; reply = (request_outcome w caller request).reply } ≡ with_refusals w caller request (allowed_part (rules_of w) caller request)
     told_is =
-        ap (λ (o : Outcome). record { world = o.world; reply = o.reply }) is.here
+        ap (λ (o : HandlerResult). record { world = o.world; reply = o.reply }) is.here
         ∙ put_is (part_refusal (rules_of w) questions)
-        ∙ ap (put_together w caller request) (sym is.by_parts)
+        ∙ ap (with_refusals w caller request) (sym is.by_parts)
 
     by_whole : IsPlainOfAllowed w caller client request
-    by_whole = record { reply = ap (λ (s : Served). s.reply) told_is; world = ap (λ (s : Served). counted s.world) told_is }
+    by_whole = record { reply = ap (λ (s : Served). s.reply) told_is; world = ap (λ (s : Served). with_event_counted s.world) told_is }
 
-  pub find_freed : (o : Option Kind) (key : List ℕ) → part_refusal (rules_of (unbound w caller)) (find_questions caller o key) ≡ None
+  pub find_freed : (o : Option Kind) (key : List ℕ) → part_refusal (rules_of (unrestricted_world w caller)) (find_questions caller o key) ≡ None
   find_freed None key = refl
   find_freed (Some kind) key = freed w caller (find_questions caller (Some kind) key) (refl, tt)
 
   -- whatever rules say what is asked
-  pub init_freed : (rules : Rules) (id : Option (List ℕ)) → part_refusal (rules_of (unbound w caller)) (init_questions rules caller id) ≡ None
+  pub init_freed : (rules : Rules) (id : Option (List ℕ)) → part_refusal (rules_of (unrestricted_world w caller)) (init_questions rules caller id) ≡ None
   init_freed rules None = by_waiver (is_waived rules caller) where
-    by_waiver : (b : Bool) → part_refusal (rules_of (unbound w caller)) (cond b [] (init_question caller None ∷ [])) ≡ None
+    by_waiver : (b : Bool) → part_refusal (rules_of (unrestricted_world w caller)) (cond b [] (init_question caller None ∷ [])) ≡ None
     by_waiver true = refl
     by_waiver false = freed w caller (init_question caller None ∷ []) (refl, tt)
   init_freed rules (Some id) = freed w caller (init_question caller (Some id) ∷ []) (refl, tt)
@@ -96,9 +96,9 @@ module _ (w : World) (caller : Caller) (client : Option (List ℕ)) where
   syncs r = by_whole (SyncGroup r) (read_question caller r.group ∷ []) _ _ _ (record { here = refl; there = refl; granted = freed w caller (read_question caller r.group ∷ []) (refl, tt); same = refl; by_parts = refl; told = λ code. refl; put = λ reply. refl })
 
   pub inits : (r : InitProducerIdRequest) → IsPlainOfAllowed w caller client (InitProducerId r)
-  inits r = by_whole (InitProducerId r) (init_questions (rules_of w) caller r.transactional_id) (λ code. replies.InitProducerId (init_error code)) _ (initialized (unbound w caller) r) (record {
+  inits r = by_whole (InitProducerId r) (init_questions (rules_of w) caller r.transactional_id) (λ code. replies.InitProducerId (init_error code)) _ (served_init (unrestricted_world w caller) r) (record {
     here = refl;
-    there = ap (λ (o : Option Refusal). whole_by o (unbound w caller) (λ code. replies.InitProducerId (init_error code)) (initialized (unbound w caller) r)) (init_freed (rules_of (unbound w caller)) r.transactional_id ∙ sym (init_freed (rules_of w) r.transactional_id));
+    there = ap (λ (o : Option Refusal). whole_outcome_by o (unrestricted_world w caller) (λ code. replies.InitProducerId (init_error code)) (served_init (unrestricted_world w caller) r)) (init_freed (rules_of (unrestricted_world w caller)) r.transactional_id ∙ sym (init_freed (rules_of w) r.transactional_id));
     granted = init_freed (rules_of w) r.transactional_id;
     same = refl;
     by_parts = refl;

@@ -34,26 +34,26 @@ refused_at rules caller request name = part_refusal rules (asks_at caller reques
 
 -- ---- a request without what is refused at its topics
 
-abbrev pub kept_names : (List ℕ → Option Refusal) → List (List ℕ) → List (List ℕ)
-kept_names refused names = filter (λ (name : List ℕ). is_none (refused name)) names
+abbrev pub unrefused_names : (List ℕ → Option Refusal) → List (List ℕ) → List (List ℕ)
+unrefused_names refused names = filter (λ (name : List ℕ). is_none (refused name)) names
 
 -- a topic keeps its place, also without partitions
-abbrev pub kept_topic : {P : Type 0} → (List ℕ → Option Refusal) → Topic P → Topic P
-kept_topic {P} refused t = record { name = t.name; partitions = filter (λ (p : P). is_none (refused t.name)) t.partitions }
+abbrev pub unrefused_topic : {P : Type 0} → (List ℕ → Option Refusal) → Topic P → Topic P
+unrefused_topic {P} refused t = record { name = t.name; partitions = filter (λ (p : P). is_none (refused t.name)) t.partitions }
 
-abbrev pub kept_topics : {P : Type 0} → (List ℕ → Option Refusal) → List (Topic P) → List (Topic P)
-kept_topics refused ts = map (kept_topic refused) ts
+abbrev pub unrefused_topics : {P : Type 0} → (List ℕ → Option Refusal) → List (Topic P) → List (Topic P)
+unrefused_topics refused ts = map (unrefused_topic refused) ts
 
 -- a null list stays null
-abbrev pub kept : (List ℕ → Option Refusal) → Request → Request
-kept refused (requests.Produce r) = requests.Produce (record r { topics = kept_topics refused r.topics })
-kept refused (requests.Fetch r) = requests.Fetch (record r { topics = kept_topics refused r.topics })
-kept refused (requests.ListOffsets r) = requests.ListOffsets (record r { topics = kept_topics refused r.topics })
-kept refused (requests.Metadata r) = requests.Metadata (record r { topics = option_map (kept_names refused) r.topics })
-kept refused (requests.OffsetCommit r) = requests.OffsetCommit (record r { topics = kept_topics refused r.topics })
-kept refused (requests.OffsetFetch r) = requests.OffsetFetch (record r { topics = option_map (kept_topics refused) r.topics })
-kept refused (requests.TxnOffsetCommit r) = requests.TxnOffsetCommit (record r { topics = kept_topics refused r.topics })
-kept refused request = request
+abbrev pub unrefused_request : (List ℕ → Option Refusal) → Request → Request
+unrefused_request refused (requests.Produce r) = requests.Produce (record r { topics = unrefused_topics refused r.topics })
+unrefused_request refused (requests.Fetch r) = requests.Fetch (record r { topics = unrefused_topics refused r.topics })
+unrefused_request refused (requests.ListOffsets r) = requests.ListOffsets (record r { topics = unrefused_topics refused r.topics })
+unrefused_request refused (requests.Metadata r) = requests.Metadata (record r { topics = option_map (unrefused_names refused) r.topics })
+unrefused_request refused (requests.OffsetCommit r) = requests.OffsetCommit (record r { topics = unrefused_topics refused r.topics })
+unrefused_request refused (requests.OffsetFetch r) = requests.OffsetFetch (record r { topics = option_map (unrefused_topics refused) r.topics })
+unrefused_request refused (requests.TxnOffsetCommit r) = requests.TxnOffsetCommit (record r { topics = unrefused_topics refused r.topics })
+unrefused_request refused request = request
 
 -- ---- what is allowed of a request
 
@@ -67,6 +67,6 @@ abbrev pub whole_or_cut : Request → AddPartitionsToTxnRequest → List Refusal
 whole_or_cut request cut [] = Rest request
 whole_or_cut request cut (r ∷ rs) = Cut cut
 
-abbrev pub allowed : Rules → Caller → Request → Allowed
-allowed rules caller (requests.AddPartitionsToTxn r) = whole_or_cut (requests.AddPartitionsToTxn r) (record r { topics = kept_topics (refused_at rules caller (requests.AddPartitionsToTxn r)) r.topics }) (request_refusals rules caller (requests.AddPartitionsToTxn r))
-allowed rules caller request = rest_or_nothing (kept (refused_at rules caller request) request) (refused_itself rules caller request)
+abbrev pub allowed_part : Rules → Caller → Request → Allowed
+allowed_part rules caller (requests.AddPartitionsToTxn r) = whole_or_cut (requests.AddPartitionsToTxn r) (record r { topics = unrefused_topics (refused_at rules caller (requests.AddPartitionsToTxn r)) r.topics }) (request_refusals rules caller (requests.AddPartitionsToTxn r))
+allowed_part rules caller request = rest_or_nothing (unrefused_request (refused_at rules caller request) request) (refused_itself rules caller request)

@@ -42,7 +42,7 @@ use Rattle.txn_handlers.specs.AddPartitions.{added_partition}
 use Rattle.txn_handlers.specs.TxnOffsetCommit.{staged_code}
 use Rattle.api_dispatch.specs.Questions.{parts_of}
 use Rattle.api_dispatch.specs.Refusals.{request_refusals}
-use Rattle.plain_broker.specs.Allowed.{Allowed, Rest, Cut, Nothing, allowed}
+use Rattle.plain_broker.specs.Allowed.{Allowed, Rest, Cut, Nothing, allowed_part}
 
 -- each of the questions has the verdict Yes
 abbrev pub is_granted : Rules → List Question → Bool
@@ -55,7 +55,7 @@ IsExact rules caller request (Cut cut) = parts_of rules caller (requests.AddPart
 IsExact rules caller request (Nothing code) = (r : Refusal) × (request_refusals rules caller request ≡ r ∷ []) × (refusal_code r ≡ code)
 
 abbrev pub AllowedIsExact : Type 0
-AllowedIsExact = (rules : Rules) (caller : Caller) (request : Request) → IsExact rules caller request (allowed rules caller request)
+AllowedIsExact = (rules : Rules) (caller : Caller) (request : Request) → IsExact rules caller request (allowed_part rules caller request)
 
 -- each answer to what is refused is this: beside the code, what stands there for every code
 pub record RefusedAnswers : Type 0 where

@@ -5,8 +5,8 @@ use Rattle.acl_binding.specs.declared.binding.Numbered.{Numbered}
 use Rattle.acl_binding.specs.declared.question.Caller.{Caller}
 use Rattle.acl_binding.specs.declared.question.Question.{Question}
 use Rattle.acl_binding.specs.Verdict.{IsFirstDenial, IsUnmatched}
-use Rattle.authorizer.specs.declared.answer.Why.{Why}
-use Rattle.authorizer.specs.declared.answer.Why.TheVariants.{Denied, Nothing}
+use Rattle.authorizer.specs.declared.answer.DenyReason.{DenyReason}
+use Rattle.authorizer.specs.declared.answer.DenyReason.TheVariants.{Denied, Nothing}
 use Rattle.authorizer.specs.declared.answer.Refusal.{Refusal}
 use Rattle.authorizer.specs.Policy.{is_super}
 use Rattle.authorizer.specs.Asking.{Rules}
@@ -14,7 +14,7 @@ use Rattle.msg_admin.specs.declared.request.Request.{Request}
 use Rattle.api_dispatch.specs.Refusals.{request_refusals}
 
 -- a binding of this creation number denies it, and no older one, whatever allows it; or none denies it and none allows it
-abbrev pub IsNamed : List Numbered → Question → Why → Type 0
+abbrev pub IsNamed : List Numbered → Question → DenyReason → Type 0
 IsNamed es q (Denied n) = IsFirstDenial es q n
 IsNamed es q Nothing = IsUnmatched es q
 

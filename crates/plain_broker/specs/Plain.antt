@@ -11,21 +11,21 @@ use Rattle.msg_admin.specs.declared.reply.Reply.TheVariants as replies
 use Rattle.audit_trail.specs.declared.event.Event.TheVariants.{Ask}
 use Rattle.broker_world.specs.World.{World, TopicValue, rules_of}
 use Rattle.broker_world.specs.Logs.{log_at}
-use Rattle.broker_world.specs.Outcome.{Outcome}
+use Rattle.broker_world.specs.HandlerResult.{HandlerResult}
 use Rattle.broker_world.specs.Whole.{Served}
 use Rattle.txn_handlers.specs.AddPartitions.{added_partition, cut_code}
-use Rattle.api_dispatch.specs.Step.{request_outcome, counted, step, reply_to}
-use Rattle.plain_broker.specs.Allowed.{Allowed, Rest, Cut, Nothing, allowed}
-use Rattle.plain_broker.specs.PutBack.{put_back, refused_whole}
+use Rattle.api_dispatch.specs.Step.{request_outcome, with_event_counted, step, reply_to}
+use Rattle.plain_broker.specs.Allowed.{Allowed, Rest, Cut, Nothing, allowed_part}
+use Rattle.plain_broker.specs.PutBack.{reply_with_refused, refused_whole}
 
 -- ---- the plain broker
 
 -- the world in which everything is allowed to the caller
-abbrev pub unbound : World → Caller → World
-unbound w caller = record w { supers = caller.who ∷ [] }
+abbrev pub unrestricted_world : World → Caller → World
+unrestricted_world w caller = record w { supers = caller.who ∷ [] }
 
-abbrev pub plain : World → Caller → Request → Outcome
-plain w caller request = request_outcome (unbound w caller) caller request
+abbrev pub plain_outcome : World → Caller → Request → HandlerResult
+plain_outcome w caller request = request_outcome (unrestricted_world w caller) caller request
 
 -- a cut AddPartitionsToTxn: a missing partition is told so, and another one that nothing was tried
 abbrev pub plain_cut : List TopicValue → Topic ℤ → Topic AddedPartition
@@ -36,17 +36,17 @@ plain_cuts w r = replies.AddPartitionsToTxn (record { throttle = pos 0; topics =
 
 -- ---- what the allowed part comes to, with the refused ones put back
 
-abbrev pub put_together : World → Caller → Request → Allowed → Served
-put_together w caller request (Rest rest) = record { world = record (plain w caller rest).world { supers = w.supers }; reply = put_back (rules_of w) caller request (plain w caller rest).reply }
-put_together w caller request (Cut cut) = record { world = w; reply = put_back (rules_of w) caller request (plain_cuts w cut) }
-put_together w caller request (Nothing code) = record { world = w; reply = refused_whole code request }
+abbrev pub with_refusals : World → Caller → Request → Allowed → Served
+with_refusals w caller request (Rest rest) = record { world = record (plain_outcome w caller rest).world { supers = w.supers }; reply = reply_with_refused (rules_of w) caller request (plain_outcome w caller rest).reply }
+with_refusals w caller request (Cut cut) = record { world = w; reply = reply_with_refused (rules_of w) caller request (plain_cuts w cut) }
+with_refusals w caller request (Nothing code) = record { world = w; reply = refused_whole code request }
 
 -- ---- the law
 
 -- the request comes to the plain broker's answer to its allowed part, with the refused parts' answers put back
 pub record IsPlainOfAllowed (w : World) (caller : Caller) (client : Option (List ℕ)) (request : Request) : Type 0 where
-  pub reply : reply_to w (Ask caller client request) ≡ (put_together w caller request (allowed (rules_of w) caller request)).reply
-  pub world : step w (Ask caller client request) ≡ counted (put_together w caller request (allowed (rules_of w) caller request)).world
+  pub reply : reply_to w (Ask caller client request) ≡ (with_refusals w caller request (allowed_part (rules_of w) caller request)).reply
+  pub world : step w (Ask caller client request) ≡ with_event_counted (with_refusals w caller request (allowed_part (rules_of w) caller request)).world
 
 abbrev pub PlainOfAllowed : Type 0
 PlainOfAllowed = (w : World) (caller : Caller) (client : Option (List ℕ)) (request : Request) → IsPlainOfAllowed w caller client request

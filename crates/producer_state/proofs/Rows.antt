@@ -2,10 +2,10 @@
 use Rattle.std.proofs.Common.{◌≡◌, ℤ, pos, negsuc, List, [], ◌∷◌, ◌++◌, Some, None, refl}
 use Rattle.wire_types.specs.declared.error_code.ErrorCode.TheVariants.{OutOfOrderSequenceNumber, InvalidProducerEpoch}
 use Rattle.record_batch.specs.declared.header.BatchHeader.{BatchHeader}
-use Rattle.record_batch.specs.declared.outcome.Outcome.TheVariants.{Commit}
+use Rattle.record_batch.specs.declared.transaction_result.TransactionResult.TheVariants.{Commit}
 use Rattle.record_batch.specs.Batch.{BatchData}
 use Rattle.producer_state.specs.declared.judgment.Judgment.TheVariants.{Next, Repeat, Refused}
-use Rattle.producer_state.specs.Sequences.{next_sequence, last_sequence, judged}
+use Rattle.producer_state.specs.Sequences.{next_sequence, last_sequence, judgment_of}
 
 -- ---- batches, of which only what the definitions read is told
 
@@ -38,34 +38,34 @@ marked offset epoch = record { header = headed offset (pos 0) epoch (negsuc 0) (
 
 -- ---- a producer goes on
 
-begins : judged [] (sent (pos 0) (pos 0) (pos 2)) ≡ Next
+begins : judgment_of [] (sent (pos 0) (pos 0) (pos 2)) ≡ Next
 begins = refl
 
-begins_late : judged [] (sent (pos 0) (pos 3) (pos 1)) ≡ Refused OutOfOrderSequenceNumber
+begins_late : judgment_of [] (sent (pos 0) (pos 3) (pos 1)) ≡ Refused OutOfOrderSequenceNumber
 begins_late = refl
 
 abbrev two_records : List BatchData
 two_records = wrote (pos 0) (pos 0) (pos 0) (pos 2) ∷ []
 
-again : judged two_records (sent (pos 0) (pos 0) (pos 2)) ≡ Repeat (pos 0)
+again : judgment_of two_records (sent (pos 0) (pos 0) (pos 2)) ≡ Repeat (pos 0)
 unfolding last_sequence
 again = refl
 
-follows : judged two_records (sent (pos 0) (pos 2) (pos 1)) ≡ Next
+follows : judgment_of two_records (sent (pos 0) (pos 2) (pos 1)) ≡ Next
 unfolding next_sequence last_sequence
 follows = refl
 
-gap : judged two_records (sent (pos 0) (pos 3) (pos 1)) ≡ Refused OutOfOrderSequenceNumber
+gap : judgment_of two_records (sent (pos 0) (pos 3) (pos 1)) ≡ Refused OutOfOrderSequenceNumber
 unfolding next_sequence last_sequence
 gap = refl
 
-newer_late : judged two_records (sent (pos 1) (pos 3) (pos 1)) ≡ Refused OutOfOrderSequenceNumber
+newer_late : judgment_of two_records (sent (pos 1) (pos 3) (pos 1)) ≡ Refused OutOfOrderSequenceNumber
 newer_late = refl
 
-newer : judged two_records (sent (pos 1) (pos 0) (pos 1)) ≡ Next
+newer : judgment_of two_records (sent (pos 1) (pos 0) (pos 1)) ≡ Next
 newer = refl
 
-older : judged (two_records ++ wrote (pos 2) (pos 1) (pos 0) (pos 1) ∷ []) (sent (pos 0) (pos 2) (pos 1)) ≡ Refused InvalidProducerEpoch
+older : judgment_of (two_records ++ wrote (pos 2) (pos 1) (pos 0) (pos 1) ∷ []) (sent (pos 0) (pos 2) (pos 1)) ≡ Refused InvalidProducerEpoch
 older = refl
 
 -- ---- six batches of one record: the last five repeat
@@ -80,11 +80,11 @@ six =
     ∷ wrote (pos 5) (pos 0) (pos 5) (pos 1)
     ∷ []
 
-fifth_last : judged six (sent (pos 0) (pos 1) (pos 1)) ≡ Repeat (pos 1)
+fifth_last : judgment_of six (sent (pos 0) (pos 1) (pos 1)) ≡ Repeat (pos 1)
 unfolding last_sequence
 fifth_last = refl
 
-sixth_last : judged six (sent (pos 0) (pos 0) (pos 1)) ≡ Refused OutOfOrderSequenceNumber
+sixth_last : judgment_of six (sent (pos 0) (pos 0) (pos 1)) ≡ Refused OutOfOrderSequenceNumber
 unfolding next_sequence last_sequence
 sixth_last = refl
 
@@ -93,14 +93,14 @@ sixth_last = refl
 abbrev with_marker : List BatchData
 with_marker = two_records ++ marked (pos 2) (pos 1) ∷ []
 
-older_than_marker : judged with_marker (sent (pos 0) (pos 2) (pos 1)) ≡ Refused InvalidProducerEpoch
+older_than_marker : judgment_of with_marker (sent (pos 0) (pos 2) (pos 1)) ≡ Refused InvalidProducerEpoch
 older_than_marker = refl
 
-late_behind_marker : judged with_marker (sent (pos 1) (pos 2) (pos 1)) ≡ Refused OutOfOrderSequenceNumber
-late_behind_marker = refl
+late_after_marker : judgment_of with_marker (sent (pos 1) (pos 2) (pos 1)) ≡ Refused OutOfOrderSequenceNumber
+late_after_marker = refl
 
-begins_behind_marker : judged with_marker (sent (pos 1) (pos 0) (pos 1)) ≡ Next
-begins_behind_marker = refl
+begins_after_marker : judgment_of with_marker (sent (pos 1) (pos 0) (pos 1)) ≡ Next
+begins_after_marker = refl
 
 -- ---- sequence numbers wrap
 
@@ -112,11 +112,11 @@ last_wraps : last_sequence (pos 2147483646) (pos 3) ≡ pos 0
 unfolding last_sequence
 last_wraps = refl
 
-goes_on_behind_wrap : judged (wrote (pos 0) (pos 0) (pos 2147483646) (pos 3) ∷ []) (sent (pos 0) (pos 1) (pos 1)) ≡ Next
+goes_on_after_wrap : judgment_of (wrote (pos 0) (pos 0) (pos 2147483646) (pos 3) ∷ []) (sent (pos 0) (pos 1) (pos 1)) ≡ Next
 unfolding next_sequence last_sequence
-goes_on_behind_wrap = refl
+goes_on_after_wrap = refl
 
 -- ---- a batch of no producer
 
-of_nobody : judged two_records (record { header = headed (pos 0) (negsuc 0) (negsuc 0) (negsuc 0) (pos 1); records = []; marker = None; bytes = [] }) ≡ Next
+of_nobody : judgment_of two_records (record { header = headed (pos 0) (negsuc 0) (negsuc 0) (negsuc 0) (pos 1); records = []; marker = None; bytes = [] }) ≡ Next
 of_nobody = refl

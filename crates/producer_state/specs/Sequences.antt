@@ -11,7 +11,7 @@ use Rattle.producer_state.specs.declared.judgment.Judgment.TheVariants.{Next, Re
 
 -- ---- sequence numbers
 
--- the sequence number behind so many records from the first on: behind 2^31 - 1 it is 0 again
+-- the sequence number after so many records from the first on: after 2^31 - 1 it is 0 again
 unfoldable pub next_sequence : ℤ → ℤ → ℤ
 next_sequence first count = int_rem_euclid (first +ℤ count) (pos 2147483648)
 
@@ -51,24 +51,24 @@ abbrev pub epochs : ℤ → List BatchData → List ℤ
 epochs id log = map (λ (b : BatchData). b.header.producer_epoch) (filter (has_producer_id id) log)
 
 -- the greater of two, where there is a second
-abbrev pub greater : ℤ → Option ℤ → ℤ
-greater n None = n
-greater n (Some m) = int_max n m
+abbrev pub greater_of : ℤ → Option ℤ → ℤ
+greater_of n None = n
+greater_of n (Some m) = int_max n m
 
 -- the greatest of the numbers
-abbrev pub greatest : List ℤ → Option ℤ
-greatest [] = None
-greatest (n ∷ ns) = Some (greater n (greatest ns))
+abbrev pub greatest_of : List ℤ → Option ℤ
+greatest_of [] = None
+greatest_of (n ∷ ns) = Some (greater_of n (greatest_of ns))
 
 -- its data batches of an epoch, in order
-abbrev pub written_by : ℤ → ℤ → List BatchData → List BatchData
-written_by id epoch log = filter (is_written_by id epoch) log
+abbrev pub batches_written_by : ℤ → ℤ → List BatchData → List BatchData
+batches_written_by id epoch log = filter (is_written_by id epoch) log
 
 -- the same, the latest first
-abbrev pub latest_by : ℤ → ℤ → List BatchData → List BatchData
-latest_by id epoch log = reverse (written_by id epoch log)
+abbrev pub latest_batches_by : ℤ → ℤ → List BatchData → List BatchData
+latest_batches_by id epoch log = reverse (batches_written_by id epoch log)
 
--- the sequence number that is expected behind batches of which the latest is the first
+-- the sequence number that is expected after batches of which the latest is the first
 abbrev pub expected_after : List BatchData → ℤ
 expected_after [] = pos 0
 expected_after (b ∷ earlier) = next_after b
@@ -80,12 +80,12 @@ pub record Sequence : Type 0 where
 
 abbrev pub sequence_in : List BatchData → ℤ → Option ℤ → Option Sequence
 sequence_in log id None = None
-sequence_in log id (Some epoch) = Some (record { epoch = epoch; expected = expected_after (latest_by id epoch log) })
+sequence_in log id (Some epoch) = Some (record { epoch = epoch; expected = expected_after (latest_batches_by id epoch log) })
 
 -- nothing where the log has nothing of the producer, else the greatest epoch that it tells, and the sequence number
--- behind the last data batch of that epoch
+-- after the last data batch of that epoch
 abbrev pub sequence : List BatchData → ℤ → Option Sequence
-sequence log id = sequence_in log id (greatest (epochs id log))
+sequence log id = sequence_in log id (greatest_of (epochs id log))
 
 -- ---- how a batch is judged
 
@@ -96,23 +96,23 @@ has_same_sequences b old = int_eq old.header.base_sequence b.header.base_sequenc
 -- the batch that is sent again: the latest with the same sequence numbers among the last five data batches of the
 -- batch's producer in the batch's epoch
 abbrev pub repeat : List BatchData → BatchData → Option BatchData
-repeat log b = find (has_same_sequences b) (take 5 (latest_by b.header.producer_id b.header.producer_epoch log))
+repeat log b = find (has_same_sequences b) (take 5 (latest_batches_by b.header.producer_id b.header.producer_epoch log))
 
 -- a producer begins each of its epochs at 0
-abbrev pub begun : BatchData → Judgment
-begun b = if int_eq b.header.base_sequence (pos 0) then Next else Refused OutOfOrderSequenceNumber
+abbrev pub first_judgment : BatchData → Judgment
+first_judgment b = if int_eq b.header.base_sequence (pos 0) then Next else Refused OutOfOrderSequenceNumber
 
 -- and goes on without a gap; what is sent again is told its old offset
-abbrev pub gone_on : ℤ → BatchData → Option BatchData → Judgment
-gone_on expected b (Some old) = Repeat old.header.base_offset
-gone_on expected b None = if int_eq b.header.base_sequence expected then Next else Refused OutOfOrderSequenceNumber
+abbrev pub judgment_by_repeat : ℤ → BatchData → Option BatchData → Judgment
+judgment_by_repeat expected b (Some old) = Repeat old.header.base_offset
+judgment_by_repeat expected b None = if int_eq b.header.base_sequence expected then Next else Refused OutOfOrderSequenceNumber
 
-abbrev pub judged_in : Option Sequence → BatchData → Option BatchData → Judgment
-judged_in None b repeated = begun b
-judged_in (Some s) b repeated =
+abbrev pub judgment_in : Option Sequence → BatchData → Option BatchData → Judgment
+judgment_in None b repeated = first_judgment b
+judgment_in (Some s) b repeated =
     if int_lt b.header.producer_epoch s.epoch then Refused InvalidProducerEpoch
-    else (if int_lt s.epoch b.header.producer_epoch then begun b else gone_on s.expected b repeated)
+    else (if int_lt s.epoch b.header.producer_epoch then first_judgment b else judgment_by_repeat s.expected b repeated)
 
 -- how a log judges the batch that is sent next
-abbrev pub judged : List BatchData → BatchData → Judgment
-judged log b = if is_of_producer b then judged_in (sequence log b.header.producer_id) b (repeat log b) else Next
+abbrev pub judgment_of : List BatchData → BatchData → Judgment
+judgment_of log b = if is_of_producer b then judgment_in (sequence log b.header.producer_id) b (repeat log b) else Next

@@ -5,8 +5,8 @@
 #![tactic(auto)]
 
 mod judgment;
-mod known;
 mod laws;
+mod producer_entry;
 mod producers;
 mod sequence;
 

@@ -2,11 +2,11 @@
 
 ghost use Rattle.std.specs.Prelude.{◌≡◌, ◌≤ℤ◌, pos, List, [], ◌∷◌, ◌++◌, OnOk, OnErr, None};
 ghost use Rattle.record_batch.specs.Batch.{BatchData, written_at};
-ghost use Rattle.producer_state.specs.Sequences.{sequence, judged};
+ghost use Rattle.producer_state.specs.Sequences.{sequence, judgment_of};
 ghost use Rattle.producer_state.specs.State.{Describes, IsMarkerOf};
 
 use crate::judgment::Judgment;
-use crate::known::{Known, begun};
+use crate::producer_entry::{ProducerEntry, begun};
 use record_batch::Batch;
 use std::alloc::{AllocError, Global};
 use std::collections::BTreeMap;
@@ -15,15 +15,15 @@ use std::marker::Model;
 /// What is kept of each producer that a partition's log tells of.
 #[derive(Drop)]
 pub struct Producers {
-    table: BTreeMap<i64, Known>,
+    table: BTreeMap<i64, ProducerEntry>,
     alloc: Global,
 }
 
 impl Model for Producers {
     ghost use Rattle.std.specs.Prelude.{List, ℤ};
-    ghost use Rattle.producer_state.specs.State.{State};
+    ghost use Rattle.producer_state.specs.State.{ProducerEntryValue};
 
-    ghost Value = { List (ℤ × State) };
+    ghost Value = { List (ℤ × ProducerEntryValue) };
 
     ghost view = { λ p. p.table.entries };
 }
@@ -42,7 +42,8 @@ impl Producers {
 
     /// How a log that is described judges a batch. It takes no memory.
     pub fn judge(&self, batch: &Batch) -> Judgment
-        ensures { (log : List BatchData) → Describes self.now log → result ≡ judged log batch.now }
+        ensures { (log : List BatchData) → Describes self.now log → result
+            ≡ judgment_of log batch.now }
     {
         let producer = batch.producer_id();
         if producer < 0 {
@@ -69,11 +70,11 @@ impl Producers {
             return Ok(());
         }
         if let Some(known) = self.table.get_mut(&producer) {
-            known.tell(batch.producer_epoch());
+            known.update_epoch(batch.producer_epoch());
             known.note(batch, offset);
             return Ok(());
         }
-        let mut known = Known::fresh(self.alloc, batch.producer_epoch())?;
+        let mut known = ProducerEntry::fresh(self.alloc, batch.producer_epoch())?;
         known.note(batch, offset);
         self.table.insert(producer, known)?;
         Ok(())
@@ -89,10 +90,10 @@ impl Producers {
             pos 0 ≤ℤ producer → sequence log producer ≡ None) }
     {
         if let Some(known) = self.table.get_mut(&producer) {
-            known.tell(epoch);
+            known.update_epoch(epoch);
             return Ok(());
         }
-        let known = Known::fresh(self.alloc, epoch)?;
+        let known = ProducerEntry::fresh(self.alloc, epoch)?;
         self.table.insert(producer, known)?;
         Ok(())
     }

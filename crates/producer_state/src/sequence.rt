@@ -1,4 +1,4 @@
-//! Sequence numbers, which begin at 0 again behind 2^31 - 1.
+//! Sequence numbers, which begin at 0 again after 2^31 - 1.
 
 ghost use Rattle.std.specs.Prelude.{◌≡◌};
 ghost use Rattle.producer_state.specs.Sequences.{next_sequence, last_sequence};
@@ -6,7 +6,7 @@ ghost use Rattle.producer_state.specs.Sequences.{next_sequence, last_sequence};
 /// How many sequence numbers there are.
 const SEQUENCES: i64 = 2_147_483_648;
 
-/// The sequence number behind this many records from the first on.
+/// The sequence number after this many records from the first on.
 #[tactic(auto, unfolding(crate::specs::Sequences::next_sequence))]
 pub fn next_sequence(first: i32, count: i32) -> i32
     ensures { result ≡ next_sequence first count }

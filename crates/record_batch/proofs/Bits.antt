@@ -6,7 +6,7 @@ use Rattle.std.proofs.lemmas.Nat.{xor_comm, xor_shr, xor_mod, xor_block, and_mas
 use Rattle.std.proofs.Math.Nat.{mul_assoc}
 use Rattle.std.proofs.lemmas.List.{drop_all}
 use Rattle.std.proofs.lemmas.Nat.Bits.{same_from_bits, bit_at_xor}
-use Rattle.record_batch.specs.Crc.{polynomial, shifted, shifted_by, crc_step, crc_after}
+use Rattle.record_batch.specs.Crc.{polynomial, bit_shift, bit_shift_by, crc_step, crc_after}
 
 pub xor_assoc : (a b c : ℕ) → bit_xor (bit_xor a b) c ≡ bit_xor a (bit_xor b c)
 xor_assoc a b c = same_from_bits (bit_xor (bit_xor a b) c) (bit_xor a (bit_xor b c)) (λ i.
@@ -33,14 +33,14 @@ halves (suc (suc i)) j a b lt _ = absurd (omega arith)
 halves zero (suc (suc j)) a b _ lt = absurd (omega arith)
 halves (suc zero) (suc (suc j)) a b _ lt = absurd (omega arith)
 
-pub shifted_xor : (a b : ℕ) → shifted (bit_xor a b) ≡ bit_xor (shifted a) (shifted b)
+pub shifted_xor : (a b : ℕ) → bit_shift (bit_xor a b) ≡ bit_xor (bit_shift a) (bit_shift b)
 unfolding half
 shifted_xor a b = rw (xor_mod a b 1, xor_shr a b 1) (halves (a % 2) (b % 2) (a / 2) (b / 2) (omega arith) (omega arith))
 
-pub shifted_by_xor : (k a b : ℕ) → shifted_by k (bit_xor a b) ≡ bit_xor (shifted_by k a) (shifted_by k b)
-unfolding shifted_by
+pub shifted_by_xor : (k a b : ℕ) → bit_shift_by k (bit_xor a b) ≡ bit_xor (bit_shift_by k a) (bit_shift_by k b)
+unfolding bit_shift_by
 shifted_by_xor zero a b = refl
-shifted_by_xor (suc k) a b = ap (shifted_by k) (shifted_xor a b) ∙ shifted_by_xor k (shifted a) (shifted b)
+shifted_by_xor (suc k) a b = ap (bit_shift_by k) (shifted_xor a b) ∙ shifted_by_xor k (bit_shift a) (bit_shift b)
 
 -- a number is the sum of its low and its high bits
 pub xor_parts : (k a r : ℕ) → r < 2 ^ k → bit_xor r (a * 2 ^ k) ≡ a * 2 ^ k + r
@@ -51,24 +51,24 @@ xor_parts k a r lt =
     xor_comm r (a * 2 ^ k) ∙ sym (ap (λ (x : ℕ). bit_xor x (0 * 2 ^ k + r)) left ∙ ap (bit_xor (a * 2 ^ k)) right) ∙ block ∙ rw (xor_zero_r a, xor_zero_l r) refl
 
 -- zeros are shifted out with no trace
-pub shifted_even : (n : ℕ) → shifted (n * 2) ≡ n
+pub shifted_even : (n : ℕ) → bit_shift (n * 2) ≡ n
 shifted_even n = let even : n * 2 % 2 ≡ 0 = omega arith in let whole : n * 2 / 2 ≡ n = omega arith in rw (even, whole) refl
 
-pub shifted_by_pow : (k n : ℕ) → shifted_by k (n * 2 ^ k) ≡ n
-unfolding shifted_by
+pub shifted_by_pow : (k n : ℕ) → bit_shift_by k (n * 2 ^ k) ≡ n
+unfolding bit_shift_by
 shifted_by_pow zero n = omega arith
 shifted_by_pow (suc k) n =
     let more : suc k ≡ k + 1 = omega arith in
     let twice : n * 2 ^ suc k ≡ (n * 2 ^ k) * 2 = rw more (ap (λ (p : ℕ). n * p) (pow-add 2 k 1) ∙ sym (mul_assoc n (2 ^ k) 2)) in
-    ap (λ (x : ℕ). shifted_by k (shifted x)) twice ∙ ap (shifted_by k) (shifted_even (n * 2 ^ k)) ∙ shifted_by_pow k n
+    ap (λ (x : ℕ). bit_shift_by k (bit_shift x)) twice ∙ ap (bit_shift_by k) (shifted_even (n * 2 ^ k)) ∙ shifted_by_pow k n
 
 -- the high bits pass by the k bits that are shifted out
-pub low_and_high : (k n : ℕ) → shifted_by k n ≡ bit_xor (shifted_by k (n % 2 ^ k)) (n / 2 ^ k)
+pub low_and_high : (k n : ℕ) → bit_shift_by k n ≡ bit_xor (bit_shift_by k (n % 2 ^ k)) (n / 2 ^ k)
 low_and_high k n =
     let apart : n ≡ bit_xor (n % 2 ^ k) (n / 2 ^ k * 2 ^ k) = sym (shr_split n k) ∙ sym (xor_parts k (n / 2 ^ k) (n % 2 ^ k) (mod_below n (2 ^ k) (pow_pos k))) in
-    ap (shifted_by k) apart ∙ shifted_by_xor k (n % 2 ^ k) (n / 2 ^ k * 2 ^ k) ∙ ap (bit_xor (shifted_by k (n % 2 ^ k))) (shifted_by_pow k (n / 2 ^ k))
+    ap (bit_shift_by k) apart ∙ shifted_by_xor k (n % 2 ^ k) (n / 2 ^ k * 2 ^ k) ∙ ap (bit_xor (bit_shift_by k (n % 2 ^ k))) (shifted_by_pow k (n / 2 ^ k))
 
-pub step_by_table : (crc byte : ℕ) → byte < 2 ^ 8 → bit_xor (shifted_by 8 (bit_and (bit_xor crc byte) 255)) (crc / 2 ^ 8) ≡ crc_step crc byte
+pub step_by_table : (crc byte : ℕ) → byte < 2 ^ 8 → bit_xor (bit_shift_by 8 (bit_and (bit_xor crc byte) 255)) (crc / 2 ^ 8) ≡ crc_step crc byte
 step_by_table crc byte lt =
     let low : bit_and (bit_xor crc byte) 255 ≡ bit_xor crc byte % 2 ^ 8 = and_mask (bit_xor crc byte) 8 in
     let none : byte / 2 ^ 8 ≡ 0 = omega arith in

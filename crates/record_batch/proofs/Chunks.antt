@@ -7,25 +7,25 @@ use Rattle.std.specs.Int.{w64, from_le_bytes}
 use Rattle.std.specs.Int.Bits.{xor_zero_r}
 use Rattle.std.proofs.lemmas.Nat.{and_mask}
 use Rattle.std.proofs.lemmas.List.{append_assoc, take-append-drop, drop_all, drop-drop}
-use Rattle.record_batch.specs.Crc.{shifted, shifted_by, crc_step, crc_after}
+use Rattle.record_batch.specs.Crc.{bit_shift, bit_shift_by, crc_step, crc_after}
 use Rattle.record_batch.proofs.Bits.{xor_assoc, xor_parts, shifted_by_xor, shifted_by_pow, low_and_high}
 
 -- first k bits and then j
-pub shifted_twice : (k j c : ℕ) → shifted_by j (shifted_by k c) ≡ shifted_by (k + j) c
-unfolding shifted_by
-shifted_twice zero j c = let none : 0 + j ≡ j = omega arith in ap (λ (n : ℕ). shifted_by n c) (sym none)
-shifted_twice (suc k) j c = let more : suc k + j ≡ suc (k + j) = omega arith in rw more (shifted_twice k j (shifted c))
+pub shifted_twice : (k j c : ℕ) → bit_shift_by j (bit_shift_by k c) ≡ bit_shift_by (k + j) c
+unfolding bit_shift_by
+shifted_twice zero j c = let none : 0 + j ≡ j = omega arith in ap (λ (n : ℕ). bit_shift_by n c) (sym none)
+shifted_twice (suc k) j c = let more : suc k + j ≡ suc (k + j) = omega arith in rw more (shifted_twice k j (bit_shift c))
 
 -- the lowest byte goes out first, the others through the bits that are left
-low_byte : (k n : ℕ) → shifted_by (8 + k) n ≡ bit_xor (shifted_by (8 + k) (bit_and n 255)) (shifted_by k (n / 2 ^ 8))
+low_byte : (k n : ℕ) → bit_shift_by (8 + k) n ≡ bit_xor (bit_shift_by (8 + k) (bit_and n 255)) (bit_shift_by k (n / 2 ^ 8))
 low_byte k n =
     let low : bit_and n 255 ≡ n % 2 ^ 8 = and_mask n 8 in
-    rw low (sym (shifted_twice 8 k n) ∙ ap (shifted_by k) (low_and_high 8 n) ∙ shifted_by_xor k (shifted_by 8 (n % 2 ^ 8)) (n / 2 ^ 8) ∙ ap (λ (x : ℕ). bit_xor x (shifted_by k (n / 2 ^ 8))) (shifted_twice 8 k (n % 2 ^ 8)))
+    rw low (sym (shifted_twice 8 k n) ∙ ap (bit_shift_by k) (low_and_high 8 n) ∙ shifted_by_xor k (bit_shift_by 8 (n % 2 ^ 8)) (n / 2 ^ 8) ∙ ap (λ (x : ℕ). bit_xor x (bit_shift_by k (n / 2 ^ 8))) (shifted_twice 8 k (n % 2 ^ 8)))
 
-next_byte : (k n rest sum : ℕ) → rest ≡ n / 2 ^ 8 → bit_xor sum (shifted_by (8 + k) n) ≡ bit_xor (bit_xor sum (shifted_by (8 + k) (bit_and n 255))) (shifted_by k rest)
-next_byte k n rest sum is = rw is (ap (bit_xor sum) (low_byte k n) ∙ sym (xor_assoc sum (shifted_by (8 + k) (bit_and n 255)) (shifted_by k (n / 2 ^ 8))))
+next_byte : (k n rest sum : ℕ) → rest ≡ n / 2 ^ 8 → bit_xor sum (bit_shift_by (8 + k) n) ≡ bit_xor (bit_xor sum (bit_shift_by (8 + k) (bit_and n 255))) (bit_shift_by k rest)
+next_byte k n rest sum is = rw is (ap (bit_xor sum) (low_byte k n) ∙ sym (xor_assoc sum (bit_shift_by (8 + k) (bit_and n 255)) (bit_shift_by k (n / 2 ^ 8))))
 
-pub word_by_bytes : (n : ℕ) → shifted_by 64 n ≡ bit_xor (bit_xor (bit_xor (bit_xor (bit_xor (bit_xor (bit_xor (shifted_by 64 (bit_and n 255)) (shifted_by 56 (bit_and (n / 2 ^ 8) 255))) (shifted_by 48 (bit_and (n / 2 ^ 16) 255))) (shifted_by 40 (bit_and (n / 2 ^ 24) 255))) (shifted_by 32 (bit_and (n / 2 ^ 32) 255))) (shifted_by 24 (bit_and (n / 2 ^ 40) 255))) (shifted_by 16 (bit_and (n / 2 ^ 48) 255))) (shifted_by 8 (n / 2 ^ 56))
+pub word_by_bytes : (n : ℕ) → bit_shift_by 64 n ≡ bit_xor (bit_xor (bit_xor (bit_xor (bit_xor (bit_xor (bit_xor (bit_shift_by 64 (bit_and n 255)) (bit_shift_by 56 (bit_and (n / 2 ^ 8) 255))) (bit_shift_by 48 (bit_and (n / 2 ^ 16) 255))) (bit_shift_by 40 (bit_and (n / 2 ^ 24) 255))) (bit_shift_by 32 (bit_and (n / 2 ^ 32) 255))) (bit_shift_by 24 (bit_and (n / 2 ^ 40) 255))) (bit_shift_by 16 (bit_and (n / 2 ^ 48) 255))) (bit_shift_by 8 (n / 2 ^ 56))
 word_by_bytes n =
     low_byte 56 n
     ∙ next_byte 48 (n / 2 ^ 8) (n / 2 ^ 16) _ (omega arith)
@@ -35,7 +35,7 @@ word_by_bytes n =
     ∙ next_byte 16 (n / 2 ^ 40) (n / 2 ^ 48) _ (omega arith)
     ∙ next_byte 8 (n / 2 ^ 48) (n / 2 ^ 56) _ (omega arith)
 
-pub far_word_by_bytes : (n : ℕ) → shifted_by 192 n ≡ bit_xor (bit_xor (bit_xor (bit_xor (bit_xor (bit_xor (bit_xor (shifted_by 192 (bit_and n 255)) (shifted_by 184 (bit_and (n / 2 ^ 8) 255))) (shifted_by 176 (bit_and (n / 2 ^ 16) 255))) (shifted_by 168 (bit_and (n / 2 ^ 24) 255))) (shifted_by 160 (bit_and (n / 2 ^ 32) 255))) (shifted_by 152 (bit_and (n / 2 ^ 40) 255))) (shifted_by 144 (bit_and (n / 2 ^ 48) 255))) (shifted_by 136 (n / 2 ^ 56))
+pub far_word_by_bytes : (n : ℕ) → bit_shift_by 192 n ≡ bit_xor (bit_xor (bit_xor (bit_xor (bit_xor (bit_xor (bit_xor (bit_shift_by 192 (bit_and n 255)) (bit_shift_by 184 (bit_and (n / 2 ^ 8) 255))) (bit_shift_by 176 (bit_and (n / 2 ^ 16) 255))) (bit_shift_by 168 (bit_and (n / 2 ^ 24) 255))) (bit_shift_by 160 (bit_and (n / 2 ^ 32) 255))) (bit_shift_by 152 (bit_and (n / 2 ^ 40) 255))) (bit_shift_by 144 (bit_and (n / 2 ^ 48) 255))) (bit_shift_by 136 (n / 2 ^ 56))
 far_word_by_bytes n =
     low_byte 184 n
     ∙ next_byte 176 (n / 2 ^ 8) (n / 2 ^ 16) _ (omega arith)
@@ -46,18 +46,18 @@ far_word_by_bytes n =
     ∙ next_byte 136 (n / 2 ^ 48) (n / 2 ^ 56) _ (omega arith)
 
 -- the lowest byte of a word comes in first
-byte_in : (k crc byte rest word : ℕ) → byte < 2 ^ 8 → word ≡ rest * 2 ^ 8 + byte → shifted_by (8 + k) (bit_xor crc word) ≡ shifted_by k (bit_xor (crc_step crc byte) rest)
+byte_in : (k crc byte rest word : ℕ) → byte < 2 ^ 8 → word ≡ rest * 2 ^ 8 + byte → bit_shift_by (8 + k) (bit_xor crc word) ≡ bit_shift_by k (bit_xor (crc_step crc byte) rest)
 byte_in k crc byte rest word fits is =
     let apart : bit_xor crc word ≡ bit_xor (bit_xor crc byte) (rest * 2 ^ 8) = rw is (ap (bit_xor crc) (sym (xor_parts 8 rest byte fits)) ∙ sym (xor_assoc crc byte (rest * 2 ^ 8))) in
-    sym (shifted_twice 8 k (bit_xor crc word)) ∙ ap (shifted_by k) (ap (shifted_by 8) apart ∙ shifted_by_xor 8 (bit_xor crc byte) (rest * 2 ^ 8) ∙ ap (bit_xor (crc_step crc byte)) (shifted_by_pow 8 rest))
+    sym (shifted_twice 8 k (bit_xor crc word)) ∙ ap (bit_shift_by k) (ap (bit_shift_by 8) apart ∙ shifted_by_xor 8 (bit_xor crc byte) (rest * 2 ^ 8) ∙ ap (bit_xor (crc_step crc byte)) (shifted_by_pow 8 rest))
 
 -- the number of which these are the bytes, the first one lowest
 number : List ℕ → ℕ
 number [] = 0
 number (byte ∷ bytes) = number bytes * 2 ^ 8 + byte
 
-bytes_in : (crc : ℕ) (bytes : List ℕ) → ((i : ℕ) → get_or bytes i 0 < 2 ^ 8) → shifted_by (8 * length bytes) (bit_xor crc (number bytes)) ≡ crc_after crc bytes
-unfolding number shifted_by crc_after
+bytes_in : (crc : ℕ) (bytes : List ℕ) → ((i : ℕ) → get_or bytes i 0 < 2 ^ 8) → bit_shift_by (8 * length bytes) (bit_xor crc (number bytes)) ≡ crc_after crc bytes
+unfolding number bit_shift_by crc_after
 bytes_in crc [] small = xor_zero_r crc
 bytes_in crc (byte ∷ bytes) small =
     let more : 8 * suc (length bytes) ≡ 8 + 8 * length bytes = omega arith in
@@ -76,10 +76,10 @@ eight_bytes (a ∷ b ∷ c ∷ d ∷ e ∷ f ∷ g ∷ []) l = absurd (omega ari
 eight_bytes (a ∷ b ∷ c ∷ d ∷ e ∷ f ∷ g ∷ h ∷ []) l = omega arith
 eight_bytes (a ∷ b ∷ c ∷ d ∷ e ∷ f ∷ g ∷ h ∷ x ∷ bytes) l = absurd (omega arith)
 
-pub chunk_in : (crc : ℕ) (chunk : List ℕ) → length chunk ≡ 8 → ((i : ℕ) → get_or chunk i 0 < 256) → shifted_by 64 (bit_xor crc (from_le_bytes w64 chunk)) ≡ crc_after crc chunk
+pub chunk_in : (crc : ℕ) (chunk : List ℕ) → length chunk ≡ 8 → ((i : ℕ) → get_or chunk i 0 < 256) → bit_shift_by 64 (bit_xor crc (from_le_bytes w64 chunk)) ≡ crc_after crc chunk
 chunk_in crc chunk eight small =
-    ap (λ (n : ℕ). shifted_by 64 (bit_xor crc n)) (eight_bytes chunk eight)
-    ∙ ap (λ (n : ℕ). shifted_by (8 * n) (bit_xor crc (number chunk))) (sym eight)
+    ap (λ (n : ℕ). bit_shift_by 64 (bit_xor crc n)) (eight_bytes chunk eight)
+    ∙ ap (λ (n : ℕ). bit_shift_by (8 * n) (bit_xor crc (number chunk))) (sym eight)
     ∙ bytes_in crc chunk small
 
 -- chunk after chunk

@@ -14,7 +14,7 @@ use Rattle.record_batch.specs.Crc.{crc32c}
 use Rattle.record_batch.specs.BatchHeader.{batch_header, is_uncompressed, has_append_time, is_control, count_of}
 use Rattle.record_batch.specs.Record.{all_records}
 use Rattle.record_batch.specs.Batch.{IsBatch, batch_of, found_or_none, has_producer}
-use Rattle.record_batch.specs.Faults.{end_of, has_length, has_count, has_records, is_valid, first_found, fault_tests, fault_behind, first_fault}
+use Rattle.record_batch.specs.Faults.{end_of, has_length, has_count, has_records, is_valid, first_found, fault_tests, fault_after_header, first_fault}
 use Rattle.record_batch.proofs.Checked.{rest_is}
 use Rattle.record_batch.proofs.RecordLaws.{all-sound}
 
@@ -132,7 +132,7 @@ is_batch max bytes h e p =
 pub faultless : (max : ℕ) (bytes : List ℕ) (h : BatchHeader) → batch_header.reading bytes ≡ Ok (h, drop 61 bytes) → first_fault max bytes ≡ None → IsBatch (batch_of h None bytes)
 unfolding first_fault
 faultless max bytes h e none =
-    is_batch max bytes h e (passes max bytes h (drop 61 bytes) (sym (ap (fault_behind max bytes) e) ∙ none))
+    is_batch max bytes h e (passes max bytes h (drop 61 bytes) (sym (ap (fault_after_header max bytes) e) ∙ none))
 
 pub checked_batch : (max : ℕ) (bytes seen : List ℕ) (h : BatchHeader) → seen ≡ bytes → None ≡ first_fault max seen → batch_header.reading seen ≡ Ok (h, drop 61 seen) → IsBatch (batch_of h None bytes)
 checked_batch max bytes seen h same none e =

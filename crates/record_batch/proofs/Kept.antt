@@ -9,14 +9,14 @@ use Rattle.wire_types.specs.declared.fault.ReadFault.{ReadFault}
 use Rattle.wire_types.specs.declared.fault.ReadFault.TheVariants as faults
 use Rattle.wire_types.specs.Reading.{Found, Reads}
 use Rattle.record_batch.specs.declared.header.BatchHeader.{BatchHeader}
-use Rattle.record_batch.specs.declared.outcome.Outcome.{Outcome}
+use Rattle.record_batch.specs.declared.transaction_result.TransactionResult.{TransactionResult}
 use Rattle.record_batch.specs.declared.record.RecordAt.{RecordAt}
 use Rattle.record_batch.specs.BatchHeader.{count_of}
 use Rattle.record_batch.specs.Record.{records_at}
-use Rattle.record_batch.specs.Batch.{BatchData, IsBatch, HasOffsets, batch_of, placed, placing}
+use Rattle.record_batch.specs.Batch.{BatchData, IsBatch, HasOffsets, batch_of, placed_records, placed_if_found}
 use Rattle.record_batch.proofs.Checked.{rest_is}
 use Rattle.record_batch.proofs.HeaderLaws.{header_size}
-use Rattle.record_batch.proofs.Offsets.{behind_last}
+use Rattle.record_batch.proofs.Offsets.{after_last}
 use Rattle.record_batch.proofs.RecordLaws.{records-complete}
 
 pub front_long : (b : BatchData) (is : IsBatch b) → length is.front ≡ 61
@@ -37,17 +37,17 @@ records_read b is =
 pub offsets_fit : (b : BatchData) → IsBatch b → HasOffsets b → FitsSigned w64 (b.header.base_offset +ℤ pos (count_of b.header.record_count))
 offsets_fit b is fits =
     subst (λ (n : ℕ). FitsSigned w64 (b.header.base_offset +ℤ pos n)) (sym (ap count_of is.counted))
-    (behind_last b.header.base_offset b.header.last_offset_delta (length b.records) is.some is.numbered fits)
+    (after_last b.header.base_offset b.header.last_offset_delta (length b.records) is.some is.numbered fits)
 
--- what is read of the bytes behind the header
+-- what is read of the bytes after the header
 abbrev pub read_of : BatchData → Found (List RecordAt)
-read_of b = placing b.header.base_offset 0 (records_at 0 (count_of b.header.record_count) (slice_range b.bytes 61 (length b.bytes)))
+read_of b = placed_if_found b.header.base_offset 0 (records_at 0 (count_of b.header.record_count) (slice_range b.bytes 61 (length b.bytes)))
 
 abbrev all_of : BatchData → List RecordAt × List ℕ
-all_of b = (placed b.header.base_offset 0 b.records, [])
+all_of b = (placed_records b.header.base_offset 0 b.records, [])
 
 read_all : (b : BatchData) → IsBatch b → read_of b ≡ Ok (all_of b)
-read_all b is = ap (placing b.header.base_offset 0) (records_read b is)
+read_all b is = ap (placed_if_found b.header.base_offset 0) (records_read b is)
 
 apart : {A : Type 0} (x : A) (m : Malformed) → Ok x ≡ Err m → ⊥
 apart x m e = absurd cc
@@ -59,17 +59,17 @@ pub record IsRead (h : BatchHeader) (bytes : List ℕ) (count len : ℕ) (part s
   pub behind : part ≡ slice_range bytes 61 len
   pub over : seen ≡ part
 
-pub read_is : (h : BatchHeader) (m : Option Outcome) (bytes : List ℕ) (count len : ℕ) (part seen : List ℕ) → IsRead h bytes count len part seen
-    → placing h.base_offset 0 (records_at 0 count seen) ≡ read_of (batch_of h m bytes)
+pub read_is : (h : BatchHeader) (m : Option TransactionResult) (bytes : List ℕ) (count len : ℕ) (part seen : List ℕ) → IsRead h bytes count len part seen
+    → placed_if_found h.base_offset 0 (records_at 0 count seen) ≡ read_of (batch_of h m bytes)
 read_is h m bytes count len part seen is =
     let there : seen ≡ slice_range bytes 61 (length bytes) = is.over ∙ is.behind ∙ ap (slice_range bytes 61) is.long in
-    ap (λ (n : ℕ). placing h.base_offset 0 (records_at 0 n seen)) is.counted ∙ ap (λ (t : List ℕ). placing h.base_offset 0 (records_at 0 (count_of h.record_count) t)) there
+    ap (λ (n : ℕ). placed_if_found h.base_offset 0 (records_at 0 n seen)) is.counted ∙ ap (λ (t : List ℕ). placed_if_found h.base_offset 0 (records_at 0 (count_of h.record_count) t)) there
 
 pub recs_placed : (b now : BatchData) (found : Found (List RecordAt)) (recs : List RecordAt) (rest : List ℕ) → IsBatch b → b ≡ now → found ≡ read_of b → found ≡ Ok (recs, rest)
-    → recs ≡ placed now.header.base_offset 0 now.records
+    → recs ≡ placed_records now.header.base_offset 0 now.records
 recs_placed b now found recs rest is same reads e =
     let both : all_of b ≡ (recs, rest) = ok_is (all_of b) (recs, rest) (sym (read_all b is) ∙ sym reads ∙ e) in
-    sym (ap (λ (x : List RecordAt × List ℕ). x.0) both) ∙ ap (λ (x : BatchData). placed x.header.base_offset 0 x.records) same
+    sym (ap (λ (x : List RecordAt × List ℕ). x.0) both) ∙ ap (λ (x : BatchData). placed_records x.header.base_offset 0 x.records) same
 
 pub none_malformed : (b : BatchData) (found : Found (List RecordAt)) (e : ReadFault) (m : Malformed) (new : List ℕ) → IsBatch b → found ≡ read_of b → e ≡ faults.Malformed m → Reads found (Err e) new → ⊥
 none_malformed b found e m new is reads kind answer =

@@ -10,21 +10,21 @@ use Rattle.wire_types.specs.Reading.{Found}
 use Rattle.record_batch.specs.declared.header.BatchHeader.{BatchHeader}
 use Rattle.record_batch.specs.declared.fault.BatchFault.{BatchFault}
 use Rattle.record_batch.specs.declared.fault.BatchFault.TheVariants.{Length, Magic, Crc, Compressed, Invalid, Timestamp, TooLarge}
-use Rattle.record_batch.specs.declared.outcome.Outcome.{Outcome}
-use Rattle.record_batch.specs.declared.outcome.Outcome.TheVariants.{Abort, Commit}
+use Rattle.record_batch.specs.declared.transaction_result.TransactionResult.{TransactionResult}
+use Rattle.record_batch.specs.declared.transaction_result.TransactionResult.TheVariants.{Abort, Commit}
 use Rattle.record_batch.specs.declared.record.Rec.{Rec}
 use Rattle.record_batch.specs.Crc.{crc32c}
 use Rattle.record_batch.specs.BatchHeader.{batch_header, header_at, is_uncompressed, has_append_time, is_control, count_of}
 use Rattle.record_batch.specs.Record.{records_at, all_records}
-use Rattle.record_batch.specs.Batch.{BatchData, IsBatch, IsMarked, batch_of, has_producer, marker_type, marker_record, renumbered, written_at}
-use Rattle.record_batch.specs.Faults.{end_of, has_length, has_count, has_records, is_valid, first_found, fault_tests, fault_behind, first_fault, IsData}
+use Rattle.record_batch.specs.Batch.{BatchData, IsBatch, IsMarked, batch_of, has_producer, marker_type, marker_record, bytes_with_offset, written_at}
+use Rattle.record_batch.specs.Faults.{end_of, has_length, has_count, has_records, is_valid, first_found, fault_tests, fault_after_header, first_fault, IsData}
 use Rattle.record_batch.specs.Laws.{OneBatch, FaultlessIsBatch, LastOffsetStays, OffsetAloneChanges, SameFaults}
 use Rattle.record_batch.proofs.Checked.{rest_is}
 use Rattle.record_batch.proofs.Faultless.{passes, is_batch}
 use Rattle.record_batch.proofs.HeaderLaws.{header_rest}
 use Rattle.record_batch.proofs.Kept.{body_is, batch_long, records_read}
 use Rattle.record_batch.proofs.RecordLaws.{all-complete}
-use Rattle.record_batch.proofs.Moved.{parts_of, Parts, middle_is, renumbered-is, same_rest, same_behind, same_length, moved_parts, written_at-is}
+use Rattle.record_batch.proofs.Moved.{parts_of, Parts, middle_is, bytes_with_offset-is, same_rest, same_after, same_length, moved_parts, written_at-is}
 
 -- ---- one batch
 
@@ -61,14 +61,14 @@ first_type (r ∷ rs) = type_in r.key
 differ : marker_type Abort ≡ marker_type Commit → ⊥
 differ e = omega (arith, e)
 
-one_type : (o p : Outcome) → marker_record o ∷ [] ≡ marker_record p ∷ [] → o ≡ p
+one_type : (o p : TransactionResult) → marker_record o ∷ [] ≡ marker_record p ∷ [] → o ≡ p
 unfolding first_type type_in
 one_type Abort Abort e = refl
 one_type Commit Commit e = refl
 one_type Abort Commit e = absurd (differ (ap first_type e))
 one_type Commit Abort e = absurd (differ (sym (ap first_type e)))
 
-one_marker : (m n : Option Outcome) (h : BatchHeader) (rs : List Rec) → IsMarked m h rs → IsMarked n h rs → m ≡ n
+one_marker : (m n : Option TransactionResult) (h : BatchHeader) (rs : List Rec) → IsMarked m h rs → IsMarked n h rs → m ≡ n
 one_marker None None h rs p q = refl
 one_marker None (Some o) h rs p q = absurd (cc (p, q.0))
 one_marker (Some o) None h rs p q = absurd (cc (p.0, q))
@@ -83,7 +83,7 @@ one_batch b c ib ic same =
     let marker : b.marker ≡ c.marker = one_marker b.marker c.marker c.header c.records marked ic.marked in
     ap (λ (h : BatchHeader). record { header = h; records = b.records; marker = b.marker; bytes = b.bytes }) header
     ∙ ap (λ (rs : List Rec). record { header = c.header; records = rs; marker = b.marker; bytes = b.bytes }) records
-    ∙ ap (λ (m : Option Outcome). record { header = c.header; records = c.records; marker = m; bytes = b.bytes }) marker
+    ∙ ap (λ (m : Option TransactionResult). record { header = c.header; records = c.records; marker = m; bytes = b.bytes }) marker
     ∙ ap (λ (t : List ℕ). record { header = c.header; records = c.records; marker = c.marker; bytes = t }) same
 
 -- ---- another offset
@@ -91,14 +91,14 @@ one_batch b c ib ic same =
 pub offset_alone_changes : OffsetAloneChanges
 offset_alone_changes b is offset =
     let p = parts_of b is in
-    let q : Parts (renumbered offset b.bytes) = moved_parts offset b is in
-    (same_length offset b.bytes p, middle_is (renumbered offset b.bytes) q ∙ sym (middle_is b.bytes p), same_rest offset b.bytes p)
+    let q : Parts (bytes_with_offset offset b.bytes) = moved_parts offset b is in
+    (same_length offset b.bytes p, middle_is (bytes_with_offset offset b.bytes) q ∙ sym (middle_is b.bytes p), same_rest offset b.bytes p)
 
 pub last_offset_stays : LastOffsetStays
 last_offset_stays b is first last =
     let p = parts_of b is in
-    let q : Parts (renumbered first b.bytes) = moved_parts first b is in
-    let bytes : renumbered last (renumbered first b.bytes) ≡ renumbered last b.bytes = renumbered-is last (renumbered first b.bytes) q ∙ sym (renumbered-is last b.bytes p) in
+    let q : Parts (bytes_with_offset first b.bytes) = moved_parts first b is in
+    let bytes : bytes_with_offset last (bytes_with_offset first b.bytes) ≡ bytes_with_offset last b.bytes = bytes_with_offset-is last (bytes_with_offset first b.bytes) q ∙ sym (bytes_with_offset-is last b.bytes p) in
     ap (λ (t : List ℕ). record { header = header_at last b.header; records = b.records; marker = b.marker; bytes = t }) bytes
 
 same_tests : (max : ℕ) (offset : ℤ) (h : BatchHeader) (bytes moved body after : List ℕ) → length moved ≡ length bytes → slice_range moved 21 (end_of h.batch_length) ≡ slice_range bytes 21 (end_of h.batch_length) → after ≡ body
@@ -110,15 +110,15 @@ pub same_faults : SameFaults
 unfolding first_fault
 same_faults b is offset fits max =
     let p = parts_of b is in
-    let moved : List ℕ = renumbered offset b.bytes in
+    let moved : List ℕ = bytes_with_offset offset b.bytes in
     let size : length moved ≡ length b.bytes = same_length offset b.bytes p in
     let end : end_of b.header.batch_length ≡ length b.bytes = ap end_of is.ends ∙ omega (arith, batch_long b is) in
     let covered : slice_range moved 21 (end_of b.header.batch_length) ≡ slice_range b.bytes 21 (end_of b.header.batch_length) =
-    ap (slice_range moved 21) (end ∙ sym size) ∙ rest_is 21 moved ∙ same_behind 21 offset b.bytes p (omega arith) ∙ sym (rest_is 21 b.bytes) ∙ ap (slice_range b.bytes 21) (sym end) in
-    let rest : drop 61 moved ≡ drop 61 b.bytes = same_behind 61 offset b.bytes p (omega arith) in
-    ap (fault_behind max moved) (header_read (written_at offset b) (written_at-is offset b fits is))
+    ap (slice_range moved 21) (end ∙ sym size) ∙ rest_is 21 moved ∙ same_after 21 offset b.bytes p (omega arith) ∙ sym (rest_is 21 b.bytes) ∙ ap (slice_range b.bytes 21) (sym end) in
+    let rest : drop 61 moved ≡ drop 61 b.bytes = same_after 61 offset b.bytes p (omega arith) in
+    ap (fault_after_header max moved) (header_read (written_at offset b) (written_at-is offset b fits is))
     ∙ ap first_found (same_tests max offset b.header b.bytes moved (drop 61 b.bytes) (drop 61 moved) size covered rest)
-    ∙ sym (ap (fault_behind max b.bytes) (header_read b is))
+    ∙ sym (ap (fault_after_header max b.bytes) (header_read b is))
 
 -- ---- no fault
 
@@ -152,7 +152,7 @@ counts count last n some c l = rw (c, l) (is_count n some)
 lasts : (total : ℕ) (z : ℤ) → 61 ≤ total → z ≡ pos (total - 12) → has_length total z ≡ true
 lasts total z long e = ap (has_length total) e ∙ is_length total (total - 12) long refl
 
-no_control : (m : Option Outcome) (h : BatchHeader) (rs : List Rec) → m ≡ None → IsMarked m h rs → is_control h ≡ false
+no_control : (m : Option TransactionResult) (h : BatchHeader) (rs : List Rec) → m ≡ None → IsMarked m h rs → is_control h ≡ false
 no_control None h rs e is = is
 no_control (Some o) h rs e is = absurd cc
 
@@ -182,12 +182,12 @@ tests_pass max b is plain_data small =
 
 backward : (max : ℕ) (b : BatchData) → IsBatch b → IsData b → length b.bytes ≤ max → first_fault max b.bytes ≡ None
 unfolding first_fault
-backward max b is plain_data small = ap (fault_behind max b.bytes) (header_read b is) ∙ tests_pass max b is plain_data small
+backward max b is plain_data small = ap (fault_after_header max b.bytes) (header_read b is) ∙ tests_pass max b is plain_data small
 
 abbrev IsSmallData : ℕ → List ℕ → BatchData → Type 0
 IsSmallData max bytes b = (b.bytes ≡ bytes) × IsBatch b × IsData b × (length bytes ≤ max)
 
-by_reading : (max : ℕ) (bytes : List ℕ) (found : Found BatchHeader) → batch_header.reading bytes ≡ found → fault_behind max bytes found ≡ None → (b : BatchData) × IsSmallData max bytes b
+by_reading : (max : ℕ) (bytes : List ℕ) (found : Found BatchHeader) → batch_header.reading bytes ≡ found → fault_after_header max bytes found ≡ None → (b : BatchData) × IsSmallData max bytes b
 by_reading max bytes (Err e) read none = absurd cc
 by_reading max bytes (Ok x) read none =
     let rest : x.1 ≡ drop 61 bytes = (header_rest bytes x.1 x.0 read).1 in

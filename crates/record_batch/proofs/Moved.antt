@@ -7,12 +7,12 @@ use Rattle.wire_types.specs.NumberLaws.{wide32, wide64, int-canonical}
 use Rattle.wire_types.specs.Spelling.{int_written}
 use Rattle.wire_types.specs.Schema.{int32, int64}
 use Rattle.record_batch.specs.declared.header.BatchHeader.{BatchHeader}
-use Rattle.record_batch.specs.declared.outcome.Outcome.{Outcome}
+use Rattle.record_batch.specs.declared.transaction_result.TransactionResult.{TransactionResult}
 use Rattle.record_batch.specs.declared.record.Rec.{Rec}
 use Rattle.record_batch.specs.Crc.{crc32c}
 use Rattle.record_batch.specs.BatchHeader.{header_at, count_of}
 use Rattle.record_batch.specs.Record.{all_records}
-use Rattle.record_batch.specs.Batch.{BatchData, IsBatch, IsMarked, batch_of, found_or_none, renumbered, written_at}
+use Rattle.record_batch.specs.Batch.{BatchData, IsBatch, IsMarked, batch_of, found_or_none, bytes_with_offset, written_at}
 use Rattle.record_batch.proofs.Checked.{rest_is}
 
 -- the bytes of a batch, parted where another offset and leader epoch are put
@@ -54,8 +54,8 @@ rest_of a t u v eight four more =
     let sixteen : length head ≡ 16 = omega (arith, eight, four, more, length-append a (t ++ u), length-append t u) in
     ap (drop 16) regrouped ∙ drop_at head v 16 sixteen
 
-pub renumbered-is : (offset : ℤ) (bytes : List ℕ) (p : Parts bytes) → renumbered offset bytes ≡ int64.written offset ++ (p.size ++ (int32.written (pos 0) ++ p.rest))
-renumbered-is offset bytes p =
+pub bytes_with_offset-is : (offset : ℤ) (bytes : List ℕ) (p : Parts bytes) → bytes_with_offset offset bytes ≡ int64.written offset ++ (p.size ++ (int32.written (pos 0) ++ p.rest))
+bytes_with_offset-is offset bytes p =
     let rest : drop 16 bytes ≡ p.rest = ap (drop 16) p.split ∙ rest_of p.offset p.size p.epoch p.rest p.eight p.four p.four_more in
     rw (middle_is bytes p, rest) refl
 
@@ -67,21 +67,21 @@ pub four_bytes : (z : ℤ) → length (int32.written z) ≡ 4
 unfolding int_written
 four_bytes z = wide32.len (cast_unsigned w32 z)
 
-pub same_rest : (offset : ℤ) (bytes : List ℕ) (p : Parts bytes) → drop 16 (renumbered offset bytes) ≡ drop 16 bytes
+pub same_rest : (offset : ℤ) (bytes : List ℕ) (p : Parts bytes) → drop 16 (bytes_with_offset offset bytes) ≡ drop 16 bytes
 same_rest offset bytes p =
-    ap (drop 16) (renumbered-is offset bytes p)
+    ap (drop 16) (bytes_with_offset-is offset bytes p)
     ∙ rest_of (int64.written offset) p.size (int32.written (pos 0)) p.rest (eight_bytes offset) p.four (four_bytes (pos 0))
     ∙ sym (ap (drop 16) p.split ∙ rest_of p.offset p.size p.epoch p.rest p.eight p.four p.four_more)
 
-pub same_behind : (n : ℕ) (offset : ℤ) (bytes : List ℕ) (p : Parts bytes) → 16 ≤ n → drop n (renumbered offset bytes) ≡ drop n bytes
-same_behind n offset bytes p le =
+pub same_after : (n : ℕ) (offset : ℤ) (bytes : List ℕ) (p : Parts bytes) → 16 ≤ n → drop n (bytes_with_offset offset bytes) ≡ drop n bytes
+same_after n offset bytes p le =
     let apart : 16 + (n - 16) ≡ n = omega arith in
     let split : (zs : List ℕ) → drop n zs ≡ drop (n - 16) (drop 16 zs) = λ zs. ap (λ (k : ℕ). drop k zs) (sym apart) ∙ sym (drop-drop (n - 16) 16 zs) in
-    split (renumbered offset bytes) ∙ ap (drop (n - 16)) (same_rest offset bytes p) ∙ sym (split bytes)
+    split (bytes_with_offset offset bytes) ∙ ap (drop (n - 16)) (same_rest offset bytes p) ∙ sym (split bytes)
 
-pub same_length : (offset : ℤ) (bytes : List ℕ) (p : Parts bytes) → length (renumbered offset bytes) ≡ length bytes
+pub same_length : (offset : ℤ) (bytes : List ℕ) (p : Parts bytes) → length (bytes_with_offset offset bytes) ≡ length bytes
 same_length offset bytes p =
-    let new : length (renumbered offset bytes) ≡ length (int64.written offset ++ (p.size ++ (int32.written (pos 0) ++ p.rest))) = ap length (renumbered-is offset bytes p) in
+    let new : length (bytes_with_offset offset bytes) ≡ length (int64.written offset ++ (p.size ++ (int32.written (pos 0) ++ p.rest))) = ap length (bytes_with_offset-is offset bytes p) in
     let old : length bytes ≡ length (p.offset ++ (p.size ++ (p.epoch ++ p.rest))) = ap length p.split in
     let a : length (int64.written offset) ≡ 8 = eight_bytes offset in
     let b : length (int32.written (pos 0)) ≡ 4 = four_bytes (pos 0) in
@@ -102,14 +102,14 @@ same_length offset bytes p =
       length-append p.epoch p.rest,
     )
 
-pub same_view : (offset : ℤ) (h : BatchHeader) (m : Option Outcome) (bytes : List ℕ) → IsBatch (batch_of h m bytes)
-    → batch_of (header_at offset h) m (renumbered offset bytes) ≡ written_at offset (batch_of h m bytes)
+pub same_view : (offset : ℤ) (h : BatchHeader) (m : Option TransactionResult) (bytes : List ℕ) → IsBatch (batch_of h m bytes)
+    → batch_of (header_at offset h) m (bytes_with_offset offset bytes) ≡ written_at offset (batch_of h m bytes)
 same_view offset h m bytes is =
-    let body : drop 61 (renumbered offset bytes) ≡ drop 61 bytes = same_behind 61 offset bytes (parts_of (batch_of h m bytes) is) (omega arith) in
-    ap (λ (t : List ℕ). record { header = header_at offset h; records = found_or_none (all_records (count_of h.record_count) t); marker = m; bytes = renumbered offset bytes }) body
+    let body : drop 61 (bytes_with_offset offset bytes) ≡ drop 61 bytes = same_after 61 offset bytes (parts_of (batch_of h m bytes) is) (omega arith) in
+    ap (λ (t : List ℕ). record { header = header_at offset h; records = found_or_none (all_records (count_of h.record_count) t); marker = m; bytes = bytes_with_offset offset bytes }) body
 
 -- the same parts of the bytes at another offset
-abbrev pub moved_parts : (offset : ℤ) (b : BatchData) → IsBatch b → Parts (renumbered offset b.bytes)
+abbrev pub moved_parts : (offset : ℤ) (b : BatchData) → IsBatch b → Parts (bytes_with_offset offset b.bytes)
 moved_parts offset b is =
     let p = parts_of b is in
     record {
@@ -117,13 +117,13 @@ moved_parts offset b is =
       size = p.size;
       epoch = int32.written (pos 0);
       rest = p.rest;
-      split = renumbered-is offset b.bytes p;
+      split = bytes_with_offset-is offset b.bytes p;
       eight = eight_bytes offset;
       four = p.four;
       four_more = four_bytes (pos 0);
     }
 
-marked_at : (m : Option Outcome) (offset : ℤ) (h : BatchHeader) (rs : List Rec) → IsMarked m h rs → IsMarked m (header_at offset h) rs
+marked_at : (m : Option TransactionResult) (offset : ℤ) (h : BatchHeader) (rs : List Rec) → IsMarked m h rs → IsMarked m (header_at offset h) rs
 marked_at None offset h rs is = is
 marked_at (Some outcome) offset h rs is = is
 
@@ -136,12 +136,12 @@ written_at-is offset b fits is =
     let zero_fits : FitsSigned w32 (pos 0) = record { sfits = lit< tt } in
     let front : List ℕ = int64.written offset ++ (t.0 ++ (int32.written (pos 0) ++ u.1)) in
     let regrouped : int64.written offset ++ (t.0 ++ (int32.written (pos 0) ++ (u.1 ++ is.body))) ≡ front ++ is.body = simp append_assoc in
-    let same : length (renumbered offset b.bytes) ≡ length b.bytes = same_length offset b.bytes p in
-    let covered : drop 21 (renumbered offset b.bytes) ≡ drop 21 b.bytes = same_behind 21 offset b.bytes p (omega arith) in
+    let same : length (bytes_with_offset offset b.bytes) ≡ length b.bytes = same_length offset b.bytes p in
+    let covered : drop 21 (bytes_with_offset offset b.bytes) ≡ drop 21 b.bytes = same_after 21 offset b.bytes p (omega arith) in
     record {
       front = front;
       body = is.body;
-      parts = renumbered-is offset b.bytes p ∙ regrouped;
+      parts = bytes_with_offset-is offset b.bytes p ∙ regrouped;
       headed = (int64.written offset, _, refl, int-canonical w64 wide64 offset fits, (t.0, _, refl, t.3, (int32.written (pos 0), u.1, refl, int-canonical w32 wide32 (pos 0) zero_fits, u.4)));
       recorded = is.recorded;
       some = is.some;
@@ -158,7 +158,7 @@ written_at-is offset b fits is =
 -- ---- what the code makes
 
 pub gathered : (o : ℤ) (bytes front moved new : List ℕ) → front ≡ take 16 bytes → moved ≡ int64.written o ++ (slice_range front 8 12 ++ int32.written (pos 0)) → new ≡ moved ++ drop 16 bytes
-    → new ≡ renumbered o bytes
+    → new ≡ bytes_with_offset o bytes
 gathered o bytes front moved new e0 e1 e2 =
     let inner : take 4 (drop 8 (take 16 bytes)) ≡ take 4 (drop 8 bytes) = ap (take 4) (drop-take 8 8 bytes) ∙ take-take 4 8 (drop 8 bytes) (omega arith) in
     let size : slice_range front 8 12 ≡ slice_range bytes 8 12 = ap (λ (t : List ℕ). slice_range t 8 12) e0 ∙ inner in
@@ -170,16 +170,16 @@ pub record IsMoved (offset o : ℤ) (h new : BatchHeader) (bytes seen moved : Li
   pub same : o ≡ offset
   pub header : new ≡ header_at o h
   pub over : seen ≡ bytes
-  pub put : moved ≡ renumbered o seen
+  pub put : moved ≡ bytes_with_offset o seen
 
-pub moved_view : (offset o : ℤ) (h new : BatchHeader) (m : Option Outcome) (bytes seen moved : List ℕ) → IsMoved offset o h new bytes seen moved → IsBatch (batch_of h m bytes)
+pub moved_view : (offset o : ℤ) (h new : BatchHeader) (m : Option TransactionResult) (bytes seen moved : List ℕ) → IsMoved offset o h new bytes seen moved → IsBatch (batch_of h m bytes)
     → batch_of new m moved ≡ written_at offset (batch_of h m bytes)
 moved_view offset o h new m bytes seen moved is batch =
     let header : new ≡ header_at offset h = is.header ∙ ap (λ (z : ℤ). header_at z h) is.same in
-    let put : moved ≡ renumbered offset bytes = is.put ∙ ap (renumbered o) is.over ∙ ap (λ (z : ℤ). renumbered z bytes) is.same in
+    let put : moved ≡ bytes_with_offset offset bytes = is.put ∙ ap (bytes_with_offset o) is.over ∙ ap (λ (z : ℤ). bytes_with_offset z bytes) is.same in
     ap (λ (x : BatchHeader). batch_of x m moved) header ∙ ap (batch_of (header_at offset h) m) put ∙ same_view offset h m bytes batch
 
-pub moved_is : (offset o : ℤ) (h new : BatchHeader) (m : Option Outcome) (bytes seen moved : List ℕ) → IsMoved offset o h new bytes seen moved → IsBatch (batch_of h m bytes)
+pub moved_is : (offset o : ℤ) (h new : BatchHeader) (m : Option TransactionResult) (bytes seen moved : List ℕ) → IsMoved offset o h new bytes seen moved → IsBatch (batch_of h m bytes)
     → IsBatch (batch_of new m moved)
 moved_is offset o h new m bytes seen moved is batch =
     subst IsBatch (sym (moved_view offset o h new m bytes seen moved is batch)) (written_at-is offset (batch_of h m bytes) is.fits batch)

@@ -5,7 +5,7 @@ use Rattle.wire_types.specs.Reading.{◌>>=◌}
 use Rattle.wire_types.specs.NumberLaws.{bind_ok, ok_is}
 use Rattle.wire_types.specs.Schema.{varint_count}
 use Rattle.record_batch.specs.declared.record.Rec.{Rec}
-use Rattle.record_batch.specs.CombinatorLaws.{whole, whole_ok, sized-sound, sized-complete}
+use Rattle.record_batch.specs.CombinatorLaws.{whole_value, whole_ok, sized-sound, sized-complete}
 use Rattle.record_batch.specs.Record.{record_parts, record_at, records_at, all_records, AreRecords}
 
 pub records-sound : (place n : ℕ) (bytes : List ℕ) (rs : List Rec) (rest : List ℕ) → records_at place n bytes ≡ Ok (rs, rest)
@@ -37,7 +37,7 @@ all-sound n bytes rs e =
     (p.2, subst (λ (t : List ℕ). AreRecords 0 t rs) (sym (p.1 ∙ append-nil p.0)) p.3)
 
 pub all-complete : (bytes : List ℕ) (rs : List Rec) → AreRecords 0 bytes rs → all_records (length rs) bytes ≡ Ok rs
-unfolding whole
+unfolding whole_value
 all-complete bytes rs h =
     let all : records_at 0 (length rs) bytes ≡ Ok (rs, []) = ap (records_at 0 (length rs)) (sym (append-nil bytes)) ∙ records-complete 0 bytes [] rs h in
     rw all refl

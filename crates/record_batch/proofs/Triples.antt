@@ -6,24 +6,24 @@ use Rattle.std.specs.Simd.{first_chunks}
 use Rattle.std.proofs.lemmas.Nat.Bits.{same_from_bits, bit_at_xor}
 use Rattle.std.proofs.lemmas.List.Folds.{concat-append}
 use Rattle.std.proofs.lemmas.List.{append_assoc, take-append-drop, drop_all, drop-drop}
-use Rattle.record_batch.specs.Crc.{shifted_by, crc_after}
+use Rattle.record_batch.specs.Crc.{bit_shift_by, crc_after}
 use Rattle.record_batch.proofs.Bits.{xor_assoc, shifted_by_xor}
 use Rattle.record_batch.proofs.Chunks.{shifted_twice, crc_after-append}
 
 abbrev then_word : ℕ → ℕ → ℕ
-then_word crc word = shifted_by 64 (bit_xor crc word)
+then_word crc word = bit_shift_by 64 (bit_xor crc word)
 
 -- the remainder that the three sums stand for
 abbrev pub joined : ℕ → ℕ → ℕ → ℕ
-joined first second third = then_word (then_word (shifted_by 64 first) second) third
+joined first second third = then_word (then_word (bit_shift_by 64 first) second) third
 
 regroup : (a b c d e f : ℕ) → bit_xor a (bit_xor b (bit_xor c (bit_xor d (bit_xor e f)))) ≡ bit_xor a (bit_xor c (bit_xor e (bit_xor b (bit_xor d f))))
 regroup a b c d e f = same_from_bits (bit_xor a (bit_xor b (bit_xor c (bit_xor d (bit_xor e f))))) (bit_xor a (bit_xor c (bit_xor e (bit_xor b (bit_xor d f))))) (λ i.
     simp bit_at_xor (omega arith))
 
-words_in : (first second third one two three : ℕ) → joined (bit_xor (shifted_by 192 first) one) (bit_xor (shifted_by 192 second) two) (bit_xor (shifted_by 192 third) three) ≡ then_word (then_word (then_word (joined first second third) one) two) three
+words_in : (first second third one two three : ℕ) → joined (bit_xor (bit_shift_by 192 first) one) (bit_xor (bit_shift_by 192 second) two) (bit_xor (bit_shift_by 192 third) three) ≡ then_word (then_word (then_word (joined first second third) one) two) three
 words_in first second third one two three =
-    simp (shifted_by_xor, shifted_twice, xor_assoc) (regroup (shifted_by 384 first) (shifted_by 192 one) (shifted_by 320 second) (shifted_by 128 two) (shifted_by 256 third) (shifted_by 64 three))
+    simp (shifted_by_xor, shifted_twice, xor_assoc) (regroup (bit_shift_by 384 first) (bit_shift_by 192 one) (bit_shift_by 320 second) (bit_shift_by 128 two) (bit_shift_by 256 third) (bit_shift_by 64 three))
 
 -- as a word these bytes come in at once
 abbrev IsWordOf : List ℕ → ℕ → Type 0
@@ -40,7 +40,7 @@ three_words crc (a ∷ b ∷ c ∷ []) one two three l first second last =
 three_words crc (a ∷ b ∷ c ∷ d ∷ triple) one two three l _ _ _ = absurd (omega arith)
 
 -- the sums after a triple
-pub triple_in : (first second third : ℕ) (triple : List (List ℕ)) (one two three : ℕ) → length triple ≡ 3 → IsWordOf (get_or triple 0 []) one → IsWordOf (get_or triple 1 []) two → IsWordOf (get_or triple 2 []) three → joined (bit_xor (shifted_by 192 first) one) (bit_xor (shifted_by 192 second) two) (bit_xor (shifted_by 192 third) three) ≡ crc_after (joined first second third) (concat triple)
+pub triple_in : (first second third : ℕ) (triple : List (List ℕ)) (one two three : ℕ) → length triple ≡ 3 → IsWordOf (get_or triple 0 []) one → IsWordOf (get_or triple 1 []) two → IsWordOf (get_or triple 2 []) three → joined (bit_xor (bit_shift_by 192 first) one) (bit_xor (bit_shift_by 192 second) two) (bit_xor (bit_shift_by 192 third) three) ≡ crc_after (joined first second third) (concat triple)
 triple_in first second third triple one two three l is_first is_second is_third = words_in first second third one two three ∙ three_words (joined first second third) triple one two three l is_first is_second is_third
 
 -- with no triple

@@ -7,8 +7,8 @@ use Rattle.wire_types.specs.declared.fault.Malformed.{Malformed}
 use Rattle.wire_types.specs.Reading.{Found, ◌>>=◌}
 use Rattle.wire_types.specs.Schema.{int32, int64}
 use Rattle.record_batch.specs.declared.header.BatchHeader.{BatchHeader}
-use Rattle.record_batch.specs.declared.outcome.Outcome.{Outcome}
-use Rattle.record_batch.specs.declared.outcome.Outcome.TheVariants.{Abort, Commit}
+use Rattle.record_batch.specs.declared.transaction_result.TransactionResult.{TransactionResult}
+use Rattle.record_batch.specs.declared.transaction_result.TransactionResult.TheVariants.{Abort, Commit}
 use Rattle.record_batch.specs.declared.record.Rec.{Rec}
 use Rattle.record_batch.specs.declared.record.RecordAt.{RecordAt}
 use Rattle.record_batch.specs.Crc.{crc32c}
@@ -19,15 +19,15 @@ use Rattle.record_batch.specs.Record.{AreRecords, all_records}
 pub record BatchData : Type 0 where
   pub header : BatchHeader
   pub records : List Rec
-  pub marker : Option Outcome
+  pub marker : Option TransactionResult
   pub bytes : List ℕ
 
 abbrev pub found_or_none : Result (List Rec) Malformed → List Rec
 found_or_none (Ok rs) = rs
 found_or_none (Err e) = []
 
--- the batch of this header in these bytes, whose records stand behind the header's 61 bytes
-abbrev pub batch_of : BatchHeader → Option Outcome → List ℕ → BatchData
+-- the batch of this header in these bytes, whose records stand after the header's 61 bytes
+abbrev pub batch_of : BatchHeader → Option TransactionResult → List ℕ → BatchData
 batch_of header marker bytes = record {
   header = header;
   records = found_or_none (all_records (count_of header.record_count) (drop 61 bytes));
@@ -39,11 +39,11 @@ batch_of header marker bytes = record {
 
 -- the record of a control batch that ends a transaction: a version 0 and the outcome in its key, a version 0 and a
 -- coordinator epoch 0 in its value
-abbrev pub marker_type : Outcome → ℕ
+abbrev pub marker_type : TransactionResult → ℕ
 marker_type Abort = 0
 marker_type Commit = 1
 
-abbrev pub marker_record : Outcome → Rec
+abbrev pub marker_record : TransactionResult → Rec
 marker_record outcome = record {
   timestamp_delta = pos 0;
   key = Some (0 ∷ 0 ∷ 0 ∷ marker_type outcome ∷ []);
@@ -52,11 +52,11 @@ marker_record outcome = record {
 }
 
 -- a control batch has the one record of its outcome
-abbrev pub IsMarked : Option Outcome → BatchHeader → List Rec → Type 0
+abbrev pub IsMarked : Option TransactionResult → BatchHeader → List Rec → Type 0
 IsMarked None header records = is_control header ≡ false
 IsMarked (Some outcome) header records = (is_control header ≡ true) × (records ≡ marker_record outcome ∷ [])
 
--- A header and the records behind it, whose number and whose bytes it tells, in format 2 and uncompressed.
+-- A header and the records after it, whose number and whose bytes it tells, in format 2 and uncompressed.
 pub record IsBatch (b : BatchData) : Type 0 where
   pub front : List ℕ
   pub body : List ℕ
@@ -85,11 +85,11 @@ has_producer h =
 
 -- ---- offsets
 
--- the offset behind the last record
+-- the offset after the last record
 abbrev pub next_offset : BatchData → ℤ
 next_offset b = header_next_offset b.header
 
--- the offsets of the batch, and the one behind it, are numbers of 64 bits
+-- the offsets of the batch, and the one after it, are numbers of 64 bits
 abbrev pub HasOffsets : BatchData → Type 0
 HasOffsets b = FitsSigned w64 (next_offset b)
 
@@ -98,21 +98,21 @@ abbrev pub record_at_place : ℤ → ℕ → Rec → RecordAt
 record_at_place base place r = record { offset = base +ℤ pos place; rec = r }
 
 -- records at the places from this one on
-abbrev pub placed : ℤ → ℕ → List Rec → List RecordAt
-placed base place [] = []
-placed base place (r ∷ rs) = record_at_place base place r ∷ placed base (place + 1) rs
+abbrev pub placed_records : ℤ → ℕ → List Rec → List RecordAt
+placed_records base place [] = []
+placed_records base place (r ∷ rs) = record_at_place base place r ∷ placed_records base (place + 1) rs
 
 -- the same of records that are found
-abbrev pub placing : ℤ → ℕ → Found (List Rec) → Found (List RecordAt)
-placing base place found = found >>= λ rs. Ok (placed base place rs.0, rs.1)
+abbrev pub placed_if_found : ℤ → ℕ → Found (List Rec) → Found (List RecordAt)
+placed_if_found base place found = found >>= λ rs. Ok (placed_records base place rs.0, rs.1)
 
 -- another base offset, and the leader epoch 0, in the same bytes
-abbrev pub renumbered : ℤ → List ℕ → List ℕ
-renumbered offset bytes = int64.written offset ++ (slice_range bytes 8 12 ++ (int32.written (pos 0) ++ drop 16 bytes))
+abbrev pub bytes_with_offset : ℤ → List ℕ → List ℕ
+bytes_with_offset offset bytes = int64.written offset ++ (slice_range bytes 8 12 ++ (int32.written (pos 0) ++ drop 16 bytes))
 
 -- the same batch at another offset
 abbrev pub written_at : ℤ → BatchData → BatchData
 written_at offset b = record b {
   header = header_at offset b.header;
-  bytes = renumbered offset b.bytes;
+  bytes = bytes_with_offset offset b.bytes;
 }

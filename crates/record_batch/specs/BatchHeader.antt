@@ -82,7 +82,7 @@ abbrev pub count_of : ℤ → ℕ
 count_of (pos n) = n
 count_of (negsuc n) = 0
 
--- the offset behind the last record
+-- the offset after the last record
 abbrev pub header_next_offset : BatchHeader → ℤ
 header_next_offset h = h.base_offset +ℤ (h.last_offset_delta +ℤ pos 1)
 

@@ -1,13 +1,13 @@
 -- Control batches, which mark how a producer's transaction ended (KIP-98, "Control Messages").
 use Rattle.std.specs.Prelude.{ℕ, ℤ, pos, negsuc, List, [], ◌∷◌, ◌++◌, drop, Some}
 use Rattle.record_batch.specs.declared.header.BatchHeader.{BatchHeader}
-use Rattle.record_batch.specs.declared.outcome.Outcome.{Outcome}
+use Rattle.record_batch.specs.declared.transaction_result.TransactionResult.{TransactionResult}
 use Rattle.record_batch.specs.Crc.{crc32c}
 use Rattle.record_batch.specs.BatchHeader.{batch_header}
 use Rattle.record_batch.specs.Batch.{BatchData, marker_type, marker_record}
 
 -- the one spelling of the record with shortest numbers: 16 bytes follow its length
-abbrev pub marker_text : Outcome → List ℕ
+abbrev pub marker_text : TransactionResult → List ℕ
 marker_text outcome =
     0x20 ∷ 0 ∷ 0 ∷ 0
     ∷ 0x08 ∷ 0 ∷ 0 ∷ 0 ∷ marker_type outcome
@@ -32,14 +32,14 @@ control_header producer epoch moment crc = record {
   record_count = pos 1;
 }
 
-abbrev pub control_text : Outcome → BatchHeader → List ℕ
+abbrev pub control_text : TransactionResult → BatchHeader → List ℕ
 control_text outcome header = batch_header.written header ++ marker_text outcome
 
 -- the checksum is of what follows it, from the attributes on
-abbrev pub control_crc : Outcome → ℤ → ℤ → ℤ → ℕ
+abbrev pub control_crc : TransactionResult → ℤ → ℤ → ℤ → ℕ
 control_crc outcome producer epoch moment = crc32c (drop 21 (control_text outcome (control_header producer epoch moment 0)))
 
-abbrev pub control : Outcome → ℤ → ℤ → ℤ → BatchData
+abbrev pub control : TransactionResult → ℤ → ℤ → ℤ → BatchData
 control outcome producer epoch moment =
     let header : BatchHeader = control_header producer epoch moment (control_crc outcome producer epoch moment) in
     record {

@@ -6,17 +6,17 @@ abbrev pub polynomial : ℕ
 polynomial = 0x82f63b78
 
 -- the lowest bit is shifted out, and where it was set the polynomial is added
-abbrev pub shifted : ℕ → ℕ
-shifted c = if c % 2 == 1 then bit_xor (c / 2) polynomial else c / 2
+abbrev pub bit_shift : ℕ → ℕ
+bit_shift c = if c % 2 == 1 then bit_xor (c / 2) polynomial else c / 2
 
 -- k bits are shifted out
-unfoldable pub shifted_by : ℕ → ℕ → ℕ
-shifted_by zero c = c
-shifted_by (suc k) c = shifted_by k (shifted c)
+unfoldable pub bit_shift_by : ℕ → ℕ → ℕ
+bit_shift_by zero c = c
+bit_shift_by (suc k) c = bit_shift_by k (bit_shift c)
 
 -- a byte comes in
 abbrev pub crc_step : ℕ → ℕ → ℕ
-crc_step c byte = shifted_by 8 (bit_xor c byte)
+crc_step c byte = bit_shift_by 8 (bit_xor c byte)
 
 -- the remainder c after these bytes
 unfoldable pub crc_after : ℕ → List ℕ → ℕ

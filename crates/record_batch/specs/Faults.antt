@@ -53,23 +53,23 @@ abbrev pub first_found : List (Bool × BatchFault) → Option BatchFault
 first_found [] = None
 first_found (test ∷ tests) = if test.0 then Some test.1 else first_found tests
 
--- behind a header; where the bytes are fewer than one has, that is the fault
-abbrev pub fault_behind : ℕ → List ℕ → Found BatchHeader → Option BatchFault
-fault_behind max bytes (Ok h) = first_found (fault_tests max bytes h.0 h.1)
-fault_behind max bytes (Err e) = Some Length
+-- after a header; where the bytes are fewer than one has, that is the fault
+abbrev pub fault_after_header : ℕ → List ℕ → Found BatchHeader → Option BatchFault
+fault_after_header max bytes (Ok h) = first_found (fault_tests max bytes h.0 h.1)
+fault_after_header max bytes (Err e) = Some Length
 
 -- the first fault of these bytes as a batch of at most so many
 unfoldable pub first_fault : ℕ → List ℕ → Option BatchFault
-first_fault max bytes = fault_behind max bytes (batch_header.reading bytes)
+first_fault max bytes = fault_after_header max bytes (batch_header.reading bytes)
 
 -- the first fault of these bytes, whatever their number
 abbrev pub fault_at_any_size : List ℕ → Option BatchFault
 fault_at_any_size bytes = first_fault (length bytes) bytes
 
 -- the same where at most so many bytes are taken, which is looked at last
-abbrev pub held_to : ℕ → List ℕ → Option BatchFault → Option BatchFault
-held_to max bytes (Some fault) = Some fault
-held_to max bytes None = if nat_lt max (length bytes) then Some TooLarge else None
+abbrev pub fault_within : ℕ → List ℕ → Option BatchFault → Option BatchFault
+fault_within max bytes (Some fault) = Some fault
+fault_within max bytes None = if nat_lt max (length bytes) then Some TooLarge else None
 
 -- data of a producer, or of none: what a batch has to be beside its format
 pub record IsData (b : BatchData) : Type 0 where

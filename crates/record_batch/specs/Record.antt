@@ -6,12 +6,12 @@ use Rattle.wire_types.specs.Reading.{Found, ◌>>=◌}
 use Rattle.wire_types.specs.Grammar.{Grammar}
 use Rattle.wire_types.specs.Spelling.{int_written}
 use Rattle.wire_types.specs.ListLaws.{IsLeast}
-use Rattle.wire_types.specs.Combinators.{◌⨟◌, struct, skipped}
+use Rattle.wire_types.specs.Combinators.{◌⨟◌, struct, skipped_value}
 use Rattle.wire_types.specs.Schema.{int8, varint, varlong, varint_count, varint_bytes, varint_nullable_bytes, varint_array}
 use Rattle.record_batch.specs.declared.record.Header.{Header}
 use Rattle.record_batch.specs.declared.record.Rec.{Rec}
-use Rattle.record_batch.specs.Combinators.{fixed}
-use Rattle.record_batch.specs.CombinatorLaws.{IsSized, sized_at, whole}
+use Rattle.record_batch.specs.Combinators.{fixed_number}
+use Rattle.record_batch.specs.CombinatorLaws.{IsSized, sized_at, whole_value}
 
 -- a header of a record: its key is never null
 abbrev pub header : Grammar Header
@@ -37,7 +37,7 @@ record_head place = struct
     (λ (x : Unit {0} × (ℤ × Unit {0})). x.1.0)
     (λ delta. (tt, (delta, tt)))
     (λ x. refl) (λ delta. refl)
-    (skipped int8 (pos 0) 1 no_attributes ⨟ varlong ⨟ fixed varint (pos place))
+    (skipped_value int8 (pos 0) 1 no_attributes ⨟ varlong ⨟ fixed_number varint (pos place))
 
 -- what follows a record's length
 abbrev pub record_parts : ℕ → Grammar Rec
@@ -73,4 +73,4 @@ records_at place (suc n) bytes = record_at place bytes >>= λ r. records_at (pla
 
 -- so many records and no more bytes
 abbrev pub all_records : ℕ → List ℕ → Result (List Rec) Malformed
-all_records n bytes = whole (records_at 0 n bytes)
+all_records n bytes = whole_value (records_at 0 n bytes)

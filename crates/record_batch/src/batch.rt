@@ -1,8 +1,8 @@
 //! Batches: bytes that were found to be one, with their header read once.
 
-ghost use Rattle.std.specs.Prelude.{◌≡◌, ◌↔◌, IsTrue, ◌+ℤ◌, ◌++◌, pos, length, drop, slice_range, IfOk, Ok, None};
+ghost use Rattle.std.specs.Prelude.{◌≡◌, ◌↔◌, IsTrue, ◌+ℤ◌, ◌++◌, pos, drop, slice_range, IfOk, Ok, None};
 ghost use Rattle.wire_types.specs.Schema.{int32, int64};
-ghost use Rattle.record_batch.specs.Batch.{BatchData, IsBatch, HasOffsets, next_offset, placed, written_at};
+ghost use Rattle.record_batch.specs.Batch.{BatchData, IsBatch, HasOffsets, next_offset, placed_records, written_at};
 ghost use Rattle.record_batch.specs.Control.{control};
 ghost use Rattle.record_batch.specs.BatchHeader.{batch_header};
 ghost use Rattle.record_batch.specs.Faults.{first_fault, fault_at_any_size, fault_in};
@@ -10,9 +10,9 @@ ghost use Rattle.record_batch.specs.Faults.{first_fault, fault_at_any_size, faul
 use crate::control::control_batch;
 use crate::fault::BatchFault;
 use crate::header::BatchHeader;
-use crate::outcome::Outcome;
 use crate::record::{RecordAt, read_records};
 use crate::sent::SentBatch;
+use crate::transaction_result::TransactionResult;
 use std::alloc::{AllocError, Global};
 use std::marker::Model;
 use wire_types::{Bytes, Cursor, Items, Piece, ReadFault};
@@ -21,7 +21,7 @@ use wire_types::{Bytes, Cursor, Items, Piece, ReadFault};
 /// bytes.
 pub struct Batch {
     header: BatchHeader,
-    marker: Option<Outcome>,
+    marker: Option<TransactionResult>,
     bytes: Piece,
 }
 
@@ -35,7 +35,6 @@ impl Model for Batch {
     ghost invariant = { λ b. IsBatch (batch_of b.header b.marker b.bytes) };
 }
 
-/// Written out, so that a proof above has one call where a batch is let go.
 impl Drop for Batch {
     fn drop(self) {
         let Batch {
@@ -72,7 +71,7 @@ impl Batch {
     /// The control batch that marks how a producer's transaction ended.
     pub fn control(
         alloc: Global,
-        outcome: Outcome,
+        outcome: TransactionResult,
         producer: i64,
         epoch: i16,
         moment: i64,
@@ -105,7 +104,7 @@ impl Batch {
     }
 
     /// The outcome that a control batch marks.
-    pub fn marker(&self) -> Option<Outcome>
+    pub fn marker(&self) -> Option<TransactionResult>
         ensures { result ≡ self.now.marker }
     {
         self.marker
@@ -122,7 +121,7 @@ impl Batch {
         })
     }
 
-    /// Whether each record's offset, and the one behind them, is a number of 64 bits.
+    /// Whether each record's offset, and the one after them, is a number of 64 bits.
     pub fn has_offsets(&self) -> bool
         ensures { IsTrue result ↔ HasOffsets self.now }
     {
@@ -133,7 +132,7 @@ impl Batch {
     pub fn recs(&self, alloc: Global) -> Result<Items<RecordAt>, AllocError>
         requires { HasOffsets self.now }
         ensures { IfOk result (λ recs.
-            recs ≡ placed self.now.header.base_offset 0 self.now.records) }
+            recs ≡ placed_records self.now.header.base_offset 0 self.now.records) }
     {
         let body = self.bytes.slice(61..self.bytes.len())?;
         let mut cursor = Cursor::over(&body);
@@ -145,7 +144,7 @@ impl Batch {
         }
     }
 
-    /// The offset behind the last record.
+    /// The offset after the last record.
     pub fn next_offset(&self) -> i64
         requires { HasOffsets self.now }
         ensures { result ≡ next_offset self.now }
@@ -153,7 +152,7 @@ impl Batch {
         self.header.next_offset()
     }
 
-    /// The same batch at another offset, with the leader epoch 0, which shares the bytes behind them. The checksum, which
+    /// The same batch at another offset, with the leader epoch 0, which shares the bytes after them. The checksum, which
     /// covers neither, is still right.
     pub fn write_at(&self, offset: i64) -> Result<Batch, AllocError>
         ensures { IfOk result (λ b. b ≡ written_at offset self.now) }
@@ -172,7 +171,8 @@ impl Batch {
 /// A batch's first 16 bytes with another base offset, and with the leader epoch 0.
 #[tactic(auto, unfolding(wire_types::specs::Spelling::int_written))]
 fn front_at(offset: i64, front: &[u8; 16]) -> [u8; 16]
-    ensures { result ≡ int64.written offset ++ (slice_range front.now 8 12 ++ int32.written (pos 0)) }
+    ensures { result ≡ int64.written offset
+        ++ (slice_range front.now 8 12 ++ int32.written (pos 0)) }
 {
     let mut moved = [0; 16];
     moved[..8].copy_from_slice(&offset.to_be_bytes());

@@ -1,6 +1,6 @@
 //! Looking for the first fault of bytes that a producer sent as a batch. It takes no memory.
 
-ghost use Rattle.std.specs.Prelude.{◌≡◌, ◌+◌, ◌≤◌, pos, length, slice_range, drop, true};
+ghost use Rattle.std.specs.Prelude.{◌≡◌, ◌+◌, ◌≤◌, length};
 ghost use Rattle.record_batch.specs.Batch.{has_producer};
 ghost use Rattle.record_batch.specs.Faults.{end_of, has_length, has_count, has_records, is_valid, data_tests, fault_tests, first_found, fault_at_any_size, fault_in};
 
@@ -64,7 +64,8 @@ impl BatchHeader {
 
     /// Whether a producer may send the batch, its format being right, whatever its size.
     fn check_data(&self, body: &[u8], bytes: &[u8]) -> Result<(), BatchFault>
-        ensures { fault_in result ≡ first_found (data_tests (length bytes.now) bytes.now self.now body.now) }
+        ensures { fault_in result
+            ≡ first_found (data_tests (length bytes.now) bytes.now self.now body.now) }
     {
         if !self.is_valid(body, bytes) {
             return Err(BatchFault::Invalid);
@@ -77,7 +78,8 @@ impl BatchHeader {
 
     fn check_all(&self, body: &[u8], bytes: &[u8]) -> Result<(), BatchFault>
         requires { 61 ≤ length bytes.now }
-        ensures { fault_in result ≡ first_found (fault_tests (length bytes.now) bytes.now self.now body.now) }
+        ensures { fault_in result
+            ≡ first_found (fault_tests (length bytes.now) bytes.now self.now body.now) }
     {
         if !self.has_length(bytes.len()) {
             return Err(BatchFault::Length);

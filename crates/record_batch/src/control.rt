@@ -1,12 +1,12 @@
 //! Control batches, which mark how a producer's transaction ended.
 
-ghost use Rattle.std.specs.Prelude.{◌≡◌, ◌<◌, ◌^◌, ◌++◌, IfOk, OnOk};
+ghost use Rattle.std.specs.Prelude.{◌≡◌, ◌<◌, ◌^◌, IfOk, OnOk};
 ghost use Rattle.record_batch.specs.BatchHeader.{batch_header};
 ghost use Rattle.record_batch.specs.Control.{marker_text, control_header, control_text, control};
 
 use crate::crc::crc32c;
 use crate::header::BatchHeader;
-use crate::outcome::Outcome;
+use crate::transaction_result::TransactionResult;
 use std::alloc::{AllocError, Global};
 use wire_types::{write_i8, write_i16, write_i32, write_i64, write_u32};
 
@@ -38,7 +38,7 @@ impl BatchHeader {
         BatchHeader { crc, ..*self }
     }
 
-    /// Puts the header's bytes behind what is there.
+    /// Puts the header's bytes after what is there.
     fn write(&self, out: &mut Vec<u8>) -> Result<(), AllocError>
         ensures { OnOk result (out.new.items ≡ batch_header.put out.old.items self.now) }
     {
@@ -58,8 +58,8 @@ impl BatchHeader {
     }
 }
 
-/// The record of a control batch, behind its length.
-const fn marker_text(outcome: Outcome) -> [u8; 17]
+/// The record of a control batch, after its length.
+const fn marker_text(outcome: TransactionResult) -> [u8; 17]
     ensures { result ≡ marker_text outcome }
 {
     let kind = outcome as u8;
@@ -71,7 +71,7 @@ const fn marker_text(outcome: Outcome) -> [u8; 17]
 /// A control batch's bytes.
 fn control_text(
     alloc: Global,
-    outcome: Outcome,
+    outcome: TransactionResult,
     header: &BatchHeader,
 ) -> Result<Vec<u8>, AllocError>
     ensures { IfOk result (λ text. text.items ≡ control_text outcome header.now) }
@@ -85,7 +85,7 @@ fn control_text(
 /// The header and the bytes of the control batch that marks how a producer's transaction ended.
 pub(crate) fn control_batch(
     alloc: Global,
-    outcome: Outcome,
+    outcome: TransactionResult,
     producer: i64,
     epoch: i16,
     moment: i64,

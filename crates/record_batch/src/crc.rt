@@ -2,7 +2,7 @@
 
 ghost use Rattle.std.specs.Prelude.{◌≡◌, ℕ, ◌<◌, ◌^◌, ◌/◌, ◌%◌, bit_xor};
 ghost use Rattle.std.specs.List.{concat, flat_map};
-ghost use Rattle.record_batch.specs.Crc.{crc_step, crc_after, crc32c, shifted_by};
+ghost use Rattle.record_batch.specs.Crc.{crc_step, crc_after, crc32c, bit_shift_by};
 
 use crate::far_table::far_byte_remainder;
 use crate::table::byte_remainder;
@@ -11,7 +11,7 @@ use crate::table::byte_remainder;
 #[inline(always)]
 #[tactic(auto, using(crate::proofs::Chunks::word_by_bytes))]
 fn word_remainder(word: u64) -> u32
-    ensures { result ≡ shifted_by 64 word }
+    ensures { result ≡ bit_shift_by 64 word }
 {
     byte_remainder((word & 0xff) as u8, 7)
         ^ byte_remainder((word >> 8 & 0xff) as u8, 6)
@@ -27,7 +27,7 @@ fn word_remainder(word: u64) -> u32
 #[inline(always)]
 #[tactic(auto, using(crate::proofs::Chunks::far_word_by_bytes))]
 fn far_word_remainder(word: u64) -> u32
-    ensures { result ≡ shifted_by 192 word }
+    ensures { result ≡ bit_shift_by 192 word }
 {
     far_byte_remainder((word & 0xff) as u8, 7)
         ^ far_byte_remainder((word >> 8 & 0xff) as u8, 6)
@@ -42,7 +42,7 @@ fn far_word_remainder(word: u64) -> u32
 /// Eight bytes as one word, the first one lowest. Added to a remainder, it brings them all in at once.
 #[inline(always)]
 fn word_of(bytes: &[u8; 8]) -> u64
-    ensures { (crc : ℕ) → shifted_by 64 (bit_xor crc result) ≡ crc_after crc bytes.now }
+    ensures { (crc : ℕ) → bit_shift_by 64 (bit_xor crc result) ≡ crc_after crc bytes.now }
 {
     u64::from_le_bytes(*bytes)
 }

@@ -1,7 +1,7 @@
 //! The remainders of single bytes, each with 16 to 23 zero bytes after it.
 
 ghost use Rattle.std.specs.Prelude.{◌≡◌, ◌+◌, ◌*◌, ◌<◌};
-ghost use Rattle.record_batch.specs.Crc.{shifted_by};
+ghost use Rattle.record_batch.specs.Crc.{bit_shift_by};
 
 static FAR_REMAINDERS: [[u32; 256]; 8] = [
     [
@@ -322,7 +322,7 @@ static FAR_REMAINDERS: [[u32; 256]; 8] = [
 #[inline(always)]
 pub(crate) fn far_byte_remainder(byte: u8, zeros: usize) -> u32
     requires { zeros < 8 }
-    ensures { result ≡ shifted_by (8 * (zeros + 17)) byte }
+    ensures { result ≡ bit_shift_by (8 * (zeros + 17)) byte }
 {
     FAR_REMAINDERS[zeros][byte as usize]
 }

@@ -4,7 +4,7 @@ ghost use Rattle.std.specs.Prelude.{◌≡◌};
 ghost use Rattle.record_batch.specs.BatchHeader.{is_transactional, is_control};
 
 use crate::batch::Batch;
-use crate::outcome::Outcome;
+use crate::transaction_result::TransactionResult;
 
 impl Batch {
     /// The offset of the first record.
@@ -47,7 +47,7 @@ impl Batch {
         self.header().attributes
     }
 
-    /// How far the last record's offset lies behind the first one's.
+    /// How far the last record's offset lies after the first one's.
     pub fn last_offset_delta(&self) -> i32
         ensures { result ≡ self.now.header.last_offset_delta }
     {

@@ -119,7 +119,7 @@ impl BatchHeader {
         self.record_count as u32
     }
 
-    /// Whether the offset behind the last record is a number of 64 bits.
+    /// Whether the offset after the last record is a number of 64 bits.
     pub(crate) fn has_offsets(&self) -> bool
         ensures { IsTrue result ↔ FitsSigned w64 (header_next_offset self.now) }
     {
@@ -130,7 +130,7 @@ impl BatchHeader {
         }
     }
 
-    /// The offset behind the last record.
+    /// The offset after the last record.
     pub(crate) fn next_offset(&self) -> i64
         requires { FitsSigned w64 (header_next_offset self.now) }
         ensures { result ≡ header_next_offset self.now }

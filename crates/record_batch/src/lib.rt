@@ -10,10 +10,10 @@ mod fault;
 mod fields;
 mod header;
 mod laws;
-mod outcome;
 mod record;
 mod sent;
 mod table;
+mod transaction_result;
 mod walk;
 
 pub use batch::Batch;
@@ -24,6 +24,6 @@ pub use laws::{
     faultless_is_batch, last_offset_stays, offset_alone_changes, one_batch, same_faults,
     size_is_last,
 };
-pub use outcome::Outcome;
 pub use record::{Header, Rec, RecordAt};
 pub use sent::SentBatch;
+pub use transaction_result::TransactionResult;

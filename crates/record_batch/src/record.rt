@@ -6,7 +6,7 @@ ghost use Rattle.std.specs.Ordering.{int_eq};
 ghost use Rattle.wire_types.specs.Reading.{Reads, Takes};
 ghost use Rattle.record_batch.specs.CombinatorLaws.{filled_at};
 ghost use Rattle.record_batch.specs.Record.{record_head, record_parts, record_at, records_at};
-ghost use Rattle.record_batch.specs.Batch.{placing, record_at_place};
+ghost use Rattle.record_batch.specs.Batch.{placed_if_found, record_at_place};
 
 use crate::header::BatchHeader;
 use std::alloc::Global;
@@ -99,7 +99,7 @@ fn read_parts(alloc: Global, cursor: &mut Cursor<'_>, place: u32) -> Result<Rec,
 }
 
 /// What follows a record's length, which is so many bytes.
-#[tactic(auto, unfolding(crate::specs::CombinatorLaws::whole))]
+#[tactic(auto, unfolding(crate::specs::CombinatorLaws::whole_value))]
 fn read_filled(
     alloc: Global,
     cursor: &mut Cursor<'_>,
@@ -117,8 +117,8 @@ fn read_filled(
     Ok(rec)
 }
 
-/// A record behind its length.
-#[tactic(auto, using(crate::proofs::Sized::sized_behind, crate::proofs::Sized::sized_refused))]
+/// A record after its length.
+#[tactic(auto, using(crate::proofs::Sized::sized_after, crate::proofs::Sized::sized_refused))]
 fn read_record(alloc: Global, cursor: &mut Cursor<'_>, place: u32) -> Result<Rec, ReadFault>
     ensures { Reads (record_at place cursor.old) result cursor.new }
 {
@@ -147,7 +147,7 @@ pub(crate) fn read_records(
     count: u32,
 ) -> Result<Items<RecordAt>, ReadFault>
     requires { FitsSigned w64 (header.now.base_offset +ℤ pos count) }
-    ensures { Reads (placing header.now.base_offset 0 (records_at 0 count cursor.old)) result
+    ensures { Reads (placed_if_found header.now.base_offset 0 (records_at 0 count cursor.old)) result
         cursor.new }
 {
     let mut recs = Items::new(alloc);

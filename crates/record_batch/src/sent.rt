@@ -30,7 +30,6 @@ impl Model for SentBatch {
     ghost invariant = { λ s. s.fault ≡ fault_at_any_size s.bytes };
 }
 
-/// Written out, so that a proof above has one call where bytes are let go.
 impl Drop for SentBatch {
     fn drop(self) {
         let SentBatch {

@@ -1,7 +1,7 @@
 //! The remainders of single bytes, each with up to seven zero bytes after it.
 
 ghost use Rattle.std.specs.Prelude.{◌≡◌, ◌+◌, ◌*◌, ◌<◌};
-ghost use Rattle.record_batch.specs.Crc.{shifted_by};
+ghost use Rattle.record_batch.specs.Crc.{bit_shift_by};
 
 static BYTE_REMAINDERS: [[u32; 256]; 8] = [
     [
@@ -322,7 +322,7 @@ static BYTE_REMAINDERS: [[u32; 256]; 8] = [
 #[inline(always)]
 pub(crate) fn byte_remainder(byte: u8, zeros: usize) -> u32
     requires { zeros < 8 }
-    ensures { result ≡ shifted_by (8 * (zeros + 1)) byte }
+    ensures { result ≡ bit_shift_by (8 * (zeros + 1)) byte }
 {
     BYTE_REMAINDERS[zeros][byte as usize]
 }

@@ -1,8 +1,7 @@
 //! Walking over records, which takes no memory and keeps nothing.
 
 ghost use Rattle.std.specs.Prelude.{◌≡◌, MatchResult, Ok, Err, is_ok};
-ghost use Rattle.std.specs.Option.{option_copied};
-ghost use Rattle.wire_types.specs.Reading.{Takes, skipping, many_at};
+ghost use Rattle.wire_types.specs.Reading.{Takes, skipped_if_found, many_at};
 ghost use Rattle.wire_types.specs.Schema.{varint_bytes, varint_nullable_bytes, varint_array};
 ghost use Rattle.record_batch.specs.CombinatorLaws.{filled_at};
 ghost use Rattle.record_batch.specs.Record.{header, record_parts, record_at, records_at, all_records};
@@ -10,8 +9,8 @@ ghost use Rattle.record_batch.specs.Record.{header, record_parts, record_at, rec
 use crate::record::read_head;
 use wire_types::{Cursor, Malformed};
 
-/// Bytes behind their number.
-#[tactic(auto, using(wire_types::proofs::Announced::content_behind, wire_types::proofs::Announced::front_refused))]
+/// Bytes after their number.
+#[tactic(auto, using(wire_types::proofs::Announced::content_after, wire_types::proofs::Announced::front_refused))]
 fn read_bytes<'a>(cursor: &mut Cursor<'a>) -> Result<&'a [u8], Malformed>
     ensures { MatchResult result (λ x. varint_bytes.reading cursor.old ≡ Ok (x.now, cursor.new))
         (λ e. varint_bytes.reading cursor.old ≡ Err e) }
@@ -20,10 +19,11 @@ fn read_bytes<'a>(cursor: &mut Cursor<'a>) -> Result<&'a [u8], Malformed>
     cursor.read_front(len as usize)
 }
 
-/// Bytes behind their number, or nothing for -1.
-#[tactic(auto, unfolding(wire_types::specs::Reading::null_behind_at, wire_types::specs::Reading::null_or, wire_types::specs::Reading::null_count_at, wire_types::specs::Reading::null_or_count))]
+/// Bytes after their number, or nothing for -1.
+#[tactic(auto, unfolding(wire_types::specs::Reading::after_null_count_at, wire_types::specs::Reading::null_or, wire_types::specs::Reading::null_count_at, wire_types::specs::Reading::null_or_count))]
 fn skip_nullable_bytes(cursor: &mut Cursor<'_>) -> Result<(), Malformed>
-    ensures { Takes (skipping (varint_nullable_bytes.reading cursor.old)) result cursor.new }
+    ensures { Takes (skipped_if_found (varint_nullable_bytes.reading cursor.old)) result
+        cursor.new }
 {
     let len = cursor.read_varint()?;
     if len < -1 {
@@ -36,14 +36,14 @@ fn skip_nullable_bytes(cursor: &mut Cursor<'_>) -> Result<(), Malformed>
 }
 
 fn skip_header(cursor: &mut Cursor<'_>) -> Result<(), Malformed>
-    ensures { Takes (skipping (header.reading cursor.old)) result cursor.new }
+    ensures { Takes (skipped_if_found (header.reading cursor.old)) result cursor.new }
 {
     read_bytes(cursor)?;
     skip_nullable_bytes(cursor)
 }
 
 fn skip_some_headers(cursor: &mut Cursor<'_>, count: u32) -> Result<(), Malformed>
-    ensures { Takes (skipping (many_at header.reading count cursor.old)) result cursor.new }
+    ensures { Takes (skipped_if_found (many_at header.reading count cursor.old)) result cursor.new }
 {
     for _ in 0..count {
         skip_header(cursor)?;
@@ -51,9 +51,10 @@ fn skip_some_headers(cursor: &mut Cursor<'_>, count: u32) -> Result<(), Malforme
     Ok(())
 }
 
-#[tactic(auto, using(wire_types::proofs::Announced::many_behind, wire_types::proofs::Announced::many_refused))]
+#[tactic(auto, using(wire_types::proofs::Announced::many_after, wire_types::proofs::Announced::many_refused))]
 fn skip_headers(cursor: &mut Cursor<'_>) -> Result<(), Malformed>
-    ensures { Takes (skipping ((varint_array header).reading cursor.old)) result cursor.new }
+    ensures { Takes (skipped_if_found ((varint_array header).reading cursor.old)) result
+        cursor.new }
 {
     let count = cursor.read_varint_count()?;
     skip_some_headers(cursor, count)
@@ -61,7 +62,7 @@ fn skip_headers(cursor: &mut Cursor<'_>) -> Result<(), Malformed>
 
 /// What follows a record's length.
 fn skip_parts(cursor: &mut Cursor<'_>, place: u32) -> Result<(), Malformed>
-    ensures { Takes (skipping ((record_parts place).reading cursor.old)) result cursor.new }
+    ensures { Takes (skipped_if_found ((record_parts place).reading cursor.old)) result cursor.new }
 {
     read_head(cursor, place)?;
     skip_nullable_bytes(cursor)?;
@@ -70,9 +71,10 @@ fn skip_parts(cursor: &mut Cursor<'_>, place: u32) -> Result<(), Malformed>
 }
 
 /// What follows a record's length, which is so many bytes.
-#[tactic(auto, unfolding(crate::specs::CombinatorLaws::whole))]
+#[tactic(auto, unfolding(crate::specs::CombinatorLaws::whole_value))]
 fn skip_filled(cursor: &mut Cursor<'_>, place: u32, len: u32) -> Result<(), Malformed>
-    ensures { Takes (skipping (filled_at (record_parts place).reading len cursor.old)) result cursor.new }
+    ensures { Takes (skipped_if_found (filled_at (record_parts place).reading len cursor.old))
+        result cursor.new }
 {
     let mut part = Cursor::new(cursor.read_front(len as usize)?);
     skip_parts(&mut part, place)?;
@@ -82,17 +84,17 @@ fn skip_filled(cursor: &mut Cursor<'_>, place: u32, len: u32) -> Result<(), Malf
     Ok(())
 }
 
-/// A record behind its length.
-#[tactic(auto, using(crate::proofs::Sized::sized_behind, crate::proofs::Sized::sized_refused))]
+/// A record after its length.
+#[tactic(auto, using(crate::proofs::Sized::sized_after, crate::proofs::Sized::sized_refused))]
 fn skip_record(cursor: &mut Cursor<'_>, place: u32) -> Result<(), Malformed>
-    ensures { Takes (skipping (record_at place cursor.old)) result cursor.new }
+    ensures { Takes (skipped_if_found (record_at place cursor.old)) result cursor.new }
 {
     let len = cursor.read_varint_count()?;
     skip_filled(cursor, place, len)
 }
 
 fn skip_records(cursor: &mut Cursor<'_>, count: u32) -> Result<(), Malformed>
-    ensures { Takes (skipping (records_at 0 count cursor.old)) result cursor.new }
+    ensures { Takes (skipped_if_found (records_at 0 count cursor.old)) result cursor.new }
 {
     for place in 0..count {
         skip_record(cursor, place)?;
@@ -101,7 +103,7 @@ fn skip_records(cursor: &mut Cursor<'_>, count: u32) -> Result<(), Malformed>
 }
 
 /// Whether bytes are so many records.
-#[tactic(auto, unfolding(crate::specs::CombinatorLaws::whole))]
+#[tactic(auto, unfolding(crate::specs::CombinatorLaws::whole_value))]
 pub(crate) fn are_records(bytes: &[u8], count: u32) -> bool
     ensures { result ≡ is_ok (all_records count bytes.now) }
 {

@@ -1,4 +1,4 @@
--- One element more, behind those of which something holds.
+-- One element more, after those of which something holds.
 use Rattle.std.proofs.Common.{List, [], ◌∷◌, ◌++◌}
 use Rattle.std.specs.List.{AllByRecursion}
 

@@ -15,6 +15,7 @@ ghost use Rattle.api_dispatch.specs.Bounds.{EventFits};
 use crate::session::Script;
 use acl_binding::Caller;
 use audit_trail::{Event, is_same_event, is_same_reply};
+use byte_streams::read_input;
 use msg_admin::{FRAME_LIMIT, read_request, write_reply};
 use request_handlers::{Core, Receipt, Stop};
 use settings_text::document_of_text;
@@ -22,10 +23,18 @@ use std::alloc::{AllocError, Global};
 use std::io;
 use std::io::Write;
 use std::process::ExitCode;
-use wire_types::{Bytes, Text, read_input};
+use wire_types::{Boxed, Bytes, Shared, Text};
 
 /// The exit status where the core was never opened, or the script can't be read.
 const NOT_BEGUN: u8 = 3;
+
+/// A client's name, if one was told, in a block of its own.
+fn boxed(alloc: Global, client: Option<Text>) -> Option<Option<Boxed<Text>>> {
+    match client {
+        Some(client) => Some(Some(Boxed::new(alloc, client).ok()?)),
+        None => Some(None),
+    }
+}
 
 /// The request of a frame, and who asks it.
 fn asked(alloc: Global, user: &str, host: &str, digits: &str) -> Option<Event>
@@ -36,12 +45,15 @@ fn asked(alloc: Global, user: &str, host: &str, digits: &str) -> Option<Event>
         return None;
     }
     let (header, request) = read_request(alloc, &frame).ok()?;
+    let caller = Caller {
+        who: Text::from_string(format!(in alloc; "User:{user}").ok()?).ok()?,
+        host: Text::of(alloc, host).ok()?,
+    };
+    let caller = Shared::new(alloc, caller).ok()?;
+    let client = boxed(alloc, header.client)?;
     Some(Event::Ask {
-        caller: Caller {
-            who: Text::from_string(format!(in alloc; "User:{user}").ok()?).ok()?,
-            host: Text::of(alloc, host).ok()?,
-        },
-        client: header.client,
+        caller,
+        client,
         request,
     })
 }

@@ -4,8 +4,7 @@ ghost use Rattle.std.specs.Prelude.{◌≡◌, ◌+◌, [], IfSome};
 ghost use Rattle.request_handlers.specs.Seats.{most_seats};
 
 use request_handlers::{Core, MOST_SEATS};
-use session_logins::Users;
-use session_pool::{DeskLedger, Limits, LockedDesk, SessionEnd, Why, serve_session};
+use session_pool::{DeskLedger, EndReason, Limits, LockedDesk, SessionEnd, Users, serve_session};
 use settings_text::{Document, document_of_text};
 use std::alloc::{AllocError, Global};
 use std::io;
@@ -34,7 +33,7 @@ pub(crate) struct Script {
 #[derive(Drop)]
 struct Came {
     receipts: usize,
-    why: Why,
+    why: EndReason,
     output: Vec<u8>,
 }
 
@@ -73,7 +72,8 @@ fn serve_at<L: DeskLedger, R: Wait + Drop>(
 ) -> Option<Came>
     requires settings { script.core.settings ≡ L.settings }
     requires empty { script.core.trail ≡ [] }
-    requires ledger { (blank.name ≡ L.name) × (blank.parts ≡ L.parts) × (blank.parts ≡ most_seats + 1) }
+    requires ledger { (blank.name ≡ L.name) × (blank.parts ≡ L.parts)
+        × (blank.parts ≡ most_seats + 1) }
 {
     let Script {
         core,

@@ -22,9 +22,9 @@ abbrev pub fresh_seat : SeatValue
 fresh_seat = record { count = 0; last = None }
 
 -- the seat, once a call with it was answered by this receipt
-abbrev pub raised : SeatValue → ReceiptValue → SeatValue
-raised s r = record { count = s.count + 1; last = Some r }
+abbrev pub seat_after : SeatValue → ReceiptValue → SeatValue
+seat_after s r = record { count = s.count + 1; last = Some r }
 
 -- the core once it gave a seat
-abbrev pub seated : BookedValue → BookedValue
-seated b = record b { given = b.given + 1 }
+abbrev pub with_seat_given : BookedValue → BookedValue
+with_seat_given b = record b { given = b.given + 1 }

@@ -4,9 +4,9 @@
 
 ghost use Rattle.std.specs.Prelude.{◌≡◌, ◌↔◌, ◌+◌, ◌<◌, ◌≤◌, [], true, length, Some, None, Err, IfOk, IfErr, IfSome, IfNone, OnOk, MatchOption};
 ghost use Rattle.api_dispatch.specs.Bounds.{EventFits, most_events};
-ghost use Rattle.request_handlers.specs.Core.{IsCore, IsFull, IsReady, StoppedBy, advanced, receipt_of};
-ghost use Rattle.request_handlers.specs.Headline.{IsTaken};
-ghost use Rattle.request_handlers.specs.Seats.{SeatValue, BookedValue, most_seats, fresh_seat, raised, seated};
+ghost use Rattle.request_handlers.specs.Core.{IsCore, IsFull, IsReady, StoppedBy, core_after, receipt_of};
+ghost use Rattle.request_handlers.specs.Headline.{StepIsRight};
+ghost use Rattle.request_handlers.specs.Seats.{SeatValue, BookedValue, most_seats, fresh_seat, seat_after, with_seat_given};
 
 use crate::machine::Core;
 use crate::receipt::Receipt;
@@ -71,7 +71,8 @@ impl<L: Ledger> Booked<L> {
     /// A core that has answered nothing, and has given no seat yet.
     pub fn new(core: Core, blank: Blank) -> Booked<L>
         requires empty { core.trail ≡ [] }
-        requires ledger { (blank.name ≡ L.name) × (blank.parts ≡ L.parts) × (blank.parts ≡ most_seats + 1) }
+        requires ledger { (blank.name ≡ L.name) × (blank.parts ≡ L.parts)
+            × (blank.parts ≡ most_seats + 1) }
         ensures { result ≡ record { core = core; given = 0 } }
     {
         let (book, free) = blank.open::<L>();
@@ -85,7 +86,9 @@ impl<L: Ledger> Booked<L> {
 
     /// A new seat, unless all were given.
     pub fn seat(&mut self) -> Option<Seat<L>>
-        ensures some { IfSome result (λ seat. (seat ≡ fresh_seat) × (self.old.given < most_seats) × (self.new ≡ seated self.old)) }
+        ensures some { IfSome result
+            (λ seat. (seat ≡ fresh_seat) × (self.old.given < most_seats)
+            × (self.new ≡ with_seat_given self.old)) }
         ensures none { IfNone result ((self.old.given ≡ most_seats) × (self.new ≡ self.old)) }
     {
         if self.given == MOST_SEATS {
@@ -119,16 +122,17 @@ impl<L: Ledger> Booked<L> {
         requires { EventFits event }
 
         // The step is the core's.
-        ensures headline { IfOk result.1 (λ receipt. IsTaken self.old.core event receipt self.new.core) }
+        ensures headline { IfOk result.1
+            (λ receipt. StepIsRight self.old.core event receipt self.new.core) }
         ensures ready { OnOk result.1 (IsReady self.old.core) }
         ensures receipt { IfOk result.1 (λ r. r ≡ receipt_of self.old.core event) }
-        ensures ok { OnOk result.1 (self.new.core ≡ advanced self.old.core event) }
-        ensures core { OnOk result.1 (IsCore (advanced self.old.core event)) }
+        ensures ok { OnOk result.1 (self.new.core ≡ core_after self.old.core event) }
+        ensures core { OnOk result.1 (IsCore (core_after self.old.core event)) }
         ensures stop { IfErr result.1 (λ stop. StoppedBy stop self.old.core event self.new.core) }
         ensures down { (result.1 ≡ Err Stop.Down) ↔ (self.old.core.down ≡ true) }
         ensures full { (result.1 ≡ Err Stop.TrailFull) ↔ IsFull self.old.core }
 
-        ensures raised { IfOk result.1 (λ r. result.0 ≡ raised seat r) }
+        ensures raised { IfOk result.1 (λ r. result.0 ≡ seat_after seat r) }
         ensures kept { IfErr result.1 (λ _. result.0 ≡ seat) }
         ensures place { IfOk result.1 (λ r. seat.count ≤ r.place) }
         ensures given { self.new.given ≡ self.old.given }

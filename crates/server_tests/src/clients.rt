@@ -5,8 +5,9 @@ ghost use Rattle.msg_admin.specs.declared.request.TheConstants.{FRAME_LIMIT as L
 ghost use Rattle.request_handlers.specs.Seats.{most_seats};
 
 use request_handlers::{Core, MOST_SEATS};
-use session_logins::Users;
-use session_pool::{DeskLedger, Gate, Limits, LockedDesk, SessionEnd, Why, serve_session};
+use session_pool::{
+    DeskLedger, EndReason, Gate, Limits, LockedDesk, SessionEnd, Users, serve_session,
+};
 use settings_text::{Document, document_of_text};
 use std::alloc::Global;
 use std::io::{Read, Write};
@@ -43,7 +44,7 @@ pub(crate) const METADATA_TOLD: &str = "00000041000000010000000100000001000168\
 /// What a session came to.
 #[derive(Clone, Copy, Debug, PartialEq, Eq)]
 pub(crate) struct End {
-    pub(crate) why: Why,
+    pub(crate) why: EndReason,
     pub(crate) receipts: usize,
     /// The place of the first of them.
     pub(crate) place: Option<u64>,
@@ -66,7 +67,8 @@ fn serve_on<L: DeskLedger, R: Wait + Drop, Rd: Read + Drop, Wr: Write, G: Gate>(
 ) -> Result<End, Fail>
     requires settings { core.settings ≡ L.settings }
     requires empty { core.trail ≡ [] }
-    requires ledger { (blank.name ≡ L.name) × (blank.parts ≡ L.parts) × (blank.parts ≡ most_seats + 1) }
+    requires ledger { (blank.name ≡ L.name) × (blank.parts ≡ L.parts)
+        × (blank.parts ≡ most_seats + 1) }
     requires within { limits.frame ≤ LIMIT }
 {
     let desk: LockedDesk<L, R> = LockedDesk::new(core, blank, rt);

@@ -1,6 +1,6 @@
 //! Readers and writers that fail at one call after the other.
 
-ghost use Rattle.std.specs.Prelude.{Some, None};
+ghost use Rattle.std.specs.Prelude.{None};
 
 use commands::replay;
 use std::io;

@@ -1,6 +1,6 @@
 //! What the words of the command line ask for, where the numbers aren't given or are out of their range.
 
-use arguments::{Ending, Job, Serving, Showing, arguments};
+use arguments::{Job, Serving, Showing, ShutdownOptions, arguments};
 use std::test::Fail;
 
 /// `serve` with an address alone: four workers, a million connections, ten seconds for a login and thirty for a frame, and nothing
@@ -23,7 +23,7 @@ fn serve_with_an_address_alone(rt: HostRuntime) -> Result<(), Fail> {
         log_times: false,
         settings: None,
         control: false,
-        ending: Ending {
+        ending: ShutdownOptions {
             grace_seconds: None,
             with_input: false,
         },
@@ -35,7 +35,7 @@ fn serve_with_an_address_alone(rt: HostRuntime) -> Result<(), Fail> {
     Ok(())
 }
 
-/// A file is one word that is no flag, or one behind `--`; it goes with the options of `show`.
+/// A file is one word that is no flag, or one after `--`; it goes with the options of `show`.
 #[test]
 fn a_file_is_named_once(rt: HostRuntime) {
     for (word, last, is_taken) in [

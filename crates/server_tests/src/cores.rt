@@ -1,4 +1,4 @@
-//! What a core answers to one event after the other: how many markers are owed, and what it does when its trail is full.
+//! What a core answers to one event after the other: how many markers are pending, and what it does when its trail is full.
 
 ghost use Rattle.api_dispatch.specs.Bounds.{EventFits};
 
@@ -206,7 +206,7 @@ fn no_answer_depends_on_the_seed(rt: HostRuntime) -> Result<(), Fail> {
     Ok(())
 }
 
-/// A second after its beginning a transaction isn't over; a millisecond later its marker is owed, and its producer fenced.
+/// A second after its beginning a transaction isn't over; a millisecond later its marker is pending, and its producer fenced.
 #[test]
 fn a_marker_owed_when_time_is_over(rt: HostRuntime) -> Result<(), Fail> {
     let alloc = rt.alloc();

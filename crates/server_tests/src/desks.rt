@@ -5,7 +5,7 @@ ghost use Rattle.request_handlers.specs.Seats.{most_seats};
 
 use crate::clients::{HANDSHAKE, LOGIN, METADATA, bytes_of, serve_gated};
 use request_handlers::{Core, MOST_SEATS};
-use session_pool::{DeskLedger, Gate, Limits, LockedDesk, Why};
+use session_pool::{DeskLedger, EndReason, Gate, Limits, LockedDesk};
 use settings_text::{Document, document_of_text};
 use std::alloc::Global;
 use std::marker::Brand;
@@ -82,7 +82,7 @@ fn round_each_frame(rt: HostRuntime) -> Result<(), Fail> {
         Limits::default(),
         &gate,
     )?;
-    assert!(rt; end.why == Why::Closed);
+    assert!(rt; end.why == EndReason::Closed);
     assert!(rt; gate.counts() == [4, 1, 4, 2 * (1 + 2 + 3), 0]);
     Ok(())
 }
@@ -96,7 +96,8 @@ fn given_on<L: DeskLedger, R: Wait + Drop>(
 ) -> Result<u64, Fail>
     requires settings { core.settings ≡ L.settings }
     requires empty { core.trail ≡ [] }
-    requires ledger { (blank.name ≡ L.name) × (blank.parts ≡ L.parts) × (blank.parts ≡ most_seats + 1) }
+    requires ledger { (blank.name ≡ L.name) × (blank.parts ≡ L.parts)
+        × (blank.parts ≡ most_seats + 1) }
 {
     let desk: LockedDesk<L, R> = LockedDesk::new(core, blank, rt);
     let mut given = 0u64;

@@ -7,7 +7,7 @@ use crate::clients::{
     End, HANDSHAKE, HANDSHAKE_TOLD, LOGIN, LOGIN_TOLD, METADATA, METADATA_TOLD, bytes_of, serve,
     serve_gated,
 };
-use session_pool::{Limits, Why};
+use session_pool::{EndReason, Limits};
 use std::alloc::Global;
 use std::sync::Wait;
 use std::test::Fail;
@@ -35,7 +35,11 @@ fn as_many_frames_as_are_served(rt: HostRuntime) -> Result<(), Fail> {
             frames,
         };
         let end = end_of(rt, rt.alloc(), &[HANDSHAKE, LOGIN, METADATA], limits)?;
-        let why = if frames < 4 { Why::Limit } else { Why::Closed };
+        let why = if frames < 4 {
+            EndReason::Limit
+        } else {
+            EndReason::Closed
+        };
         let asked = u64::from(frames > 2);
         assert!(rt; end.why == why, "{frames}");
         assert!(rt;
@@ -64,7 +68,7 @@ fn the_first_receipt(rt: HostRuntime) -> Result<(), Fail> {
             &(),
         )?;
         assert!(rt;
-            end.why == Why::Closed && end.receipts == 1 && end.count == 1,
+            end.why == EndReason::Closed && end.receipts == 1 && end.count == 1,
             "{host}"
         );
         assert_eq!(rt; end.place, Some(0), "{host}");
@@ -79,9 +83,9 @@ fn the_longest_frame(rt: HostRuntime) -> Result<(), Fail> {
     for frame in 15..19u32 {
         let end = end_of(rt, rt.alloc(), &[HANDSHAKE], Limits { frame, frames: 1 })?;
         let why = if frame < 17 {
-            Why::BadFrame
+            EndReason::BadFrame
         } else {
-            Why::Limit
+            EndReason::Limit
         };
         assert!(rt; end.why == why, "{frame}");
     }

@@ -2,7 +2,7 @@
 
 use admission::Doorman;
 use broker_keeping::OperatorLog;
-use session_pool::{Gate, Why};
+use session_pool::{EndReason, Gate};
 use std::alloc::Global;
 use std::ops::Range;
 use std::str::from_utf8;
@@ -106,7 +106,7 @@ fn cut<R: Wait + time::Clock>(
 ) -> Result<(), Fail> {
     let host = Text::of(alloc, "10.0.0.5")?;
     for number in numbers {
-        log.ended(number, &host, None, Why::Cut);
+        log.ended(number, &host, None, EndReason::Cut);
     }
     Ok(())
 }
@@ -135,10 +135,10 @@ fn the_latest_four_sayings_are_compared(rt: HostRuntime) -> Result<(), Fail> {
     let (log, log_writer) = OperatorLog::new(&rt, alloc, Vec::<u8>::new(alloc), false)?;
     cut(alloc, &log, 0..3)?;
     for why in [
-        Why::ReadFault,
-        Why::WriteFault,
-        Why::BadFrame,
-        Why::Malformed,
+        EndReason::ReadFault,
+        EndReason::WriteFault,
+        EndReason::BadFrame,
+        EndReason::Malformed,
     ] {
         log.ended(7, &Text::of(alloc, "10.0.0.5")?, None, why);
     }

@@ -11,8 +11,7 @@ use arguments::VERSION;
 use broker_keeping::Steering;
 use broker_server::{ServeOptions, serve};
 use request_handlers::{Core, MOST_SEATS};
-use session_logins::{ListedVersions, Users};
-use session_pool::{Desk, DeskLedger, LockedDesk};
+use session_pool::{Desk, DeskLedger, ListedVersions, LockedDesk, Users};
 use session_workers::{ConnectionOptions, SessionOptions};
 use settings_text::{Document, document_of_text};
 use std::alloc::Global;
@@ -220,7 +219,8 @@ fn is_woken_on<L: DeskLedger, R: Wait + time::Clock + Copy>(
 ) -> Result<bool, Fail>
     requires settings { core.settings ≡ L.settings }
     requires empty { core.trail ≡ [] }
-    requires ledger { (blank.name ≡ L.name) × (blank.parts ≡ L.parts) × (blank.parts ≡ most_seats + 1) }
+    requires ledger { (blank.name ≡ L.name) × (blank.parts ≡ L.parts)
+        × (blank.parts ≡ most_seats + 1) }
 {
     let desk: LockedDesk<L, R> = LockedDesk::new(core, blank, rt);
     let mut seat = desk.seat().ok_or("seat")?;
@@ -247,7 +247,7 @@ fn is_woken<R: Wait + time::Clock + Copy>(
     is_woken_on::<Brand, R>(rt, alloc, core, Blank::new(MOST_SEATS + 1), frames)
 }
 
-/// The commit leaves a marker owed.
+/// The commit leaves a marker pending.
 #[test]
 fn a_rest_ends_once_a_marker_is_owed(rt: HostRuntime) -> Result<(), Fail> {
     assert!(rt; is_woken(rt, rt.alloc(), &[INIT, ADD, COMMIT])?);

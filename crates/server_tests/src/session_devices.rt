@@ -5,7 +5,7 @@ ghost use Rattle.std.specs.Prelude.{None};
 use crate::clients::{
     HANDSHAKE, HANDSHAKE_TOLD, LOGIN, LOGIN_TOLD, METADATA, METADATA_TOLD, bytes_of, serve,
 };
-use session_pool::{Limits, Why};
+use session_pool::{EndReason, Limits};
 use std::alloc::Global;
 use std::io;
 use std::io::{ErrorKind, Read, Write};
@@ -110,7 +110,7 @@ fn told<R: Wait + Drop, Rd: Read + Drop>(
     rt: R,
     alloc: Global,
     reader: Rd,
-) -> Result<(Why, Vec<u8>), Fail> {
+) -> Result<(EndReason, Vec<u8>), Fail> {
     let mut written = Vec::new(alloc);
     let end = serve(rt, alloc, reader, &mut written, Limits::default())?;
     Ok((end.why, written))
@@ -122,10 +122,10 @@ fn one_byte_at_a_time(rt: HostRuntime) -> Result<(), Fail> {
     let input = bytes_of(rt.alloc(), &[HANDSHAKE, LOGIN, METADATA])?;
     let whole = bytes_of(rt.alloc(), &[HANDSHAKE_TOLD, LOGIN_TOLD, METADATA_TOLD])?;
     let (why, written) = told(rt, rt.alloc(), input.as_slice())?;
-    assert!(rt; why == Why::Closed && written == whole);
+    assert!(rt; why == EndReason::Closed && written == whole);
     let slow = Slow::new(input.as_slice(), 1, usize::MAX);
     let (why, written) = told(rt, rt.alloc(), slow)?;
-    assert!(rt; why == Why::Closed && written == whole);
+    assert!(rt; why == EndReason::Closed && written == whole);
     Ok(())
 }
 
@@ -144,7 +144,7 @@ fn failing_reads(rt: HostRuntime) -> Result<(), Fail> {
         let slow = Slow::new(input.as_slice(), 0, reads);
         let (why, written) = told(rt, rt.alloc(), slow)?;
         assert!(rt;
-            why == Why::ReadFault && written.len() == answered,
+            why == EndReason::ReadFault && written.len() == answered,
             "{reads}"
         );
         assert!(rt; whole.as_slice().starts_with(written.as_slice()), "{reads}");
@@ -156,7 +156,7 @@ fn failing_reads(rt: HostRuntime) -> Result<(), Fail> {
 #[test]
 fn interrupted_reads(rt: HostRuntime) -> Result<(), Fail> {
     let input = bytes_of(rt.alloc(), &[HANDSHAKE])?;
-    for (interruptions, why) in [(1_000, Why::Closed), (1_001, Why::ReadFault)] {
+    for (interruptions, why) in [(1_000, EndReason::Closed), (1_001, EndReason::ReadFault)] {
         let slow = Slow::new(input.as_slice(), interruptions, usize::MAX);
         assert!(rt; told(rt, rt.alloc(), slow)?.0 == why, "{interruptions}");
     }
@@ -169,7 +169,7 @@ fn cut_off<R: Wait + Drop>(
     alloc: Global,
     input: &[u8],
     writes: usize,
-) -> Result<(Why, usize, Vec<u8>), Fail> {
+) -> Result<(EndReason, usize, Vec<u8>), Fail> {
     let mut narrow = Narrow {
         held: Vec::new(alloc),
         writes,
@@ -185,7 +185,7 @@ fn failing_writes(rt: HostRuntime) -> Result<(), Fail> {
     let whole = bytes_of(rt.alloc(), &[HANDSHAKE_TOLD, LOGIN_TOLD, METADATA_TOLD])?;
     for writes in 0..whole.len() {
         let (why, receipts, held) = cut_off(rt, rt.alloc(), input.as_slice(), writes)?;
-        assert!(rt; why == Why::WriteFault, "{writes}");
+        assert!(rt; why == EndReason::WriteFault, "{writes}");
         assert!(rt; receipts == usize::from(writes >= 37), "{writes}");
         assert!(rt; held.as_slice() == &whole[..writes], "{writes}");
     }
@@ -199,12 +199,12 @@ fn each_front_of_an_input(rt: HostRuntime) -> Result<(), Fail> {
     let whole = bytes_of(rt.alloc(), &[HANDSHAKE_TOLD, LOGIN_TOLD, METADATA_TOLD])?;
     for len in 0..input.len() {
         let (due, answered) = match len {
-            0 => (Why::Closed, 0),
-            1..=20 => (Why::Cut, 0),
-            21 => (Why::Closed, 21),
-            22..=45 => (Why::Cut, 21),
-            46 => (Why::Closed, 37),
-            _ => (Why::Cut, 37),
+            0 => (EndReason::Closed, 0),
+            1..=20 => (EndReason::Cut, 0),
+            21 => (EndReason::Closed, 21),
+            22..=45 => (EndReason::Cut, 21),
+            46 => (EndReason::Closed, 37),
+            _ => (EndReason::Cut, 37),
         };
         let (why, written) = told(rt, rt.alloc(), &input[..len])?;
         assert!(rt; why == due && written.len() == answered, "{len}");
@@ -214,7 +214,7 @@ fn each_front_of_an_input(rt: HostRuntime) -> Result<(), Fail> {
 }
 
 /// Why a session ended, and how many reads it made.
-fn reads_of<R: Wait + Drop>(rt: R, alloc: Global, bytes: &[u8]) -> Result<(Why, u64), Fail> {
+fn reads_of<R: Wait + Drop>(rt: R, alloc: Global, bytes: &[u8]) -> Result<(EndReason, u64), Fail> {
     let reads = AtomicU64::new(0);
     let counted = Counted {
         bytes,
@@ -230,7 +230,7 @@ fn a_long_frame_in_few_reads(rt: HostRuntime) -> Result<(), Fail> {
     let mut input = bytes_of(rt.alloc(), &[HANDSHAKE, LOGIN, "000f4240"])?;
     input.resize(21 + 25 + 4 + 1_000_000, 0)?;
     let (why, reads) = reads_of(rt, rt.alloc(), input.as_slice())?;
-    assert!(rt; why == Why::Malformed && reads < 12);
+    assert!(rt; why == EndReason::Malformed && reads < 12);
     Ok(())
 }
 
@@ -240,7 +240,7 @@ fn a_long_frame_before_a_login(rt: HostRuntime) -> Result<(), Fail> {
     let mut input = bytes_of(rt.alloc(), &["000f4240"])?;
     input.resize(4 + 1_000_000, 0)?;
     let (why, reads) = reads_of(rt, rt.alloc(), input.as_slice())?;
-    assert!(rt; why == Why::Login && reads > 120 && reads < 130);
+    assert!(rt; why == EndReason::Login && reads > 120 && reads < 130);
     Ok(())
 }
 
@@ -248,7 +248,7 @@ fn a_long_frame_before_a_login(rt: HostRuntime) -> Result<(), Fail> {
 #[test]
 fn one_read_for_many_frames(rt: HostRuntime) -> Result<(), Fail> {
     let input = bytes_of(rt.alloc(), &[HANDSHAKE, LOGIN, METADATA])?;
-    assert!(rt; reads_of(rt, rt.alloc(), input.as_slice())? == (Why::Closed, 2));
+    assert!(rt; reads_of(rt, rt.alloc(), input.as_slice())? == (EndReason::Closed, 2));
     Ok(())
 }
 
@@ -264,6 +264,6 @@ fn one_write_for_each_answer(rt: HostRuntime) -> Result<(), Fail> {
         &mut counting,
         Limits::default(),
     )?;
-    assert!(rt; end.why == Why::Closed && counting.writes == 3);
+    assert!(rt; end.why == EndReason::Closed && counting.writes == 3);
     Ok(())
 }

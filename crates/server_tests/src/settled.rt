@@ -7,7 +7,7 @@ use crate::talk::{ONE_REFUSED, TWO_REFUSED, core as equal_core, event_of, other_
 use audit_trail::Event;
 use request_handlers::{Core, MOST_SEATS, Receipt, Stop};
 use session_pool::{Desk, DeskLedger, LockedDesk, Quiet};
-use settlement::{SettleFault, Settled, settle};
+use session_workers::{SettleFault, Settled, settle};
 use std::alloc::Global;
 use std::marker::Brand;
 use std::sync::Wait;
@@ -44,7 +44,8 @@ fn keep_books<L: DeskLedger, R: Wait + Drop>(
 ) -> Result<Books<L>, Fail>
     requires settings { core.settings ≡ L.settings }
     requires empty { core.trail ≡ [] }
-    requires ledger { (blank.name ≡ L.name) × (blank.parts ≡ L.parts) × (blank.parts ≡ most_seats + 1) }
+    requires ledger { (blank.name ≡ L.name) × (blank.parts ≡ L.parts)
+        × (blank.parts ≡ most_seats + 1) }
 {
     let asked = event_of(alloc, TWO_REFUSED).ok_or("event")?;
     let asked_more = event_of(alloc, ONE_REFUSED).ok_or("event")?;
@@ -82,7 +83,8 @@ fn first_receipts_at<L: DeskLedger, R: Wait + Drop>(
 ) -> Result<Vec<Receipt>, Fail>
     requires settings { core.settings ≡ L.settings }
     requires empty { core.trail ≡ [] }
-    requires ledger { (blank.name ≡ L.name) × (blank.parts ≡ L.parts) × (blank.parts ≡ most_seats + 1) }
+    requires ledger { (blank.name ≡ L.name) × (blank.parts ≡ L.parts)
+        × (blank.parts ≡ most_seats + 1) }
 {
     let Books { one, .. } = keep_books::<L, R>(rt, alloc, core, blank)?;
     Ok(one)
@@ -103,7 +105,8 @@ fn settle_each_at<L: DeskLedger, R: Wait + Drop + Copy>(
 ) -> Result<Settling, Fail>
     requires settings { core.settings ≡ L.settings }
     requires empty { core.trail ≡ [] }
-    requires ledger { (blank.name ≡ L.name) × (blank.parts ≡ L.parts) × (blank.parts ≡ most_seats + 1) }
+    requires ledger { (blank.name ≡ L.name) × (blank.parts ≡ L.parts)
+        × (blank.parts ≡ most_seats + 1) }
 {
     let equal = first_receipts(rt, alloc, equal_core(alloc).ok_or("core")?)?;
     let another = first_receipts(rt, alloc, other_core(alloc).ok_or("core")?)?;

@@ -9,8 +9,7 @@ use crate::talk::{HANDSHAKE, LOGIN, METADATA, core, users};
 use crate::together::Ticks;
 use admission::{Doorman, Rate};
 use request_handlers::{Core, MOST_SEATS};
-use session_logins::{ListedVersions, Users};
-use session_pool::{Clocked, Closing, DeskLedger, Gate, LockedDesk};
+use session_pool::{Clocked, DeskLedger, Gate, ListedVersions, LockedDesk, ShutdownFlag, Users};
 use session_workers::{ConnectionOptions, SessionOptions, serve_connections};
 use std::alloc::Global;
 use std::io::{Read, Write};
@@ -67,7 +66,7 @@ struct Site {
     users: Shared<Users>,
     listener: TcpListener,
     address: SocketAddr,
-    closing: Closing,
+    closing: ShutdownFlag,
 }
 
 impl Site {
@@ -82,7 +81,7 @@ impl Site {
             users,
             listener,
             address,
-            closing: Closing::new(),
+            closing: ShutdownFlag::new(),
         })
     }
 
@@ -108,7 +107,8 @@ fn serve_at<
 ) -> Option<Left>
     requires settings { core.settings ≡ L.settings }
     requires empty { core.trail ≡ [] }
-    requires ledger { (blank.name ≡ L.name) × (blank.parts ≡ L.parts) × (blank.parts ≡ most_seats + 1) }
+    requires ledger { (blank.name ≡ L.name) × (blank.parts ≡ L.parts)
+        × (blank.parts ≡ most_seats + 1) }
 {
     let desk: LockedDesk<L, &R> = LockedDesk::new(core, blank, rt);
     for _ in 0..given {

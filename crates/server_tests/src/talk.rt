@@ -7,11 +7,11 @@ use acl_binding::Caller;
 use audit_trail::Event;
 use msg_admin::{FRAME_LIMIT, read_request};
 use request_handlers::Core;
-use session_logins::Users;
+use session_pool::Users;
 use settings_text::{Document, document_of_text};
 use std::alloc::Global;
 use std::test::Fail;
-use wire_types::{Bytes, Text};
+use wire_types::{Boxed, Bytes, Shared, Text};
 
 /// Ann may log in, and do all with the topic `b`.
 const SETTINGS: &str =
@@ -91,6 +91,14 @@ pub(crate) fn event_of(alloc: Global, digits: &str) -> Option<Event>
     event_by(alloc, "User:ann", digits)
 }
 
+/// A client's name, if one was told, in a block of its own.
+fn boxed(alloc: Global, client: Option<Text>) -> Option<Option<Boxed<Text>>> {
+    match client {
+        Some(client) => Some(Some(Boxed::new(alloc, client).ok()?)),
+        None => Some(None),
+    }
+}
+
 /// The event that somebody's frame is.
 pub(crate) fn event_by(alloc: Global, who: &str, digits: &str) -> Option<Event>
     ensures { IfSome result EventFits }
@@ -104,12 +112,15 @@ pub(crate) fn event_by(alloc: Global, who: &str, digits: &str) -> Option<Event>
         return None;
     }
     let (header, request) = read_request(alloc, &frame).ok()?;
+    let caller = Caller {
+        who: Text::of(alloc, who).ok()?,
+        host: Text::of(alloc, "10.0.0.5").ok()?,
+    };
+    let caller = Shared::new(alloc, caller).ok()?;
+    let client = boxed(alloc, header.client)?;
     Some(Event::Ask {
-        caller: Caller {
-            who: Text::of(alloc, who).ok()?,
-            host: Text::of(alloc, "10.0.0.5").ok()?,
-        },
-        client: header.client,
+        caller,
+        client,
         request,
     })
 }

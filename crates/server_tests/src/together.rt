@@ -15,10 +15,8 @@ use crossbeam_channel::Sender;
 use deadlines::Times;
 use msg_admin::Request;
 use request_handlers::{Core, MOST_SEATS, Receipt, Seat};
-use session_logins::Users;
-use session_pool::{Clock, DeskLedger, Limits, LockedDesk, Quiet, SessionEnd, Why};
-use session_workers::{Job, serve_all};
-use settlement::settle;
+use session_pool::{Clock, DeskLedger, EndReason, Limits, LockedDesk, Quiet, SessionEnd, Users};
+use session_workers::{Job, serve_all, settle};
 use std::alloc::Global;
 use std::io::Cursor;
 use std::marker::Brand;
@@ -225,7 +223,7 @@ fn are_told(alloc: Global, trail: &Trail, frames: &[&str]) -> bool {
         } = entry.event.value()
         {
             match frames.get(found) {
-                Some(frame) if is_told(alloc, caller, request, *frame) => {
+                Some(frame) if is_told(alloc, caller.value(), request, *frame) => {
                     found = found.wrapping_add(1);
                 }
                 _ => return false,
@@ -238,7 +236,7 @@ fn are_told(alloc: Global, trail: &Trail, frames: &[&str]) -> bool {
 fn closed_in<L: Ledger>(ends: &[SessionEnd<Seat<L>>]) -> usize {
     let mut closed = 0usize;
     for end in ends {
-        closed = closed.wrapping_add(usize::from(end.why == Why::Closed));
+        closed = closed.wrapping_add(usize::from(end.why == EndReason::Closed));
     }
     closed
 }
@@ -294,7 +292,8 @@ fn run_at<L: DeskLedger + Send + Sync, R: Threads + Wait + time::Clock + Copy + 
 ) -> Result<Came, Fail>
     requires settings { core.settings ≡ L.settings }
     requires empty { core.trail ≡ [] }
-    requires ledger { (blank.name ≡ L.name) × (blank.parts ≡ L.parts) × (blank.parts ≡ most_seats + 1) }
+    requires ledger { (blank.name ≡ L.name) × (blank.parts ≡ L.parts)
+        × (blank.parts ≡ most_seats + 1) }
 {
     let flags = Shared::new(alloc, Flags::new()).ok().ok_or("flags")?;
     let desk: LockedDesk<L, R> = LockedDesk::new(core, blank, rt);

@@ -1,6 +1,6 @@
 //! Who may log in at all.
 
-use session_logins::Users;
+use session_pool::Users;
 use settings_text::{SettingsFault, User};
 use std::alloc::{AllocError, Global};
 use std::test::Fail;

@@ -3,13 +3,13 @@ use Rattle.std.proofs.Common.{◌≡◌, ℕ, ◌+◌, ◌-◌, ◌<◌, ◌≤�
 use Rattle.std.proofs.lemmas.Slice.{take-put_mid_below, take-put_mid}
 use Rattle.std.specs.Io.KnownBytes.{Consumes, IsAtEnd}
 use Rattle.std.proofs.KnownBytes.{Consumes-nil, Consumes-trans}
-use Rattle.session_pool.specs.declared.why.Why.{Why}
-use Rattle.session_pool.specs.declared.why.Why.TheVariants as why
+use Rattle.session_pool.specs.declared.end_reason.EndReason.{EndReason}
+use Rattle.session_pool.specs.declared.end_reason.EndReason.TheVariants as why
 use Rattle.session_pool.specs.Reads.{Took, StopsShort, HeadLacks, BodyLacks, ReadsOn, Passes, ReadsPast}
 use borrow.Rule.Slice.PartMut.{put_mid, post_of}
 use lib.Seq.{take-add, take-append-le}
 
--- the part that was read lies behind what was there
+-- the part that was read lies after what was there
 slice_range-put_mid : (a k n : ℕ) (xs ys : List ℕ) → a ≤ length xs → n ≤ length ys → slice_range (put_mid a k xs ys) a (a + n) ≡ take n ys
 slice_range-put_mid a k n xs ys within fits =
     let same : (a + n) - a ≡ n = omega arith in
@@ -48,13 +48,13 @@ head_closed a b n bs none within read end = took_end (HeadLacks why.Closed) a b 
 pub head_cut : (a b : Option (List ℕ)) (n : ℕ) (bs : List ℕ) → 0 < n → n < 4 → n ≤ length bs → Consumes a b (take n bs) → IsAtEnd b → Took a b (HeadLacks why.Cut)
 head_cut a b n bs some few within read end = took_end (HeadLacks why.Cut) a b n bs within read end (λ p l. (omega arith, omega arith, refl))
 
-pub head_fault : (a b : Option (List ℕ)) (n : ℕ) (w : Why) → n ≡ 4 → w ≡ why.ReadFault → StopsShort a b n → Took a b (HeadLacks w)
+pub head_fault : (a b : Option (List ℕ)) (n : ℕ) (w : EndReason) → n ≡ 4 → w ≡ why.ReadFault → StopsShort a b n → Took a b (HeadLacks w)
 head_fault a b n w four is short = subst (λ x. Took a b (HeadLacks x)) (sym is) (took_short (HeadLacks why.ReadFault) a b n short (λ p rest l. omega arith))
 
 pub body_cut : (a b : Option (List ℕ)) (n size : ℕ) (bs : List ℕ) → n < size → n ≤ length bs → Consumes a b (take n bs) → IsAtEnd b → Took a b (BodyLacks size why.Cut)
 body_cut a b n size bs few within read end = took_end (BodyLacks size why.Cut) a b n bs within read end (λ p l. (omega arith, refl))
 
-pub body_fault : (a b : Option (List ℕ)) (n size : ℕ) (w : Why) → n ≡ size → w ≡ why.ReadFault → StopsShort a b n → Took a b (BodyLacks size w)
+pub body_fault : (a b : Option (List ℕ)) (n size : ℕ) (w : EndReason) → n ≡ size → w ≡ why.ReadFault → StopsShort a b n → Took a b (BodyLacks size w)
 body_fault a b n size w all is short = subst (λ x. Took a b (BodyLacks size x)) (sym is) (took_short (BodyLacks size why.ReadFault) a b n short (λ p rest l. omega arith))
 
 -- ---- a body in pieces
@@ -65,7 +65,7 @@ unread None b size front h = tt
 unread (Some xs) None size front h = absurd h
 unread (Some xs) (Some ys) size front h = (front, ys, h, refl, tt)
 
-lacks_more : (old m size : ℕ) (w : Why) (front read rest : List ℕ) → length front ≡ old → old + m ≤ size → BodyLacks m w read rest → BodyLacks size w (front ++ read) rest
+lacks_more : (old m size : ℕ) (w : EndReason) (front read rest : List ℕ) → length front ≡ old → old + m ≤ size → BodyLacks m w read rest → BodyLacks size w (front ++ read) rest
 lacks_more old m size why.Cut front read rest is within h = let l = length-append front read in (omega (arith, l, h.0), h.1)
 lacks_more old m size why.ReadFault front read rest is within h = let l = length-append front read in omega (arith, l, h)
 lacks_more old m size why.NoMemory front read rest is within h = tt
@@ -79,7 +79,7 @@ lacks_more old m size why.Limit front read rest is within h = absurd h
 lacks_more old m size why.TooLong front read rest is within h = absurd h
 
 -- the next piece lacks, and so the body does
-pub piece_lacks : (a b c : Option (List ℕ)) (m size : ℕ) (front : List ℕ) (w : Why) → length front + m ≤ size → Consumes a b front → Took b c (BodyLacks m w) → Took a c (BodyLacks size w)
+pub piece_lacks : (a b c : Option (List ℕ)) (m size : ℕ) (front : List ℕ) (w : EndReason) → length front + m ≤ size → Consumes a b front → Took b c (BodyLacks m w) → Took a c (BodyLacks size w)
 piece_lacks None b c m size front w within h lacks = tt
 piece_lacks (Some xs) None c m size front w within h lacks = absurd h
 piece_lacks (Some xs) (Some ys) c m size front w within h (read, rest, whole, after, lacks) = (
@@ -90,7 +90,7 @@ piece_lacks (Some xs) (Some ys) c m size front w within h (read, rest, whole, af
   lacks_more (length front) m size w front read rest refl within lacks,
 )
 
--- what is read from one place on stands behind what was there
+-- what is read from one place on stands after what was there
 pub rest_read : (b c : Option (List ℕ)) (len held : ℕ) (xs ys rest : List ℕ) → length xs ≡ len → held ≤ len → length ys ≡ len - held → Consumes b c ys
     → ReadsOn b c (take held xs) (take len (put_mid held (len - held) xs ys ++ rest))
 rest_read b c len held xs ys rest all within fits read =
@@ -104,7 +104,7 @@ rest_read b c len held xs ys rest all within fits read =
 pub read_on : (a b c : Option (List ℕ)) (held more : List ℕ) → Consumes a b held → ReadsOn b c held more → Consumes a c more
 read_on a b c held more first (read, whole, next) = subst (Consumes a c) (sym whole) (Consumes-trans a b c held read first next)
 
--- room for more is taken behind what is there
+-- room for more is taken after what is there
 pub front_kept : (n end : ℕ) (xs more : List ℕ) → length xs ≡ n → n ≤ end → take n (take end xs ++ more) ≡ xs
 front_kept n end xs more all within =
     ap (λ l. take n (l ++ more)) (take_all end xs (omega (arith, all, within))) ∙ take-append-le n xs more (omega (arith, all)) ∙ take_all n xs (omega (arith, all))
@@ -119,14 +119,14 @@ more_passed a b c n m piece (read, long, first) is next =
     (read ++ piece, length-append read piece ∙ (λ i. long i + is i), Consumes-trans a b c read piece first next)
 
 -- the next piece lacks
-pub passing_lacks : (a b c : Option (List ℕ)) (n m size : ℕ) (w : Why) → n + m ≤ size → Passes a b n → Took b c (BodyLacks m w) → Took a c (BodyLacks size w)
+pub passing_lacks : (a b c : Option (List ℕ)) (n m size : ℕ) (w : EndReason) → n + m ≤ size → Passes a b n → Took b c (BodyLacks m w) → Took a c (BodyLacks size w)
 passing_lacks a b c n m size w within (read, long, first) lacks = piece_lacks a b c m size read w (omega (arith, within, long)) first lacks
 
 -- a front lacks, and so does the whole
-lacks_front : (kept size : ℕ) (w : Why) (read rest : List ℕ) → kept ≤ size → BodyLacks kept w read rest → BodyLacks size w read rest
+lacks_front : (kept size : ℕ) (w : EndReason) (read rest : List ℕ) → kept ≤ size → BodyLacks kept w read rest → BodyLacks size w read rest
 lacks_front kept size w read rest within h = lacks_more 0 kept size w [] read rest refl (omega (arith, within)) h
 
-pub front_lacks : (a b : Option (List ℕ)) (kept size : ℕ) (w : Why) → kept ≤ size → Took a b (BodyLacks kept w) → Took a b (BodyLacks size w)
+pub front_lacks : (a b : Option (List ℕ)) (kept size : ℕ) (w : EndReason) → kept ≤ size → Took a b (BodyLacks kept w) → Took a b (BodyLacks size w)
 front_lacks None b kept size w within h = tt
 front_lacks (Some xs) b kept size w within (read, rest, whole, after, lacks) = (read, rest, whole, after, lacks_front kept size w read rest within lacks)
 
@@ -134,5 +134,5 @@ pub some_kept : (a b c : Option (List ℕ)) (kept size : ℕ) (body : List ℕ) 
 some_kept a b c kept size body within long first (read, more, next) = (read, omega (arith, within, long, more), Consumes-trans a b c body read first next)
 
 -- what lacks after a front
-pub rest_lacks : (a b c : Option (List ℕ)) (kept size : ℕ) (body : List ℕ) (w : Why) → kept ≤ size → length body ≡ kept → Consumes a b body → Took b c (BodyLacks (size - kept) w) → Took a c (BodyLacks size w)
+pub rest_lacks : (a b c : Option (List ℕ)) (kept size : ℕ) (body : List ℕ) (w : EndReason) → kept ≤ size → length body ≡ kept → Consumes a b body → Took b c (BodyLacks (size - kept) w) → Took a c (BodyLacks size w)
 rest_lacks a b c kept size body w within long first lacks = piece_lacks a b c (size - kept) size body w (omega (arith, within, long)) first lacks

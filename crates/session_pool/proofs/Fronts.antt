@@ -6,11 +6,11 @@ use Rattle.std.proofs.lemmas.Bool.Decides.{nat_tests}
 use Rattle.std.specs.Int.{from_be_bytes, w32}
 use Rattle.std.specs.Io.KnownBytes.{Consumes}
 use Rattle.session_pool.specs.declared.frame.Came.{Came}
-use Rattle.session_pool.specs.declared.why.Why.{Why}
-use Rattle.session_pool.specs.declared.why.Why.TheVariants as why
-use Rattle.session_pool.specs.Frames.{Nothing, Part, Bad, Whole, size_of, sized, front_of}
+use Rattle.session_pool.specs.declared.end_reason.EndReason.{EndReason}
+use Rattle.session_pool.specs.declared.end_reason.EndReason.TheVariants as why
+use Rattle.session_pool.specs.Frames.{Nothing, Part, Bad, Whole, size_of, front_after_size, front_of}
 use Rattle.session_pool.specs.Reads.{HeadLacks, BodyLacks, Took, ReadsPast}
-use Rattle.session_pool.specs.Turns.{Lacks, Arrives, kept_of}
+use Rattle.session_pool.specs.Turns.{Lacks, Arrives, kept_bytes}
 
 take_front : (n : ℕ) (xs front ys : List ℕ) → xs ≡ front ++ ys → length front ≡ n → take n xs ≡ front
 take_front n xs front ys h l = ap (take n) h ∙ ap (λ m. take m (front ++ ys)) (sym l) ∙ take-append_seam front ys
@@ -18,17 +18,17 @@ take_front n xs front ys h l = ap (take n) h ∙ ap (λ m. take m (front ++ ys))
 drop_front : (n : ℕ) (xs front ys : List ℕ) → xs ≡ front ++ ys → length front ≡ n → drop n xs ≡ ys
 drop_front n xs front ys h l = ap (drop n) h ∙ ap (λ m. drop m (front ++ ys)) (sym l) ∙ drop-append_seam front ys
 
--- behind a head
-pub headed : (limit : ℕ) (input head ys : List ℕ) → input ≡ head ++ ys → length head ≡ 4 → front_of limit input ≡ sized limit (from_be_bytes w32 head) ys
+-- after a head
+pub headed : (limit : ℕ) (input head ys : List ℕ) → input ≡ head ++ ys → length head ≡ 4 → front_of limit input ≡ front_after_size limit (from_be_bytes w32 head) ys
 headed limit input head ys h l =
     let len : length input ≡ 4 + length ys = omega (arith, ap length h, length-append head ys) in
     let some : (length input == 0) ≡ false = grind (arith, nat_tests) in
     let four : nat_lt (length input) 4 ≡ false = grind (arith, nat_tests) in
     let s : size_of input ≡ from_be_bytes w32 head = ap (from_be_bytes w32) (take_front 4 input head ys h l) in
     let rest : drop 4 input ≡ ys = drop_front 4 input head ys h l in
-    rw (some, four) (ap (λ n. sized limit n (drop 4 input)) s ∙ ap (sized limit (from_be_bytes w32 head)) rest)
+    rw (some, four) (ap (λ n. front_after_size limit n (drop 4 input)) s ∙ ap (front_after_size limit (from_be_bytes w32 head)) rest)
 
-whole_front : (limit size : ℕ) (body zs : List ℕ) → 8 ≤ size → size ≤ limit → length body ≡ size → sized limit size (body ++ zs) ≡ Whole body zs
+whole_front : (limit size : ℕ) (body zs : List ℕ) → 8 ≤ size → size ≤ limit → length body ≡ size → front_after_size limit size (body ++ zs) ≡ Whole body zs
 whole_front limit size body zs least most l =
     let a : nat_lt size 8 ≡ false = grind (arith, nat_tests) in
     let b : nat_lt limit size ≡ false = grind (arith, nat_tests) in
@@ -36,14 +36,14 @@ whole_front limit size body zs least most l =
     let c : nat_lt (length (body ++ zs)) size ≡ false = grind (arith, nat_tests) in
     rw (a, b, c) (ap (λ x. Whole x (drop size (body ++ zs))) (take_front size (body ++ zs) body zs refl l) ∙ ap (Whole body) (drop_front size (body ++ zs) body zs refl l))
 
-bad_front : (limit size : ℕ) (ys : List ℕ) → (size < 8) ⊎ (limit < size) → sized limit size ys ≡ Bad
+bad_front : (limit size : ℕ) (ys : List ℕ) → (size < 8) ⊎ (limit < size) → front_after_size limit size ys ≡ Bad
 bad_front limit size ys (inl small) = let a : nat_lt size 8 ≡ true = grind (arith, nat_tests) in rw a refl
 bad_front limit size ys (inr large) =
     let b : nat_lt limit size ≡ true = grind (arith, nat_tests) in
     let either : (nat_lt size 8 || nat_lt limit size) ≡ true = grind (arith, nat_tests) in
     rw either refl
 
-part_front : (limit size : ℕ) (ys : List ℕ) → 8 ≤ size → size ≤ limit → length ys < size → sized limit size ys ≡ Part
+part_front : (limit size : ℕ) (ys : List ℕ) → 8 ≤ size → size ≤ limit → length ys < size → front_after_size limit size ys ≡ Part
 part_front limit size ys least most short =
     let a : nat_lt size 8 ≡ false = grind (arith, nat_tests) in
     let b : nat_lt limit size ≡ false = grind (arith, nat_tests) in
@@ -51,7 +51,7 @@ part_front limit size ys least most short =
     rw (a, b, c) refl
 
 -- what is kept of a frame that begins with these bytes
-kept_front : (most size : ℕ) (body more : List ℕ) → length body + length more ≡ size → (most < size → length body ≡ 8) → (size ≤ most → length body ≡ size) → body ≡ kept_of most (body ++ more)
+kept_front : (most size : ℕ) (body more : List ℕ) → length body + length more ≡ size → (most < size → length body ≡ 8) → (size ≤ most → length body ≡ size) → body ≡ kept_bytes most (body ++ more)
 kept_front most size body more long some all = by_test (nat_lt most (length (body ++ more))) refl where
   total : length (body ++ more) ≡ size
   total = length-append body more ∙ long
@@ -80,7 +80,7 @@ framed (Some xs) (Some ys) (Some zs) head body limit most size l is least within
       (
         body ++ more,
         (kept_front most size body more long some all, sym total),
-        λ tail. headed limit ((head ++ (body ++ more)) ++ tail) head ((body ++ more) ++ tail) (append_assoc head (body ++ more) tail) l ∙ ap (λ n. sized limit n ((body ++ more) ++ tail)) (sym is)
+        λ tail. headed limit ((head ++ (body ++ more)) ++ tail) head ((body ++ more) ++ tail) (append_assoc head (body ++ more) tail) l ∙ ap (λ n. front_after_size limit n ((body ++ more) ++ tail)) (sym is)
             ∙ whole_front limit size (body ++ more) tail least within total,
       ),
     )
@@ -99,7 +99,7 @@ short_front : (limit : ℕ) (p : List ℕ) → length p < 4 → (front_of limit 
 short_front limit [] short = inl refl
 short_front limit (x ∷ xs) short = inr (few_front limit (x ∷ xs) (omega arith) short)
 
-lacks_head : (limit : ℕ) (w : Why) (p rest : List ℕ) → HeadLacks w p rest → Lacks limit w p rest
+lacks_head : (limit : ℕ) (w : EndReason) (p rest : List ℕ) → HeadLacks w p rest → Lacks limit w p rest
 lacks_head limit why.Closed p rest h = (none_front limit p h.0, h.1)
 lacks_head limit why.Cut p rest h = (few_front limit p h.0 h.1, h.2)
 lacks_head limit why.ReadFault p rest h = short_front limit p h
@@ -112,7 +112,7 @@ lacks_head limit why.Limit p rest h = absurd h
 lacks_head limit why.NoMemory p rest h = absurd h
 lacks_head limit why.TooLong p rest h = absurd h
 
-pub no_head : (limit : ℕ) (a b : Option (List ℕ)) (w : Why) → Took a b (HeadLacks w) → Took a b (Lacks limit w)
+pub no_head : (limit : ℕ) (a b : Option (List ℕ)) (w : EndReason) → Took a b (HeadLacks w) → Took a b (Lacks limit w)
 no_head limit None b w h = tt
 no_head limit (Some input) b w (p, rest, whole, after, lacks) = (p, rest, whole, after, lacks_head limit w p rest lacks)
 
@@ -120,10 +120,10 @@ no_head limit (Some input) b w (p, rest, whole, after, lacks) = (p, rest, whole,
 pub bad : (a b : Option (List ℕ)) (head : List ℕ) (limit size : ℕ) → length head ≡ 4 → size ≡ from_be_bytes w32 head → (size < 8) ⊎ (limit < size) → Consumes a b head → Took a b (Lacks limit why.BadFrame)
 bad None b head limit size l is out h = tt
 bad (Some xs) None head limit size l is out h = absurd h
-bad (Some xs) (Some ys) head limit size l is out h = (head, ys, h, refl, λ tail. headed limit (head ++ tail) head tail refl l ∙ ap (λ n. sized limit n tail) (sym is) ∙ bad_front limit size tail out)
+bad (Some xs) (Some ys) head limit size l is out h = (head, ys, h, refl, λ tail. headed limit (head ++ tail) head tail refl l ∙ ap (λ n. front_after_size limit n tail) (sym is) ∙ bad_front limit size tail out)
 
 -- no body comes
-lacks_body : (limit size : ℕ) (w : Why) (head p rest : List ℕ) → front_of limit (head ++ p) ≡ sized limit size p → 8 ≤ size → size ≤ limit → BodyLacks size w p rest → Lacks limit w (head ++ p) rest
+lacks_body : (limit size : ℕ) (w : EndReason) (head p rest : List ℕ) → front_of limit (head ++ p) ≡ front_after_size limit size p → 8 ≤ size → size ≤ limit → BodyLacks size w p rest → Lacks limit w (head ++ p) rest
 lacks_body limit size why.Cut head p rest e least most h = (e ∙ part_front limit size p least most h.0, h.1)
 lacks_body limit size why.ReadFault head p rest e least most h = inr (e ∙ part_front limit size p least most h)
 lacks_body limit size why.NoMemory head p rest e least most h = tt
@@ -136,7 +136,7 @@ lacks_body limit size (why.Stopped s) head p rest e least most h = absurd h
 lacks_body limit size why.Limit head p rest e least most h = absurd h
 lacks_body limit size why.TooLong head p rest e least most h = absurd h
 
-pub no_body : (a b c : Option (List ℕ)) (head : List ℕ) (limit size : ℕ) (w : Why)
+pub no_body : (a b c : Option (List ℕ)) (head : List ℕ) (limit size : ℕ) (w : EndReason)
     → length head ≡ 4 → size ≡ from_be_bytes w32 head → 8 ≤ size → size ≤ limit → Consumes a b head → Took b c (BodyLacks size w) → Took a c (Lacks limit w)
 no_body None b c head limit size w l is least most h lacks = tt
 no_body (Some xs) None c head limit size w l is least most h lacks = absurd h
@@ -145,7 +145,7 @@ no_body (Some xs) (Some ys) c head limit size w l is least most h (p, rest, whol
   rest,
   h ∙ ap (λ t. head ++ t) whole ∙ sym (append_assoc head p rest),
   after,
-  lacks_body limit size w head p rest (headed limit (head ++ p) head p refl l ∙ ap (λ n. sized limit n p) (sym is)) least most lacks,
+  lacks_body limit size w head p rest (headed limit (head ++ p) head p refl l ∙ ap (λ n. front_after_size limit n p) (sym is)) least most lacks,
 )
 
 -- ... for want of memory for what came

@@ -20,10 +20,10 @@ use Rattle.msg_admin.specs.declared.header.Header.{Header}
 use Rattle.msg_admin.specs.declared.request.Request.{Request}
 use Rattle.msg_admin.specs.declared.request.Request.TheVariants as requests
 use Rattle.msg_admin.specs.Api.{api_at, all_apis, key_of, version_of, is_flexible}
-use Rattle.msg_admin.specs.Header.{names, sender, headed, header}
+use Rattle.msg_admin.specs.Header.{names, sender, with_header_tags, header}
 use Rattle.msg_admin.specs.Bodies.{request_body, asked_sasl_handshake}
 use Rattle.msg_admin.specs.Request.{IsRequest, request_at}
-use Rattle.msg_admin.specs.Versions.{start, asked_unsupported, unsupported_at}
+use Rattle.msg_admin.specs.Versions.{header_start, asked_unsupported, unsupported_at}
 use Rattle.msg_admin.proofs.Headers.{parted}
 use Rattle.msg_admin.proofs.MessageLaws.{found_is_request}
 use Rattle.session_pool.specs.Asks.{start_of}
@@ -60,7 +60,7 @@ header_short front x y (a, b, whole, (k, v, named, key, version), (c, n, sent, c
 -- ---- what each header starts with
 
 -- eight bytes are a key, a version and a correlation id
-front_spelled : (front : List ℕ) → length front ≡ 8 → (x : (ℤ × ℤ) × ℤ) × start.Spells front x
+front_spelled : (front : List ℕ) → length front ≡ 8 → (x : (ℤ × ℤ) × ℤ) × header_start.Spells front x
 front_spelled front eight = (
   ((cast_signed w16 (from_be_bytes w16 (take 2 (take 4 front))), cast_signed w16 (from_be_bytes w16 (drop 2 (take 4 front)))), cast_signed w32 (from_be_bytes w32 (drop 4 front))),
   (
@@ -79,12 +79,12 @@ front_spelled front eight = (
 )
 
 -- what follows the first eight bytes of a frame doesn't tell its start
-pub started : (frame : List ℕ) → 8 ≤ length frame → (x : (ℤ × ℤ) × ℤ) × (start.reading frame ≡ Ok (x, drop 8 frame)) × (start.reading (take 8 frame) ≡ Ok (x, []))
+pub started : (frame : List ℕ) → 8 ≤ length frame → (x : (ℤ × ℤ) × ℤ) × (header_start.reading frame ≡ Ok (x, drop 8 frame)) × (header_start.reading (take 8 frame) ≡ Ok (x, []))
 started frame least =
     let s = front_spelled (take 8 frame) (length-take-le 8 frame least) in (
       s.0,
-      ap start.reading (sym (take-append-drop 8 frame)) ∙ start.complete (take 8 frame) (drop 8 frame) s.0 s.1,
-      ap start.reading (sym (append-nil (take 8 frame))) ∙ start.complete (take 8 frame) [] s.0 s.1,
+      ap header_start.reading (sym (take-append-drop 8 frame)) ∙ header_start.complete (take 8 frame) (drop 8 frame) s.0 s.1,
+      ap header_start.reading (sym (append-nil (take 8 frame))) ∙ header_start.complete (take 8 frame) [] s.0 s.1,
     )
 
 -- ---- the same by what is defined of it
@@ -102,14 +102,14 @@ start_cut frame least =
     let of = λ (r : Found ((ℤ × ℤ) × ℤ)). option_map (λ (x : ((ℤ × ℤ) × ℤ) × List ℕ). x.0) (result_ok r) in
     ap of s.1 ∙ sym (ap of s.2)
 
-pub start_read : (frame : List ℕ) (r : Found ((ℤ × ℤ) × ℤ)) (x : (ℤ × ℤ) × ℤ) → start.reading frame ≡ r → option_map (λ (y : ((ℤ × ℤ) × ℤ) × List ℕ). y.0) (result_ok r) ≡ Some x
-    → (rest : List ℕ) × (start.reading frame ≡ Ok (x, rest))
+pub start_read : (frame : List ℕ) (r : Found ((ℤ × ℤ) × ℤ)) (x : (ℤ × ℤ) × ℤ) → header_start.reading frame ≡ r → option_map (λ (y : ((ℤ × ℤ) × ℤ) × List ℕ). y.0) (result_ok r) ≡ Some x
+    → (rest : List ℕ) × (header_start.reading frame ≡ Ok (x, rest))
 start_read frame (Ok y) x is so = let same : y.0 ≡ x = cc in (y.1, is ∙ (λ i. Ok (same i, y.1)))
 start_read frame (Err e) x is so = absurd (let clash : None ≡ Some x = so in cc)
 
 -- ---- the parts of a request
 
-plain_header : (b : Bool) (front : List ℕ) (h : Header) → b ≡ false → (headed b header).Spells front h → length front ≤ 32777
+plain_header : (b : Bool) (front : List ℕ) (h : Header) → b ≡ false → (with_header_tags b header).Spells front h → length front ≤ 32777
 plain_header false front h is spelled = header_short front (h.key, h.version) (h.correlation, h.client) spelled
 plain_header true front h is spelled = absurd cc
 
@@ -117,9 +117,9 @@ one_found : (bytes : List ℕ) (u v : (ℤ × ℤ) × List ℕ) → names.readin
 one_found bytes u v p q = let same : u ≡ v = cc in ap (λ (w : (ℤ × ℤ) × List ℕ). w.0) same
 
 -- its header tells the names that it starts with
-pub names_are : (frame : List ℕ) (x : (ℤ × ℤ) × ℤ) (rest : List ℕ) (h : Header) (r : Request) → start.reading frame ≡ Ok (x, rest) → IsRequest frame h r → x.0 ≡ (h.key, h.version)
+pub names_are : (frame : List ℕ) (x : (ℤ × ℤ) × ℤ) (rest : List ℕ) (h : Header) (r : Request) → header_start.reading frame ≡ Ok (x, rest) → IsRequest frame h r → x.0 ≡ (h.key, h.version)
 names_are frame x rest h r read i =
-    let s = start.sound frame x rest read in
+    let s = header_start.sound frame x rest read in
     let t = s.2 in
     let p = parted (is_flexible i.2) i.0 h i.4 in
     let one : names.reading frame ≡ Ok (x.0, t.1 ++ rest) =

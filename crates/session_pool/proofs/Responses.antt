@@ -4,7 +4,7 @@ use Rattle.std.proofs.lemmas.Bool.{lt-ltb}
 use Rattle.std.proofs.lemmas.Int.{to_z-of_z}
 use Rattle.std.proofs.lemmas.List.{length-append}
 use Rattle.wire_types.specs.Grammar.{Grammar}
-use Rattle.wire_types.specs.Spelling.{int_written, behind_written}
+use Rattle.wire_types.specs.Spelling.{int_written, after_count_written}
 use Rattle.wire_types.specs.Schema.{int32, array, count32}
 use Rattle.msg_data.specs.declared.metadata.MetadataReply.{MetadataReply}
 use Rattle.msg_data.specs.declared.fetch.FetchReply.{FetchReply}
@@ -20,11 +20,11 @@ four : (z : ℤ) → length (int_written w32 z) ≡ 4
 unfolding int_written
 four z = refl
 
--- the text behind a size field has the size that it tells
+-- the text after a size field has the size that it tells
 counted : (c : ℤ) (body : List ℕ) → length (int_written w32 c ++ body) ≡ 4 + length body
 counted c body = length-append (int_written w32 c) body ∙ ap (λ (n : ℕ). n + length body) (four c)
 
--- the same parts, with what follows the last one behind it
+-- the same parts, with what follows the last one after it
 regroup : (s s' c b k n rest : List ℕ) → s ≡ s' → (s ++ (c ++ (b ++ (k ++ n)))) ++ rest ≡ s' ++ (c ++ (b ++ (k ++ (n ++ rest))))
 regroup s s' c b k n rest e = rw e (simp append_assoc)
 
@@ -35,7 +35,7 @@ below : (n : ℕ) → n < 2 ^ 31 → ltb n (2 ^ 31) ≡ true
 below n lt = lt-ltb n (2 ^ 31) lt
 
 metadata_whole : (c size : ℤ) (m : MetadataReply) (front : List ℕ) → IsSize metadata_reply m size → front ≡ metadata_front.put [] (metadata_front_of size c m) → IsFront c (replies.Metadata m) front
-unfolding is_flexible reply_body is_sendable behind_written
+unfolding is_flexible reply_body is_sendable after_count_written
 metadata_whole c size m front sized is =
     let text = int32.written c ++ metadata_reply.written m in
     let n : length text ≡ 4 + length (metadata_reply.written m) = counted c (metadata_reply.written m) in
@@ -48,7 +48,7 @@ metadata_whole c size m front sized is =
     }
 
 fetch_whole : (c size : ℤ) (m : FetchReply) (front : List ℕ) → IsSize fetch_reply m size → front ≡ fetch_front.put [] (fetch_front_of size c m) → IsFront c (replies.Fetch m) front
-unfolding is_flexible reply_body is_sendable behind_written
+unfolding is_flexible reply_body is_sendable after_count_written
 fetch_whole c size m front sized is =
     let text = int32.written c ++ fetch_reply.written m in
     let n : length text ≡ 4 + length (fetch_reply.written m) = counted c (fetch_reply.written m) in

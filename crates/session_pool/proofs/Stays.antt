@@ -4,7 +4,7 @@ use Rattle.audit_trail.specs.declared.event.Event.{Event}
 use Rattle.api_dispatch.specs.Step.{is_reading}
 use Rattle.request_handlers.specs.declared.stop.Stop.{Stop}
 use Rattle.request_handlers.specs.declared.stop.Stop.TheVariants.{NoMemory, TrailFull, Down}
-use Rattle.request_handlers.specs.Core.{CoreValue, AfterNoMemory, StoppedBy, advanced}
+use Rattle.request_handlers.specs.Core.{CoreValue, AfterNoMemory, StoppedBy, core_after}
 
 without_memory : (e : Event) (old new : CoreValue) (b : Bool) → is_reading e ≡ b → AfterNoMemory e old new → new.settings ≡ old.settings
 without_memory e old new true is h = ap (λ (c : CoreValue). c.settings) (h.reading is)
@@ -16,6 +16,6 @@ stopped TrailFull old e new h = ap (λ (c : CoreValue). c.settings) h.1
 stopped Down old e new h = ap (λ (c : CoreValue). c.settings) h.1
 
 pub settings_stay : {A : Type 0} (r : Result A Stop) (old : CoreValue) (e : Event) (new : CoreValue)
-    → OnOk r (new ≡ advanced old e) → IfErr r (λ stop. StoppedBy stop old e new) → new.settings ≡ old.settings
+    → OnOk r (new ≡ core_after old e) → IfErr r (λ stop. StoppedBy stop old e new) → new.settings ≡ old.settings
 settings_stay (Ok x) old e new ok err = ap (λ (c : CoreValue). c.settings) ok
 settings_stay (Err stop) old e new ok err = stopped stop old e new err

@@ -4,8 +4,8 @@ use Rattle.std.proofs.KnownBytes.{Appends-nil, Appends-trans}
 use Rattle.std.proofs.lemmas.List.{drop_all}
 use Rattle.std.specs.Io.KnownBytes.{Appends}
 use Rattle.std.specs.List.{concat}
-use Rattle.wire_types.specs.Device.{Wrote}
-use Rattle.wire_types.specs.Spelling.{many_written, behind_written}
+use Rattle.byte_streams.specs.Device.{Wrote}
+use Rattle.wire_types.specs.Spelling.{many_written, after_count_written}
 use Rattle.wire_types.specs.Schema.{string, count32}
 use Rattle.wire_types.specs.Topic.{topic_of}
 use Rattle.wire_types.specs.declared.topic.Topic.{Topic}
@@ -147,12 +147,12 @@ pieces_text (x ∷ xs) = ap (λ (t : List ℕ). x ++ t) (pieces_text xs)
 
 -- the bytes before the records of a partition, and these
 pub records_text : (p : FetchedRecords) (pieces : List (List ℕ)) → concat pieces ≡ p.records → records_head.written (records_head_of p) ++ many_written (λ x. x) pieces ≡ fetched_records.written p
-unfolding behind_written
+unfolding after_count_written
 records_text p pieces are = rw (pieces_text pieces ∙ are) (simp append_assoc)
 
 -- the name of a topic and its number of partitions, and these
 pub topic_text : (t : Topic FetchedRecords) (parts : List FetchedRecords) → parts ≡ t.partitions → topic_head.written (t.name, length t.partitions) ++ many_written fetched_records.written parts ≡ (topic_of fetched_records).written t
-unfolding behind_written
+unfolding after_count_written
 topic_text t parts are = ap (λ (ps : List FetchedRecords). topic_head.written (t.name, length t.partitions) ++ many_written fetched_records.written ps) are
     ∙ append_assoc (string.written t.name) (count32.written (length t.partitions)) (many_written fetched_records.written t.partitions)
 

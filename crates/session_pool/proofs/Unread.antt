@@ -10,33 +10,33 @@ use Rattle.msg_admin.specs.declared.header.Header.{Header}
 use Rattle.msg_admin.specs.declared.request.Request.{Request}
 use Rattle.msg_admin.specs.Api.{api_at}
 use Rattle.msg_admin.specs.Request.{IsRequest, request_at}
-use Rattle.msg_admin.specs.Versions.{start, unsupported_at, unsupported_response}
+use Rattle.msg_admin.specs.Versions.{header_start, unsupported_at, unsupported_response}
 use Rattle.msg_admin.proofs.MessageLaws.{found_is_request}
-use Rattle.session_logins.specs.Login.{longest_login}
-use Rattle.session_logins.proofs.Longest.{no_longer}
+use Rattle.session_pool.specs.LoginMessage.{longest_login}
+use Rattle.session_pool.proofs.Longest.{no_longer}
 use Rattle.settings_text.specs.declared.document.User.{User}
 use Rattle.session_pool.specs.declared.frame.Came.{Came}
-use Rattle.session_pool.specs.declared.login.State.{State}
-use Rattle.session_pool.specs.declared.login.State.TheVariants.{Fresh, Offered, Known}
-use Rattle.session_pool.specs.Asks.{Setting, Step, Tells, Refuses, Garbles, start_of, is_known, is_served, is_login, longest_before_login, logs_in, readable, begins, begun, supported, step_of}
+use Rattle.session_pool.specs.declared.login.SessionState.{SessionState}
+use Rattle.session_pool.specs.declared.login.SessionState.TheVariants.{Fresh, Offered, Known}
+use Rattle.session_pool.specs.Asks.{Setting, Step, Tells, Refuses, Garbles, start_of, is_known, is_served, is_login, longest_before_login, logs_in, step_if_readable, step_by_start, step_by_start_if_any, step_by_version, step_of}
 use Rattle.session_pool.specs.Own.{TellsPassword}
 use Rattle.session_pool.specs.Turns.{most_kept, CameOf}
 use Rattle.session_pool.proofs.Lengths.{unsupported_cut, start_cut, start_read, names_are, at_17, at_18, at_36, this_api, request_short, login_length}
 
 -- ---- what came is the frame, or its first eight bytes
 
-abbrev IsWhole : Setting → ℕ → State → Came → List ℕ → Type 0
+abbrev IsWhole : Setting → ℕ → SessionState → Came → List ℕ → Type 0
 IsWhole g limit s came frame = (came.kept ≡ frame) × (length frame ≤ most_kept g.users limit s)
 
-abbrev IsCut : Setting → State → Came → List ℕ → Type 0
+abbrev IsCut : Setting → SessionState → Came → List ℕ → Type 0
 IsCut g s came frame = (came.kept ≡ take 8 frame) × (is_known s ≡ false) × (longest_before_login g.users < length frame)
 
-above : (g : Setting) (limit : ℕ) (s : State) (frame : List ℕ) → length frame ≤ limit → most_kept g.users limit s < length frame → (is_known s ≡ false) × (longest_before_login g.users < length frame)
+above : (g : Setting) (limit : ℕ) (s : SessionState) (frame : List ℕ) → length frame ≤ limit → most_kept g.users limit s < length frame → (is_known s ≡ false) × (longest_before_login g.users < length frame)
 above g limit (Fresh f) frame within long = (refl, omega arith)
 above g limit (Offered o) frame within long = (refl, omega arith)
 above g limit (Known k) frame within long = absurd (omega arith)
 
-split : (g : Setting) (limit : ℕ) (s : State) (came : Came) (frame : List ℕ) → CameOf g limit s came frame → IsWhole g limit s came frame ⊎ IsCut g s came frame
+split : (g : Setting) (limit : ℕ) (s : SessionState) (came : Came) (frame : List ℕ) → CameOf g limit s came frame → IsWhole g limit s came frame ⊎ IsCut g s came frame
 split g limit s came frame (within, (kept, size)) = by_test (nat_lt (most_kept g.users limit s) (length frame)) refl kept where
   by_test : (t : Bool) → nat_lt (most_kept g.users limit s) (length frame) ≡ t → came.kept ≡ cond t (take 8 frame) frame → IsWhole g limit s came frame ⊎ IsCut g s came frame
   by_test true e is = let over = above g limit s frame within (ltb-true (most_kept g.users limit s) (length frame) e) in inr (is, over.0, over.1)
@@ -45,13 +45,13 @@ split g limit s came frame (within, (kept, size)) = by_test (nat_lt (most_kept g
 least_long : (users : List User) (frame : List ℕ) → longest_before_login users < length frame → 65546 < length frame
 least_long users frame long = omega arith
 
-same_version : (g : Setting) (limit : ℕ) (s : State) (came : Came) (frame : List ℕ) → CameOf g limit s came frame → unsupported_at frame ≡ unsupported_at came.kept
+same_version : (g : Setting) (limit : ℕ) (s : SessionState) (came : Came) (frame : List ℕ) → CameOf g limit s came frame → unsupported_at frame ≡ unsupported_at came.kept
 same_version g limit s came frame of = by_parts (split g limit s came frame of) where
   by_parts : IsWhole g limit s came frame ⊎ IsCut g s came frame → unsupported_at frame ≡ unsupported_at came.kept
   by_parts (inl whole) = ap unsupported_at (sym whole.0)
   by_parts (inr (kept, before, long)) = let most : 65546 < length frame = least_long g.users frame long in unsupported_cut frame (omega arith) ∙ ap unsupported_at (sym kept)
 
-same_start : (g : Setting) (limit : ℕ) (s : State) (came : Came) (frame : List ℕ) → CameOf g limit s came frame → start_of frame ≡ start_of came.kept
+same_start : (g : Setting) (limit : ℕ) (s : SessionState) (came : Came) (frame : List ℕ) → CameOf g limit s came frame → start_of frame ≡ start_of came.kept
 same_start g limit s came frame of = by_parts (split g limit s came frame of) where
   by_parts : IsWhole g limit s came frame ⊎ IsCut g s came frame → start_of frame ≡ start_of came.kept
   by_parts (inl whole) = ap start_of (sym whole.0)
@@ -59,63 +59,63 @@ same_start g limit s came frame of = by_parts (split g limit s came frame of) wh
 
 -- ---- what it leads to
 
-pub other_version : (g : Setting) (limit : ℕ) (s : State) (came : Came) (frame : List ℕ) (c : ℤ) → Some c ≡ unsupported_at came.kept → CameOf g limit s came frame → step_of g s frame ≡ Tells (unsupported_response c) s
-other_version g limit s came frame c found of = ap (supported g s frame) (same_version g limit s came frame of ∙ sym found)
+pub other_version : (g : Setting) (limit : ℕ) (s : SessionState) (came : Came) (frame : List ℕ) (c : ℤ) → Some c ≡ unsupported_at came.kept → CameOf g limit s came frame → step_of g s frame ≡ Tells (unsupported_response c) s
+other_version g limit s came frame c found of = ap (step_by_version g s frame) (same_version g limit s came frame of ∙ sym found)
 
-step_by : (g : Setting) (limit : ℕ) (s : State) (came : Came) (frame : List ℕ) (o : Option ((ℤ × ℤ) × ℤ)) → None ≡ unsupported_at came.kept → o ≡ start_of came.kept → CameOf g limit s came frame → step_of g s frame ≡ begun g s frame o
-step_by g limit s came frame o none found of = ap (supported g s frame) (same_version g limit s came frame of ∙ sym none) ∙ ap (begun g s frame) (same_start g limit s came frame of ∙ sym found)
+step_by : (g : Setting) (limit : ℕ) (s : SessionState) (came : Came) (frame : List ℕ) (o : Option ((ℤ × ℤ) × ℤ)) → None ≡ unsupported_at came.kept → o ≡ start_of came.kept → CameOf g limit s came frame → step_of g s frame ≡ step_by_start_if_any g s frame o
+step_by g limit s came frame o none found of = ap (step_by_version g s frame) (same_version g limit s came frame of ∙ sym none) ∙ ap (step_by_start_if_any g s frame) (same_start g limit s came frame of ∙ sym found)
 
-pub no_start : (g : Setting) (limit : ℕ) (s : State) (came : Came) (frame : List ℕ) → None ≡ unsupported_at came.kept → None ≡ start_of came.kept → CameOf g limit s came frame → step_of g s frame ≡ Garbles
+pub no_start : (g : Setting) (limit : ℕ) (s : SessionState) (came : Came) (frame : List ℕ) → None ≡ unsupported_at came.kept → None ≡ start_of came.kept → CameOf g limit s came frame → step_of g s frame ≡ Garbles
 no_start g limit s came frame none found of = step_by g limit s came frame None none found of
 
-pub unserved : (g : Setting) (limit : ℕ) (s : State) (came : Came) (frame : List ℕ) (x : (ℤ × ℤ) × ℤ) → None ≡ unsupported_at came.kept → Some x ≡ start_of came.kept → is_served s x.0.0 ≡ false
+pub unserved : (g : Setting) (limit : ℕ) (s : SessionState) (came : Came) (frame : List ℕ) (x : (ℤ × ℤ) × ℤ) → None ≡ unsupported_at came.kept → Some x ≡ start_of came.kept → is_served s x.0.0 ≡ false
     → CameOf g limit s came frame → step_of g s frame ≡ Refuses []
 unserved g limit s came frame x none found other of =
     step_by g limit s came frame (Some x) none found of
-    ∙ ap (λ (a : Bool). cond (not a) (Refuses []) (cond (is_login s x.0 && nat_lt (longest_before_login g.users) (length frame)) (logs_in x.1 None) (readable g s (request_at frame)))) other
+    ∙ ap (λ (a : Bool). cond (not a) (Refuses []) (cond (is_login s x.0 && nat_lt (longest_before_login g.users) (length frame)) (logs_in x.1 None) (step_if_readable g s (request_at frame)))) other
 
 -- what is served and no longer than it may be is read
-read_on : (g : Setting) (limit : ℕ) (s : State) (frame : List ℕ) (x : (ℤ × ℤ) × ℤ) → is_served s x.0.0 ≡ true → length frame ≤ most_kept g.users limit s → begins g s frame x ≡ readable g s (request_at frame)
-read_on g limit (Fresh f) frame x served short = ap (λ (a : Bool). cond (not a) (Refuses []) (readable g (Fresh f) (request_at frame))) served
+read_on : (g : Setting) (limit : ℕ) (s : SessionState) (frame : List ℕ) (x : (ℤ × ℤ) × ℤ) → is_served s x.0.0 ≡ true → length frame ≤ most_kept g.users limit s → step_by_start g s frame x ≡ step_if_readable g s (request_at frame)
+read_on g limit (Fresh f) frame x served short = ap (λ (a : Bool). cond (not a) (Refuses []) (step_if_readable g (Fresh f) (request_at frame))) served
 read_on g limit (Known k) frame x served short = refl
 read_on g limit (Offered o) frame x served short =
     let most : length frame ≤ longest_before_login g.users = omega arith in
-    ap (λ (a : Bool). cond (not a) (Refuses []) (cond (is_login (Offered o) x.0 && nat_lt (longest_before_login g.users) (length frame)) (logs_in x.1 None) (readable g (Offered o) (request_at frame)))) served
-    ∙ ap (λ (b : Bool). cond (is_login (Offered o) x.0 && b) (logs_in x.1 None) (readable g (Offered o) (request_at frame))) (le-ltb (longest_before_login g.users) (length frame) most)
+    ap (λ (a : Bool). cond (not a) (Refuses []) (cond (is_login (Offered o) x.0 && nat_lt (longest_before_login g.users) (length frame)) (logs_in x.1 None) (step_if_readable g (Offered o) (request_at frame)))) served
+    ∙ ap (λ (b : Bool). cond (is_login (Offered o) x.0 && b) (logs_in x.1 None) (step_if_readable g (Offered o) (request_at frame))) (le-ltb (longest_before_login g.users) (length frame) most)
     ∙ never (is_login (Offered o) x.0) where
-      never : (b : Bool) → cond (b && false) (logs_in x.1 None) (readable g (Offered o) (request_at frame)) ≡ readable g (Offered o) (request_at frame)
+      never : (b : Bool) → cond (b && false) (logs_in x.1 None) (step_if_readable g (Offered o) (request_at frame)) ≡ step_if_readable g (Offered o) (request_at frame)
       never true = refl
       never false = refl
 
-pub whole : (g : Setting) (limit : ℕ) (s : State) (came : Came) (frame : List ℕ) (x : (ℤ × ℤ) × ℤ) → None ≡ unsupported_at came.kept → Some x ≡ start_of came.kept → is_served s x.0.0 ≡ true → length came.kept ≡ came.size
-    → CameOf g limit s came frame → (came.kept ≡ frame) × (step_of g s frame ≡ readable g s (request_at frame))
+pub whole : (g : Setting) (limit : ℕ) (s : SessionState) (came : Came) (frame : List ℕ) (x : (ℤ × ℤ) × ℤ) → None ≡ unsupported_at came.kept → Some x ≡ start_of came.kept → is_served s x.0.0 ≡ true → length came.kept ≡ came.size
+    → CameOf g limit s came frame → (came.kept ≡ frame) × (step_of g s frame ≡ step_if_readable g s (request_at frame))
 whole g limit s came frame x none found served all of = by_parts (split g limit s came frame of) where
-  by_parts : IsWhole g limit s came frame ⊎ IsCut g s came frame → (came.kept ≡ frame) × (step_of g s frame ≡ readable g s (request_at frame))
+  by_parts : IsWhole g limit s came frame ⊎ IsCut g s came frame → (came.kept ≡ frame) × (step_of g s frame ≡ step_if_readable g s (request_at frame))
   by_parts (inl (kept, short)) = (kept, step_by g limit s came frame (Some x) none found of ∙ read_on g limit s frame x served short)
   by_parts (inr (kept, before, long)) =
       let most : 65546 < length frame = least_long g.users frame long in
       let few : length (take 8 frame) ≡ 8 = length-take-le 8 frame (omega arith) in
       absurd (omega (arith, ap length kept, few, all, of.1.1, most))
 
-cut_of : (g : Setting) (limit : ℕ) (s : State) (came : Came) (frame : List ℕ) → (length came.kept ≡ came.size → ⊥) → CameOf g limit s came frame → IsCut g s came frame
+cut_of : (g : Setting) (limit : ℕ) (s : SessionState) (came : Came) (frame : List ℕ) → (length came.kept ≡ came.size → ⊥) → CameOf g limit s came frame → IsCut g s came frame
 cut_of g limit s came frame part of = by_parts (split g limit s came frame of) where
   by_parts : IsWhole g limit s came frame ⊎ IsCut g s came frame → IsCut g s came frame
   by_parts (inl (kept, short)) = absurd (part (ap length kept ∙ sym of.1.1))
   by_parts (inr cut) = cut
 
 -- what is served, by whether it is a login, where it is longer than what is served
-too_long : (g : Setting) (s : State) (frame : List ℕ) (x : (ℤ × ℤ) × ℤ) (b : Bool) → is_served s x.0.0 ≡ true → is_login s x.0 ≡ b → longest_before_login g.users < length frame
-    → begins g s frame x ≡ cond b (logs_in x.1 None) (readable g s (request_at frame))
+too_long : (g : Setting) (s : SessionState) (frame : List ℕ) (x : (ℤ × ℤ) × ℤ) (b : Bool) → is_served s x.0.0 ≡ true → is_login s x.0 ≡ b → longest_before_login g.users < length frame
+    → step_by_start g s frame x ≡ cond b (logs_in x.1 None) (step_if_readable g s (request_at frame))
 too_long g s frame x b served login long =
-    ap (λ (a : Bool). cond (not a) (Refuses []) (cond (is_login s x.0 && nat_lt (longest_before_login g.users) (length frame)) (logs_in x.1 None) (readable g s (request_at frame)))) served
-    ∙ ap (λ (a : Bool). cond (a && nat_lt (longest_before_login g.users) (length frame)) (logs_in x.1 None) (readable g s (request_at frame))) login
-    ∙ ap (λ (a : Bool). cond (b && a) (logs_in x.1 None) (readable g s (request_at frame))) (lt-ltb (longest_before_login g.users) (length frame) long)
+    ap (λ (a : Bool). cond (not a) (Refuses []) (cond (is_login s x.0 && nat_lt (longest_before_login g.users) (length frame)) (logs_in x.1 None) (step_if_readable g s (request_at frame)))) served
+    ∙ ap (λ (a : Bool). cond (a && nat_lt (longest_before_login g.users) (length frame)) (logs_in x.1 None) (step_if_readable g s (request_at frame))) login
+    ∙ ap (λ (a : Bool). cond (b && a) (logs_in x.1 None) (step_if_readable g s (request_at frame))) (lt-ltb (longest_before_login g.users) (length frame) long)
     ∙ always b where
-      always : (b : Bool) → cond (b && true) (logs_in x.1 None) (readable g s (request_at frame)) ≡ cond b (logs_in x.1 None) (readable g s (request_at frame))
+      always : (b : Bool) → cond (b && true) (logs_in x.1 None) (step_if_readable g s (request_at frame)) ≡ cond b (logs_in x.1 None) (step_if_readable g s (request_at frame))
       always true = refl
       always false = refl
 
-pub overlong : (g : Setting) (limit : ℕ) (s : State) (came : Came) (frame : List ℕ) (x : (ℤ × ℤ) × ℤ) → None ≡ unsupported_at came.kept → Some x ≡ start_of came.kept → is_served s x.0.0 ≡ true → (length came.kept ≡ came.size → ⊥)
+pub overlong : (g : Setting) (limit : ℕ) (s : SessionState) (came : Came) (frame : List ℕ) (x : (ℤ × ℤ) × ℤ) → None ≡ unsupported_at came.kept → Some x ≡ start_of came.kept → is_served s x.0.0 ≡ true → (length came.kept ≡ came.size → ⊥)
     → is_login s x.0 ≡ true → CameOf g limit s came frame → step_of g s frame ≡ logs_in x.1 None
 overlong g limit s came frame x none found served part login of =
     step_by g limit s came frame (Some x) none found of ∙ too_long g s frame x true served login (cut_of g limit s came frame part of).2
@@ -130,7 +130,7 @@ either true b e = inl refl
 either false b e = inr e
 
 -- ApiVersions and SaslHandshake alone are served before a login, but for a login
-short_api : (s : State) (x : (ℤ × ℤ) × ℤ) (api : Api) → is_known s ≡ false → is_served s x.0.0 ≡ true → is_login s x.0 ≡ false → api_at x.0.0 x.0.1 ≡ Some api → (api ≡ apis.ApiVersions) ⊎ (api ≡ apis.SaslHandshake)
+short_api : (s : SessionState) (x : (ℤ × ℤ) × ℤ) (api : Api) → is_known s ≡ false → is_served s x.0.0 ≡ true → is_login s x.0 ≡ false → api_at x.0.0 x.0.1 ≡ Some api → (api ≡ apis.ApiVersions) ⊎ (api ≡ apis.SaslHandshake)
 short_api s x api before served login at = by_state s before served login where
   versions : int_eq x.0.0 (pos 18) ≡ true → (api ≡ apis.ApiVersions) ⊎ (api ≡ apis.SaslHandshake)
   versions e = inl (this_api (int_eq (pos 0) x.0.1) apis.ApiVersions api (sym (at_18 x.0.1) ∙ ap (λ (k : ℤ). api_at k x.0.1) (sym (is_key x.0.0 18 e)) ∙ at)).1
@@ -153,16 +153,16 @@ short_api s x api before served login at = by_state s before served login where
   in_offered (inl e) other = versions e
   in_offered (inr e) other = no_login e other
 
-  by_state : (s : State) → is_known s ≡ false → is_served s x.0.0 ≡ true → is_login s x.0 ≡ false → (api ≡ apis.ApiVersions) ⊎ (api ≡ apis.SaslHandshake)
+  by_state : (s : SessionState) → is_known s ≡ false → is_served s x.0.0 ≡ true → is_login s x.0 ≡ false → (api ≡ apis.ApiVersions) ⊎ (api ≡ apis.SaslHandshake)
   by_state (Fresh f) before served login = in_fresh (either (int_eq x.0.0 (pos 18)) (int_eq x.0.0 (pos 17)) served)
   by_state (Offered o) before served login = in_offered (either (int_eq x.0.0 (pos 18)) (int_eq x.0.0 (pos 36)) served) login
   by_state (Known k) before served login = absurd (let clash : true ≡ false = before in cc)
 
-garbles : (g : Setting) (s : State) (frame : List ℕ) (x : (ℤ × ℤ) × ℤ) → Some x ≡ start_of frame → is_known s ≡ false → is_served s x.0.0 ≡ true → is_login s x.0 ≡ false → longest_before_login g.users < length frame
-    → readable g s (request_at frame) ≡ Garbles
+garbles : (g : Setting) (s : SessionState) (frame : List ℕ) (x : (ℤ × ℤ) × ℤ) → Some x ≡ start_of frame → is_known s ≡ false → is_served s x.0.0 ≡ true → is_login s x.0 ≡ false → longest_before_login g.users < length frame
+    → step_if_readable g s (request_at frame) ≡ Garbles
 garbles g s frame x found before served login long = by_request (request_at frame) refl where
   at : (h : Header) (r : Request) → IsRequest frame h r → x.0 ≡ (h.key, h.version)
-  at h r i = let read = start_read frame (start.reading frame) x refl (sym found) in names_are frame x read.0 h r read.1 i
+  at h r i = let read = start_read frame (header_start.reading frame) x refl (sym found) in names_are frame x read.0 h r read.1 i
 
   api_is : (h : Header) (r : Request) (i : IsRequest frame h r) → api_at x.0.0 x.0.1 ≡ Some i.2
   api_is h r i = ap (λ (n : ℤ × ℤ). api_at n.0 n.1) (at h r i) ∙ i.5
@@ -173,11 +173,11 @@ garbles g s frame x found before served login long = by_request (request_at fram
       let most : 65546 < length frame = least_long g.users frame long in
       omega (arith, short, most)
 
-  by_request : (r : Result (Header × Request) Malformed) → request_at frame ≡ r → readable g s r ≡ Garbles
+  by_request : (r : Result (Header × Request) Malformed) → request_at frame ≡ r → step_if_readable g s r ≡ Garbles
   by_request (Ok y) is = absurd (no_request y.0 y.1 ((found_is_request frame y.0 y.1).0 is))
   by_request (Err e) is = refl
 
-pub unreadable : (g : Setting) (limit : ℕ) (s : State) (came : Came) (frame : List ℕ) (x : (ℤ × ℤ) × ℤ) → None ≡ unsupported_at came.kept → Some x ≡ start_of came.kept → is_served s x.0.0 ≡ true → (length came.kept ≡ came.size → ⊥)
+pub unreadable : (g : Setting) (limit : ℕ) (s : SessionState) (came : Came) (frame : List ℕ) (x : (ℤ × ℤ) × ℤ) → None ≡ unsupported_at came.kept → Some x ≡ start_of came.kept → is_served s x.0.0 ≡ true → (length came.kept ≡ came.size → ⊥)
     → is_login s x.0 ≡ false → CameOf g limit s came frame → step_of g s frame ≡ Garbles
 unreadable g limit s came frame x none found served part login of =
     let cut = cut_of g limit s came frame part of in
@@ -193,26 +193,26 @@ no_password users frame who long (h, m, is, told) =
     omega (arith, most, login_length frame h m is, no_longer users m.auth who told)
 
 -- what is longer leads to this
-abbrev by_front : State → (ℤ × ℤ) × ℤ → Step
+abbrev by_front : SessionState → (ℤ × ℤ) × ℤ → Step
 by_front s x = cond (not (is_served s x.0.0)) (Refuses []) (cond (is_login s x.0) (logs_in x.1 None) Garbles)
 
-abbrev by_start : State → Option ((ℤ × ℤ) × ℤ) → Step
+abbrev by_start : SessionState → Option ((ℤ × ℤ) × ℤ) → Step
 by_start s None = Garbles
 by_start s (Some x) = by_front s x
 
-abbrev by_version : State → List ℕ → Option ℤ → Step
+abbrev by_version : SessionState → List ℕ → Option ℤ → Step
 by_version s front (Some c) = Tells (unsupported_response c) s
 by_version s front None = by_start s (start_of front)
 
-front_begins : (g : Setting) (s : State) (frame : List ℕ) (x : (ℤ × ℤ) × ℤ) → Some x ≡ start_of frame → is_known s ≡ false → longest_before_login g.users < length frame → begins g s frame x ≡ by_front s x
+front_begins : (g : Setting) (s : SessionState) (frame : List ℕ) (x : (ℤ × ℤ) × ℤ) → Some x ≡ start_of frame → is_known s ≡ false → longest_before_login g.users < length frame → step_by_start g s frame x ≡ by_front s x
 front_begins g s frame x found before long = by_served (is_served s x.0.0) (is_login s x.0) refl refl where
-  by_served : (a b : Bool) → is_served s x.0.0 ≡ a → is_login s x.0 ≡ b → begins g s frame x ≡ cond (not a) (Refuses []) (cond b (logs_in x.1 None) Garbles)
-  by_served false b e l = ap (λ (a : Bool). cond (not a) (Refuses []) (cond (is_login s x.0 && nat_lt (longest_before_login g.users) (length frame)) (logs_in x.1 None) (readable g s (request_at frame)))) e
+  by_served : (a b : Bool) → is_served s x.0.0 ≡ a → is_login s x.0 ≡ b → step_by_start g s frame x ≡ cond (not a) (Refuses []) (cond b (logs_in x.1 None) Garbles)
+  by_served false b e l = ap (λ (a : Bool). cond (not a) (Refuses []) (cond (is_login s x.0 && nat_lt (longest_before_login g.users) (length frame)) (logs_in x.1 None) (step_if_readable g s (request_at frame)))) e
   by_served true true e l = too_long g s frame x true e l long
   by_served true false e l = too_long g s frame x false e l long ∙ garbles g s frame x found before e l long
 
-front_leads : (g : Setting) (s : State) (frame : List ℕ) → is_known s ≡ false → longest_before_login g.users < length frame → step_of g s frame ≡ by_version s (take 8 frame) (unsupported_at (take 8 frame))
-front_leads g s frame before long = ap (supported g s frame) version ∙ by_found (unsupported_at (take 8 frame)) where
+front_leads : (g : Setting) (s : SessionState) (frame : List ℕ) → is_known s ≡ false → longest_before_login g.users < length frame → step_of g s frame ≡ by_version s (take 8 frame) (unsupported_at (take 8 frame))
+front_leads g s frame before long = ap (step_by_version g s frame) version ∙ by_found (unsupported_at (take 8 frame)) where
   most : 65546 < length frame
   most = least_long g.users frame long
 
@@ -222,14 +222,14 @@ front_leads g s frame before long = ap (supported g s frame) version ∙ by_foun
   same : start_of frame ≡ start_of (take 8 frame)
   same = start_cut frame (omega (arith, most))
 
-  by_begun : (o : Option ((ℤ × ℤ) × ℤ)) → start_of frame ≡ o → begun g s frame o ≡ by_start s o
+  by_begun : (o : Option ((ℤ × ℤ) × ℤ)) → start_of frame ≡ o → step_by_start_if_any g s frame o ≡ by_start s o
   by_begun None e = refl
   by_begun (Some x) e = front_begins g s frame x (sym e) before long
 
-  by_found : (o : Option ℤ) → supported g s frame o ≡ by_version s (take 8 frame) o
+  by_found : (o : Option ℤ) → step_by_version g s frame o ≡ by_version s (take 8 frame) o
   by_found (Some c) = refl
   by_found None = by_begun (start_of frame) refl ∙ ap (by_start s) same
 
-pub goes_by_front : (g : Setting) (s : State) (frame : List ℕ) → is_known s ≡ false → longest_before_login g.users < length frame → (other : List ℕ) → take 8 other ≡ take 8 frame → length other ≡ length frame → step_of g s other ≡ step_of g s frame
+pub goes_by_front : (g : Setting) (s : SessionState) (frame : List ℕ) → is_known s ≡ false → longest_before_login g.users < length frame → (other : List ℕ) → take 8 other ≡ take 8 frame → length other ≡ length frame → step_of g s other ≡ step_of g s frame
 goes_by_front g s frame before long other front size =
     front_leads g s other before (omega (arith, long, size)) ∙ ap (λ (f : List ℕ). by_version s f (unsupported_at f)) front ∙ sym (front_leads g s frame before long)

@@ -1,7 +1,7 @@
 -- A text that is written part after part.
 use Rattle.std.proofs.Common.{◌≡◌, ℕ, List, [], ◌++◌, Option, Result, Ok, Err, OnOk, sym, ap, ◌∙◌, append_assoc, append-nil}
 use Rattle.std.proofs.KnownBytes.{Appends-trans}
-use Rattle.wire_types.specs.Device.{Wrote}
+use Rattle.byte_streams.specs.Device.{Wrote}
 
 pub all_of : {A E : Type 0} (P : Type 0) (r : Result A E) (x : A) → r ≡ Ok x → OnOk r P → P
 all_of P (Ok y) x is p = p

@@ -12,20 +12,20 @@ use Rattle.msg_admin.specs.declared.request.Request.TheVariants as requests
 use Rattle.msg_admin.specs.declared.reply.Reply.TheVariants as replies
 use Rattle.msg_admin.specs.Request.{request_at}
 use Rattle.msg_admin.specs.Response.{response}
-use Rattle.msg_admin.specs.Versions.{start, unsupported_at, unsupported_response}
+use Rattle.msg_admin.specs.Versions.{header_start, unsupported_at, unsupported_response}
 use Rattle.audit_trail.specs.declared.event.Event.{Event}
 use Rattle.audit_trail.specs.declared.event.Event.TheVariants.{Ask}
 use Rattle.request_handlers.specs.declared.stop.Stop.{Stop}
 use Rattle.request_handlers.specs.Receipt.{ReceiptValue}
 use Rattle.settings_text.specs.declared.document.User.{User}
-use Rattle.session_pool.specs.declared.login.State.{State}
-use Rattle.session_pool.specs.declared.login.State.TheVariants.{Fresh, Offered, Known}
-use Rattle.session_pool.specs.declared.why.Why.{Why}
-use Rattle.session_pool.specs.declared.why.Why.TheVariants.{Malformed as IsMalformed, Login}
-use Rattle.session_pool.specs.Frames.{cut}
-use Rattle.session_logins.specs.declared.listed.ListedVersions.{ListedVersions}
-use Rattle.session_logins.specs.Listed.{versions_listed}
-use Rattle.session_logins.specs.Login.{is_plain, login_of, longest_login}
+use Rattle.session_pool.specs.declared.login.SessionState.{SessionState}
+use Rattle.session_pool.specs.declared.login.SessionState.TheVariants.{Fresh, Offered, Known}
+use Rattle.session_pool.specs.declared.end_reason.EndReason.{EndReason}
+use Rattle.session_pool.specs.declared.end_reason.EndReason.TheVariants.{Malformed as IsMalformed, Login}
+use Rattle.session_pool.specs.Frames.{frames_of}
+use Rattle.session_pool.specs.declared.listed.ListedVersions.{ListedVersions}
+use Rattle.session_pool.specs.Listed.{versions_listed}
+use Rattle.session_pool.specs.LoginMessage.{is_plain, login_of, longest_login}
 
 -- the users who may log in, how versions are listed before that, the host that calls, and whether the desk may answer an event
 -- by a stop
@@ -40,80 +40,80 @@ pub record Setting : Type 0 where
 -- what a frame leads to
 pub data Step : Type 0 where
   -- the session answers by itself, and goes on
-  Tells : List ℕ → State → Step
+  Tells : List ℕ → SessionState → Step
   -- an event for the core, whose reply is sent under the correlation id
-  Submits : ℤ → Event → State → Step
+  Submits : ℤ → Event → SessionState → Step
   -- the session ends for its login, after this answer or none
   Refuses : List ℕ → Step
   -- the session ends without an answer, for what is no request
   Garbles : Step
 
-abbrev pub fresh : State
-fresh = Fresh (record { 0 = tt })
+abbrev pub fresh_state : SessionState
+fresh_state = Fresh (record { 0 = tt })
 
-abbrev pub offered : State
-offered = Offered (record { 0 = tt })
+abbrev pub offered_state : SessionState
+offered_state = Offered (record { 0 = tt })
 
-abbrev pub known : List ℕ → State
-known who = Known (record { who = who })
+abbrev pub known_state : List ℕ → SessionState
+known_state who = Known (record { who = who })
 
-abbrev pub tells_versions : ListedVersions → ℤ → State → Step
+abbrev pub tells_versions : ListedVersions → ℤ → SessionState → Step
 tells_versions listed correlation s = Tells (response correlation (replies.ApiVersions (versions_listed listed))) s
 
-abbrev pub offers : ℤ → List ℕ → Step
-offers correlation mechanism =
-    if is_plain mechanism then Tells (response correlation (replies.SaslHandshake (handshake_reply codes.None))) offered
+abbrev pub mechanism_step : ℤ → List ℕ → Step
+mechanism_step correlation mechanism =
+    if is_plain mechanism then Tells (response correlation (replies.SaslHandshake (handshake_reply codes.None))) offered_state
     else Refuses (response correlation (replies.SaslHandshake (handshake_reply codes.UnsupportedSaslMechanism)))
 
 abbrev pub logs_in : ℤ → Option (List ℕ) → Step
-logs_in correlation (Some who) = Tells (response correlation (replies.SaslAuthenticate (authenticate_reply codes.None))) (known who)
+logs_in correlation (Some who) = Tells (response correlation (replies.SaslAuthenticate (authenticate_reply codes.None))) (known_state who)
 logs_in correlation None = Refuses (response correlation (replies.SaslAuthenticate (authenticate_reply codes.SaslAuthenticationFailed)))
 
 -- before a mechanism was agreed on
-abbrev pub greets : ListedVersions → ℤ → Request → Step
-greets listed correlation requests.ApiVersions = tells_versions listed correlation fresh
-greets listed correlation (requests.SaslHandshake m) = offers correlation m.mechanism
-greets listed correlation _ = Refuses []
+abbrev pub fresh_step : ListedVersions → ℤ → Request → Step
+fresh_step listed correlation requests.ApiVersions = tells_versions listed correlation fresh_state
+fresh_step listed correlation (requests.SaslHandshake m) = mechanism_step correlation m.mechanism
+fresh_step listed correlation _ = Refuses []
 
 -- before a password was told
-abbrev pub admits : ListedVersions → List User → ℤ → Request → Step
-admits listed users correlation requests.ApiVersions = tells_versions listed correlation offered
-admits listed users correlation (requests.SaslAuthenticate m) = logs_in correlation (login_of users m.auth)
-admits listed users correlation _ = Refuses []
+abbrev pub offered_step : ListedVersions → List User → ℤ → Request → Step
+offered_step listed users correlation requests.ApiVersions = tells_versions listed correlation offered_state
+offered_step listed users correlation (requests.SaslAuthenticate m) = logs_in correlation (login_of users m.auth)
+offered_step listed users correlation _ = Refuses []
 
 -- only who is known asks, and as itself
-abbrev pub submits : List ℕ → List ℕ → Header → Request → Step
-submits who host h r = Submits h.correlation (Ask (record { who = who; host = host }) h.client r) (known who)
+abbrev pub known_step : List ℕ → List ℕ → Header → Request → Step
+known_step who host h r = Submits h.correlation (Ask (record { who = who; host = host }) h.client r) (known_state who)
 
 -- what a request leads to
-abbrev pub leads : Setting → State → Header → Request → Step
-leads g (Fresh f) h r = greets g.listed h.correlation r
-leads g (Offered o) h r = admits g.listed g.users h.correlation r
-leads g (Known k) h r = submits k.who g.host h r
+abbrev pub request_step : Setting → SessionState → Header → Request → Step
+request_step g (Fresh f) h r = fresh_step g.listed h.correlation r
+request_step g (Offered o) h r = offered_step g.listed g.users h.correlation r
+request_step g (Known k) h r = known_step k.who g.host h r
 
-abbrev pub readable : Setting → State → Result (Header × Request) Malformed → Step
-readable g s (Ok x) = leads g s x.0 x.1
-readable g s (Err e) = Garbles
+abbrev pub step_if_readable : Setting → SessionState → Result (Header × Request) Malformed → Step
+step_if_readable g s (Ok x) = request_step g s x.0 x.1
+step_if_readable g s (Err e) = Garbles
 
 -- ---- by its first bytes, before a body is read
 
 -- a user told the right password
-abbrev pub is_known : State → Bool
+abbrev pub is_known : SessionState → Bool
 is_known (Known k) = true
 is_known s = false
 
 -- what each request header starts with: the key and the version of its api, and the correlation id
 abbrev pub start_of : List ℕ → Option ((ℤ × ℤ) × ℤ)
-start_of frame = option_map (λ x. x.0) (result_ok (start.reading frame))
+start_of frame = option_map (λ x. x.0) (result_ok (header_start.reading frame))
 
 -- Before a login ApiVersions (18) is served, and SaslHandshake (17) or SaslAuthenticate (36); after it each api is.
-abbrev pub is_served : State → ℤ → Bool
+abbrev pub is_served : SessionState → ℤ → Bool
 is_served (Fresh f) key = int_eq key (pos 18) || int_eq key (pos 17)
 is_served (Offered o) key = int_eq key (pos 18) || int_eq key (pos 36)
 is_served (Known k) key = true
 
 -- a SaslAuthenticate in its version 0, where it is served
-abbrev pub is_login : State → ℤ × ℤ → Bool
+abbrev pub is_login : SessionState → ℤ × ℤ → Bool
 is_login (Offered o) names = int_eq names.0 (pos 36) && int_eq names.1 (pos 0)
 is_login s names = false
 
@@ -124,71 +124,71 @@ longest_before_login users = max 65546 (32781 + longest_login users)
 
 -- What a frame leads to by what it starts with: what isn't served is refused without an answer, and a login that is longer than
 -- any, as a wrong password is.
-abbrev pub begins : Setting → State → List ℕ → (ℤ × ℤ) × ℤ → Step
-begins g s frame x =
+abbrev pub step_by_start : Setting → SessionState → List ℕ → (ℤ × ℤ) × ℤ → Step
+step_by_start g s frame x =
     if not (is_served s x.0.0) then Refuses []
     else if is_login s x.0 && nat_lt (longest_before_login g.users) (length frame) then logs_in x.1 None
-    else readable g s (request_at frame)
+    else step_if_readable g s (request_at frame)
 
-abbrev pub begun : Setting → State → List ℕ → Option ((ℤ × ℤ) × ℤ) → Step
-begun g s frame (Some x) = begins g s frame x
-begun g s frame None = Garbles
+abbrev pub step_by_start_if_any : Setting → SessionState → List ℕ → Option ((ℤ × ℤ) × ℤ) → Step
+step_by_start_if_any g s frame (Some x) = step_by_start g s frame x
+step_by_start_if_any g s frame None = Garbles
 
 -- at any time a client is told which version of ApiVersions is served
-abbrev pub supported : Setting → State → List ℕ → Option ℤ → Step
-supported g s frame (Some correlation) = Tells (unsupported_response correlation) s
-supported g s frame None = begun g s frame (start_of frame)
+abbrev pub step_by_version : Setting → SessionState → List ℕ → Option ℤ → Step
+step_by_version g s frame (Some correlation) = Tells (unsupported_response correlation) s
+step_by_version g s frame None = step_by_start_if_any g s frame (start_of frame)
 
 -- what a frame leads to
-abbrev pub step_of : Setting → State → List ℕ → Step
-step_of g s frame = supported g s frame (unsupported_at frame)
+abbrev pub step_of : Setting → SessionState → List ℕ → Step
+step_of g s frame = step_by_version g s frame (unsupported_at frame)
 
 -- ---- the frames one after the other
 
-abbrev pub asked : Step → (State → List Event) → List Event
-asked (Tells b t) more = more t
-asked (Submits c e t) more = e ∷ more t
-asked (Refuses b) more = []
-asked Garbles more = []
+abbrev pub events_then : Step → (SessionState → List Event) → List Event
+events_then (Tells b t) more = more t
+events_then (Submits c e t) more = e ∷ more t
+events_then (Refuses b) more = []
+events_then Garbles more = []
 
 -- the events that frames ask
-abbrev pub asks_of : Setting → State → List (List ℕ) → List Event
+abbrev pub asks_of : Setting → SessionState → List (List ℕ) → List Event
 asks_of g s [] = []
-asks_of g s (frame ∷ frames) = asked (step_of g s frame) (λ t. asks_of g t frames)
+asks_of g s (frame ∷ frames) = events_then (step_of g s frame) (λ t. asks_of g t frames)
 
-abbrev pub told : Step → (State → List ReceiptValue → List ℕ) → List ReceiptValue → List ℕ
-told (Tells b t) more rs = b ++ more t rs
-told (Submits c e t) more [] = []
-told (Submits c e t) more (r ∷ rs) = response c r.reply ++ more t rs
-told (Refuses b) more rs = b
-told Garbles more rs = []
+abbrev pub text_then : Step → (SessionState → List ReceiptValue → List ℕ) → List ReceiptValue → List ℕ
+text_then (Tells b t) more rs = b ++ more t rs
+text_then (Submits c e t) more [] = []
+text_then (Submits c e t) more (r ∷ rs) = response c r.reply ++ more t rs
+text_then (Refuses b) more rs = b
+text_then Garbles more rs = []
 
 -- what is written to frames: own answers, and the reply of the next receipt, up to the first event without one
-abbrev pub text_of : Setting → State → List (List ℕ) → List ReceiptValue → List ℕ
+abbrev pub text_of : Setting → SessionState → List (List ℕ) → List ReceiptValue → List ℕ
 text_of g s [] rs = []
-text_of g s (frame ∷ frames) rs = told (step_of g s frame) (λ t. text_of g t frames) rs
+text_of g s (frame ∷ frames) rs = text_then (step_of g s frame) (λ t. text_of g t frames) rs
 
-abbrev pub ended : Step → (State → Why) → Why
-ended (Tells b t) more = more t
-ended (Submits c e t) more = more t
-ended (Refuses b) more = Login
-ended Garbles more = IsMalformed
+abbrev pub why_then : Step → (SessionState → EndReason) → EndReason
+why_then (Tells b t) more = more t
+why_then (Submits c e t) more = more t
+why_then (Refuses b) more = Login
+why_then Garbles more = IsMalformed
 
--- the cause that ends frames, behind which this one stands
-abbrev pub end_of : Setting → State → List (List ℕ) → Why → Why
+-- the cause that ends frames, after which this one stands
+abbrev pub end_of : Setting → SessionState → List (List ℕ) → EndReason → EndReason
 end_of g s [] last = last
-end_of g s (frame ∷ frames) last = ended (step_of g s frame) (λ t. end_of g t frames last)
+end_of g s (frame ∷ frames) last = why_then (step_of g s frame) (λ t. end_of g t frames last)
 
 -- ---- a whole input, of which so many frames are served
 
-abbrev pub asks : Setting → ℕ → ℕ → State → List ℕ → List Event
-asks g n limit s input = asks_of g s (cut n limit input).frames
+abbrev pub asked_events : Setting → ℕ → ℕ → SessionState → List ℕ → List Event
+asked_events g n limit s input = asks_of g s (frames_of n limit input).frames
 
-abbrev pub text : Setting → ℕ → ℕ → State → List ℕ → List ReceiptValue → List ℕ
-text g n limit s input rs = text_of g s (cut n limit input).frames rs
+abbrev pub text : Setting → ℕ → ℕ → SessionState → List ℕ → List ReceiptValue → List ℕ
+text g n limit s input rs = text_of g s (frames_of n limit input).frames rs
 
-abbrev pub ends : Setting → ℕ → ℕ → State → List ℕ → Why
-ends g n limit s input = end_of g s (cut n limit input).frames (cut n limit input).why
+abbrev pub ending_why : Setting → ℕ → ℕ → SessionState → List ℕ → EndReason
+ending_why g n limit s input = end_of g s (frames_of n limit input).frames (frames_of n limit input).why
 
 abbrev pub events_held : List ReceiptValue → List Event
 events_held rs = map (λ (r : ReceiptValue). r.event) rs

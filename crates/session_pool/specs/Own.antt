@@ -8,9 +8,9 @@ use Rattle.msg_admin.specs.Request.{request_at}
 use Rattle.audit_trail.specs.declared.event.Event.{Event}
 use Rattle.audit_trail.specs.declared.event.Event.TheVariants.{Ask}
 use Rattle.settings_text.specs.declared.document.User.{User}
-use Rattle.session_pool.specs.Asks.{Setting, asks, fresh}
-use Rattle.session_pool.specs.Frames.{cut}
-use Rattle.session_logins.specs.Login.{login_of}
+use Rattle.session_pool.specs.Asks.{Setting, asked_events, fresh_state}
+use Rattle.session_pool.specs.Frames.{frames_of}
+use Rattle.session_pool.specs.LoginMessage.{login_of}
 
 -- the frame tells a user's password, whose principal this is
 abbrev pub TellsPassword : List User → List ℕ → List ℕ → Type 0
@@ -38,4 +38,4 @@ AreOwn g before (frame ∷ frames) (e ∷ es) = (IsOwn g before frame e × AreOw
 
 -- only a user who told the right password asks, from then on and as itself
 abbrev pub AsksAreOwn : Setting → ℕ → ℕ → List ℕ → Type 0
-AsksAreOwn g n limit input = AreOwn g [] (cut n limit input).frames (asks g n limit fresh input)
+AsksAreOwn g n limit input = AreOwn g [] (frames_of n limit input).frames (asked_events g n limit fresh_state input)

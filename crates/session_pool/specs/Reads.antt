@@ -1,14 +1,14 @@
 -- Why a part of a frame does not come, by what was read and what is left.
 use Rattle.std.specs.Prelude.{◌≡◌, ◌<◌, ◌+◌, ℕ, List, [], ◌++◌, length, Option, Some, IfSome}
 use Rattle.std.specs.Io.KnownBytes.{Consumes}
-use Rattle.session_pool.specs.declared.why.Why.{Why}
-use Rattle.session_pool.specs.declared.why.Why.TheVariants as why
+use Rattle.session_pool.specs.declared.end_reason.EndReason.{EndReason}
+use Rattle.session_pool.specs.declared.end_reason.EndReason.TheVariants as why
 
 -- what was read of known bytes, and what is left of them
 abbrev pub Took : Option (List ℕ) → Option (List ℕ) → (List ℕ → List ℕ → Type 0) → Type 0
 Took old new P = IfSome old (λ input. (read rest : List ℕ) × (input ≡ read ++ rest) × (new ≡ Some rest) × P read rest)
 
--- the same of a reader that is given up behind it
+-- the same of a reader that is given up after it
 abbrev pub TookLast : Option (List ℕ) → (List ℕ → List ℕ → Type 0) → Type 0
 TookLast old P = IfSome old (λ input. (read rest : List ℕ) × (input ≡ read ++ rest) × P read rest)
 
@@ -16,7 +16,7 @@ TookLast old P = IfSome old (λ input. (read rest : List ℕ) × (input ≡ read
 abbrev pub StopsShort : Option (List ℕ) → Option (List ℕ) → ℕ → Type 0
 StopsShort old new n = (read : List ℕ) × Consumes old new read × (length read < n)
 
--- what was read stands behind what was held
+-- what was read stands after what was held
 abbrev pub ReadsOn : Option (List ℕ) → Option (List ℕ) → List ℕ → List ℕ → Type 0
 ReadsOn old new held more = (read : List ℕ) × (more ≡ held ++ read) × Consumes old new read
 
@@ -28,13 +28,13 @@ Passes old new n = (read : List ℕ) × (length read ≡ n) × Consumes old new 
 abbrev pub ReadsPast : Option (List ℕ) → Option (List ℕ) → List ℕ → ℕ → Type 0
 ReadsPast old new front n = (more : List ℕ) × (length front + length more ≡ n) × Consumes old new (front ++ more)
 
-abbrev pub HeadLacks : Why → List ℕ → List ℕ → Type 0
+abbrev pub HeadLacks : EndReason → List ℕ → List ℕ → Type 0
 HeadLacks why.Closed read rest = (length read ≡ 0) × (rest ≡ [])
 HeadLacks why.Cut read rest = (0 < length read) × (length read < 4) × (rest ≡ [])
 HeadLacks why.ReadFault read rest = length read < 4
 HeadLacks _ read rest = ⊥
 
-abbrev pub BodyLacks : ℕ → Why → List ℕ → List ℕ → Type 0
+abbrev pub BodyLacks : ℕ → EndReason → List ℕ → List ℕ → Type 0
 BodyLacks size why.Cut read rest = (length read < size) × (rest ≡ [])
 BodyLacks size why.ReadFault read rest = length read < size
 BodyLacks size why.NoMemory read rest = Unit {0}

@@ -1,8 +1,8 @@
--- The steps of a keeper that goes by how many markers are owed.
+-- The steps of a keeper that goes by how many markers are pending.
 use Rattle.std.specs.Prelude.{◌≡◌, ◌<◌, ℕ, Option, Some, None, Result, Ok, Err, ⊤}
 use Rattle.audit_trail.specs.declared.event.Event.{Event}
 use Rattle.audit_trail.specs.declared.event.Event.TheVariants.{Ask, Mark, Tick}
-use Rattle.session_pool.specs.declared.why.Why.{Why}
+use Rattle.session_pool.specs.declared.end_reason.EndReason.{EndReason}
 use Rattle.session_pool.specs.declared.steps.Step.{Step}
 use Rattle.session_pool.specs.declared.steps.Step.TheVariants as steps
 
@@ -28,12 +28,12 @@ IsDue None e = ⊤
 IsDue (Some left) e = IsDueAt left e
 
 -- how many are owed after a step that left so many
-abbrev pub told : Option ℕ → ℕ → Option ℕ
-told None left = None
-told (Some before) left = Some left
+abbrev pub pending_after : Option ℕ → ℕ → Option ℕ
+pending_after None left = None
+pending_after (Some before) left = Some left
 
 -- ... and after one that was taken or wasn't
-abbrev pub noted : Option ℕ → Result ℕ Why → Option ℕ
-noted None outcome = None
-noted (Some before) (Ok left) = Some left
-noted (Some before) (Err why) = Some before
+abbrev pub pending_after_outcome : Option ℕ → Result ℕ EndReason → Option ℕ
+pending_after_outcome None outcome = None
+pending_after_outcome (Some before) (Ok left) = Some left
+pending_after_outcome (Some before) (Err why) = Some before

@@ -9,17 +9,17 @@ use Rattle.msg_admin.specs.Versions.{unsupported_response}
 use Rattle.audit_trail.specs.declared.event.Event.{Event}
 use Rattle.request_handlers.specs.declared.stop.Stop.{Stop}
 use Rattle.request_handlers.specs.Receipt.{ReceiptValue}
-use Rattle.session_pool.specs.declared.login.State.{State}
-use Rattle.session_pool.specs.declared.login.State.TheVariants.{Known}
+use Rattle.session_pool.specs.declared.login.SessionState.{SessionState}
+use Rattle.session_pool.specs.declared.login.SessionState.TheVariants.{Known}
 use Rattle.settings_text.specs.declared.document.User.{User}
 use Rattle.session_pool.specs.declared.begin.Begun.{Begun}
 use Rattle.session_pool.specs.declared.begin.Begun.TheVariants as begun
 use Rattle.session_pool.specs.declared.frame.Came.{Came}
-use Rattle.session_pool.specs.declared.respond.Outcome.{Outcome}
-use Rattle.session_pool.specs.declared.respond.Outcome.TheVariants as outcome
-use Rattle.session_pool.specs.declared.why.Why.{Why}
-use Rattle.session_pool.specs.declared.why.Why.TheVariants as why
-use Rattle.session_pool.specs.Asks.{Setting, Step, Tells, Submits, Refuses, Garbles, longest_before_login, logs_in, readable, step_of}
+use Rattle.session_pool.specs.declared.respond.SessionAction.{SessionAction}
+use Rattle.session_pool.specs.declared.respond.SessionAction.TheVariants as outcome
+use Rattle.session_pool.specs.declared.end_reason.EndReason.{EndReason}
+use Rattle.session_pool.specs.declared.end_reason.EndReason.TheVariants as why
+use Rattle.session_pool.specs.Asks.{Setting, Step, Tells, Submits, Refuses, Garbles, longest_before_login, logs_in, step_if_readable, step_of}
 use Rattle.session_pool.specs.Frames.{Nothing, Part, Bad, Whole, front_of}
 
 -- the bytes that were read are a frame, whatever follows
@@ -27,28 +27,28 @@ abbrev pub Comes : ℕ → List ℕ → List ℕ → List ℕ → Type 0
 Comes limit frame read rest = (tail : List ℕ) → front_of limit (read ++ tail) ≡ Whole frame tail
 
 -- what is kept of a frame: the whole, or of one with more than so many bytes the first eight
-abbrev pub kept_of : ℕ → List ℕ → List ℕ
-kept_of most frame = if nat_lt most (length frame) then take 8 frame else frame
+abbrev pub kept_bytes : ℕ → List ℕ → List ℕ
+kept_bytes most frame = if nat_lt most (length frame) then take 8 frame else frame
 
 -- what came is of this frame
 abbrev pub IsOf : ℕ → Came → List ℕ → Type 0
-IsOf most came frame = (came.kept ≡ kept_of most frame) × (came.size ≡ length frame)
+IsOf most came frame = (came.kept ≡ kept_bytes most frame) × (came.size ≡ length frame)
 
 -- the bytes that were read are a frame of which this came, whatever follows
 abbrev pub Arrives : ℕ → ℕ → Came → List ℕ → List ℕ → Type 0
 Arrives limit most came read rest = (frame : List ℕ) × IsOf most came frame × Comes limit frame read rest
 
 -- so many bytes a frame may have that is kept, where none has more than the limit
-abbrev pub most_kept : List User → ℕ → State → ℕ
+abbrev pub most_kept : List User → ℕ → SessionState → ℕ
 most_kept users limit (Known k) = limit
 most_kept users limit s = min limit (longest_before_login users)
 
 -- this came of the frame
-abbrev pub CameOf : Setting → ℕ → State → Came → List ℕ → Type 0
+abbrev pub CameOf : Setting → ℕ → SessionState → Came → List ℕ → Type 0
 CameOf g limit s came frame = (length frame ≤ limit) × IsOf (most_kept g.users limit s) came frame
 
 -- where a frame does not come
-abbrev pub Lacks : ℕ → Why → List ℕ → List ℕ → Type 0
+abbrev pub Lacks : ℕ → EndReason → List ℕ → List ℕ → Type 0
 Lacks limit why.Closed read rest = (front_of limit read ≡ Nothing) × (rest ≡ [])
 Lacks limit why.Cut read rest = (front_of limit read ≡ Part) × (rest ≡ [])
 Lacks limit why.BadFrame read rest = (tail : List ℕ) → front_of limit (read ++ tail) ≡ Bad
@@ -59,51 +59,51 @@ Lacks limit _ read rest = ⊥
 -- ---- what comes of a frame
 
 -- what a frame leads to, of which this came, as far as its first bytes say it
-abbrev pub IsBegun : Setting → State → Came → List ℕ → Begun → Type 0
+abbrev pub IsBegun : Setting → SessionState → Came → List ℕ → Begun → Type 0
 IsBegun g s came frame (begun.OtherVersion correlation) = step_of g s frame ≡ Tells (unsupported_response correlation) s
 IsBegun g s came frame begun.Unserved = step_of g s frame ≡ Refuses []
 IsBegun g s came frame (begun.Overlong correlation) = step_of g s frame ≡ logs_in correlation None
 IsBegun g s came frame begun.Unreadable = step_of g s frame ≡ Garbles
-IsBegun g s came frame begun.Whole = (came.kept ≡ frame) × (step_of g s frame ≡ readable g s (request_at frame))
+IsBegun g s came frame begun.Whole = (came.kept ≡ frame) × (step_of g s frame ≡ step_if_readable g s (request_at frame))
 
 -- an outcome that the session has by itself
-abbrev pub Says : Step → Outcome → Type 0
+abbrev pub Says : Step → SessionAction → Type 0
 Says step (outcome.Tells b t) = step ≡ Tells b t
 Says step (outcome.Refuses b) = step ≡ Refuses b
-Says step outcome.Garbled = step ≡ Garbles
-Says step outcome.Fails = Unit {0}
+Says step outcome.Malformed = step ≡ Garbles
+Says step outcome.NoMemory = Unit {0}
 Says step _ = ⊥
 
 -- an outcome of a step that leaves these receipts, at a desk that may stop an event so
-abbrev pub Meant : (Event → Stop → Bool) → Step → List ReceiptValue → List ReceiptValue → Outcome → Type 0
+abbrev pub Meant : (Event → Stop → Bool) → Step → List ReceiptValue → List ReceiptValue → SessionAction → Type 0
 Meant may_stop step old new (outcome.Tells b t) = (step ≡ Tells b t) × (new ≡ old)
 Meant may_stop step old new (outcome.Answers b k) = (c : ℤ) × (r : ReceiptValue) × (step ≡ Submits c r.event (Known k)) × (b ≡ response c r.reply) × (new ≡ old ++ r ∷ [])
 Meant may_stop step old new (outcome.Refuses b) = (step ≡ Refuses b) × (new ≡ old)
-Meant may_stop step old new outcome.Garbled = (step ≡ Garbles) × (new ≡ old)
-Meant may_stop step old new outcome.Fails = new ≡ old
-Meant may_stop step old new (outcome.Stopped s) = (c : ℤ) × (e : Event) × (t : State) × (step ≡ Submits c e t) × (new ≡ old) × (may_stop e s ≡ true)
-Meant may_stop step old new (outcome.Unsent f) = (c : ℤ) × (r : ReceiptValue) × (t : State) × (step ≡ Submits c r.event t) × (new ≡ old ++ r ∷ []) × (f ≡ faults.TooLong → IsTooLong c r.reply)
+Meant may_stop step old new outcome.Malformed = (step ≡ Garbles) × (new ≡ old)
+Meant may_stop step old new outcome.NoMemory = new ≡ old
+Meant may_stop step old new (outcome.Stopped s) = (c : ℤ) × (e : Event) × (t : SessionState) × (step ≡ Submits c e t) × (new ≡ old) × (may_stop e s ≡ true)
+Meant may_stop step old new (outcome.Unsent f) = (c : ℤ) × (r : ReceiptValue) × (t : SessionState) × (step ≡ Submits c r.event t) × (new ≡ old ++ r ∷ []) × (f ≡ faults.TooLong → IsTooLong c r.reply)
 
 -- ---- what is written of it
 
-abbrev pub why_of : WriteFault → Why
+abbrev pub why_of : WriteFault → EndReason
 why_of faults.NoMemory = why.NoMemory
 why_of faults.TooLong = why.TooLong
 
 -- the bytes were written, and this came of it, or they were not all written
-abbrev pub Sends : Option (List ℕ) → Option (List ℕ) → List ℕ → Result State Why → Result State Why → Type 0
+abbrev pub Sends : Option (List ℕ) → Option (List ℕ) → List ℕ → Result SessionState EndReason → Result SessionState EndReason → Type 0
 Sends held held' bytes next r = (done left : List ℕ) × (bytes ≡ done ++ left) × Appends held held' done × (((r ≡ next) × (left ≡ [])) ⊎ (r ≡ Err why.WriteFault))
 
 -- The same of a response that is made part after part: memory may be refused for a part.
-abbrev pub SendsParts : Option (List ℕ) → Option (List ℕ) → List ℕ → Result State Why → Result State Why → Type 0
+abbrev pub SendsParts : Option (List ℕ) → Option (List ℕ) → List ℕ → Result SessionState EndReason → Result SessionState EndReason → Type 0
 SendsParts held held' bytes next r = (done left : List ℕ) × (bytes ≡ done ++ left) × Appends held held' done × (((r ≡ next) × (left ≡ [])) ⊎ ((r ≡ Err why.WriteFault) ⊎ (r ≡ Err why.NoMemory)))
 
 -- what an outcome writes, and what comes of it
-abbrev pub Finishes : Option (List ℕ) → Option (List ℕ) → Outcome → Result State Why → Type 0
+abbrev pub Finishes : Option (List ℕ) → Option (List ℕ) → SessionAction → Result SessionState EndReason → Type 0
 Finishes held held' (outcome.Tells b t) r = Sends held held' b (Ok t) r
 Finishes held held' (outcome.Answers b k) r = SendsParts held held' b (Ok (Known k)) r
 Finishes held held' (outcome.Refuses b) r = Sends held held' b (Err why.Login) r
-Finishes held held' outcome.Garbled r = (held' ≡ held) × (r ≡ Err why.Malformed)
-Finishes held held' outcome.Fails r = (held' ≡ held) × (r ≡ Err why.NoMemory)
+Finishes held held' outcome.Malformed r = (held' ≡ held) × (r ≡ Err why.Malformed)
+Finishes held held' outcome.NoMemory r = (held' ≡ held) × (r ≡ Err why.NoMemory)
 Finishes held held' (outcome.Stopped s) r = (held' ≡ held) × (r ≡ Err (why.Stopped s))
 Finishes held held' (outcome.Unsent f) r = (held' ≡ held) × (r ≡ Err (why_of f))

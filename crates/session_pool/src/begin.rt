@@ -2,12 +2,12 @@
 
 ghost use Rattle.std.specs.Prelude.{◌≡◌, ◌≤◌, ℕ, List, length};
 ghost use Rattle.wire_types.specs.Reading.{Takes};
-ghost use Rattle.msg_admin.specs.Versions.{start};
+ghost use Rattle.msg_admin.specs.Versions.{header_start};
 ghost use Rattle.session_pool.specs.Asks.{Setting, start_of, is_served, is_login};
 ghost use Rattle.session_pool.specs.Turns.{CameOf, IsBegun};
 
 use crate::frame::Came;
-use crate::login::State;
+use crate::login::SessionState;
 use msg_admin::unsupported_versions;
 use wire_types::{Bytes, Cursor, Malformed};
 
@@ -34,7 +34,7 @@ pub(crate) enum Begun {
 
 /// The key and the version of an api, and the correlation id.
 fn read_start(cursor: &mut Cursor<'_>) -> Result<((i16, i16), i32), Malformed>
-    ensures { Takes (start.reading cursor.old) result cursor.new }
+    ensures { Takes (header_start.reading cursor.old) result cursor.new }
 {
     let key = cursor.read_i16()?;
     let version = cursor.read_i16()?;
@@ -51,30 +51,31 @@ fn start_of(bytes: &Bytes) -> Option<((i16, i16), i32)>
 }
 
 /// Whether an api is served in this state.
-fn is_served(state: &State, key: i16) -> bool
+fn is_served(state: &SessionState, key: i16) -> bool
     ensures { result ≡ is_served state.now key }
 {
     match state {
-        State::Fresh(_) => key == API_VERSIONS || key == SASL_HANDSHAKE,
-        State::Offered(_) => key == API_VERSIONS || key == SASL_AUTHENTICATE,
-        State::Known(_) => true,
+        SessionState::Fresh(_) => key == API_VERSIONS || key == SASL_HANDSHAKE,
+        SessionState::Offered(_) => key == API_VERSIONS || key == SASL_AUTHENTICATE,
+        SessionState::Known(_) => true,
     }
 }
 
 /// Whether this is a login, where one is served.
-fn is_login(state: &State, names: (i16, i16)) -> bool
+fn is_login(state: &SessionState, names: (i16, i16)) -> bool
     ensures { result ≡ is_login state.now names }
 {
     match state {
-        State::Offered(_) => names.0 == SASL_AUTHENTICATE && names.1 == 0,
+        SessionState::Offered(_) => names.0 == SASL_AUTHENTICATE && names.1 == 0,
         _ => false,
     }
 }
 
 /// What a frame leads to as far as its first bytes say it.
-pub(crate) fn begin(state: &State, came: &Came) -> Begun
+pub(crate) fn begin(state: &SessionState, came: &Came) -> Begun
     requires { length came.now.kept ≤ came.now.size }
-    ensures { (g : Setting) (limit : ℕ) (frame : List ℕ) → CameOf g limit state.now came.now frame → IsBegun g state.now came.now frame result }
+    ensures { (g : Setting) (limit : ℕ) (frame : List ℕ) → CameOf g limit state.now came.now frame
+        → IsBegun g state.now came.now frame result }
 {
     if let Some(correlation) = unsupported_versions(&came.kept) {
         return Begun::OtherVersion(correlation);

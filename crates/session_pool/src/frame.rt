@@ -2,11 +2,11 @@
 
 ghost use Rattle.std.specs.Prelude.{◌≡◌, ◌+◌, ◌-◌, ◌≤◌, ◌<◌, length, max, take, IfOk, IfErr, OnOk, OnErr};
 ghost use Rattle.std.specs.Io.KnownBytes.{Consumes, Keeps, IsAtEnd};
-ghost use Rattle.session_pool.specs.declared.why.Why.TheVariants.{ReadFault, NoMemory};
+ghost use Rattle.session_pool.specs.declared.end_reason.EndReason.TheVariants.{ReadFault, NoMemory};
 ghost use Rattle.session_pool.specs.Turns.{Lacks, Arrives};
 ghost use Rattle.session_pool.specs.Reads.{HeadLacks, BodyLacks, Took, StopsShort, ReadsOn, Passes, ReadsPast};
 
-use crate::why::Why;
+use crate::end_reason::EndReason;
 use std::alloc::Global;
 use std::io::{ErrorKind, Read};
 use wire_types::Bytes;
@@ -24,9 +24,11 @@ const LEAST: u32 = 8;
 const PIECE: usize = 8_192;
 
 /// One read, made again where it was interrupted.
-fn read_some<R: Read>(reader: &mut R, piece: &mut [u8]) -> Result<usize, Why>
+fn read_some<R: Read>(reader: &mut R, piece: &mut [u8]) -> Result<usize, EndReason>
     ensures few { IfOk result (λ n. n ≤ length piece.new) }
-    ensures ok { IfOk result (λ n. Consumes (R.remaining reader.old) (R.remaining reader.new) (take n piece.new) × (n ≡ 0 → 0 < length piece.new → IsAtEnd (R.remaining reader.new))) }
+    ensures ok { IfOk result
+        (λ n. Consumes (R.remaining reader.old) (R.remaining reader.new) (take n piece.new)
+        × (n ≡ 0 → 0 < length piece.new → IsAtEnd (R.remaining reader.new))) }
     ensures err { OnErr result (Keeps (R.remaining reader.old) (R.remaining reader.new)) }
     ensures fault { IfErr result (λ why. why ≡ ReadFault) }
 {
@@ -35,20 +37,23 @@ fn read_some<R: Read>(reader: &mut R, piece: &mut [u8]) -> Result<usize, Why>
             Ok(count) => return Ok(count),
             Err(error) => {
                 if error.kind() != ErrorKind::Interrupted {
-                    return Err(Why::ReadFault);
+                    return Err(EndReason::ReadFault);
                 }
             }
         }
     }
-    Err(Why::ReadFault)
+    Err(EndReason::ReadFault)
 }
 
 /// Fills the piece as far as the input goes, and says how far.
-fn fill<R: Read>(reader: &mut R, piece: &mut [u8]) -> Result<usize, Why>
+fn fill<R: Read>(reader: &mut R, piece: &mut [u8]) -> Result<usize, EndReason>
     ensures few { IfOk result (λ n. n ≤ length piece.new) }
-    ensures ok { IfOk result (λ n. Consumes (R.remaining reader.old) (R.remaining reader.new) (take n piece.new) × (n < length piece.new → IsAtEnd (R.remaining reader.new))) }
+    ensures ok { IfOk result
+        (λ n. Consumes (R.remaining reader.old) (R.remaining reader.new) (take n piece.new)
+        × (n < length piece.new → IsAtEnd (R.remaining reader.new))) }
     ensures fault { IfErr result (λ why. why ≡ ReadFault) }
-    ensures err { OnErr result (StopsShort (R.remaining reader.old) (R.remaining reader.new) (length piece.new)) }
+    ensures err { OnErr result
+        (StopsShort (R.remaining reader.old) (R.remaining reader.new) (length piece.new)) }
 {
     let mut filled = 0;
     while filled < piece.len() {
@@ -63,59 +68,69 @@ fn fill<R: Read>(reader: &mut R, piece: &mut [u8]) -> Result<usize, Why>
 
 /// Reads the size field.
 #[tactic(auto, using(crate::proofs::Bytes::head_closed, crate::proofs::Bytes::head_cut, crate::proofs::Bytes::head_fault))]
-fn read_head<R: Read>(reader: &mut R) -> Result<[u8; SIZE_FIELD], Why>
-    ensures ok { IfOk result (λ head. (length head ≡ 4) × Consumes (R.remaining reader.old) (R.remaining reader.new) head) }
-    ensures err { IfErr result (λ why. Took (R.remaining reader.old) (R.remaining reader.new) (HeadLacks why)) }
+fn read_head<R: Read>(reader: &mut R) -> Result<[u8; SIZE_FIELD], EndReason>
+    ensures ok { IfOk result
+        (λ head. (length head ≡ 4) × Consumes (R.remaining reader.old) (R.remaining reader.new)
+        head) }
+    ensures err { IfErr result
+        (λ why. Took (R.remaining reader.old) (R.remaining reader.new) (HeadLacks why)) }
 {
     let mut head = [0; SIZE_FIELD];
     let count = fill(reader, &mut head)?;
     if count == 0 {
-        return Err(Why::Closed);
+        return Err(EndReason::Closed);
     }
     if count < SIZE_FIELD {
-        return Err(Why::Cut);
+        return Err(EndReason::Cut);
     }
     Ok(head)
 }
 
 /// Fills the piece.
 #[tactic(auto, using(crate::proofs::Bytes::body_cut, crate::proofs::Bytes::body_fault))]
-fn read_piece<R: Read>(reader: &mut R, piece: &mut [u8]) -> Result<(), Why>
-    ensures ok { IfOk result (λ _. Consumes (R.remaining reader.old) (R.remaining reader.new) piece.new) }
-    ensures err { IfErr result (λ why. Took (R.remaining reader.old) (R.remaining reader.new) (BodyLacks (length piece.new) why)) }
+fn read_piece<R: Read>(reader: &mut R, piece: &mut [u8]) -> Result<(), EndReason>
+    ensures ok { IfOk result
+        (λ _. Consumes (R.remaining reader.old) (R.remaining reader.new) piece.new) }
+    ensures err { IfErr result
+        (λ why. Took (R.remaining reader.old) (R.remaining reader.new)
+        (BodyLacks (length piece.new) why)) }
 {
     let count = fill(reader, piece)?;
     if count < piece.len() {
-        return Err(Why::Cut);
+        return Err(EndReason::Cut);
     }
     Ok(())
 }
 
 /// Takes room for exactly so many more bytes.
 #[tactic(auto, using(crate::proofs::Bytes::front_kept))]
-fn make_room(body: &mut Vec<u8>, more: usize) -> Result<(), Why>
+fn reserve_more(body: &mut Vec<u8>, more: usize) -> Result<(), EndReason>
     ensures len { OnOk result (length body.new.items ≡ length body.old.items + more) }
     ensures kept { OnOk result (take (length body.old.items) body.new.items ≡ body.old.items) }
     ensures err { OnErr result (body.new.items ≡ body.old.items) }
     ensures fault { IfErr result (λ why. why ≡ NoMemory) }
 {
     if body.reserve_exact(more).is_err() {
-        return Err(Why::NoMemory);
+        return Err(EndReason::NoMemory);
     }
     let end = body.len() + more;
     match body.resize(end, 0) {
         Ok(()) => Ok(()),
-        Err(_) => Err(Why::NoMemory),
+        Err(_) => Err(EndReason::NoMemory),
     }
 }
 
 /// Reads what stands in the body from one place on.
 #[tactic(auto, using(crate::proofs::Bytes::rest_read))]
-fn read_rest<R: Read>(reader: &mut R, body: &mut Vec<u8>, held: usize) -> Result<(), Why>
+fn read_rest<R: Read>(reader: &mut R, body: &mut Vec<u8>, held: usize) -> Result<(), EndReason>
     requires { held ≤ length body.old.items }
     ensures len { length body.new.items ≡ length body.old.items }
-    ensures ok { IfOk result (λ _. ReadsOn (R.remaining reader.old) (R.remaining reader.new) (take held body.old.items) body.new.items) }
-    ensures err { IfErr result (λ why. Took (R.remaining reader.old) (R.remaining reader.new) (BodyLacks (length body.old.items - held) why)) }
+    ensures ok { IfOk result
+        (λ _. ReadsOn (R.remaining reader.old) (R.remaining reader.new) (take held body.old.items)
+        body.new.items) }
+    ensures err { IfErr result
+        (λ why. Took (R.remaining reader.old) (R.remaining reader.new)
+        (BodyLacks (length body.old.items - held) why)) }
 {
     match read_piece(reader, &mut body[held..]) {
         Ok(()) => Ok(()),
@@ -133,16 +148,18 @@ fn read_body<R: Read>(
     reader: &mut R,
     longest: usize,
     size: usize,
-) -> Result<Vec<u8>, Why>
+) -> Result<Vec<u8>, EndReason>
     ensures len { IfOk result (λ body. length body.items ≡ size) }
-    ensures ok { IfOk result (λ body. Consumes (R.remaining reader.old) (R.remaining reader.new) body.items) }
-    ensures err { IfErr result (λ why. Took (R.remaining reader.old) (R.remaining reader.new) (BodyLacks size why)) }
+    ensures ok { IfOk result
+        (λ body. Consumes (R.remaining reader.old) (R.remaining reader.new) body.items) }
+    ensures err { IfErr result
+        (λ why. Took (R.remaining reader.old) (R.remaining reader.new) (BodyLacks size why)) }
 {
     let mut body = Vec::new(alloc);
     let mut held = 0;
     while held < size {
         let more = PIECE.max(longest).max(held).min(size - held);
-        if let Err(why) = make_room(&mut body, more) {
+        if let Err(why) = reserve_more(&mut body, more) {
             return Err(why);
         }
         if let Err(why) = read_rest(reader, &mut body, held) {
@@ -155,9 +172,10 @@ fn read_body<R: Read>(
 
 /// Reads past so many bytes, by pieces of 8,192.
 #[tactic(auto, using(crate::proofs::Bytes::none_passed, crate::proofs::Bytes::more_passed))]
-fn read_past<R: Read>(reader: &mut R, size: usize) -> Result<(), Why>
+fn read_past<R: Read>(reader: &mut R, size: usize) -> Result<(), EndReason>
     ensures ok { IfOk result (λ _. Passes (R.remaining reader.old) (R.remaining reader.new) size) }
-    ensures err { IfErr result (λ why. Took (R.remaining reader.old) (R.remaining reader.new) (BodyLacks size why)) }
+    ensures err { IfErr result
+        (λ why. Took (R.remaining reader.old) (R.remaining reader.new) (BodyLacks size why)) }
 {
     if size == 0 {
         return Ok(());
@@ -182,11 +200,13 @@ fn read_keeping<R: Read>(
     longest: usize,
     kept: usize,
     size: usize,
-) -> Result<Vec<u8>, Why>
+) -> Result<Vec<u8>, EndReason>
     requires { kept ≤ size }
     ensures len { IfOk result (λ body. length body.items ≡ kept) }
-    ensures ok { IfOk result (λ body. ReadsPast (R.remaining reader.old) (R.remaining reader.new) body.items size) }
-    ensures err { IfErr result (λ why. Took (R.remaining reader.old) (R.remaining reader.new) (BodyLacks size why)) }
+    ensures ok { IfOk result
+        (λ body. ReadsPast (R.remaining reader.old) (R.remaining reader.new) body.items size) }
+    ensures err { IfErr result
+        (λ why. Took (R.remaining reader.old) (R.remaining reader.new) (BodyLacks size why)) }
 {
     let body = match read_body(alloc, reader, longest, kept) {
         Ok(body) => body,
@@ -215,15 +235,18 @@ fn read_sized<R: Read>(
     longest: usize,
     most: u32,
     limit: u32,
-) -> Result<(Vec<u8>, usize), Why>
+) -> Result<(Vec<u8>, usize), EndReason>
     ensures within { IfOk result (λ came. (length came.0.items ≤ came.1) × (came.1 ≤ limit)) }
-    ensures ok { IfOk result (λ came. Took (R.remaining reader.old) (R.remaining reader.new) (Arrives limit most (record { kept = came.0.items; size = came.1 }))) }
-    ensures err { IfErr result (λ why. Took (R.remaining reader.old) (R.remaining reader.new) (Lacks limit why)) }
+    ensures ok { IfOk result
+        (λ came. Took (R.remaining reader.old) (R.remaining reader.new)
+        (Arrives limit most (record { kept = came.0.items; size = came.1 }))) }
+    ensures err { IfErr result
+        (λ why. Took (R.remaining reader.old) (R.remaining reader.new) (Lacks limit why)) }
 {
     let head = read_head(reader)?;
     let size = u32::from_be_bytes(head);
     if size < LEAST || size > limit {
-        return Err(Why::BadFrame);
+        return Err(EndReason::BadFrame);
     }
     let kept = if size > most { LEAST } else { size };
     match read_keeping(alloc, reader, longest, kept as usize, size as usize) {
@@ -242,17 +265,19 @@ pub(crate) fn read_frame<R: Read>(
     longest: &mut usize,
     most: u32,
     limit: u32,
-) -> Result<Came, Why>
+) -> Result<Came, EndReason>
     ensures within { IfOk result (λ came. (length came.kept ≤ came.size) × (came.size ≤ limit)) }
-    ensures ok { IfOk result (λ came. Took (R.remaining reader.old) (R.remaining reader.new) (Arrives limit most came)) }
-    ensures err { IfErr result (λ why. Took (R.remaining reader.old) (R.remaining reader.new) (Lacks limit why)) }
+    ensures ok { IfOk result
+        (λ came. Took (R.remaining reader.old) (R.remaining reader.new) (Arrives limit most came)) }
+    ensures err { IfErr result
+        (λ why. Took (R.remaining reader.old) (R.remaining reader.new) (Lacks limit why)) }
     ensures longest { IfOk result (λ came. longest.new ≡ max longest.old (length came.kept)) }
     ensures same { OnErr result (longest.new ≡ longest.old) }
 {
     let (body, size) = read_sized(alloc, reader, *longest, most, limit)?;
     let kept = body.len();
     let Ok(bytes) = Bytes::from_vec(body) else {
-        return Err(Why::NoMemory);
+        return Err(EndReason::NoMemory);
     };
     *longest = (*longest).max(kept);
     Ok(Came { kept: bytes, size })

@@ -1,6 +1,6 @@
 //! Who is called round each frame, and after the last.
 
-use crate::why::Why;
+use crate::end_reason::EndReason;
 use request_handlers::Receipt;
 use wire_types::{Bytes, Text};
 
@@ -19,7 +19,7 @@ pub trait Gate {
     fn after(&self, session: u64, frame: u64);
 
     /// Comes once a frame was read that is no request that is served, with what is kept of it: all, or its first eight bytes.
-    fn garbled(&self, _session: u64, _kept: &[u8]) {}
+    fn malformed(&self, _session: u64, _kept: &[u8]) {}
 
     /// Comes once a frame ended the session since its user isn't known: with what is kept of it, all or its first eight bytes, and
     /// whether it is answered. One that comes out of its order isn't.
@@ -27,15 +27,22 @@ pub trait Gate {
 
     /// Comes once the session has ended, from whoever serves it: with the host that it came from, the principal that had logged
     /// in, if one had, and why it ended.
-    fn ended(&self, _session: u64, _host: &Text, _who: Option<&Text>, _why: Why) {}
+    fn ended(&self, _session: u64, _host: &Text, _who: Option<&Text>, _why: EndReason) {}
 
     /// Comes in place of that where more is known of why than `why` tells: the words say it.
-    fn ended_as(&self, session: u64, host: &Text, who: Option<&Text>, why: Why, _words: &str) {
+    fn ended_as(
+        &self,
+        session: u64,
+        host: &Text,
+        who: Option<&Text>,
+        why: EndReason,
+        _words: &str,
+    ) {
         self.ended(session, host, who, why);
     }
 }
 
-/// Nobody.
+/// Does nothing when it is called.
 impl Gate for () {
     fn before(&self, _session: u64, _frame: u64) {}
 

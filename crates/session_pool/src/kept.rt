@@ -1,9 +1,9 @@
 //! What a desk's lock is round.
 
-ghost use Rattle.std.specs.Prelude.{◌≡◌, ◌+◌, ◌<◌, ◌≤◌, [], Some, length, IfOk, IfErr, IfSome, IfNone, OnOk, OnErr};
+ghost use Rattle.std.specs.Prelude.{◌≡◌, ◌+◌, ◌<◌, ◌≤◌, [], length, IfOk, IfErr, IfSome, IfNone, OnOk, OnErr};
 ghost use Rattle.api_dispatch.specs.Bounds.{EventFits};
-ghost use Rattle.request_handlers.specs.Core.{StoppedBy, advanced, receipt_of};
-ghost use Rattle.request_handlers.specs.Seats.{fresh_seat, most_seats, raised};
+ghost use Rattle.request_handlers.specs.Core.{StoppedBy, core_after, receipt_of};
+ghost use Rattle.request_handlers.specs.Seats.{fresh_seat, most_seats, seat_after};
 
 use crate::desk::DeskLedger;
 use audit_trail::Event;
@@ -22,7 +22,8 @@ impl<L: DeskLedger> Kept<L> {
     pub(crate) fn new(core: Core, blank: Blank) -> Kept<L>
         requires settings { core.settings ≡ L.settings }
         requires empty { core.trail ≡ [] }
-        requires ledger { (blank.name ≡ L.name) × (blank.parts ≡ L.parts) × (blank.parts ≡ most_seats + 1) }
+        requires ledger { (blank.name ≡ L.name) × (blank.parts ≡ L.parts)
+            × (blank.parts ≡ most_seats + 1) }
         ensures { result.booked ≡ record { core = core; given = 0 } }
     {
         Kept {
@@ -32,14 +33,16 @@ impl<L: DeskLedger> Kept<L> {
 
     /// A new seat, unless all were given.
     pub(crate) fn seat(&mut self) -> Option<Seat<L>>
-        ensures some { IfSome result (λ seat. (seat ≡ fresh_seat) × (self.old.booked.given < most_seats) × (self.new.booked.given ≡ self.old.booked.given + 1)) }
+        ensures some { IfSome result
+            (λ seat. (seat ≡ fresh_seat) × (self.old.booked.given < most_seats)
+            × (self.new.booked.given ≡ self.old.booked.given + 1)) }
         ensures none { IfNone result (self.old.booked.given ≡ most_seats) }
         ensures core { self.new.booked.core ≡ self.old.booked.core }
     {
         self.booked.seat()
     }
 
-    /// How many markers are owed.
+    /// How many markers are pending.
     pub(crate) fn owed(&self) -> usize
         ensures { result ≡ length self.now.booked.core.world.coordinator.warrants }
     {
@@ -51,9 +54,10 @@ impl<L: DeskLedger> Kept<L> {
     pub(crate) fn step(&mut self, seat: Seat<L>, event: Event) -> (Seat<L>, Result<Receipt, Stop>)
         requires { EventFits event }
         ensures receipt { IfOk result.1 (λ r. r ≡ receipt_of self.old.booked.core event) }
-        ensures ok { OnOk result.1 (self.new.booked.core ≡ advanced self.old.booked.core event) }
-        ensures stop { IfErr result.1 (λ stop. StoppedBy stop self.old.booked.core event self.new.booked.core) }
-        ensures raised { IfOk result.1 (λ r. result.0 ≡ raised seat r) }
+        ensures ok { OnOk result.1 (self.new.booked.core ≡ core_after self.old.booked.core event) }
+        ensures stop { IfErr result.1
+            (λ stop. StoppedBy stop self.old.booked.core event self.new.booked.core) }
+        ensures raised { IfOk result.1 (λ r. result.0 ≡ seat_after seat r) }
         ensures kept { OnErr result.1 (result.0 ≡ seat) }
         ensures place { IfOk result.1 (λ r. seat.count ≤ r.place) }
         ensures given { self.new.booked.given ≡ self.old.booked.given }

@@ -3,7 +3,7 @@
 ghost use Rattle.std.specs.Prelude.{ℕ, List};
 ghost use Rattle.settings_text.specs.declared.document.User.{User};
 ghost use Rattle.session_pool.specs.Asks.{Setting};
-ghost use Rattle.session_pool.specs.declared.login.State.{State};
+ghost use Rattle.session_pool.specs.declared.login.SessionState.{SessionState};
 ghost use Rattle.session_pool.specs.Own.{AsksAreOwn};
 ghost use Rattle.session_pool.specs.Unread.{LogsNobodyIn, GoesByItsFront};
 
@@ -20,5 +20,5 @@ pub fn long_frames_log_nobody_in()
 
 /// Before a login a frame that is longer leads to what its first eight bytes and its length say, whatever its other bytes are.
 pub fn long_frames_go_by_their_front()
-    ensures { (g : Setting) (s : State) (frame : List ℕ) → GoesByItsFront g s frame }
+    ensures { (g : Setting) (s : SessionState) (frame : List ℕ) → GoesByItsFront g s frame }
 {}

@@ -1,6 +1,6 @@
 //! A core under a lock.
 
-ghost use Rattle.std.specs.Prelude.{◌≡◌, ◌+◌, ◌≤◌, [], true, Some, IfOk, IfErr, IfSome, OnOk, OnErr};
+ghost use Rattle.std.specs.Prelude.{◌≡◌, ◌+◌, ◌≤◌, [], true, Some, IfOk, IfSome, OnOk, OnErr};
 ghost use Rattle.std.specs.Fn.{FnOnceReturnsAt};
 ghost use Rattle.api_dispatch.specs.Bounds.{EventFits};
 ghost use Rattle.request_handlers.specs.Core.{CoreValue, IsHistory};
@@ -19,7 +19,7 @@ use std::thread::Parker;
 use std::time::Duration;
 
 /// A core with seats under a lock, and the handle by which callers wait for it. Whoever keeps the core's time can rest at the
-/// desk until markers are owed.
+/// desk until markers are pending.
 #[derive(Drop)]
 pub struct LockedDesk<L: DeskLedger, R: Wait> {
     kept: Mutex<Kept<L>>,
@@ -33,7 +33,8 @@ impl<L: DeskLedger, R: Wait> LockedDesk<L, R> {
     pub fn new(core: Core, blank: Blank, rt: R) -> LockedDesk<L, R>
         requires settings { core.settings ≡ L.settings }
         requires empty { core.trail ≡ [] }
-        requires ledger { (blank.name ≡ L.name) × (blank.parts ≡ L.parts) × (blank.parts ≡ most_seats + 1) }
+        requires ledger { (blank.name ≡ L.name) × (blank.parts ≡ L.parts)
+            × (blank.parts ≡ most_seats + 1) }
     {
         LockedDesk {
             kept: Mutex::new(Kept::new(core, blank)),
@@ -52,7 +53,8 @@ impl<L: DeskLedger, R: Wait> LockedDesk<L, R> {
     /// Looks at the core while it is locked.
     pub fn look<T, F: FnOnce(&Core) -> T>(&self, look: F) -> T
         requires { F.IsAlwaysCallable look }
-        ensures { (core : CoreValue) × IsDeskCore L.settings core × FnOnceReturnsAt F.FnOnce look core result }
+        ensures { (core : CoreValue) × IsDeskCore L.settings core × FnOnceReturnsAt F.FnOnce look
+            core result }
     {
         let kept = self.kept.lock(&self.rt);
         let core = kept.booked.core();
@@ -60,20 +62,20 @@ impl<L: DeskLedger, R: Wait> LockedDesk<L, R> {
         look(core)
     }
 
-    /// Rests until a step leaves markers owed where none were owed before, or the time is over. A step that did so since the
+    /// Rests until a step leaves markers pending where none were pending before, or the time is over. A step that did so since the
     /// last rest ends it at once. It may end early.
     pub fn rest<T: Wait>(&self, rt: &T, most: Duration) {
         self.keeper.park_timeout(rt, most);
     }
 
-    /// Ends a rest, where markers are owed that weren't before.
+    /// Ends a rest, where markers are pending that weren't before.
     fn wake(&self, before: usize, after: usize) {
         if before == 0 && after > 0 {
             self.keeper.unpark();
         }
     }
 
-    /// As `submit`, while whoever told the step looks. It doesn't wake whoever rests, who submits itself.
+    /// As `submit`; `steps` is called before and after it, under the lock. It wakes no keeper, which is who calls this.
     pub fn submit_seen<K: Steps>(
         &self,
         seat: Seat<L>,

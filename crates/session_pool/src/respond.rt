@@ -5,37 +5,39 @@ ghost use Rattle.msg_admin.specs.declared.request.TheConstants.{FRAME_LIMIT as L
 ghost use Rattle.msg_admin.specs.Request.{Fits, request_at};
 ghost use Rattle.msg_admin.specs.Versions.{unsupported_response};
 ghost use Rattle.api_dispatch.specs.Bounds.{EventFits};
-ghost use Rattle.session_pool.specs.declared.login.State.TheVariants as state;
-ghost use Rattle.session_pool.specs.declared.respond.Outcome.TheVariants as outcome;
-ghost use Rattle.session_pool.specs.Asks.{Step, Tells, Submits, Refuses, step_of, readable, leads, greets, admits, submits, offers, logs_in};
-ghost use Rattle.session_logins.specs.Login.{login_of};
+ghost use Rattle.session_pool.specs.declared.login.SessionState.TheVariants as state;
+ghost use Rattle.session_pool.specs.declared.respond.SessionAction.TheVariants as outcome;
+ghost use Rattle.session_pool.specs.Asks.{Tells, Submits, Refuses, step_of, step_if_readable, request_step, fresh_step, offered_step, known_step, mechanism_step, logs_in};
+ghost use Rattle.session_pool.specs.LoginMessage.{login_of};
 ghost use Rattle.session_pool.specs.Turns.{CameOf, Says, Meant};
 
 use crate::begin::{Begun, begin};
 use crate::desk::Desk;
 use crate::frame::Came;
-use crate::login::{Closed, Fresh, Known, LoginFault, Offered, State};
+use crate::listed::ListedVersions;
+use crate::login::{Closed, Fresh, Known, LoginFault, Offered, SessionState};
+use crate::login_answers::{write_handshake, write_login, write_versions};
 use crate::response::Response;
+use crate::users::Users;
 use audit_trail::Event;
 use msg_admin::{FRAME_LIMIT, Header, Request, read_request, write_unsupported_versions};
 use request_handlers::{Receipt, Stop};
-use session_logins::{ListedVersions, Users, write_handshake, write_login, write_versions};
 use std::alloc::{AllocError, Global};
 use wire_types::{Bytes, ErrorCode, ReadFault, Text, WriteFault};
 
 /// What a frame leads to.
 #[derive(Drop)]
-pub(crate) enum Outcome {
+pub(crate) enum SessionAction {
     /// An answer of the session's own.
-    Tells(Bytes, State),
+    Tells(Bytes, SessionState),
     /// The reply of a receipt.
     Answers(Response, Known),
-    /// A last answer, or no bytes, for want of a login.
+    /// A last answer, or no bytes, since nobody logged in.
     Refuses(Bytes),
     /// No request that is served.
-    Garbled,
+    Malformed,
     /// Memory was refused before anything was submitted.
-    Fails,
+    NoMemory,
     /// The desk didn't take the event.
     Stopped(Stop),
     /// A receipt's reply could not be written.
@@ -43,39 +45,41 @@ pub(crate) enum Outcome {
 }
 
 /// An answer, after which the session goes on.
-fn tell(answer: Result<Bytes, AllocError>, state: State) -> Outcome
-    ensures { MatchResult answer (λ bytes. result ≡ outcome.Tells bytes state) (λ _. result ≡ outcome.Fails) }
+fn tell(answer: Result<Bytes, AllocError>, state: SessionState) -> SessionAction
+    ensures { MatchResult answer (λ bytes. result ≡ outcome.Tells bytes state)
+        (λ _. result ≡ outcome.NoMemory) }
 {
     match answer {
-        Ok(bytes) => Outcome::Tells(bytes, state),
-        Err(_) => Outcome::Fails,
+        Ok(bytes) => SessionAction::Tells(bytes, state),
+        Err(_) => SessionAction::NoMemory,
     }
 }
 
 /// A last answer.
-fn refuse(answer: Result<Bytes, AllocError>) -> Outcome
-    ensures { MatchResult answer (λ bytes. result ≡ outcome.Refuses bytes) (λ _. result ≡ outcome.Fails) }
+fn refuse(answer: Result<Bytes, AllocError>) -> SessionAction
+    ensures { MatchResult answer (λ bytes. result ≡ outcome.Refuses bytes)
+        (λ _. result ≡ outcome.NoMemory) }
 {
     match answer {
-        Ok(bytes) => Outcome::Refuses(bytes),
-        Err(_) => Outcome::Fails,
+        Ok(bytes) => SessionAction::Refuses(bytes),
+        Err(_) => SessionAction::NoMemory,
     }
 }
 
 /// No answer.
-fn close() -> Outcome
+fn close() -> SessionAction
     ensures { result ≡ outcome.Refuses [] }
 {
-    Outcome::Refuses(Bytes::new())
+    SessionAction::Refuses(Bytes::new())
 }
 
-fn offer(alloc: Global, correlation: i32, fresh: Fresh, mechanism: &[u8]) -> Outcome
-    ensures { Says (offers correlation mechanism.now) result }
+fn offer(alloc: Global, correlation: i32, fresh: Fresh, mechanism: &[u8]) -> SessionAction
+    ensures { Says (mechanism_step correlation mechanism.now) result }
 {
     match fresh.offer(mechanism) {
         Ok(offered) => {
             let answer = write_handshake(alloc, correlation, ErrorCode::None);
-            tell(answer, State::Offered(offered))
+            tell(answer, SessionState::Offered(offered))
         }
         Err(Closed(code)) => refuse(write_handshake(alloc, correlation, code)),
     }
@@ -83,63 +87,77 @@ fn offer(alloc: Global, correlation: i32, fresh: Fresh, mechanism: &[u8]) -> Out
 
 fn log_in(
     alloc: Global,
+    host: &Text,
     users: &Users,
     correlation: i32,
     offered: Offered,
     message: &[u8],
-) -> Outcome
+) -> SessionAction
     ensures { Says (logs_in correlation (login_of users.now message.now)) result }
 {
-    match offered.login(alloc, users, message) {
+    match offered.login(alloc, users, host, message) {
         Ok(known) => {
             let answer = write_login(alloc, correlation, ErrorCode::None);
-            tell(answer, State::Known(known))
+            tell(answer, SessionState::Known(known))
         }
         Err(LoginFault::Closed(Closed(code))) => refuse(write_login(alloc, correlation, code)),
-        Err(LoginFault::NoMemory) => Outcome::Fails,
+        Err(LoginFault::NoMemory) => SessionAction::NoMemory,
     }
 }
 
 /// Before a mechanism was agreed on.
-fn greet(
+fn on_fresh(
     alloc: Global,
     listed: ListedVersions,
     correlation: i32,
     fresh: Fresh,
     request: &Request,
-) -> Outcome
-    ensures { Says (greets listed correlation request.now) result }
+) -> SessionAction
+    ensures { Says (fresh_step listed correlation request.now) result }
 {
     match request {
         Request::ApiVersions => {
             let answer = write_versions(alloc, correlation, listed);
-            tell(answer, State::Fresh(fresh))
+            tell(answer, SessionState::Fresh(fresh))
         }
         Request::SaslHandshake(message) => {
-            offer(alloc, correlation, fresh, message.mechanism.as_bytes())
+            offer(
+                alloc,
+                correlation,
+                fresh,
+                message.value().mechanism.as_bytes(),
+            )
         }
         _ => close(),
     }
 }
 
 /// Before a password was told.
-fn admit(
+fn on_offered(
     alloc: Global,
+    host: &Text,
     listed: ListedVersions,
     users: &Users,
     correlation: i32,
     offered: Offered,
     request: &Request,
-) -> Outcome
-    ensures { Says (admits listed users.now correlation request.now) result }
+) -> SessionAction
+    ensures { Says (offered_step listed users.now correlation request.now) result }
 {
     match request {
         Request::ApiVersions => {
             let answer = write_versions(alloc, correlation, listed);
-            tell(answer, State::Offered(offered))
+            tell(answer, SessionState::Offered(offered))
         }
         Request::SaslAuthenticate(message) => {
-            log_in(alloc, users, correlation, offered, message.auth.as_slice())
+            log_in(
+                alloc,
+                host,
+                users,
+                correlation,
+                offered,
+                message.value().auth.as_slice(),
+            )
         }
         _ => close(),
     }
@@ -154,13 +172,15 @@ fn submit<S, D: Desk<S>>(
     event: Event,
     known: Known,
     receipts: &mut Vec<Receipt>,
-) -> (S, Outcome)
+) -> (S, SessionAction)
     requires { EventFits event }
-    ensures risen { (D.view result.0).count + vec_len receipts.old ≡ (D.view seat).count + vec_len receipts.new }
-    ensures meant { Meant D.may_stop (Submits correlation event (state.Known known)) receipts.old.items receipts.new.items result.1 }
+    ensures risen { (D.view result.0).count + vec_len receipts.old ≡ (D.view seat).count
+        + vec_len receipts.new }
+    ensures meant { Meant D.may_stop (Submits correlation event (state.Known known))
+        receipts.old.items receipts.new.items result.1 }
 {
     if receipts.reserve(1).is_err() {
-        return (seat, Outcome::Fails);
+        return (seat, SessionAction::NoMemory);
     }
     let (seat, answer) = desk.submit(seat, event);
     match answer {
@@ -168,11 +188,11 @@ fn submit<S, D: Desk<S>>(
             let answer = Response::of(alloc, correlation, &receipt);
             receipts.push_reserved(receipt);
             match answer {
-                Ok(response) => (seat, Outcome::Answers(response, known)),
-                Err(fault) => (seat, Outcome::Unsent(fault)),
+                Ok(response) => (seat, SessionAction::Answers(response, known)),
+                Err(fault) => (seat, SessionAction::Unsent(fault)),
             }
         }
-        Err(stop) => (seat, Outcome::Stopped(stop)),
+        Err(stop) => (seat, SessionAction::Stopped(stop)),
     }
 }
 
@@ -186,58 +206,78 @@ fn ask<S, D: Desk<S>>(
     request: Request,
     seat: S,
     receipts: &mut Vec<Receipt>,
-) -> (S, Outcome)
+) -> (S, SessionAction)
     requires { Fits request }
-    ensures risen { (D.view result.0).count + vec_len receipts.old ≡ (D.view seat).count + vec_len receipts.new }
-    ensures meant { Meant D.may_stop (submits known.who host.now header request) receipts.old.items receipts.new.items result.1 }
+    ensures risen { (D.view result.0).count + vec_len receipts.old ≡ (D.view seat).count
+        + vec_len receipts.new }
+    ensures meant { Meant D.may_stop (known_step known.who host.now header request)
+        receipts.old.items receipts.new.items result.1 }
 {
     let correlation = header.correlation;
-    match known.ask(host, header, request) {
+    match known.ask(alloc, host, header, request) {
         Ok(event) => submit(alloc, desk, seat, correlation, event, known, receipts),
-        Err(_) => (seat, Outcome::Fails),
+        Err(_) => (seat, SessionAction::NoMemory),
     }
 }
 
 /// What a request leads to.
 #[tactic(auto, using(crate::proofs::Sessions::said))]
-fn lead<S, D: Desk<S>>(
+fn on_request<S, D: Desk<S>>(
     alloc: Global,
     host: &Text,
     users: &Users,
     listed: ListedVersions,
     desk: &D,
-    state: State,
+    state: SessionState,
     header: Header,
     request: Request,
     seat: S,
     receipts: &mut Vec<Receipt>,
-) -> (S, Outcome)
+) -> (S, SessionAction)
     requires { Fits request }
-    ensures risen { (D.view result.0).count + vec_len receipts.old ≡ (D.view seat).count + vec_len receipts.new }
-    ensures meant { Meant D.may_stop (leads (record { users = users.now; listed = listed; host = host.now; may_stop = D.may_stop }) state header request) receipts.old.items receipts.new.items result.1 }
+    ensures risen { (D.view result.0).count + vec_len receipts.old ≡ (D.view seat).count
+        + vec_len receipts.new }
+    ensures meant { Meant D.may_stop
+        (request_step (record {
+          users = users.now;
+          listed = listed;
+          host = host.now;
+          may_stop = D.may_stop;
+        }) state header request) receipts.old.items
+        receipts.new.items result.1 }
 {
     match state {
-        State::Fresh(fresh) => {
-            let outcome = greet(alloc, listed, header.correlation, fresh, &request);
+        SessionState::Fresh(fresh) => {
+            let outcome = on_fresh(alloc, listed, header.correlation, fresh, &request);
             (seat, outcome)
         }
-        State::Offered(offered) => {
-            let outcome = admit(alloc, listed, users, header.correlation, offered, &request);
+        SessionState::Offered(offered) => {
+            let outcome = on_offered(
+                alloc,
+                host,
+                listed,
+                users,
+                header.correlation,
+                offered,
+                &request,
+            );
             (seat, outcome)
         }
-        State::Known(known) => ask(alloc, host, desk, known, header, request, seat, receipts),
+        SessionState::Known(known) => ask(
+            alloc, host, desk, known, header, request, seat, receipts,
+        ),
     }
 }
 
 /// Which version of ApiVersions is served.
-fn tell_served(alloc: Global, correlation: i32, state: State) -> Outcome
+fn tell_served(alloc: Global, correlation: i32, state: SessionState) -> SessionAction
     ensures { Says (Tells (unsupported_response correlation) state) result }
 {
     tell(write_unsupported_versions(alloc, correlation), state)
 }
 
 /// Refuses a login.
-fn refuse_login(alloc: Global, correlation: i32) -> Outcome
+fn refuse_login(alloc: Global, correlation: i32) -> SessionAction
     ensures { Says (logs_in correlation None) result }
 {
     refuse(write_login(alloc, correlation, ErrorCode::SaslAuthenticationFailed))
@@ -251,23 +291,27 @@ fn read<S, D: Desk<S>>(
     users: &Users,
     listed: ListedVersions,
     desk: &D,
-    state: State,
+    state: SessionState,
     frame: &Bytes,
     seat: S,
     receipts: &mut Vec<Receipt>,
-) -> (S, Outcome)
+) -> (S, SessionAction)
     requires { length frame.now ≤ LIMIT }
-    ensures risen { (D.view result.0).count + vec_len receipts.old ≡ (D.view seat).count + vec_len receipts.new }
-    ensures meant { Meant D.may_stop (readable (record { users = users.now; listed = listed; host = host.now; may_stop = D.may_stop }) state (request_at frame.now)) receipts.old.items receipts.new.items result.1 }
+    ensures risen { (D.view result.0).count + vec_len receipts.old ≡ (D.view seat).count
+        + vec_len receipts.new }
+    ensures meant { Meant D.may_stop
+        (step_if_readable
+        (record { users = users.now; listed = listed; host = host.now; may_stop = D.may_stop })
+        state (request_at frame.now)) receipts.old.items receipts.new.items result.1 }
 {
     match read_request(alloc, frame) {
         Ok((header, request)) => {
-            lead(
+            on_request(
                 alloc, host, users, listed, desk, state, header, request, seat, receipts,
             )
         }
-        Err(ReadFault::Malformed(_)) => (seat, Outcome::Garbled),
-        Err(ReadFault::NoMemory) => (seat, Outcome::Fails),
+        Err(ReadFault::Malformed(_)) => (seat, SessionAction::Malformed),
+        Err(ReadFault::NoMemory) => (seat, SessionAction::NoMemory),
     }
 }
 
@@ -278,13 +322,14 @@ pub(crate) fn respond<S, D: Desk<S>>(
     users: &Users,
     listed: ListedVersions,
     desk: &D,
-    state: State,
+    state: SessionState,
     came: &Came,
     seat: S,
     receipts: &mut Vec<Receipt>,
-) -> (S, Outcome)
+) -> (S, SessionAction)
     requires { (length came.now.kept ≤ came.now.size) × (came.now.size ≤ LIMIT) }
-    ensures risen { (D.view result.0).count + vec_len receipts.old ≡ (D.view seat).count + vec_len receipts.new }
+    ensures risen { (D.view result.0).count + vec_len receipts.old ≡ (D.view seat).count
+        + vec_len receipts.new }
     ensures meant { (limit : ℕ) (frame : List ℕ) → CameOf (record { users = users.now; listed = listed; host = host.now; may_stop = D.may_stop }) limit state came.now frame
         → Meant D.may_stop (step_of (record { users = users.now; listed = listed; host = host.now; may_stop = D.may_stop }) state frame) receipts.old.items receipts.new.items result.1 }
 {
@@ -292,7 +337,7 @@ pub(crate) fn respond<S, D: Desk<S>>(
         Begun::OtherVersion(correlation) => (seat, tell_served(alloc, correlation, state)),
         Begun::Unserved => (seat, close()),
         Begun::Overlong(correlation) => (seat, refuse_login(alloc, correlation)),
-        Begun::Unreadable => (seat, Outcome::Garbled),
+        Begun::Unreadable => (seat, SessionAction::Malformed),
         Begun::Whole => {
             let frame = &came.kept;
             read(

@@ -4,22 +4,21 @@
 ghost use Rattle.std.specs.Prelude.{◌≡◌, Err, IfOk, IfSome};
 ghost use Rattle.wire_types.specs.declared.fault.WriteFault.TheVariants as faults;
 ghost use Rattle.wire_types.specs.Writing.{Puts};
-ghost use Rattle.wire_types.specs.Device.{Wrote};
+ghost use Rattle.byte_streams.specs.Device.{Wrote};
 ghost use Rattle.msg_admin.specs.declared.reply.Reply.TheVariants as replies;
 ghost use Rattle.msg_admin.specs.Response.{GivesReply, IsTooLong};
 ghost use Rattle.session_pool.specs.Responses.{IsFront, IsSize, metadata_front, metadata_front_of, fetch_front, fetch_front_of, topics_of};
 ghost use Rattle.session_pool.specs.Streaming.{Streams};
 
 use crate::streamed::{GATHERED, SendFault, spill, stream_all};
+use byte_streams::write_whole;
 use msg_admin::{Reply, write_reply};
 use msg_data::{FetchReply, MetadataReply};
 use request_handlers::Receipt;
 use std::alloc::{AllocError, Global};
 use std::io::Write;
 use std::marker::Model;
-use wire_types::{
-    Bytes, Shared, Wire, WriteFault, size, write_array, write_count, write_i32, write_whole,
-};
+use wire_types::{Bytes, Shared, Wire, WriteFault, size, write_array, write_count, write_i32};
 
 /// A response above so many bytes is written part after part.
 const LONGEST_WHOLE: i32 = 65_536;
@@ -40,7 +39,6 @@ impl Model for Response {
     ghost view = { λ r. r.front ++ rest_of r.rest };
 }
 
-/// Written out, so that a proof above has one call where a response is let go.
 impl Drop for Response {
     fn drop(self) {
         let Response {
@@ -98,10 +96,11 @@ fn stream_topics<W: Write>(
     writer: &mut W,
     reply: &Reply,
 ) -> Result<(), SendFault>
-    ensures { Streams (W.contents writer.old) (W.contents writer.new) gathered.old.items (topics_of reply.now) gathered.new.items result }
+    ensures { Streams (W.contents writer.old) (W.contents writer.new) gathered.old.items
+        (topics_of reply.now) gathered.new.items result }
 {
     match reply {
-        Reply::Metadata(answer) => stream_all(gathered, writer, answer.topics.as_slice()),
+        Reply::Metadata(answer) => stream_all(gathered, writer, answer.value().topics.as_slice()),
         Reply::Fetch(answer) => stream_all(gathered, writer, answer.topics.as_slice()),
         _ => Ok(()),
     }
@@ -112,7 +111,7 @@ fn front_of(alloc: Global, correlation: i32, reply: &Reply) -> Result<Option<Byt
     ensures { IfOk result (λ front. IfSome front (IsFront correlation reply.now)) }
 {
     match reply {
-        Reply::Metadata(answer) => metadata_front(alloc, correlation, answer),
+        Reply::Metadata(answer) => metadata_front(alloc, correlation, answer.value()),
         Reply::Fetch(answer) => fetch_front(alloc, correlation, answer),
         _ => Ok(None),
     }
@@ -135,7 +134,8 @@ fn metadata_front(
     correlation: i32,
     answer: &MetadataReply,
 ) -> Result<Option<Bytes>, AllocError>
-    ensures { IfOk result (λ front. IfSome front (IsFront correlation (replies.Metadata answer.now))) }
+    ensures { IfOk result
+        (λ front. IfSome front (IsFront correlation (replies.Metadata answer.now))) }
 {
     let Some(size) = long_size(answer) else {
         return Ok(None);
@@ -153,11 +153,12 @@ fn put_metadata_front(
     correlation: i32,
     answer: &MetadataReply,
 ) -> Result<(), WriteFault>
-    ensures { Puts metadata_front (metadata_front_of size correlation answer.now) out.old.items result out.new.items }
+    ensures { Puts metadata_front (metadata_front_of size correlation answer.now) out.old.items
+        result out.new.items }
 {
     write_i32(out, size)?;
     write_i32(out, correlation)?;
-    write_array(out, &answer.brokers)?;
+    answer.brokers.put(out)?;
     write_i32(out, answer.controller)?;
     write_count(out, answer.topics.len())
 }
@@ -185,7 +186,8 @@ fn put_fetch_front(
     correlation: i32,
     answer: &FetchReply,
 ) -> Result<(), WriteFault>
-    ensures { Puts fetch_front (fetch_front_of size correlation answer.now) out.old.items result out.new.items }
+    ensures { Puts fetch_front (fetch_front_of size correlation answer.now) out.old.items result
+        out.new.items }
 {
     write_i32(out, size)?;
     write_i32(out, correlation)?;

@@ -2,32 +2,34 @@
 
 ghost use Rattle.std.specs.Prelude.{◌≡◌, ◌+◌, ◌≤◌, vec_len};
 ghost use Rattle.msg_admin.specs.declared.request.TheConstants.{FRAME_LIMIT as LIMIT};
-ghost use Rattle.session_logins.specs.declared.listed.ListedVersions.TheVariants.{AsServed};
+ghost use Rattle.session_pool.specs.declared.listed.ListedVersions.TheVariants.{AsServed};
 ghost use Rattle.session_pool.specs.Reads.{Took, TookLast};
 ghost use Rattle.session_pool.specs.Sessions.{TurnsOn, SessionOf};
 ghost use Rattle.session_pool.specs.Turns.{most_kept, Sends, SendsParts, Finishes, why_of};
 
 use crate::desk::Desk;
+use crate::end_reason::EndReason;
 use crate::frame::{Came, read_frame};
 use crate::gate::Gate;
-use crate::login::{Fresh, State};
-use crate::respond::{Outcome, respond};
+use crate::listed::ListedVersions;
+use crate::login::{Fresh, SessionState};
+use crate::respond::{SessionAction, respond};
 use crate::response::Response;
 use crate::streamed::SendFault;
-use crate::why::Why;
+use crate::users::Users;
+use byte_streams::write_whole;
 use msg_admin::FRAME_LIMIT;
 use request_handlers::Receipt;
-use session_logins::{ListedVersions, Users};
 use std::alloc::Global;
 use std::io::{BufReader, Read, Write};
-use wire_types::{Bytes, Text, WriteFault, write_whole};
+use wire_types::{Bytes, Text, WriteFault};
 
 /// What a session leaves: a receipt for each event that was answered, in order, and its seat.
 #[derive(Drop)]
 pub struct SessionEnd<S> {
     pub receipts: Vec<Receipt>,
     pub seat: S,
-    pub why: Why,
+    pub why: EndReason,
 }
 
 /// How many bytes a frame may have after its size field, at most 104,857,600, and how many frames are served.
@@ -50,22 +52,26 @@ impl Default for Limits {
     }
 }
 
-fn why_of(fault: WriteFault) -> Why
+fn why_of(fault: WriteFault) -> EndReason
     ensures { result ≡ why_of fault }
 {
     match fault {
-        WriteFault::NoMemory => Why::NoMemory,
-        WriteFault::TooLong => Why::TooLong,
+        WriteFault::NoMemory => EndReason::NoMemory,
+        WriteFault::TooLong => EndReason::TooLong,
     }
 }
 
-/// Writes the bytes, and gives what comes behind them.
-fn send<W: Write>(writer: &mut W, bytes: &Bytes, next: Result<State, Why>) -> Result<State, Why>
+/// Writes the bytes, and gives what comes after them.
+fn send<W: Write>(
+    writer: &mut W,
+    bytes: &Bytes,
+    next: Result<SessionState, EndReason>,
+) -> Result<SessionState, EndReason>
     ensures { Sends (W.contents writer.old) (W.contents writer.new) bytes.now next result }
 {
     match write_whole(writer, bytes.as_slice()) {
         Ok(()) => next,
-        Err(_) => Err(Why::WriteFault),
+        Err(_) => Err(EndReason::WriteFault),
     }
 }
 
@@ -74,31 +80,35 @@ fn send_response<W: Write>(
     alloc: Global,
     writer: &mut W,
     response: &Response,
-    next: Result<State, Why>,
-) -> Result<State, Why>
+    next: Result<SessionState, EndReason>,
+) -> Result<SessionState, EndReason>
     ensures { SendsParts (W.contents writer.old) (W.contents writer.new) response.now next result }
 {
     match response.send(alloc, writer) {
         Ok(()) => next,
-        Err(SendFault::NoMemory) => Err(Why::NoMemory),
-        Err(SendFault::Write) => Err(Why::WriteFault),
+        Err(SendFault::NoMemory) => Err(EndReason::NoMemory),
+        Err(SendFault::Write) => Err(EndReason::WriteFault),
     }
 }
 
 /// Writes what an outcome has to write.
-fn finish<W: Write>(alloc: Global, writer: &mut W, outcome: Outcome) -> Result<State, Why>
+fn finish<W: Write>(
+    alloc: Global,
+    writer: &mut W,
+    outcome: SessionAction,
+) -> Result<SessionState, EndReason>
     ensures { Finishes (W.contents writer.old) (W.contents writer.new) outcome result }
 {
     match outcome {
-        Outcome::Tells(bytes, state) => send(writer, &bytes, Ok(state)),
-        Outcome::Answers(response, known) => {
-            send_response(alloc, writer, &response, Ok(State::Known(known)))
+        SessionAction::Tells(bytes, state) => send(writer, &bytes, Ok(state)),
+        SessionAction::Answers(response, known) => {
+            send_response(alloc, writer, &response, Ok(SessionState::Known(known)))
         }
-        Outcome::Refuses(bytes) => send(writer, &bytes, Err(Why::Login)),
-        Outcome::Garbled => Err(Why::Malformed),
-        Outcome::Fails => Err(Why::NoMemory),
-        Outcome::Stopped(stop) => Err(Why::Stopped(stop)),
-        Outcome::Unsent(fault) => Err(why_of(fault)),
+        SessionAction::Refuses(bytes) => send(writer, &bytes, Err(EndReason::Login)),
+        SessionAction::Malformed => Err(EndReason::Malformed),
+        SessionAction::NoMemory => Err(EndReason::NoMemory),
+        SessionAction::Stopped(stop) => Err(EndReason::Stopped(stop)),
+        SessionAction::Unsent(fault) => Err(why_of(fault)),
     }
 }
 
@@ -108,7 +118,7 @@ const LONGEST_HANDSHAKE: usize = 65_546;
 const LONGEST_BEFORE_MESSAGE: usize = 32_781;
 
 /// How many bytes a frame may have that is kept, where none has more than the limit.
-fn most_kept(users: &Users, state: &State, limit: u32) -> u32
+fn most_kept(users: &Users, state: &SessionState, limit: u32) -> u32
     ensures { result ≡ most_kept users.now limit state.now }
 {
     if state.is_known() {
@@ -126,17 +136,22 @@ fn tell_receipt<G: Gate>(gate: &G, receipts: &[Receipt], place: usize) {
 }
 
 /// Tells the gate of a frame that is no request that is served, or that ends the session since its user isn't known.
-fn tell_unserved<G: Gate>(gate: &G, session: u64, outcome: &Outcome, came: &Came) {
+fn tell_unserved<G: Gate>(gate: &G, session: u64, outcome: &SessionAction, came: &Came) {
     match outcome {
-        Outcome::Garbled => gate.garbled(session, came.kept.as_slice()),
-        Outcome::Refuses(answer) => gate.refused(session, &came.kept, !answer.is_empty()),
+        SessionAction::Malformed => gate.malformed(session, came.kept.as_slice()),
+        SessionAction::Refuses(answer) => gate.refused(session, &came.kept, !answer.is_empty()),
         _ => {}
     }
 }
 
 /// Tells the gate of the user who is known now and wasn't before.
-fn tell_login<G: Gate>(gate: &G, session: u64, was_known: bool, next: &Result<State, Why>) {
-    if let Ok(State::Known(known)) = next {
+fn tell_login<G: Gate>(
+    gate: &G,
+    session: u64,
+    was_known: bool,
+    next: &Result<SessionState, EndReason>,
+) {
+    if let Ok(SessionState::Known(known)) = next {
         if !was_known {
             gate.logged_in(session, known.who());
         }
@@ -157,13 +172,21 @@ fn turn<S, Rd: Read, Wr: Write, D: Desk<S>, G: Gate>(
     desk: &D,
     gate: &G,
     limit: u32,
-    state: State,
+    state: SessionState,
     seat: S,
     receipts: &mut Vec<Receipt>,
-) -> (S, Result<State, Why>)
+) -> (S, Result<SessionState, EndReason>)
     requires { limit ≤ LIMIT }
-    ensures risen { (D.view result.0).count + vec_len receipts.old ≡ (D.view seat).count + vec_len receipts.new }
-    ensures turns { Took (Rd.remaining reader.old) (Rd.remaining reader.new) (TurnsOn (record { users = users.now; listed = listed; host = host.now; may_stop = D.may_stop }) limit state (Wr.contents writer.old) (Wr.contents writer.new) receipts.old.items receipts.new.items result.1) }
+    ensures risen { (D.view result.0).count + vec_len receipts.old ≡ (D.view seat).count
+        + vec_len receipts.new }
+    ensures turns { Took (Rd.remaining reader.old) (Rd.remaining reader.new)
+        (TurnsOn (record {
+          users = users.now;
+          listed = listed;
+          host = host.now;
+          may_stop = D.may_stop;
+        }) limit state (Wr.contents writer.old)
+        (Wr.contents writer.new) receipts.old.items receipts.new.items result.1) }
 {
     let most = most_kept(users, &state, limit);
     let came = match read_frame(alloc, reader, longest, most, limit) {
@@ -198,12 +221,19 @@ fn serve<S, Rd: Read, Wr: Write, D: Desk<S>, G: Gate>(
 ) -> SessionEnd<S>
     requires { limits.frame ≤ LIMIT }
     ensures risen { (D.view result.seat).count ≡ (D.view seat).count + vec_len result.receipts }
-    ensures session { Took (Rd.remaining reader.old) (Rd.remaining reader.new) (SessionOf (record { users = users.now; listed = listed; host = host.now; may_stop = D.may_stop }) limits.frames limits.frame (Wr.contents writer.old) (Wr.contents writer.new) result.receipts.items result.why) }
+    ensures session { Took (Rd.remaining reader.old) (Rd.remaining reader.new)
+        (SessionOf (record {
+          users = users.now;
+          listed = listed;
+          host = host.now;
+          may_stop = D.may_stop;
+        }) limits.frames limits.frame (Wr.contents writer.old)
+        (Wr.contents writer.new) result.receipts.items result.why) }
 {
     let mut seat = seat;
     let mut longest = 0;
     let mut receipts = Vec::new(alloc);
-    let mut state = State::Fresh(Fresh::new());
+    let mut state = SessionState::Fresh(Fresh::new());
     for frame in 0..limits.frames {
         gate.before(session, frame);
         let (back, outcome) = turn(
@@ -238,7 +268,7 @@ fn serve<S, Rd: Read, Wr: Write, D: Desk<S>, G: Gate>(
     SessionEnd {
         receipts,
         seat,
-        why: Why::Limit,
+        why: EndReason::Limit,
     }
 }
 
@@ -258,7 +288,14 @@ pub fn serve_session<S, Rd: Read + Drop, Wr: Write, D: Desk<S>, G: Gate>(
 ) -> SessionEnd<S>
     requires { limits.frame ≤ LIMIT }
     ensures risen { (D.view result.seat).count ≡ (D.view seat).count + vec_len result.receipts }
-    ensures session { TookLast (Rd.remaining reader) (SessionOf (record { users = users.now; listed = AsServed; host = host.now; may_stop = D.may_stop }) limits.frames limits.frame (Wr.contents writer.old) (Wr.contents writer.new) result.receipts.items result.why) }
+    ensures session { TookLast (Rd.remaining reader)
+        (SessionOf (record {
+          users = users.now;
+          listed = AsServed;
+          host = host.now;
+          may_stop = D.may_stop;
+        }) limits.frames limits.frame (Wr.contents writer.old)
+        (Wr.contents writer.new) result.receipts.items result.why) }
 {
     let listed = ListedVersions::AsServed;
     serve_session_listing(
@@ -283,7 +320,14 @@ pub fn serve_session_listing<S, Rd: Read + Drop, Wr: Write, D: Desk<S>, G: Gate>
 ) -> SessionEnd<S>
     requires { limits.frame ≤ LIMIT }
     ensures risen { (D.view result.seat).count ≡ (D.view seat).count + vec_len result.receipts }
-    ensures session { TookLast (Rd.remaining reader) (SessionOf (record { users = users.now; listed = listed; host = host.now; may_stop = D.may_stop }) limits.frames limits.frame (Wr.contents writer.old) (Wr.contents writer.new) result.receipts.items result.why) }
+    ensures session { TookLast (Rd.remaining reader)
+        (SessionOf (record {
+          users = users.now;
+          listed = listed;
+          host = host.now;
+          may_stop = D.may_stop;
+        }) limits.frames limits.frame (Wr.contents writer.old)
+        (Wr.contents writer.new) result.receipts.items result.why) }
 {
     match BufReader::new(alloc, reader) {
         Ok(mut reader) => {
@@ -304,7 +348,7 @@ pub fn serve_session_listing<S, Rd: Read + Drop, Wr: Write, D: Desk<S>, G: Gate>
         Err(_) => SessionEnd {
             receipts: Vec::new(alloc),
             seat,
-            why: Why::NoMemory,
+            why: EndReason::NoMemory,
         },
     }
 }

@@ -2,9 +2,9 @@
 
 ghost use Rattle.std.specs.Prelude.{◌≡◌, ◌<◌, ℕ, Bool, Option, Some, IfSome, is_ok};
 ghost use Rattle.session_pool.specs.declared.steps.Step.TheVariants.{Mark};
-ghost use Rattle.session_pool.specs.Steps.{step_event, moment_of, IsDue, IsDueAt, noted};
+ghost use Rattle.session_pool.specs.Steps.{step_event, moment_of, IsDue, IsDueAt, pending_after_outcome};
 
-use crate::why::Why;
+use crate::end_reason::EndReason;
 use request_handlers::Core;
 
 /// What the keeper does next.
@@ -12,13 +12,13 @@ use request_handlers::Core;
 pub enum Step {
     /// It tells the core a moment, in milliseconds.
     Tick(u64),
-    /// It has the core write the first marker that is owed.
+    /// It has the core write the first marker that is pending.
     Mark,
 }
 
 /// Tells the keeper its steps, one after the other, and sees the core round each.
 pub trait Steps {
-    /// How many markers are owed, where the steps go by that: then a mark is the next one where some are, and else a tick.
+    /// How many markers are pending, where the steps go by that: then a mark is the next one where some are, and else a tick.
     ghost owed: { Self → Option ℕ };
 
     /// The next step; where there is none, the keeper ends. It is told whether all workers have ended.
@@ -34,9 +34,9 @@ pub trait Steps {
     fn after(&mut self, core: &Core)
         ensures { owed self.new ≡ owed self.old };
 
-    /// Is told what came of the step: how many markers are still owed, or why it wasn't taken. Gives whether the keeper goes on.
-    fn came(&mut self, outcome: Result<u64, Why>) -> bool
-        ensures { owed self.new ≡ noted (owed self.old) outcome };
+    /// Is told what came of the step: how many markers are still pending, or why it wasn't taken. Gives whether the keeper goes on.
+    fn on_result(&mut self, outcome: Result<u64, EndReason>) -> bool
+        ensures { owed self.new ≡ pending_after_outcome (owed self.old) outcome };
 }
 
 /// Tells the moments at which the core is to be told the time, in milliseconds.
@@ -54,7 +54,7 @@ pub trait Clock {
 #[derive(Drop)]
 pub struct Clocked<C: Clock> {
     clock: C,
-    /// How many markers are owed.
+    /// How many markers are pending.
     left: u64,
 }
 
@@ -74,7 +74,8 @@ impl<C: Clock> Steps for Clocked<C> {
         ensures step { IfSome result (λ step. IsDueAt self.old.left (step_event step)) }
         ensures owed { self.new.left ≡ self.old.left }
         ensures marked { 0 < self.old.left → result ≡ Some Mark }
-        ensures asked { self.old.left ≡ 0 → C.gives self.old.clock done (moment_of result) self.new.clock }
+        ensures asked { self.old.left ≡ 0 → C.gives self.old.clock done (moment_of result)
+            self.new.clock }
     {
         if self.left > 0 {
             return Some(Step::Mark);
@@ -90,8 +91,8 @@ impl<C: Clock> Steps for Clocked<C> {
 
     fn after(&mut self, _core: &Core) {}
 
-    fn came(&mut self, outcome: Result<u64, Why>) -> bool
-        ensures owed { Some self.new.left ≡ noted (Some self.old.left) outcome }
+    fn on_result(&mut self, outcome: Result<u64, EndReason>) -> bool
+        ensures owed { Some self.new.left ≡ pending_after_outcome (Some self.old.left) outcome }
         ensures goes_on { result ≡ is_ok outcome }
     {
         match outcome {

@@ -3,16 +3,16 @@
 ghost use Rattle.std.specs.Prelude.{◌≡◌, List, ℕ, [], length, OnOk};
 ghost use Rattle.wire_types.specs.Spelling.{many_written};
 ghost use Rattle.wire_types.specs.Writing.{Puts};
-ghost use Rattle.wire_types.specs.Device.{Wrote};
 ghost use Rattle.session_pool.specs.Streaming.{Streams, records_head, records_head_of, topic_head};
 
+use byte_streams::write_whole;
 use msg_data::{FetchedRecords, TopicInfo};
 use std::alloc::AllocError;
 use std::io;
 use std::io::Write;
 use wire_types::{
     Piece, Topic, Wire, WriteFault, write_count, write_i32, write_i64, write_nullable_array,
-    write_string, write_whole,
+    write_string,
 };
 
 /// So many bytes are written once they are gathered.
@@ -63,7 +63,8 @@ impl From<io::Error> for SendFault {
 
 /// Writes what was gathered.
 pub(crate) fn spill<W: Write>(gathered: &mut Vec<u8>, writer: &mut W) -> Result<(), SendFault>
-    ensures streams { Streams (W.contents writer.old) (W.contents writer.new) gathered.old.items [] gathered.new.items result }
+    ensures streams { Streams (W.contents writer.old) (W.contents writer.new) gathered.old.items []
+        gathered.new.items result }
     ensures empty { OnOk result (gathered.new.items ≡ []) }
 {
     write_whole(writer, gathered.as_slice())?;
@@ -73,7 +74,8 @@ pub(crate) fn spill<W: Write>(gathered: &mut Vec<u8>, writer: &mut W) -> Result<
 
 /// Writes what was gathered once it is enough.
 fn spill_enough<W: Write>(gathered: &mut Vec<u8>, writer: &mut W) -> Result<(), SendFault>
-    ensures { Streams (W.contents writer.old) (W.contents writer.new) gathered.old.items [] gathered.new.items result }
+    ensures { Streams (W.contents writer.old) (W.contents writer.new) gathered.old.items []
+        gathered.new.items result }
 {
     if gathered.len() < GATHERED {
         return Ok(());
@@ -87,7 +89,8 @@ fn stream_bytes<W: Write>(
     writer: &mut W,
     bytes: &[u8],
 ) -> Result<(), SendFault>
-    ensures { Streams (W.contents writer.old) (W.contents writer.new) gathered.old.items bytes.now gathered.new.items result }
+    ensures { Streams (W.contents writer.old) (W.contents writer.new) gathered.old.items bytes.now
+        gathered.new.items result }
 {
     if bytes.len() >= UNCOPIED {
         spill(gathered, writer)?;
@@ -114,7 +117,8 @@ pub(crate) fn stream_all<T: Streamed, W: Write>(
     writer: &mut W,
     values: &[T],
 ) -> Result<(), SendFault>
-    ensures { Streams (W.contents writer.old) (W.contents writer.new) gathered.old.items (many_written T.text values.now) gathered.new.items result }
+    ensures { Streams (W.contents writer.old) (W.contents writer.new) gathered.old.items
+        (many_written T.text values.now) gathered.new.items result }
 {
     for value in values {
         value.stream(gathered, writer)?;
@@ -168,7 +172,8 @@ impl Streamed for FetchedRecords {
 
 /// What stands before the partitions of a topic.
 fn put_topic_head(out: &mut Vec<u8>, topic: &Topic<FetchedRecords>) -> Result<(), WriteFault>
-    ensures { Puts topic_head (topic.now.name, length topic.now.partitions) out.old.items result out.new.items }
+    ensures { Puts topic_head (topic.now.name, length topic.now.partitions) out.old.items result
+        out.new.items }
 {
     write_string(out, &topic.name)?;
     write_count(out, topic.partitions.len())

@@ -7,8 +7,8 @@ use Rattle.audit_trail.specs.declared.event.Event.TheVariants.{Ask, Mark, Tick}
 use Rattle.request_handlers.specs.Receipt.{ReceiptValue}
 use Rattle.request_handlers.specs.Seats.{SeatValue}
 use Rattle.session_pool.specs.declared.session.SessionEnd.{SessionEnd}
-use Rattle.session_pool.specs.declared.why.Why.{Why}
-use Rattle.session_pool.specs.Steps.{IsDue, told}
+use Rattle.session_pool.specs.declared.end_reason.EndReason.{EndReason}
+use Rattle.session_pool.specs.Steps.{IsDue, pending_after}
 
 -- a seat that was fresh has risen by the number of the end's receipts
 abbrev pub HasRisen : SessionEnd SeatValue → Type 0
@@ -27,18 +27,18 @@ markers_left (Ticked left) = left
 markers_left reply = 0
 
 -- how many are owed after these receipts, as a keeper knows that goes by it
-abbrev pub owed_after : Option ℕ → List ReceiptValue → Option ℕ
-owed_after owed [] = owed
-owed_after owed (r ∷ rs) = owed_after (told owed (markers_left r.reply)) rs
+abbrev pub pending_after_receipts : Option ℕ → List ReceiptValue → Option ℕ
+pending_after_receipts owed [] = owed
+pending_after_receipts owed (r ∷ rs) = pending_after_receipts (pending_after owed (markers_left r.reply)) rs
 
 -- Each receipt is of a tick or a mark. Where the keeper goes by what is owed, it is of a mark as long as the reply before
--- left markers owed, and else of a tick.
+-- left markers pending, and else of a tick.
 abbrev pub Keeps : Option ℕ → List ReceiptValue → Type 0
 Keeps owed [] = Unit {0}
-Keeps owed (r ∷ rs) = IsOfKeeper r.event × IsDue owed r.event × Keeps (told owed (markers_left r.reply)) rs
+Keeps owed (r ∷ rs) = IsOfKeeper r.event × IsDue owed r.event × Keeps (pending_after owed (markers_left r.reply)) rs
 
 -- a step that was taken adds the receipt of an event that was due, and tells what it left; another adds none
-abbrev pub Adds : Option ℕ → List ReceiptValue → List ReceiptValue → Result ℕ Why → Type 0
+abbrev pub Adds : Option ℕ → List ReceiptValue → List ReceiptValue → Result ℕ EndReason → Type 0
 Adds owed old new (Ok left) = (r : ReceiptValue) × (new ≡ old ++ r ∷ []) × IsOfKeeper r.event × IsDue owed r.event × (left ≡ markers_left r.reply)
 Adds owed old new (Err why) = new ≡ old
 

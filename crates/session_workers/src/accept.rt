@@ -6,8 +6,7 @@ use crate::job::Job;
 use admission::{Doorman, Hosts};
 use crossbeam_channel::Sender;
 use deadlines::Times;
-use session_logins::Users;
-use session_pool::{Closing, Limits};
+use session_pool::{Limits, ShutdownFlag, Users};
 use std::alloc::{AllocError, Global};
 use std::io::ErrorKind;
 use std::net::{Shutdown, SocketAddr, TcpListener, TcpStream};
@@ -31,7 +30,7 @@ const QUIET: u64 = 1;
 struct Term<'x> {
     since: Instant,
     time: Option<Duration>,
-    closing: Option<&'x Closing>,
+    closing: Option<&'x ShutdownFlag>,
 }
 
 impl<'x> Term<'x> {
@@ -39,7 +38,7 @@ impl<'x> Term<'x> {
     fn begin<R: time::Clock>(
         rt: &R,
         time: Option<Duration>,
-        closing: Option<&'x Closing>,
+        closing: Option<&'x ShutdownFlag>,
     ) -> io::Result<Term<'x>> {
         let since = Instant::now(rt)?;
         Ok(Term {
@@ -118,7 +117,7 @@ pub(crate) struct Door<'x, R, D> {
     pub(crate) hosts: &'x Mutex<Hosts>,
     pub(crate) open: &'x OpenConnections,
     /// Is closed once no further request is read.
-    pub(crate) reading: &'x Closing,
+    pub(crate) reading: &'x ShutdownFlag,
     pub(crate) doorman: &'x D,
 }
 
@@ -316,7 +315,7 @@ impl<'x, R: Wait + time::Clock, D: Doorman> Door<'x, R, D> {
     pub(crate) fn accept_all(
         &self,
         listener: &TcpListener,
-        closing: Option<&Closing>,
+        closing: Option<&ShutdownFlag>,
         jobs: Sender<Connection<'x, R>>,
     ) {
         let open = self.options.open;

@@ -9,8 +9,7 @@ use crate::patience::Patient;
 use crate::sessions::Ended;
 use crate::workers::{PoolFault, SessionOptions, serve_all_stepped};
 use admission::{Doorman, Hosts};
-use session_logins::Users;
-use session_pool::{Closing, DeskLedger, Gate, LockedDesk, Steps};
+use session_pool::{DeskLedger, Gate, LockedDesk, ShutdownFlag, Steps, Users};
 use std::alloc::Global;
 use std::net::{Net, TcpListener, TcpStream};
 use std::sync::{Mutex, Wait};
@@ -64,7 +63,7 @@ fn serve_lent<
     alloc: Global,
     desk: &'x LockedDesk<L, &'r R>,
     listener: &'x TcpListener,
-    closing: Option<&'x Closing>,
+    closing: Option<&'x ShutdownFlag>,
     door: Door<'x, R, G>,
     steps: K,
 ) -> Result<Ended<L>, PoolFault>
@@ -121,7 +120,7 @@ pub fn serve_connections<
     users: &'x Shared<Users>,
     listener: &'x TcpListener,
     options: ConnectionOptions,
-    closing: Option<&'x Closing>,
+    closing: Option<&'x ShutdownFlag>,
     steps: K,
     gate: &'x G,
 ) -> Result<Ended<L>, PoolFault>
@@ -129,7 +128,7 @@ pub fn serve_connections<
 {
     let hosts = Mutex::new(Hosts::new(alloc, options.per_host.unwrap_or(0)));
     let open = OpenConnections::new(alloc);
-    let reading = Closing::new();
+    let reading = ShutdownFlag::new();
     let door = Door {
         rt,
         alloc,

@@ -1,7 +1,7 @@
 //! Connections that are counted, and that can be ended, as long as they are open.
 
 use admission::Hosts;
-use session_pool::Closing;
+use session_pool::ShutdownFlag;
 use std::alloc::{AllocError, Global};
 use std::io;
 use std::io::{Read, Write};
@@ -10,7 +10,7 @@ use std::sync::{Mutex, Wait};
 use std::time::Duration;
 use wire_types::{Shared, Text};
 
-/// A connection that its host is counted to have, until this is let go.
+/// A connection that its host is counted to have, until this is dropped.
 pub(crate) struct Counted<'x, R: Wait> {
     rt: &'x R,
     hosts: &'x Mutex<Hosts>,
@@ -88,7 +88,7 @@ impl OpenConnections {
     }
 }
 
-/// A connection that is among the open ones, until this is let go.
+/// A connection that is among the open ones, until this is dropped.
 pub(crate) struct Entered<'x, R: Wait> {
     rt: &'x R,
     open: &'x OpenConnections,
@@ -120,7 +120,7 @@ impl<'x, R: Wait> Drop for Entered<'x, R> {
 #[derive(Drop)]
 pub(crate) struct Requests<'x> {
     pub(crate) stream: Shared<TcpStream>,
-    pub(crate) reading: &'x Closing,
+    pub(crate) reading: &'x ShutdownFlag,
 }
 
 impl<'x> Read for Requests<'x> {
@@ -139,7 +139,7 @@ impl<'x> OpenStream for Requests<'x> {
     }
 }
 
-/// What is written to a connection. It is among the open ones until this is let go, whatever became of its session, and counted where
+/// What is written to a connection. It is among the open ones until this is dropped, whatever became of its session, and counted where
 /// connections are.
 #[derive(Drop)]
 pub(crate) struct Guest<'x, R: Wait> {

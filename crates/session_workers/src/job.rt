@@ -7,8 +7,9 @@ use crate::pacing::Pacing;
 use crate::sessions::{Done, Unused};
 use crate::times::{Noting, tell_end};
 use deadlines::{Notes, Timed, TimedWriter, Times};
-use session_logins::{ListedVersions, Users};
-use session_pool::{DeskLedger, Gate, Limits, LockedDesk, serve_session_listing};
+use session_pool::{
+    DeskLedger, Gate, Limits, ListedVersions, LockedDesk, Users, serve_session_listing,
+};
 use std::alloc::Global;
 use std::io::{Read, Write};
 use std::net::OpenStream;

@@ -7,12 +7,12 @@ ghost use Rattle.session_workers.specs.Ends.{Keeps, Adds, markers_left};
 use audit_trail::Event;
 use msg_admin::Reply;
 use request_handlers::{Receipt, Seat};
-use session_pool::{DeskLedger, LockedDesk, SessionEnd, Step, Steps, Why};
+use session_pool::{DeskLedger, EndReason, LockedDesk, SessionEnd, Step, Steps};
 use std::alloc::Global;
 use std::sync::Wait;
 use std::sync::atomic::{AtomicU64, Ordering};
 
-/// How many markers are still owed, as the keeper is told.
+/// How many markers are still pending, as the keeper is told.
 fn markers_left(reply: &Reply) -> u64
     ensures { result ≡ markers_left reply.now }
 {
@@ -33,7 +33,7 @@ fn event_of(step: Step) -> Event
 }
 
 /// Hands the event of a step to the desk, while whoever told the step looks, keeps its receipt, for which room is made first,
-/// and gives how many markers are still owed.
+/// and gives how many markers are still pending.
 #[tactic(auto, using(crate::proofs::Keeping::one_more))]
 fn submit<L: DeskLedger, R: Wait, K: Steps>(
     desk: &LockedDesk<L, R>,
@@ -41,14 +41,14 @@ fn submit<L: DeskLedger, R: Wait, K: Steps>(
     step: Step,
     steps: &mut K,
     receipts: &mut Vec<Receipt>,
-) -> (Seat<L>, Result<u64, Why>)
+) -> (Seat<L>, Result<u64, EndReason>)
     requires { IsDue (K.owed steps.old) (step_event step) }
     ensures risen { result.0.count + vec_len receipts.old ≡ seat.count + vec_len receipts.new }
     ensures added { Adds (K.owed steps.old) receipts.old.items receipts.new.items result.1 }
     ensures owed { K.owed steps.new ≡ K.owed steps.old }
 {
     if receipts.reserve(1).is_err() {
-        return (seat, Err(Why::NoMemory));
+        return (seat, Err(EndReason::NoMemory));
     }
     let (seat, answer) = desk.submit_seen(seat, event_of(step), steps);
     match answer {
@@ -57,14 +57,14 @@ fn submit<L: DeskLedger, R: Wait, K: Steps>(
             receipts.push_reserved(receipt);
             (seat, Ok(left))
         }
-        Err(stop) => (seat, Err(Why::Stopped(stop))),
+        Err(stop) => (seat, Err(EndReason::Stopped(stop))),
     }
 }
 
 /// Why the keeper ends that doesn't go on after a step.
-fn why_of(outcome: Result<u64, Why>) -> Why {
+fn why_of(outcome: Result<u64, EndReason>) -> EndReason {
     match outcome {
-        Ok(_) => Why::Closed,
+        Ok(_) => EndReason::Closed,
         Err(why) => why,
     }
 }
@@ -90,7 +90,7 @@ pub(crate) fn keep<L: DeskLedger, R: Wait, K: Steps, T: Wait>(
         };
         let (back, outcome) = submit(desk, seat, step, steps, &mut receipts);
         seat = back;
-        if !steps.came(outcome) {
+        if !steps.on_result(outcome) {
             return SessionEnd {
                 receipts,
                 seat,
@@ -101,6 +101,6 @@ pub(crate) fn keep<L: DeskLedger, R: Wait, K: Steps, T: Wait>(
     SessionEnd {
         receipts,
         seat,
-        why: Why::Closed,
+        why: EndReason::Closed,
     }
 }

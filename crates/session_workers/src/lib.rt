@@ -5,6 +5,8 @@
 //! and keeps the core's time on the calling thread until all of them have ended: a tick at each moment of a clock, and marks
 //! after it. `serve_all_stepped` does the same with a keeper that is told each of its steps. What a session reads is held to the
 //! times that its peer has (`deadlines`).
+//!
+//! When all sessions have ended, `settle` compares their receipts with the trail, value by value and place by place.
 #![tactic(auto)]
 
 mod accept;
@@ -15,10 +17,12 @@ mod keeper;
 mod pacing;
 mod patience;
 mod sessions;
+mod settlement;
 mod times;
 mod workers;
 
 pub use connections::{ConnectionOptions, serve_connections};
 pub use job::Job;
 pub use sessions::Ended;
+pub use settlement::{SettleFault, Settled, settle};
 pub use workers::{PoolFault, SessionOptions, serve_all, serve_all_stepped};

@@ -1,7 +1,7 @@
 //! Users that ask faster than they may.
 
 use admission::{Pace, Rate};
-use session_pool::Closing;
+use session_pool::ShutdownFlag;
 use std::alloc::Global;
 use std::sync::{Mutex, Wait};
 use std::time::{Duration, Instant};
@@ -21,12 +21,17 @@ pub(crate) struct Pacing<'r, R> {
     /// waits.
     start: Option<Instant>,
     /// Is closed once no further request is read.
-    reading: &'r Closing,
+    reading: &'r ShutdownFlag,
 }
 
 impl<'r, R: Wait + time::Clock> Pacing<'r, R> {
     /// Nobody has asked.
-    pub(crate) fn new(rt: &'r R, alloc: Global, rate: Rate, reading: &'r Closing) -> Pacing<'r, R> {
+    pub(crate) fn new(
+        rt: &'r R,
+        alloc: Global,
+        rate: Rate,
+        reading: &'r ShutdownFlag,
+    ) -> Pacing<'r, R> {
         let start = if rate.is_any() {
             None
         } else {

@@ -3,7 +3,7 @@
 use audit_trail::Event;
 use msg_admin::{Reply, Request};
 use request_handlers::Receipt;
-use session_pool::{Gate, Why};
+use session_pool::{EndReason, Gate};
 use std::time;
 use std::time::Duration;
 use wire_types::{Bytes, ErrorCode, Text};
@@ -28,7 +28,7 @@ fn wait_of(receipt: &Receipt) -> Option<Duration> {
             }
         }
     }
-    u64::try_from(request.max_wait)
+    u64::try_from(request.value().max_wait)
         .ok()
         .map(Duration::from_millis)
 }
@@ -69,19 +69,19 @@ impl<'x, R: time::Clock, G: Gate> Gate for Patient<'x, R, G> {
         self.gate.after(session, frame);
     }
 
-    fn garbled(&self, session: u64, kept: &[u8]) {
-        self.gate.garbled(session, kept);
+    fn malformed(&self, session: u64, kept: &[u8]) {
+        self.gate.malformed(session, kept);
     }
 
     fn refused(&self, session: u64, kept: &Bytes, is_answered: bool) {
         self.gate.refused(session, kept, is_answered);
     }
 
-    fn ended(&self, session: u64, host: &Text, who: Option<&Text>, why: Why) {
+    fn ended(&self, session: u64, host: &Text, who: Option<&Text>, why: EndReason) {
         self.gate.ended(session, host, who, why);
     }
 
-    fn ended_as(&self, session: u64, host: &Text, who: Option<&Text>, why: Why, words: &str) {
+    fn ended_as(&self, session: u64, host: &Text, who: Option<&Text>, why: EndReason, words: &str) {
         self.gate.ended_as(session, host, who, why, words);
     }
 }

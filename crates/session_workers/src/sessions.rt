@@ -52,7 +52,8 @@ impl<L: Ledger> Sessions<L> {
     /// A session more has ended. Where it has no receipt, its seat comes back. Only memory is lacking for one more end, or a number
     /// of 64 bits for one more of the others.
     pub(crate) fn add(self, done: Done<L>) -> Result<(Sessions<L>, Option<Unused<L>>), AllocError>
-        ensures added { IfOk result (λ r. AddsSession self.kept.items r.0.kept.items self.others r.0.others done.end) }
+        ensures added { IfOk result
+            (λ r. AddsSession self.kept.items r.0.kept.items self.others r.0.others done.end) }
         ensures back { IfOk result (λ r. IsSome r.1 ↔ (vec_len done.end.receipts ≡ 0)) }
     {
         let Sessions { mut kept, others } = self;

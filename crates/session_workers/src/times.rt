@@ -3,7 +3,7 @@
 use crate::pacing::Pacing;
 use deadlines::{Limit, Notes, Times};
 use request_handlers::Receipt;
-use session_pool::{Gate, SessionEnd, Why};
+use session_pool::{EndReason, Gate, SessionEnd};
 use std::alloc::Global;
 use std::cell::OnceCell;
 use std::str::from_utf8;
@@ -68,19 +68,19 @@ impl<'x, 'r, G: Gate, R: Wait + time::Clock> Gate for Noting<'x, 'r, G, R> {
         }
     }
 
-    fn garbled(&self, session: u64, kept: &[u8]) {
-        self.gate.garbled(session, kept);
+    fn malformed(&self, session: u64, kept: &[u8]) {
+        self.gate.malformed(session, kept);
     }
 
     fn refused(&self, session: u64, kept: &Bytes, is_answered: bool) {
         self.gate.refused(session, kept, is_answered);
     }
 
-    fn ended(&self, session: u64, host: &Text, who: Option<&Text>, why: Why) {
+    fn ended(&self, session: u64, host: &Text, who: Option<&Text>, why: EndReason) {
         self.gate.ended(session, host, who, why);
     }
 
-    fn ended_as(&self, session: u64, host: &Text, who: Option<&Text>, why: Why, words: &str) {
+    fn ended_as(&self, session: u64, host: &Text, who: Option<&Text>, why: EndReason, words: &str) {
         self.gate.ended_as(session, host, who, why, words);
     }
 }
@@ -122,10 +122,10 @@ fn foreign(front: [u8; 4]) -> Option<&'static str> {
 
 /// More of why a session has ended than its end tells, in words: which time of its peer's was over, where a read or a write failed
 /// for that; and what its first bytes look like, where they are no frame's size.
-fn words_of_end(alloc: Global, why: Why, times: Times, notes: &Notes) -> Option<String> {
+fn words_of_end(alloc: Global, why: EndReason, times: Times, notes: &Notes) -> Option<String> {
     match why {
-        Why::ReadFault | Why::WriteFault => overdue(alloc, times, notes.over()),
-        Why::BadFrame => String::from_str(alloc, foreign(notes.front()?)?).ok(),
+        EndReason::ReadFault | EndReason::WriteFault => overdue(alloc, times, notes.over()),
+        EndReason::BadFrame => String::from_str(alloc, foreign(notes.front()?)?).ok(),
         _ => None,
     }
 }

@@ -12,8 +12,9 @@ use crate::sessions::{Ended, Sessions, Unused};
 use admission::{Doorman, Rate};
 use crossbeam_channel::Receiver;
 use request_handlers::Seat;
-use session_logins::ListedVersions;
-use session_pool::{Clock, Clocked, Closing, DeskLedger, Gate, LockedDesk, Steps};
+use session_pool::{
+    Clock, Clocked, DeskLedger, Gate, ListedVersions, LockedDesk, ShutdownFlag, Steps,
+};
 use std::alloc::{AllocError, Global};
 use std::io::{Read, Write};
 use std::net::OpenStream;
@@ -74,7 +75,7 @@ fn seat_of<L: DeskLedger, R: Wait>(
 }
 
 /// Serves jobs until the channel is closed. The seat of a session that ended without a receipt serves the next one. Where no seat is
-/// left, a job is let go, and the doorman is told.
+/// left, a job is dropped, and the doorman is told.
 fn work<
     L: DeskLedger,
     R: Wait,
@@ -238,7 +239,7 @@ pub fn serve_all_stepped<
     desk: &LockedDesk<L, R>,
     jobs: Receiver<Job<Rd, Wr>>,
     workers: usize,
-    reading: &Closing,
+    reading: &ShutdownFlag,
     steps: K,
     gate: &G,
     doorman: &D,
@@ -279,7 +280,7 @@ pub fn serve_all<
         rate: Rate::ANY,
     };
     let steps = Clocked::new(clock);
-    let reading = Closing::new();
+    let reading = ShutdownFlag::new();
     serve_all_stepped(
         rt,
         alloc,

@@ -147,7 +147,7 @@ fn no_topic_name(alloc: Global, topics: &[TopicSetting]) -> Result<Option<String
     Ok(None)
 }
 
-/// The first topic whose name stands again behind it, and the place where that is.
+/// The first topic whose name stands again after it, and the place where that is.
 fn repeated(topics: &[TopicSetting]) -> Option<(&Text, usize, usize)> {
     let mut rest = topics;
     while let Some((first, more)) = rest.split_first() {

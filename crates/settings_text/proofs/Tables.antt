@@ -7,7 +7,7 @@ use Rattle.toml.specs.declared.value.Value.{Value}
 use Rattle.toml.specs.Data.{Data}
 use Rattle.toml.specs.View.{view, items_view, members_view}
 use Rattle.toml.proofs.Views.{items_view-drop}
-use Rattle.settings_text.specs.Fields.{texts, is_one_of, has_only, each}
+use Rattle.settings_text.specs.Fields.{texts, is_one_of, has_only, values_of_each}
 
 among_map : (key : List ℕ) (known : List (Bor (List ℕ))) → is_one_of known key ≡ list_any (bytes_eq key) (texts known)
 among_map key [] = refl
@@ -32,14 +32,14 @@ with_front-more front x (Some xs) = ap Some (sym (append_assoc front (x ∷ []) 
 
 -- one more item was read, or it can't be
 module _ {A : Type 0} (read : Data → Option A) (vs : List Value) (i : ℕ) (d : Value) (within : i < length vs) (front : List A)
-    (so_far : each read (items_view vs) ≡ with_front front (each read (items_view (drop i vs)))) where
-  pub item_read : (x : A) → read (view (get_or vs i d)) ≡ Some x → each read (items_view vs) ≡ with_front (front ++ x ∷ []) (each read (items_view (drop (i + 1) vs)))
+    (so_far : values_of_each read (items_view vs) ≡ with_front front (values_of_each read (items_view (drop i vs)))) where
+  pub item_read : (x : A) → read (view (get_or vs i d)) ≡ Some x → values_of_each read (items_view vs) ≡ with_front (front ++ x ∷ []) (values_of_each read (items_view (drop (i + 1) vs)))
   item_read x here =
-      so_far ∙ rw (items_view-drop vs i d within, here) (with_front-more front x (each read (items_view (drop (i + 1) vs))))
+      so_far ∙ rw (items_view-drop vs i d within, here) (with_front-more front x (values_of_each read (items_view (drop (i + 1) vs))))
 
-  pub item_bad : read (view (get_or vs i d)) ≡ None → each read (items_view vs) ≡ None
+  pub item_bad : read (view (get_or vs i d)) ≡ None → values_of_each read (items_view vs) ≡ None
   item_bad here = so_far ∙ rw (items_view-drop vs i d within, here) refl
 
 pub all_read : {A : Type 0} (read : Data → Option A) (vs : List Value) (i : ℕ) (front : List A) → length vs ≤ i
-    → each read (items_view vs) ≡ with_front front (each read (items_view (drop i vs))) → each read (items_view vs) ≡ Some front
+    → values_of_each read (items_view vs) ≡ with_front front (values_of_each read (items_view (drop i vs))) → values_of_each read (items_view vs) ≡ Some front
 all_read read vs i front far so_far = so_far ∙ rw (drop_of_length-le vs {i = i} far) (ap Some (append-nil front))

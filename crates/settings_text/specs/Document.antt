@@ -33,25 +33,25 @@ text_fault opens.Acl = Acl
 text_fault opens.Super = Super
 text_fault opens.NoMemory = NoMemory
 
-abbrev pub settled_by : Document → Option OpenFault → Result Document SettingsFault
-settled_by d None = Ok d
-settled_by d (Some fault) = Err (text_fault fault)
+abbrev pub checked_document_by : Document → Option OpenFault → Result Document SettingsFault
+checked_document_by d None = Ok d
+checked_document_by d (Some fault) = Err (text_fault fault)
 
 -- the users first, then the settings
-abbrev pub settled : Document → Result Document SettingsFault
-settled d = if not (are_users d.users) then Err User else settled_by d (first_fault d.settings)
+abbrev pub checked_document : Document → Result Document SettingsFault
+checked_document d = if not (are_users d.users) then Err User else checked_document_by d (first_fault d.settings)
 
-abbrev pub keyed : Option Document → Result Document SettingsFault
-keyed None = Err Key
-keyed (Some d) = settled d
+abbrev pub keyed_document : Option Document → Result Document SettingsFault
+keyed_document None = Err Key
+keyed_document (Some d) = checked_document d
 
-abbrev pub parsed : Option Members → Result Document SettingsFault
-parsed None = Err Toml
-parsed (Some ms) = keyed (document_of ms)
+abbrev pub parsed_document : Option Members → Result Document SettingsFault
+parsed_document None = Err Toml
+parsed_document (Some ms) = keyed_document (document_of ms)
 
 -- a text of UTF-8 that is a TOML document, whose keys are right, whose users are, and whose settings are
 abbrev pub document_of_text : List ℕ → Result Document SettingsFault
-document_of_text bytes = if is_utf8 bytes then parsed (parse_document bytes) else Err Toml
+document_of_text bytes = if is_utf8 bytes then parsed_document (parse_document bytes) else Err Toml
 
 -- The call answered so, unless memory was refused.
 abbrev pub Settles : Result Document SettingsFault → Result Document SettingsFault → Type 0

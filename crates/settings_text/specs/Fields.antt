@@ -46,9 +46,9 @@ abbrev pub word_field : {A : Type 0} → (List ℕ → Option A) → List ℕ �
 word_field named key ms = option_and_then named (text_field key ms)
 
 -- each item read; nothing where one can't be
-abbrev pub each : {A : Type 0} → (Data → Option A) → Items → Option (List A)
-each read no_items = Some []
-each read (item d ds) = option_and_then (λ x. option_map (λ xs. x ∷ xs) (each read ds)) (read d)
+abbrev pub values_of_each : {A : Type 0} → (Data → Option A) → Items → Option (List A)
+values_of_each read no_items = Some []
+values_of_each read (item d ds) = option_and_then (λ x. option_map (λ xs. x ∷ xs) (values_of_each read ds)) (read d)
 
 abbrev items_or_none : Option Data → Option Items
 items_or_none None = Some no_items
@@ -61,4 +61,4 @@ items_field key ms = items_or_none (get_member key ms)
 
 -- a list of which each item is read
 abbrev pub list_field : {A : Type 0} → (Data → Option A) → List ℕ → Members → Option (List A)
-list_field read key ms = option_and_then (each read) (items_field key ms)
+list_field read key ms = option_and_then (values_of_each read) (items_field key ms)

@@ -1,10 +1,9 @@
 //! A settings text, from its bytes to what it sets.
 
-ghost use Rattle.std.specs.Prelude.{◌≡◌};
 ghost use Rattle.toml.specs.Parse.{parse_document};
 ghost use Rattle.toml.specs.View.{table_view};
 ghost use Rattle.settings_text.specs.Rows.{document_of};
-ghost use Rattle.settings_text.specs.Document.{Settles, settled, keyed, parsed, document_of_text};
+ghost use Rattle.settings_text.specs.Document.{Settles, checked_document, keyed_document, parsed_document, document_of_text};
 
 use crate::fault::{SettingsFault, text_fault};
 use crate::fields::FieldFault;
@@ -40,7 +39,7 @@ pub struct Document {
 
 /// The document, if its users and settings have no fault.
 fn settle(alloc: Global, document: Document) -> Result<Document, SettingsFault>
-    ensures { Settles (settled document) result }
+    ensures { Settles (checked_document document) result }
 {
     match are_users(alloc, document.users.as_slice()) {
         Ok(true) => {}
@@ -54,7 +53,7 @@ fn settle(alloc: Global, document: Document) -> Result<Document, SettingsFault>
 }
 
 fn document_of_table(alloc: Global, table: &Table) -> Result<Document, SettingsFault>
-    ensures { Settles (keyed (document_of (table_view table.now))) result }
+    ensures { Settles (keyed_document (document_of (table_view table.now))) result }
 {
     match document(alloc, table) {
         Ok(document) => settle(alloc, document),
@@ -64,7 +63,7 @@ fn document_of_table(alloc: Global, table: &Table) -> Result<Document, SettingsF
 }
 
 fn document_of_str(alloc: Global, text: &str) -> Result<Document, SettingsFault>
-    ensures { Settles (parsed (parse_document text.now)) result }
+    ensures { Settles (parsed_document (parse_document text.now)) result }
 {
     match toml::table_from_str(alloc, text) {
         Ok(table) => document_of_table(alloc, &table),

@@ -1,8 +1,8 @@
 //! The tables of a document, before their numbers and names are looked at.
 
-ghost use Rattle.std.specs.Prelude.{◌≡◌, codes};
+ghost use Rattle.std.specs.Prelude.{codes};
 ghost use Rattle.toml.specs.Data.{as_str};
-ghost use Rattle.toml.specs.View.{view, table_view, items_view};
+ghost use Rattle.toml.specs.View.{view, table_view};
 ghost use Rattle.settings_text.specs.Fields.{Reads, texts, list_field};
 ghost use Rattle.settings_text.specs.Rows.{row_of, user_of, topic_of, kind_field, pattern_field, operation_field, permission_field, binding_of, settings_of, document_of};
 

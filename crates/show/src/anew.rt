@@ -6,10 +6,10 @@ ghost use Rattle.api_dispatch.specs.Bounds.{EventFits};
 use crate::answer::{Answers, push_stop};
 use audit_trail::{Event, line};
 use authorizer::Refusal;
+use commands::{Order, Sent};
 use message_words::{Sheet, push_closed, push_sent_reply, push_silence, push_unread_answer};
 use msg_admin::{FRAME_LIMIT, Reply, read_request, write_reply};
 use request_handlers::{Core, Stop};
-use script_lines::{Order, Sent};
 use std::alloc::AllocError;
 use wire_types::{ReadFault, WriteFault};
 
@@ -89,11 +89,9 @@ fn push_request_step(
     let Sent { caller, frame } = sent;
     match read_request(sheet.alloc(), &frame) {
         Ok((header, request)) => {
-            let event = Event::Ask {
-                caller,
-                client: header.client,
-                request,
-            };
+            let alloc = sheet.alloc();
+            let caller = core.trail().share_caller(alloc, caller)?;
+            let event = Event::ask(alloc, caller, header.client, request)?;
             push_step(core, sheet, Some(header.correlation), event)
         }
         Err(ReadFault::Malformed(_)) => {

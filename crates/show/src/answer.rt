@@ -1,8 +1,8 @@
 //! What a line of a script is answered.
 
+use commands::Order;
 use message_words::{Sheet, push_no_answer};
 use request_handlers::Stop;
-use script_lines::Order;
 use std::alloc::AllocError;
 
 /// Where the answers to a script's lines come from.

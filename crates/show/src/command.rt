@@ -1,17 +1,17 @@
 //! The command that shows a script.
 
 ghost use Rattle.std.specs.Prelude.{◌≡◌, ◌≤◌, IfSome, length};
-ghost use Rattle.wire_types.specs.Device.{TakesWithin};
+ghost use Rattle.byte_streams.specs.Device.{TakesWithin};
 
 use crate::noted::Noted;
 use crate::outcome::{ShowFault, Shown};
 use crate::script::show_script;
+use byte_streams::{INPUT_LIMIT, InputFault, read_input};
 use std::alloc::Global;
 use std::fmt::Display;
 use std::fs;
 use std::io::{ErrorKind, Read, Write};
 use std::rt::Files;
-use wire_types::{INPUT_LIMIT, InputFault, read_input};
 
 /// The exit status where each line was shown.
 const SHOWN: u8 = 0;
@@ -138,7 +138,8 @@ pub fn show_and_explain<T: Files, R: Read, W: Write, E: Write>(
     writer: &mut W,
     errors: &mut E,
 ) -> u8
-    ensures shown { result ≡ 0 → IfSome (R.remaining reader.old) (λ input. length input ≤ INPUT_LIMIT) }
+    ensures shown { result ≡ 0 → IfSome (R.remaining reader.old)
+        (λ input. length input ≤ INPUT_LIMIT) }
     ensures bounded { TakesWithin (R.remaining reader.old) (R.remaining reader.new) }
 {
     let input = match read_input(alloc, reader) {

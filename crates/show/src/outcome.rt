@@ -1,7 +1,7 @@
 //! How the showing of a script ends.
 
+use commands::Unreadable;
 use request_handlers::Stop;
-use script_lines::Unreadable;
 use settings_text::SettingsFault;
 use std::alloc::AllocError;
 use thiserror::Error;

@@ -4,13 +4,13 @@ use crate::answer::{Answers, NoAnswers};
 use crate::outcome::{ShowFault, Shown};
 use crate::sent::push_sent;
 use crate::told::Told;
+use byte_streams::write_whole;
+use commands::{Order, Unreadable, content, parse_order, split_input};
 use message_words::Sheet;
 use request_handlers::Core;
-use script_lines::{Order, Unreadable, content, parse_order, split_input};
 use settings_text::{SettingsFault, document_of_text};
 use std::alloc::{AllocError, Global};
 use std::io::Write;
-use wire_types::write_whole;
 
 const LINE_FEED: u8 = b'\n';
 

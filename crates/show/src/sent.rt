@@ -2,9 +2,9 @@
 
 use acl_binding::Caller;
 use audit_trail::push_word;
+use commands::Sent;
 use message_words::{Sheet, api_name, fault_end, key_name, push_request};
 use msg_admin::{FRAME_LIMIT, Header, Request, read_request, unsupported_versions};
-use script_lines::Sent;
 use std::alloc::AllocError;
 use wire_types::{Bytes, Cursor, Malformed, ReadFault};
 

@@ -1,10 +1,10 @@
 //! Answers that `replay` printed earlier.
 
 use crate::answer::{Answers, push_stop};
+use commands::{Order, content, split_line};
 use hex::FromHexError;
 use message_words::{Sheet, push_closed, push_no_answer, push_response, push_silence};
 use request_handlers::Stop;
-use script_lines::{Order, content, split_line};
 use std::alloc::{AllocError, Global};
 use std::str::from_utf8;
 use wire_types::Bytes;

@@ -11,15 +11,15 @@ use Rattle.audit_trail.specs.declared.event.Event.TheVariants.{Ask}
 use Rattle.broker_world.specs.World.{World}
 use Rattle.data_handlers.specs.Produce.{produce_questions}
 use Rattle.group_handlers.specs.OffsetCommit.{commit_questions}
-use Rattle.txn_handlers.specs.TxnOffsetCommit.{staging, stage_questions}
+use Rattle.txn_handlers.specs.TxnOffsetCommit.{staging_of, stage_questions}
 use Rattle.txn_handlers.specs.AddPartitions.{add_questions}
 use Rattle.acl_handlers.specs.CreateAcls.{alter_questions, book_created}
 use Rattle.acl_handlers.specs.DeleteAcls.{book_deleted}
-use Rattle.api_dispatch.specs.Step.{request_outcome, counted, step}
+use Rattle.api_dispatch.specs.Step.{request_outcome, with_event_counted, step}
 use Rattle.api_laws.specs.Tenants.{SameBase, SameOn}
 use Rattle.api_dispatch.proofs.Wholes.{describe_keeps, find_keeps, offsets_keep}
 use Rattle.tenant_laws.proofs.Answered.{IsSame, each, by_partitions}
-use Rattle.tenant_laws.proofs.Agreeing.{AgreeBehind, unchanged, unchanged_as, by_book, by_whole}
+use Rattle.tenant_laws.proofs.Agreeing.{AgreeAfter, unchanged, unchanged_as, by_book, by_whole}
 use Rattle.tenant_laws.proofs.AgreedLogs.{produce_agrees}
 use Rattle.tenant_laws.proofs.AgreedGroups.{join_agrees, sync_agrees, beat_agrees, leave_agrees, commit_agrees, stage_agrees}
 use Rattle.tenant_laws.proofs.AgreedIds.{init_agrees, end_agrees, add_group_agrees, add_agrees}
@@ -27,13 +27,13 @@ use Rattle.tenant_laws.proofs.AgreedIds.{init_agrees, end_agrees, add_group_agre
 -- ---- each api
 
 module _ (v w : World) (caller : Caller) where
-  reads : (request : Request) → SameBase v w → (request_outcome v caller request).world ≡ v → (request_outcome w caller request).world ≡ w → AgreeBehind v w (request_outcome v caller request).world (request_outcome w caller request).world
+  reads : (request : Request) → SameBase v w → (request_outcome v caller request).world ≡ v → (request_outcome w caller request).world ≡ w → AgreeAfter v w (request_outcome v caller request).world (request_outcome w caller request).world
   reads request base one two = unchanged_as v w base (request_outcome v caller request).world (request_outcome w caller request).world one two
 
   same_book : SameBase v w → v.book ≡ w.book
   same_book base = ap (λ (rules : Rules). rules.book) base.rules
 
-  agreed : (request : Request) → IsSame v w caller request → AgreeBehind v w (request_outcome v caller request).world (request_outcome w caller request).world
+  agreed : (request : Request) → IsSame v w caller request → AgreeAfter v w (request_outcome v caller request).world (request_outcome w caller request).world
   agreed (Produce r) same = produce_agrees v w caller r same.base (by_partitions v w caller (produce_questions caller r.transactional_id) r.topics (each v w caller (Produce r) same))
   agreed (Fetch r) same = unchanged v w same.base
   agreed (ListOffsets r) same = unchanged v w same.base
@@ -49,7 +49,7 @@ module _ (v w : World) (caller : Caller) where
   agreed (AddPartitionsToTxn r) same = add_agrees v w caller same.base r (by_partitions v w caller (add_questions caller r.transactional_id) r.topics (each v w caller (AddPartitionsToTxn r) same))
   agreed (AddOffsetsToTxn r) same = add_group_agrees v w caller same.base r (each v w caller (AddOffsetsToTxn r) same).0
   agreed (EndTxn r) same = end_agrees v w caller same.base r (each v w caller (EndTxn r) same).0
-  agreed (TxnOffsetCommit r) same = stage_agrees v w caller same.base r (by_partitions v w caller (stage_questions caller (staging r)) r.topics (each v w caller (TxnOffsetCommit r) same))
+  agreed (TxnOffsetCommit r) same = stage_agrees v w caller same.base r (by_partitions v w caller (stage_questions caller (staging_of r)) r.topics (each v w caller (TxnOffsetCommit r) same))
   agreed (SaslHandshake r) same = unchanged v w same.base
   agreed ApiVersions same = unchanged v w same.base
   agreed (SaslAuthenticate r) same = unchanged v w same.base
@@ -61,16 +61,16 @@ module _ (v w : World) (caller : Caller) where
 
 -- ---- one event
 
-pub counted_base : (x y : World) → SameBase x y → SameBase (counted x) (counted y)
+pub counted_base : (x y : World) → SameBase x y → SameBase (with_event_counted x) (with_event_counted y)
 counted_base x y base = record { node = base.node; rules = base.rules; moment = base.moment; events = ap (λ (n : ℕ). n + 1) base.events; given = base.given }
 
-pub counted_on : (x y : World) (kind : Kind) (name : List ℕ) → SameOn x y kind name → SameOn (counted x) (counted y) kind name
+pub counted_on : (x y : World) (kind : Kind) (name : List ℕ) → SameOn x y kind name → SameOn (with_event_counted x) (with_event_counted y) kind name
 counted_on x y Topic name same = same
 counted_on x y Group name same = same
 counted_on x y Cluster name same = same
 counted_on x y TransactionalId name same = same
 
-pub agreement : (v w : World) (caller : Caller) (client : Option (List ℕ)) (request : Request) → IsSame v w caller request → AgreeBehind v w (step v (Ask caller client request)) (step w (Ask caller client request))
+pub agreement : (v w : World) (caller : Caller) (client : Option (List ℕ)) (request : Request) → IsSame v w caller request → AgreeAfter v w (step v (Ask caller client request)) (step w (Ask caller client request))
 agreement v w caller client request same =
     let behind = agreed v w caller request same in
     let x : World = (request_outcome v caller request).world in

@@ -15,16 +15,16 @@ use Rattle.walk.specs.Walk.{world_after}
 use Rattle.walk.specs.Steps.{world_by, part_world, parts_world, topics_world}
 use Rattle.walk.specs.Alike.{AllParts, AllTopics}
 use Rattle.walk.proofs.Weaving.{woven}
-use Rattle.transactions.specs.Coordinator.{CoordinatorValue, recorded}
-use Rattle.offset_tables.specs.declared.group.Group.{Group as GroupValue}
-use Rattle.offset_tables.specs.Groups.{find_group}
+use Rattle.txn_coordinator.specs.Coordinator.{CoordinatorValue, id_record}
+use Rattle.group_offsets.specs.declared.group.Group.{Group as GroupValue}
+use Rattle.group_offsets.specs.Groups.{find_group}
 use Rattle.broker_world.specs.World.{World, TopicValue, rules_of, find_topic}
-use Rattle.broker_world.specs.Whole.{Served, whole_by}
+use Rattle.broker_world.specs.Whole.{Served, whole_outcome_by}
 use Rattle.api_laws.specs.Tenants.{SameBase, SameOn}
 
 -- ---- a walk
 
--- where the part is granted, what agrees before it agrees behind it
+-- where the part is granted, what agrees before it agrees after it
 abbrev pub Goes : {P A W : Type 0} → PartRule P A W → PartRule P A W → Rules → (W → W → Type 0) → List ℕ → P → Type 0
 Goes {W = W} f g rules Agree name p = refusal_of g rules name p ≡ None → (u v : W) → Agree u v → Agree (f.after u name p) (g.after v name p)
 
@@ -54,18 +54,18 @@ walk_goes {W = W} f g rules Agree asks ts all u v agree =
 -- ---- two worlds
 
 -- what v and w agree on their successors agree on
-pub record AgreeBehind (v w new_v new_w : World) : Type 0 where
+pub record AgreeAfter (v w new_v new_w : World) : Type 0 where
   pub base : SameBase new_v new_w
   pub resources : (kind : Kind) (name : List ℕ) → SameOn v w kind name → SameOn new_v new_w kind name
 
 module _ (v w : World) (base : SameBase v w) where
-  pub unchanged : AgreeBehind v w v w
+  pub unchanged : AgreeAfter v w v w
   unchanged = record { base = base; resources = λ kind name same. same }
 
-  pub unchanged_as : (x y : World) → x ≡ v → y ≡ w → AgreeBehind v w x y
-  unchanged_as x y one two = subst (λ (a : World). AgreeBehind v w a y) (sym one) (subst (λ (b : World). AgreeBehind v w v b) (sym two) unchanged)
+  pub unchanged_as : (x y : World) → x ≡ v → y ≡ w → AgreeAfter v w x y
+  unchanged_as x y one two = subst (λ (a : World). AgreeAfter v w a y) (sym one) (subst (λ (b : World). AgreeAfter v w v b) (sym two) unchanged)
 
-  pub by_topics : (us vs : List TopicValue) → ((name : List ℕ) → find_topic v.topics name ≡ find_topic w.topics name → find_topic us name ≡ find_topic vs name) → AgreeBehind v w (record v { topics = us }) (record w { topics = vs })
+  pub by_topics : (us vs : List TopicValue) → ((name : List ℕ) → find_topic v.topics name ≡ find_topic w.topics name → find_topic us name ≡ find_topic vs name) → AgreeAfter v w (record v { topics = us }) (record w { topics = vs })
   by_topics us vs goes = record { base = record { node = base.node; rules = base.rules; moment = base.moment; events = base.events; given = base.given }; resources = on } where
     on : (kind : Kind) (name : List ℕ) → SameOn v w kind name → SameOn (record v { topics = us }) (record w { topics = vs }) kind name
     on Topic name same = goes name same
@@ -73,7 +73,7 @@ module _ (v w : World) (base : SameBase v w) where
     on Cluster name same = same
     on TransactionalId name same = same
 
-  pub by_groups : (us vs : List GroupValue) → ((name : List ℕ) → find_group v.groups name ≡ find_group w.groups name → find_group us name ≡ find_group vs name) → AgreeBehind v w (record v { groups = us }) (record w { groups = vs })
+  pub by_groups : (us vs : List GroupValue) → ((name : List ℕ) → find_group v.groups name ≡ find_group w.groups name → find_group us name ≡ find_group vs name) → AgreeAfter v w (record v { groups = us }) (record w { groups = vs })
   by_groups us vs goes = record { base = record { node = base.node; rules = base.rules; moment = base.moment; events = base.events; given = base.given }; resources = on } where
     on : (kind : Kind) (name : List ℕ) → SameOn v w kind name → SameOn (record v { groups = us }) (record w { groups = vs }) kind name
     on Topic name same = same
@@ -81,8 +81,8 @@ module _ (v w : World) (base : SameBase v w) where
     on Cluster name same = same
     on TransactionalId name same = same
 
-  pub by_coordinator : (c d : CoordinatorValue) → map is_some c.given ≡ map is_some d.given → ((name : List ℕ) → recorded v.coordinator.transactions name ≡ recorded w.coordinator.transactions name → recorded c.transactions name ≡ recorded d.transactions name)
-      → AgreeBehind v w (record v { coordinator = c }) (record w { coordinator = d })
+  pub by_coordinator : (c d : CoordinatorValue) → map is_some c.given ≡ map is_some d.given → ((name : List ℕ) → id_record v.coordinator.transactions name ≡ id_record w.coordinator.transactions name → id_record c.transactions name ≡ id_record d.transactions name)
+      → AgreeAfter v w (record v { coordinator = c }) (record w { coordinator = d })
   by_coordinator c d given goes = record { base = record { node = base.node; rules = base.rules; moment = base.moment; events = base.events; given = given }; resources = on } where
     on : (kind : Kind) (name : List ℕ) → SameOn v w kind name → SameOn (record v { coordinator = c }) (record w { coordinator = d }) kind name
     on Topic name same = same
@@ -90,7 +90,7 @@ module _ (v w : World) (base : SameBase v w) where
     on Cluster name same = same
     on TransactionalId name same = goes name same
 
-  pub by_book : (a b : BookValue) → a ≡ b → AgreeBehind v w (record v { book = a }) (record w { book = b })
+  pub by_book : (a b : BookValue) → a ≡ b → AgreeAfter v w (record v { book = a }) (record w { book = b })
   by_book a b is = record { base = record { node = base.node; rules = λ i. record { book = is i; supers = (base.rules i).supers }; moment = base.moment; events = base.events; given = base.given }; resources = on } where
     on : (kind : Kind) (name : List ℕ) → SameOn v w kind name → SameOn (record v { book = a }) (record w { book = b }) kind name
     on Topic name same = same
@@ -99,10 +99,10 @@ module _ (v w : World) (base : SameBase v w) where
     on TransactionalId name same = same
 
   -- a request that is one part
-  pub by_whole : (qs : List Question) (refused : ErrorCode → Reply) (a b : Served) → (part_refusal (rules_of w) qs ≡ None → AgreeBehind v w a.world b.world)
-      → AgreeBehind v w (whole_by (part_refusal (rules_of v) qs) v refused a).world (whole_by (part_refusal (rules_of w) qs) w refused b).world
+  pub by_whole : (qs : List Question) (refused : ErrorCode → Reply) (a b : Served) → (part_refusal (rules_of w) qs ≡ None → AgreeAfter v w a.world b.world)
+      → AgreeAfter v w (whole_outcome_by (part_refusal (rules_of v) qs) v refused a).world (whole_outcome_by (part_refusal (rules_of w) qs) w refused b).world
   by_whole qs refused a b goes =
-      subst (λ (rules : Rules). AgreeBehind v w (whole_by (part_refusal rules qs) v refused a).world (whole_by (part_refusal (rules_of w) qs) w refused b).world) (sym base.rules) (by_refusal (part_refusal (rules_of w) qs) refl) where
-        by_refusal : (o : Option Refusal) → part_refusal (rules_of w) qs ≡ o → AgreeBehind v w (whole_by o v refused a).world (whole_by o w refused b).world
+      subst (λ (rules : Rules). AgreeAfter v w (whole_outcome_by (part_refusal rules qs) v refused a).world (whole_outcome_by (part_refusal (rules_of w) qs) w refused b).world) (sym base.rules) (by_refusal (part_refusal (rules_of w) qs) refl) where
+        by_refusal : (o : Option Refusal) → part_refusal (rules_of w) qs ≡ o → AgreeAfter v w (whole_outcome_by o v refused a).world (whole_outcome_by o w refused b).world
         by_refusal None is = goes is
         by_refusal (Some r) is = unchanged

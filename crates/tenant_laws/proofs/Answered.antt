@@ -17,7 +17,7 @@ use Rattle.data_handlers.specs.Metadata.{metadata_outcome}
 use Rattle.data_handlers.specs.Produce.{produce_questions}
 use Rattle.group_handlers.specs.OffsetCommit.{commit_questions}
 use Rattle.txn_handlers.specs.AddPartitions.{add_questions}
-use Rattle.txn_handlers.specs.TxnOffsetCommit.{staging, stage_questions}
+use Rattle.txn_handlers.specs.TxnOffsetCommit.{staging_of, stage_questions}
 use Rattle.api_dispatch.specs.Step.{request_outcome}
 use Rattle.api_laws.specs.Tenants.{SameBase, SameGranted, SameForMetadata, topic_questions}
 use Rattle.api_laws.specs.DataTenants.{SameAnswer}
@@ -88,7 +88,7 @@ module _ (v w : World) (caller : Caller) where
   answered (AddPartitionsToTxn r) same = transactions_depend.adds v w caller r same.base (by_partitions (add_questions caller r.transactional_id) r.topics (each (AddPartitionsToTxn r) same))
   answered (AddOffsetsToTxn r) same = staging_depends.adds v w caller r same.base (each (AddOffsetsToTxn r) same).0
   answered (EndTxn r) same = transactions_depend.ends v w caller r same.base (each (EndTxn r) same).0
-  answered (TxnOffsetCommit r) same = staging_depends.stages v w caller r same.base (by_partitions (stage_questions caller (staging r)) r.topics (each (TxnOffsetCommit r) same))
+  answered (TxnOffsetCommit r) same = staging_depends.stages v w caller r same.base (by_partitions (stage_questions caller (staging_of r)) r.topics (each (TxnOffsetCommit r) same))
   answered (SaslHandshake r) same = record { reply = refl; refusals = refl }
   answered ApiVersions same = record { reply = refl; refusals = refl }
   answered (SaslAuthenticate r) same = record { reply = refl; refusals = refl }

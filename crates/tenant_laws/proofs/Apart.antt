@@ -34,20 +34,20 @@ use Rattle.msg_admin.specs.declared.request.Request.TheVariants.{Produce, Fetch,
 use Rattle.msg_admin.specs.declared.reply.Reply.{Reply}
 use Rattle.msg_admin.specs.declared.reply.Reply.TheVariants as replies
 use Rattle.audit_trail.specs.declared.event.Event.TheVariants.{Ask}
-use Rattle.offset_tables.specs.declared.group.Group.{Group}
-use Rattle.offset_tables.specs.Group.{fresh_group}
+use Rattle.group_offsets.specs.declared.group.Group.{Group}
+use Rattle.group_offsets.specs.Group.{fresh_group}
+use Rattle.broker_world.specs.Brokers.{brokers_of}
 use Rattle.broker_world.specs.declared.node.Node.{Node}
 use Rattle.broker_world.specs.World.{World, LogValue, rules_of}
 use Rattle.broker_world.specs.Logs.{log_at}
 use Rattle.broker_world.specs.Questions.{topic_part}
-use Rattle.data_handlers.specs.Metadata.{broker_info}
 use Rattle.data_handlers.specs.Produce.{produce_questions, produced_error}
 use Rattle.data_handlers.specs.Fetch.{fetched_error}
 use Rattle.data_handlers.specs.ListOffsets.{listed_error}
 use Rattle.group_handlers.specs.OffsetCommit.{commit_questions, committed_code}
 use Rattle.txn_handlers.specs.EndTxn.{end_questions}
-use Rattle.txn_handlers.specs.TxnOffsetCommit.{staging, stage_questions, staged_code}
-use Rattle.group_handlers.specs.OffsetFetch.{group_question, fetched_code, fetch_reply, offsets_of, offset_fetch_by, told_topics}
+use Rattle.txn_handlers.specs.TxnOffsetCommit.{staging_of, stage_questions, staged_code}
+use Rattle.group_handlers.specs.OffsetFetch.{group_question, fetched_code, fetch_reply, offsets_of, offset_fetch_by, listed_topics}
 use Rattle.group_handlers.specs.FindCoordinator.{kind_of, find_questions}
 use Rattle.broker_world.specs.Questions.{read_question}
 use Rattle.txn_handlers.specs.InitProducerId.{init_questions}
@@ -60,13 +60,13 @@ use Rattle.api_dispatch.specs.Step.{reply_to}
 use Rattle.api_laws.proofs.DataGrants.{same_log}
 use Rattle.api_dispatch.specs.Questions.{fetch_questions, partition_parts, offset_parts, parts_of, questions_of, wants_all}
 use Rattle.api_dispatch.specs.Refusals.{refusals_in}
-use Rattle.api_dispatch.specs.Refusals.{told_alone, request_refusals}
+use Rattle.api_dispatch.specs.Refusals.{refusal_or_rest, request_refusals}
 use Rattle.api_dispatch.proofs.Told.{refusals_are_of_parts}
-use Rattle.plain_broker.specs.Allowed.{Allowed, Rest, Cut, Nothing, kept_topics, kept_names, whole_or_cut, rest_or_nothing, allowed}
+use Rattle.plain_broker.specs.Allowed.{Allowed, Rest, Cut, Nothing, unrefused_topics, unrefused_names, whole_or_cut, rest_or_nothing, allowed_part}
 use Rattle.plain_broker.proofs.Terms.{refused_by}
 use Rattle.plain_broker.specs.Exactly.{is_granted}
-use Rattle.plain_broker.specs.PutBack.{put_back}
-use Rattle.plain_broker.specs.Plain.{unbound, plain, plain_cut, put_together}
+use Rattle.plain_broker.specs.PutBack.{reply_with_refused}
+use Rattle.plain_broker.specs.Plain.{unrestricted_world, plain_outcome, plain_cut, with_refusals}
 use Rattle.plain_broker.specs.Plainness.{is_about_bindings}
 use Rattle.plain_broker.specs.Exactly.{IsExact}
 use Rattle.plain_broker.proofs.Together.{plain_of_allowed}
@@ -131,64 +131,64 @@ module _ (v w : World) (caller : Caller) (client : Option (List ℕ)) where
   each request same = each_code v w (parts_of rw caller request) same.grants
 
   -- by the plain broker
-  plainly : (request : Request) → (put_together v caller request (allowed rv caller request)).reply ≡ (put_together w caller request (allowed rw caller request)).reply → Replied request
+  plainly : (request : Request) → (with_refusals v caller request (allowed_part rv caller request)).reply ≡ (with_refusals w caller request (allowed_part rw caller request)).reply → Replied request
   plainly request same = (plain_of_allowed v caller client request).reply ∙ same ∙ sym (plain_of_allowed w caller client request).reply
 
   -- ---- a walk
 
   module _ {P : Type 0} (asks : List ℕ → List Question) (ts : List (Topic P)) (make : List (Topic P) → Request) (put : Rules → Reply → Reply) where
-    walk_same : SameNumbers v w → wants_all (make (kept_topics (refused_by rw asks) ts)) ≡ false → (is_about_bindings (make (kept_topics (refused_by rw asks) ts)) ≡ true → v.book ≡ w.book)
-        → AllByRecursion (SameCode v w) (partition_parts asks ts) → AllByRecursion (SameAbout v w) (parts_of rw caller (make (kept_topics (refused_by rw asks) ts)))
-        → put rv (plain w caller (make (kept_topics (refused_by rw asks) ts))).reply ≡ put rw (plain w caller (make (kept_topics (refused_by rw asks) ts))).reply
-        → put rv (plain v caller (make (kept_topics (refused_by rv asks) ts))).reply ≡ put rw (plain w caller (make (kept_topics (refused_by rw asks) ts))).reply
+    walk_same : SameNumbers v w → wants_all (make (unrefused_topics (refused_by rw asks) ts)) ≡ false → (is_about_bindings (make (unrefused_topics (refused_by rw asks) ts)) ≡ true → v.book ≡ w.book)
+        → AllByRecursion (SameCode v w) (partition_parts asks ts) → AllByRecursion (SameAbout v w) (parts_of rw caller (make (unrefused_topics (refused_by rw asks) ts)))
+        → put rv (plain_outcome w caller (make (unrefused_topics (refused_by rw asks) ts))).reply ≡ put rw (plain_outcome w caller (make (unrefused_topics (refused_by rw asks) ts))).reply
+        → put rv (plain_outcome v caller (make (unrefused_topics (refused_by rv asks) ts))).reply ≡ put rw (plain_outcome w caller (make (unrefused_topics (refused_by rw asks) ts))).reply
     walk_same numbers named bindings all about puts =
-        ap (λ (l : List (Topic P)). put rv (plain v caller (make l)).reply) (granted_same v w asks ts all)
-        ∙ ap (put rv) (plain_same v w caller (make (kept_topics (refused_by rw asks) ts)) numbers named bindings about)
+        ap (λ (l : List (Topic P)). put rv (plain_outcome v caller (make l)).reply) (granted_same v w asks ts all)
+        ∙ ap (put rv) (plain_same v w caller (make (unrefused_topics (refused_by rw asks) ts)) numbers named bindings about)
         ∙ puts
 
   produce_put : (r : ProduceRequest) (b : Bool) (l : List (Topic ProducedOffset)) → AllByRecursion (SameCode v w) (parts_of rw caller (Produce r))
-      → put_back rv caller (Produce r) (cond b (replies.SilentProduce (record { topics = l; throttle = pos 0 })) (replies.Produce (record { topics = l; throttle = pos 0 }))) ≡ put_back rw caller (Produce r) (cond b (replies.SilentProduce (record { topics = l; throttle = pos 0 })) (replies.Produce (record { topics = l; throttle = pos 0 })))
+      → reply_with_refused rv caller (Produce r) (cond b (replies.SilentProduce (record { topics = l; throttle = pos 0 })) (replies.Produce (record { topics = l; throttle = pos 0 }))) ≡ reply_with_refused rw caller (Produce r) (cond b (replies.SilentProduce (record { topics = l; throttle = pos 0 })) (replies.Produce (record { topics = l; throttle = pos 0 })))
   produce_put r true l all = ap (λ (topics : List (Topic ProducedOffset)). replies.SilentProduce (record { topics = topics; throttle = pos 0 })) (put_same v w (produce_questions caller r.transactional_id) produced_error r.topics l all)
   produce_put r false l all = ap (λ (topics : List (Topic ProducedOffset)). replies.Produce (record { topics = topics; throttle = pos 0 })) (put_same v w (produce_questions caller r.transactional_id) produced_error r.topics l all)
 
   produces : (r : ProduceRequest) → SameForReply v w caller (Produce r) → Replied (Produce r)
   produces r same = plainly (Produce r)
-      (walk_same (produce_questions caller r.transactional_id) r.topics (λ l. Produce (record r { topics = l })) (λ rules a. put_back rules caller (Produce r) a) same.numbers refl same.bindings (each (Produce r) same)
+      (walk_same (produce_questions caller r.transactional_id) r.topics (λ l. Produce (record r { topics = l })) (λ rules a. reply_with_refused rules caller (Produce r) a) same.numbers refl same.bindings (each (Produce r) same)
       (subst (AllByRecursion (SameAbout v w)) (sym (allowed_is_exact rw caller (Produce r))) same.granted)
       (produce_put r (int_eq r.acks (pos 0)) _ (each (Produce r) same)))
 
   fetches : (r : FetchRequest) → SameForReply v w caller (Fetch r) → Replied (Fetch r)
   fetches r same = plainly (Fetch r)
-      (walk_same (fetch_questions caller) r.topics (λ l. Fetch (record r { topics = l })) (λ rules a. put_back rules caller (Fetch r) a) same.numbers refl same.bindings (each (Fetch r) same)
+      (walk_same (fetch_questions caller) r.topics (λ l. Fetch (record r { topics = l })) (λ rules a. reply_with_refused rules caller (Fetch r) a) same.numbers refl same.bindings (each (Fetch r) same)
       (subst (AllByRecursion (SameAbout v w)) (sym (allowed_is_exact rw caller (Fetch r))) same.granted)
       (ap (λ (l : List (Topic FetchedRecords)). replies.Fetch (record { throttle = pos 0; topics = l })) (put_same v w (fetch_questions caller) fetched_error r.topics _ (each (Fetch r) same))))
 
   lists : (r : ListOffsetsRequest) → SameForReply v w caller (ListOffsets r) → Replied (ListOffsets r)
   lists r same = plainly (ListOffsets r)
-      (walk_same (topic_part caller) r.topics (λ l. ListOffsets (record r { topics = l })) (λ rules a. put_back rules caller (ListOffsets r) a) same.numbers refl same.bindings (each (ListOffsets r) same)
+      (walk_same (topic_part caller) r.topics (λ l. ListOffsets (record r { topics = l })) (λ rules a. reply_with_refused rules caller (ListOffsets r) a) same.numbers refl same.bindings (each (ListOffsets r) same)
       (subst (AllByRecursion (SameAbout v w)) (sym (allowed_is_exact rw caller (ListOffsets r))) same.granted)
       (ap (λ (l : List (Topic FoundOffset)). replies.ListOffsets (record { throttle = pos 0; topics = l })) (put_same v w (topic_part caller) listed_error r.topics _ (each (ListOffsets r) same))))
 
   commits : (r : OffsetCommitRequest) → SameForReply v w caller (OffsetCommit r) → Replied (OffsetCommit r)
   commits r same = plainly (OffsetCommit r)
-      (walk_same (commit_questions caller r.group) r.topics (λ l. OffsetCommit (record r { topics = l })) (λ rules a. put_back rules caller (OffsetCommit r) a) same.numbers refl same.bindings (each (OffsetCommit r) same)
+      (walk_same (commit_questions caller r.group) r.topics (λ l. OffsetCommit (record r { topics = l })) (λ rules a. reply_with_refused rules caller (OffsetCommit r) a) same.numbers refl same.bindings (each (OffsetCommit r) same)
       (subst (AllByRecursion (SameAbout v w)) (sym (allowed_is_exact rw caller (OffsetCommit r))) same.granted)
       (ap (λ (l : List (Topic CommittedOffset)). replies.OffsetCommit (record { topics = l })) (put_same v w (commit_questions caller r.group) committed_code r.topics _ (each (OffsetCommit r) same))))
 
   stages : (r : TxnOffsetCommitRequest) → SameForReply v w caller (TxnOffsetCommit r) → Replied (TxnOffsetCommit r)
   stages r same = plainly (TxnOffsetCommit r)
-      (walk_same (stage_questions caller (staging r)) r.topics (λ l. TxnOffsetCommit (record r { topics = l })) (λ rules a. put_back rules caller (TxnOffsetCommit r) a) same.numbers refl same.bindings (each (TxnOffsetCommit r) same)
+      (walk_same (stage_questions caller (staging_of r)) r.topics (λ l. TxnOffsetCommit (record r { topics = l })) (λ rules a. reply_with_refused rules caller (TxnOffsetCommit r) a) same.numbers refl same.bindings (each (TxnOffsetCommit r) same)
       (subst (AllByRecursion (SameAbout v w)) (sym (allowed_is_exact rw caller (TxnOffsetCommit r))) same.granted)
-      (ap (λ (l : List (Topic StagedOffset)). replies.TxnOffsetCommit (record { throttle = pos 0; topics = l })) (put_same v w (stage_questions caller (staging r)) staged_code r.topics _ (each (TxnOffsetCommit r) same))))
+      (ap (λ (l : List (Topic StagedOffset)). replies.TxnOffsetCommit (record { throttle = pos 0; topics = l })) (put_same v w (stage_questions caller (staging_of r)) staged_code r.topics _ (each (TxnOffsetCommit r) same))))
 
   -- ---- a request that is one part
 
-  whole_same : (request : Request) (qs : List Question) → ((rules : Rules) (a : Reply) → put_back rules caller request a ≡ a) → wants_all request ≡ false → parts_of rw caller request ≡ qs ∷ [] → SameNumbers v w → (is_about_bindings request ≡ true → v.book ≡ w.book)
+  whole_same : (request : Request) (qs : List Question) → ((rules : Rules) (a : Reply) → reply_with_refused rules caller request a ≡ a) → wants_all request ≡ false → parts_of rw caller request ≡ qs ∷ [] → SameNumbers v w → (is_about_bindings request ≡ true → v.book ≡ w.book)
       → AllByRecursion (SameCode v w) (qs ∷ []) → AllByRecursion (SameAbout v w) (filter (is_granted rw) (qs ∷ []))
-      → (put_together v caller request (rest_or_nothing request (part_refusal rv qs))).reply ≡ (put_together w caller request (rest_or_nothing request (part_refusal rw qs))).reply
+      → (with_refusals v caller request (rest_or_nothing request (part_refusal rv qs))).reply ≡ (with_refusals w caller request (rest_or_nothing request (part_refusal rw qs))).reply
   whole_same request qs put named parts numbers bindings all about =
-      ap (λ (a : Allowed). (put_together v caller request a).reply) (rest_code request (part_refusal rv qs) ∙ ap (by_code request) all.0 ∙ sym (rest_code request (part_refusal rw qs))) ∙ by_refusal (part_refusal rw qs) refl where
-        by_refusal : (o : Option Refusal) → part_refusal rw qs ≡ o → (put_together v caller request (rest_or_nothing request o)).reply ≡ (put_together w caller request (rest_or_nothing request o)).reply
+      ap (λ (a : Allowed). (with_refusals v caller request a).reply) (rest_code request (part_refusal rv qs) ∙ ap (by_code request) all.0 ∙ sym (rest_code request (part_refusal rw qs))) ∙ by_refusal (part_refusal rw qs) refl where
+        by_refusal : (o : Option Refusal) → part_refusal rw qs ≡ o → (with_refusals v caller request (rest_or_nothing request o)).reply ≡ (with_refusals w caller request (rest_or_nothing request o)).reply
         by_refusal (Some r) is = refl
         by_refusal None is =
             put rv _
@@ -202,33 +202,33 @@ module _ (v w : World) (caller : Caller) (client : Option (List ℕ)) where
     asks = add_questions caller r.transactional_id
 
     abbrev cut : AddPartitionsToTxnRequest
-    cut = record r { topics = kept_topics (refused_by rw asks) r.topics }
+    cut = record r { topics = unrefused_topics (refused_by rw asks) r.topics }
 
-    put_added : (l : List (Topic AddedPartition)) → put_back rv caller (AddPartitionsToTxn r) (add_reply l) ≡ put_back rw caller (AddPartitionsToTxn r) (add_reply l)
+    put_added : (l : List (Topic AddedPartition)) → reply_with_refused rv caller (AddPartitionsToTxn r) (add_reply l) ≡ reply_with_refused rw caller (AddPartitionsToTxn r) (add_reply l)
     put_added l = ap add_reply (put_same v w asks added_partition r.topics l (each (AddPartitionsToTxn r) same))
 
-    put_either : (b : Bool) → put_back rv caller (AddPartitionsToTxn r) (cond b (cut_outcome (unbound w caller) caller r) (added_outcome (unbound w caller) r)).reply ≡ put_back rw caller (AddPartitionsToTxn r) (cond b (cut_outcome (unbound w caller) caller r) (added_outcome (unbound w caller) r)).reply
+    put_either : (b : Bool) → reply_with_refused rv caller (AddPartitionsToTxn r) (cond b (cut_outcome (unrestricted_world w caller) caller r) (added_outcome (unrestricted_world w caller) r)).reply ≡ reply_with_refused rw caller (AddPartitionsToTxn r) (cond b (cut_outcome (unrestricted_world w caller) caller r) (added_outcome (unrestricted_world w caller) r)).reply
     put_either true = put_added _
     put_either false = put_added _
 
     by_refusals : (rs : List Refusal) → refusals_in rw (parts_of rw caller (AddPartitionsToTxn r)) ≡ rs
-        → (put_together v caller (AddPartitionsToTxn r) (whole_or_cut (AddPartitionsToTxn r) cut rs)).reply ≡ (put_together w caller (AddPartitionsToTxn r) (whole_or_cut (AddPartitionsToTxn r) cut rs)).reply
+        → (with_refusals v caller (AddPartitionsToTxn r) (whole_or_cut (AddPartitionsToTxn r) cut rs)).reply ≡ (with_refusals w caller (AddPartitionsToTxn r) (whole_or_cut (AddPartitionsToTxn r) cut rs)).reply
     by_refusals [] is =
         let exact : IsExact rw caller (AddPartitionsToTxn r) (whole_or_cut (AddPartitionsToTxn r) cut []) = subst (λ (rs : List Refusal). IsExact rw caller (AddPartitionsToTxn r) (whole_or_cut (AddPartitionsToTxn r) cut rs)) is (allowed_is_exact rw caller (AddPartitionsToTxn r)) in
-        ap (put_back rv caller (AddPartitionsToTxn r)) (plain_same v w caller (AddPartitionsToTxn r) same.numbers refl same.bindings (subst (AllByRecursion (SameAbout v w)) (sym exact) same.granted))
-        ∙ put_either (is_cut caller r.transactional_id w.topics (rules_of (unbound w caller)) r.topics)
+        ap (reply_with_refused rv caller (AddPartitionsToTxn r)) (plain_same v w caller (AddPartitionsToTxn r) same.numbers refl same.bindings (subst (AllByRecursion (SameAbout v w)) (sym exact) same.granted))
+        ∙ put_either (is_cut caller r.transactional_id w.topics (rules_of (unrestricted_world w caller)) r.topics)
     by_refusals (x ∷ xs) is =
         let exact : IsExact rw caller (AddPartitionsToTxn r) (whole_or_cut (AddPartitionsToTxn r) cut (x ∷ xs)) = subst (λ (rs : List Refusal). IsExact rw caller (AddPartitionsToTxn r) (whole_or_cut (AddPartitionsToTxn r) cut rs)) is (allowed_is_exact rw caller (AddPartitionsToTxn r)) in
-        ap (λ (l : List (Topic AddedPartition)). put_back rv caller (AddPartitionsToTxn r) (add_reply l)) (cuts_same v w caller r.transactional_id cut.topics (subst (AllByRecursion (SameAbout v w)) (sym exact) same.granted))
+        ap (λ (l : List (Topic AddedPartition)). reply_with_refused rv caller (AddPartitionsToTxn r) (add_reply l)) (cuts_same v w caller r.transactional_id cut.topics (subst (AllByRecursion (SameAbout v w)) (sym exact) same.granted))
         ∙ put_added (map (plain_cut w.topics) cut.topics)
 
     adds : Replied (AddPartitionsToTxn r)
     adds = plainly (AddPartitionsToTxn r)
-        (ap (λ (a : Allowed). (put_together v caller (AddPartitionsToTxn r) a).reply)
-        (cut_code_by (AddPartitionsToTxn r) (record r { topics = kept_topics (refused_by rv asks) r.topics }) (refusals_in rv (parts_of rw caller (AddPartitionsToTxn r)))
-        ∙ ap (λ (b : Bool). cond b (Cut (record r { topics = kept_topics (refused_by rv asks) r.topics })) (Rest (AddPartitionsToTxn r))) (any_same v w (parts_of rw caller (AddPartitionsToTxn r)) (each (AddPartitionsToTxn r) same))
-        ∙ sym (cut_code_by (AddPartitionsToTxn r) (record r { topics = kept_topics (refused_by rv asks) r.topics }) (refusals_in rw (parts_of rw caller (AddPartitionsToTxn r)))))
-        ∙ ap (λ (l : List (Topic ℤ)). (put_together v caller (AddPartitionsToTxn r) (whole_or_cut (AddPartitionsToTxn r) (record r { topics = l }) (refusals_in rw (parts_of rw caller (AddPartitionsToTxn r))))).reply) (granted_same v w asks r.topics (each (AddPartitionsToTxn r) same))
+        (ap (λ (a : Allowed). (with_refusals v caller (AddPartitionsToTxn r) a).reply)
+        (cut_code_by (AddPartitionsToTxn r) (record r { topics = unrefused_topics (refused_by rv asks) r.topics }) (refusals_in rv (parts_of rw caller (AddPartitionsToTxn r)))
+        ∙ ap (λ (b : Bool). cond b (Cut (record r { topics = unrefused_topics (refused_by rv asks) r.topics })) (Rest (AddPartitionsToTxn r))) (any_same v w (parts_of rw caller (AddPartitionsToTxn r)) (each (AddPartitionsToTxn r) same))
+        ∙ sym (cut_code_by (AddPartitionsToTxn r) (record r { topics = unrefused_topics (refused_by rv asks) r.topics }) (refusals_in rw (parts_of rw caller (AddPartitionsToTxn r)))))
+        ∙ ap (λ (l : List (Topic ℤ)). (with_refusals v caller (AddPartitionsToTxn r) (whole_or_cut (AddPartitionsToTxn r) (record r { topics = l }) (refusals_in rw (parts_of rw caller (AddPartitionsToTxn r))))).reply) (granted_same v w asks r.topics (each (AddPartitionsToTxn r) same))
         ∙ by_refusals (refusals_in rw (parts_of rw caller (AddPartitionsToTxn r))) refl)
 
   -- ---- Metadata
@@ -236,16 +236,16 @@ module _ (v w : World) (caller : Caller) (client : Option (List ℕ)) where
   informs : (r : MetadataRequest) (topics : Option (List (List ℕ))) → SameForReply v w caller (Metadata (record r { topics = topics })) → Replied (Metadata (record r { topics = topics }))
   informs r (Some names) same =
       let named : Request = Metadata (record r { topics = Some names }) in
-      let rest : Request = Metadata (record r { topics = Some (kept_names (refused_by rw (topic_part caller)) names) }) in
+      let rest : Request = Metadata (record r { topics = Some (unrefused_names (refused_by rw (topic_part caller)) names) }) in
       plainly named
-      (ap (λ (l : List (List ℕ)). put_back rv caller named (plain v caller (Metadata (record r { topics = Some l }))).reply) (names_same v w caller names (each named same))
-      ∙ ap (put_back rv caller named) (plain_same v w caller rest same.numbers refl same.bindings (subst (AllByRecursion (SameAbout v w)) (sym (allowed_is_exact rw caller named)) same.granted))
-      ∙ ap (λ (l : List TopicInfo). replies.Metadata (record { brokers = broker_info w.node ∷ []; controller = w.node.node_id; topics = l })) (infos_same v w caller names _ (each named same)))
+      (ap (λ (l : List (List ℕ)). reply_with_refused rv caller named (plain_outcome v caller (Metadata (record r { topics = Some l }))).reply) (names_same v w caller names (each named same))
+      ∙ ap (reply_with_refused rv caller named) (plain_same v w caller rest same.numbers refl same.bindings (subst (AllByRecursion (SameAbout v w)) (sym (allowed_is_exact rw caller named)) same.granted))
+      ∙ ap (λ (l : List TopicInfo). replies.Metadata (record { brokers = brokers_of w.node; controller = w.node.node_id; topics = l })) (infos_same v w caller names _ (each named same)))
   informs r None same =
-      ap (λ (l : List TopicInfo). replies.Metadata (record { brokers = broker_info v.node ∷ []; controller = v.node.node_id; topics = l })) (infos_by_sizes rv caller v.node.node_id v.topics)
-      ∙ ap (λ (sizes : List Sized). replies.Metadata (record { brokers = broker_info v.node ∷ []; controller = v.node.node_id; topics = infos_of v.node.node_id sizes })) (same.described refl)
-      ∙ ap (λ (node : Node). replies.Metadata (record { brokers = broker_info node ∷ []; controller = node.node_id; topics = infos_of node.node_id (described_sizes rw caller w.topics) })) same.numbers.node
-      ∙ sym (ap (λ (l : List TopicInfo). replies.Metadata (record { brokers = broker_info w.node ∷ []; controller = w.node.node_id; topics = l })) (infos_by_sizes rw caller w.node.node_id w.topics))
+      ap (λ (l : List TopicInfo). replies.Metadata (record { brokers = brokers_of v.node; controller = v.node.node_id; topics = l })) (infos_by_sizes rv caller v.node.node_id v.topics)
+      ∙ ap (λ (sizes : List Sized). replies.Metadata (record { brokers = brokers_of v.node; controller = v.node.node_id; topics = infos_of v.node.node_id sizes })) (same.described refl)
+      ∙ ap (λ (node : Node). replies.Metadata (record { brokers = brokers_of node; controller = node.node_id; topics = infos_of node.node_id (described_sizes rw caller w.topics) })) same.numbers.node
+      ∙ sym (ap (λ (l : List TopicInfo). replies.Metadata (record { brokers = brokers_of w.node; controller = w.node.node_id; topics = l })) (infos_by_sizes rw caller w.node.node_id w.topics))
 
   -- ---- OffsetFetch
 
@@ -261,24 +261,24 @@ module _ (v w : World) (caller : Caller) (client : Option (List ℕ)) where
       make l = OffsetFetch (record r { topics = Some l })
 
       put_fetched : (l : List (Topic ℤ)) (o : Option Refusal)
-          → put_back rv caller named (offset_fetch_by o (unbound w caller) caller (record r { topics = Some l })).reply ≡ put_back rw caller named (offset_fetch_by o (unbound w caller) caller (record r { topics = Some l })).reply
+          → reply_with_refused rv caller named (offset_fetch_by o (unrestricted_world w caller) caller (record r { topics = Some l })).reply ≡ reply_with_refused rw caller named (offset_fetch_by o (unrestricted_world w caller) caller (record r { topics = Some l })).reply
       put_fetched l (Some x) = ap (fetch_reply _) (put_same v w (topic_part caller) fetched_code ts [] (each named same).1)
       put_fetched l None = ap (fetch_reply codes.None) (put_same v w (topic_part caller) fetched_code ts _ (each named same).1)
 
       by_group : (o : Option Refusal) → part_refusal rw group_qs ≡ o
-          → (put_together v caller named (rest_or_nothing (make (kept_topics (refused_by rv (topic_part caller)) ts)) o)).reply ≡ (put_together w caller named (rest_or_nothing (make (kept_topics (refused_by rw (topic_part caller)) ts)) o)).reply
+          → (with_refusals v caller named (rest_or_nothing (make (unrefused_topics (refused_by rv (topic_part caller)) ts)) o)).reply ≡ (with_refusals w caller named (rest_or_nothing (make (unrefused_topics (refused_by rw (topic_part caller)) ts)) o)).reply
       by_group (Some x) is = refl
       by_group None is =
-          let exact : IsExact rw caller named (rest_or_nothing (make (kept_topics (refused_by rw (topic_part caller)) ts)) None) = subst (λ (o : Option Refusal). IsExact rw caller named (rest_or_nothing (make (kept_topics (refused_by rw (topic_part caller)) ts)) o)) is (allowed_is_exact rw caller named) in
+          let exact : IsExact rw caller named (rest_or_nothing (make (unrefused_topics (refused_by rw (topic_part caller)) ts)) None) = subst (λ (o : Option Refusal). IsExact rw caller named (rest_or_nothing (make (unrefused_topics (refused_by rw (topic_part caller)) ts)) o)) is (allowed_is_exact rw caller named) in
           let parts : AllByRecursion (SameAbout v w) (filter (is_granted rw) (parts_of rw caller named)) = subst (λ (o : Option Refusal). AllByRecursion (SameAbout v w) (cond (is_none o) (filter (is_granted rw) (parts_of rw caller named)) [])) is same.granted in
-          walk_same (topic_part caller) ts make (λ rules a. put_back rules caller named a) same.numbers refl same.bindings (each named same).1
+          walk_same (topic_part caller) ts make (λ rules a. reply_with_refused rules caller named a) same.numbers refl same.bindings (each named same).1
           (subst (AllByRecursion (SameAbout v w)) (sym exact) parts)
-          (put_fetched (kept_topics (refused_by rw (topic_part caller)) ts) (part_refusal (rules_of (unbound w caller)) group_qs))
+          (put_fetched (unrefused_topics (refused_by rw (topic_part caller)) ts) (part_refusal (rules_of (unrestricted_world w caller)) group_qs))
 
       tells_named : Replied named
       tells_named = plainly named
-          (ap (λ (a : Allowed). (put_together v caller named a).reply)
-          (rest_code (make (kept_topics (refused_by rv (topic_part caller)) ts)) (part_refusal rv group_qs) ∙ ap (by_code (make (kept_topics (refused_by rv (topic_part caller)) ts))) (each named same).0 ∙ sym (rest_code (make (kept_topics (refused_by rv (topic_part caller)) ts)) (part_refusal rw group_qs)))
+          (ap (λ (a : Allowed). (with_refusals v caller named a).reply)
+          (rest_code (make (unrefused_topics (refused_by rv (topic_part caller)) ts)) (part_refusal rv group_qs) ∙ ap (by_code (make (unrefused_topics (refused_by rv (topic_part caller)) ts))) (each named same).0 ∙ sym (rest_code (make (unrefused_topics (refused_by rv (topic_part caller)) ts)) (part_refusal rw group_qs)))
           ∙ by_group (part_refusal rw group_qs) refl)
 
     module _ (same : SameForReply v w caller (OffsetFetch (record r { topics = None }))) where
@@ -290,7 +290,7 @@ module _ (v w : World) (caller : Caller) (client : Option (List ℕ)) where
       all_by None is =
           let group : AllByRecursion (SameAbout v w) (cond (is_granted rw group_qs) (group_qs ∷ []) []) = subst (λ (o : Option Refusal). AllByRecursion (SameAbout v w) (cond (is_none o) (cond (is_granted rw group_qs) (group_qs ∷ []) []) [])) is same.granted in
           let about : AllByRecursion (SameAbout v w) (group_qs ∷ []) = subst (λ (o : Option Refusal). AllByRecursion (SameAbout v w) (cond (is_none o) (group_qs ∷ []) [])) is group in
-          ap (λ (o : Option Group). fetch_reply codes.None (told_topics rv caller (unwrap_or o (fresh_group r.group)).offsets r.require_stable v.topics)) about.0.0
+          ap (λ (o : Option Group). fetch_reply codes.None (listed_topics rv caller (unwrap_or o (fresh_group r.group)).offsets r.require_stable v.topics)) about.0.0
           ∙ ap (fetch_reply codes.None)
           (told_by_sizes rv caller (offsets_of w r.group) r.require_stable v.topics
           ∙ ap (λ (sizes : List Sized). filter_map (told_sized (offsets_of w r.group) r.require_stable) sizes) (same.described (ap (λ (o : Option Refusal). is_none o) is))
@@ -305,16 +305,16 @@ module _ (v w : World) (caller : Caller) (client : Option (List ℕ)) where
 
   -- ---- each api
 
-  whole_by : (request : Request) (qs : List Question) → ((rules : Rules) (a : Reply) → put_back rules caller request a ≡ a) → wants_all request ≡ false → parts_of rw caller request ≡ qs ∷ []
-      → allowed rv caller request ≡ rest_or_nothing request (part_refusal rv qs) → allowed rw caller request ≡ rest_or_nothing request (part_refusal rw qs)
+  whole_by : (request : Request) (qs : List Question) → ((rules : Rules) (a : Reply) → reply_with_refused rules caller request a ≡ a) → wants_all request ≡ false → parts_of rw caller request ≡ qs ∷ []
+      → allowed_part rv caller request ≡ rest_or_nothing request (part_refusal rv qs) → allowed_part rw caller request ≡ rest_or_nothing request (part_refusal rw qs)
       → granted_parts rw caller request ≡ filter (is_granted rw) (parts_of rw caller request) → SameForReply v w caller request → Replied request
   whole_by request qs put named parts first second filtered same = plainly request
-      (ap (λ a. (put_together v caller request a).reply) first
+      (ap (λ a. (with_refusals v caller request a).reply) first
       ∙ whole_same request qs put named parts same.numbers same.bindings (subst (AllByRecursion (SameCode v w)) parts (each request same)) (subst (AllByRecursion (SameAbout v w)) (filtered ∙ ap (filter (is_granted rw)) parts) same.granted)
-      ∙ sym (ap (λ a. (put_together w caller request a).reply) second))
+      ∙ sym (ap (λ a. (with_refusals w caller request a).reply) second))
 
-  whole : (request : Request) (qs : List Question) → ((rules : Rules) (a : Reply) → put_back rules caller request a ≡ a) → wants_all request ≡ false → parts_of rw caller request ≡ qs ∷ []
-      → ((rules : Rules) → allowed rules caller request ≡ rest_or_nothing request (part_refusal rules qs))
+  whole : (request : Request) (qs : List Question) → ((rules : Rules) (a : Reply) → reply_with_refused rules caller request a ≡ a) → wants_all request ≡ false → parts_of rw caller request ≡ qs ∷ []
+      → ((rules : Rules) → allowed_part rules caller request ≡ rest_or_nothing request (part_refusal rules qs))
       → granted_parts rw caller request ≡ filter (is_granted rw) (parts_of rw caller request) → SameForReply v w caller request → Replied request
   whole request qs put named parts allow filtered same = whole_by request qs put named parts (allow rv) (allow rw) filtered same
 
@@ -348,8 +348,8 @@ module _ (v w : World) (caller : Caller) (client : Option (List ℕ)) where
 
   refused : (request : Request) → parts_of rv caller request ≡ parts_of rw caller request → AllByRecursion (SameRefusal v w) (parts_of rw caller request) → request_refusals rv caller request ≡ request_refusals rw caller request
   refused (OffsetFetch r) asks all =
-      ap (λ (o : Option Refusal). told_alone o (refusals_in rv (offset_parts caller r.topics))) all.0
-      ∙ ap (told_alone (part_refusal rw (group_question caller r.group ∷ []))) (refusals_same v w (offset_parts caller r.topics) all.1)
+      ap (λ (o : Option Refusal). refusal_or_rest o (refusals_in rv (offset_parts caller r.topics))) all.0
+      ∙ ap (refusal_or_rest (part_refusal rw (group_question caller r.group ∷ []))) (refusals_same v w (offset_parts caller r.topics) all.1)
   refused (Produce r) asks all = refusals_same v w (parts_of rw caller (Produce r)) all
   refused (Fetch r) asks all = refusals_same v w (parts_of rw caller (Fetch r)) all
   refused (ListOffsets r) asks all = refusals_same v w (parts_of rw caller (ListOffsets r)) all

@@ -25,12 +25,12 @@ use Rattle.data_handlers.specs.Produce.{produce_questions}
 use Rattle.group_handlers.specs.OffsetCommit.{commit_questions}
 use Rattle.group_handlers.specs.OffsetFetch.{group_question}
 use Rattle.txn_handlers.specs.AddPartitions.{add_questions}
-use Rattle.txn_handlers.specs.TxnOffsetCommit.{staging, stage_questions}
-use Rattle.api_dispatch.specs.Step.{counted, step}
+use Rattle.txn_handlers.specs.TxnOffsetCommit.{staging_of, stage_questions}
+use Rattle.api_dispatch.specs.Step.{with_event_counted, step}
 use Rattle.api_dispatch.specs.Questions.{fetch_questions, parts_of, questions_of}
 use Rattle.api_dispatch.specs.Refusals.{refusals_in}
-use Rattle.plain_broker.specs.Allowed.{Allowed, Rest, Cut, Nothing, kept_topics, refused_itself, whole_or_cut, rest_or_nothing, allowed}
-use Rattle.plain_broker.specs.Plain.{put_together}
+use Rattle.plain_broker.specs.Allowed.{Allowed, Rest, Cut, Nothing, unrefused_topics, refused_itself, whole_or_cut, rest_or_nothing, allowed_part}
+use Rattle.plain_broker.specs.Plain.{with_refusals}
 use Rattle.plain_broker.specs.Plainness.{is_about_bindings}
 use Rattle.plain_broker.proofs.Terms.{refused_by}
 use Rattle.plain_broker.proofs.Bare.{looks_at_no_book}
@@ -56,7 +56,7 @@ unfolding NotAbout
 cut_not r cut [] is = is
 cut_not r cut (x ∷ xs) is = tt
 
-allowed_not : (rules : Rules) (caller : Caller) (request : Request) → is_about_bindings request ≡ false → NotAbout (allowed rules caller request)
+allowed_not : (rules : Rules) (caller : Caller) (request : Request) → is_about_bindings request ≡ false → NotAbout (allowed_part rules caller request)
 unfolding NotAbout
 allowed_not rules caller (Produce r) is = refl
 allowed_not rules caller (Fetch r) is = refl
@@ -104,7 +104,7 @@ module _ (v w : World) (caller : Caller) where
   Codes request = AllByRecursion (SameCode v near) (parts_of rw caller request)
 
   abbrev Allows : Request → Type 0
-  Allows request = allowed rv caller request ≡ allowed rn caller request
+  Allows request = allowed_part rv caller request ≡ allowed_part rn caller request
 
   metadata_same : (r : MetadataRequest) (topics : Option (List (List ℕ))) → Codes (Metadata (record r { topics = topics })) → Allows (Metadata (record r { topics = topics }))
   metadata_same r None codes = refl
@@ -114,7 +114,7 @@ module _ (v w : World) (caller : Caller) where
   offsets_same r None refusals codes = ap (rest_or_nothing (OffsetFetch (record r { topics = None }))) refusals.0
   offsets_same r (Some ts) refusals codes =
       ap (λ (l : List (Topic ℤ)). rest_or_nothing (OffsetFetch (record r { topics = Some l })) (part_refusal rv (group_question caller r.group ∷ []))) (granted_same v near (topic_part caller) ts codes.1)
-      ∙ ap (rest_or_nothing (OffsetFetch (record r { topics = Some (kept_topics (refused_by rn (topic_part caller)) ts) }))) refusals.0
+      ∙ ap (rest_or_nothing (OffsetFetch (record r { topics = Some (unrefused_topics (refused_by rn (topic_part caller)) ts) }))) refusals.0
 
   allowed_same : (request : Request) → parts_of rv caller request ≡ parts_of rw caller request → parts_of rn caller request ≡ parts_of rw caller request → Refusals request → Codes request → Allows request
   allowed_same (Produce r) asks near_asks refusals codes = ap (λ (l : List (Topic ProducedRecords)). Rest (Produce (record r { topics = l }))) (granted_same v near (produce_questions caller r.transactional_id) r.topics codes)
@@ -134,10 +134,10 @@ module _ (v w : World) (caller : Caller) where
       ∙ sym (ap (λ (parts : List (List Question)). rest_or_nothing (InitProducerId r) (part_refusal rn (first_part parts))) near_asks)
   allowed_same (AddPartitionsToTxn r) asks near_asks refusals codes =
       ap (λ (l : List (Topic ℤ)). whole_or_cut (AddPartitionsToTxn r) (record r { topics = l }) (refusals_in rv (parts_of rw caller (AddPartitionsToTxn r)))) (granted_same v near (add_questions caller r.transactional_id) r.topics codes)
-      ∙ ap (whole_or_cut (AddPartitionsToTxn r) (record r { topics = kept_topics (refused_by rn (add_questions caller r.transactional_id)) r.topics })) (refusals_same v near (parts_of rw caller (AddPartitionsToTxn r)) refusals)
+      ∙ ap (whole_or_cut (AddPartitionsToTxn r) (record r { topics = unrefused_topics (refused_by rn (add_questions caller r.transactional_id)) r.topics })) (refusals_same v near (parts_of rw caller (AddPartitionsToTxn r)) refusals)
   allowed_same (AddOffsetsToTxn r) asks near_asks refusals codes = ap (rest_or_nothing (AddOffsetsToTxn r)) refusals.0
   allowed_same (EndTxn r) asks near_asks refusals codes = ap (rest_or_nothing (EndTxn r)) refusals.0
-  allowed_same (TxnOffsetCommit r) asks near_asks refusals codes = ap (λ (l : List (Topic OffsetToStage)). Rest (TxnOffsetCommit (record r { topics = l }))) (granted_same v near (stage_questions caller (staging r)) r.topics codes)
+  allowed_same (TxnOffsetCommit r) asks near_asks refusals codes = ap (λ (l : List (Topic OffsetToStage)). Rest (TxnOffsetCommit (record r { topics = l }))) (granted_same v near (stage_questions caller (staging_of r)) r.topics codes)
   allowed_same (SaslHandshake r) asks near_asks refusals codes = ap (rest_or_nothing (SaslHandshake r)) refusals.0
   allowed_same ApiVersions asks near_asks refusals codes = ap (rest_or_nothing ApiVersions) refusals.0
   allowed_same (SaslAuthenticate r) asks near_asks refusals codes = ap (rest_or_nothing (SaslAuthenticate r)) refusals.0
@@ -147,7 +147,7 @@ module _ (v w : World) (caller : Caller) where
 
   -- ---- and comes to the same
 
-  near_together : (request : Request) (a : Allowed) → NotAbout a → (put_together near caller request a).world ≡ record (put_together v caller request a).world { book = w.book }
+  near_together : (request : Request) (a : Allowed) → NotAbout a → (with_refusals near caller request a).world ≡ record (with_refusals v caller request a).world { book = w.book }
   unfolding NotAbout
   near_together request (Rest rest) is = ap (λ (x : World). record x { supers = v.supers }) (looks_at_no_book v w.book caller rest is).world
   near_together request (Cut cut) is = refl
@@ -164,6 +164,6 @@ module _ (v w : World) (caller : Caller) where
       let all = near_verdicts supers (questions_of rw caller request) same in
       let allows = allowed_same request asks near_asks (each_part v near (parts_of rw caller request) all) (each_code v near (parts_of rw caller request) (same_grants v near (questions_of rw caller request) all)) in
       (plain_of_allowed near caller client request).world
-      ∙ ap (λ (a : Allowed). counted (put_together near caller request a).world) (sym allows)
-      ∙ ap counted (near_together request (allowed rv caller request) (allowed_not rv caller request is))
+      ∙ ap (λ (a : Allowed). with_event_counted (with_refusals near caller request a).world) (sym allows)
+      ∙ ap with_event_counted (near_together request (allowed_part rv caller request) (allowed_not rv caller request is))
       ∙ sym (ap (λ (x : World). record x { book = w.book }) (plain_of_allowed v caller client request).world)

@@ -13,7 +13,7 @@ use Rattle.txn_handlers.specs.InitProducerId.{init_question, is_waived, init_que
 use Rattle.api_laws.specs.Tenants.{SameOn, SameGranted}
 use Rattle.api_dispatch.specs.Questions.{parts_of, wants_all}
 use Rattle.tenant_laws.proofs.Answered.{agreed_answers}
-use Rattle.plain_broker.specs.Plain.{unbound, plain}
+use Rattle.plain_broker.specs.Plain.{unrestricted_world, plain_outcome}
 use Rattle.plain_broker.specs.Plainness.{is_about_bindings}
 use Rattle.plain_broker.proofs.Bare.{looks_at_no_book}
 use Rattle.tenant_laws.specs.Replies.{SameNumbers, SameAbout}
@@ -27,11 +27,11 @@ module _ (v w : World) (caller : Caller) where
   about_cluster a true about = (tt, tt)
   about_cluster a false about = ((tt, tt), tt)
 
-  init_free : (id : Option (List ℕ)) → AllByRecursion (SameAbout v w) (init_questions (rules_of w) caller id ∷ []) → AllByRecursion (SameAbout v w) (init_questions (rules_of (unbound w caller)) caller id ∷ [])
-  init_free None about = about_cluster (is_waived (rules_of w) caller) (is_waived (rules_of (unbound w caller)) caller) about
+  init_free : (id : Option (List ℕ)) → AllByRecursion (SameAbout v w) (init_questions (rules_of w) caller id ∷ []) → AllByRecursion (SameAbout v w) (init_questions (rules_of (unrestricted_world w caller)) caller id ∷ [])
+  init_free None about = about_cluster (is_waived (rules_of w) caller) (is_waived (rules_of (unrestricted_world w caller)) caller) about
   init_free (Some id) about = about
 
-  about_free : (request : Request) → AllByRecursion (SameAbout v w) (parts_of (rules_of w) caller request) → AllByRecursion (SameAbout v w) (parts_of (rules_of (unbound w caller)) caller request)
+  about_free : (request : Request) → AllByRecursion (SameAbout v w) (parts_of (rules_of w) caller request) → AllByRecursion (SameAbout v w) (parts_of (rules_of (unrestricted_world w caller)) caller request)
   about_free (InitProducerId r) about = init_free r.transactional_id about
   about_free (Produce r) about = about
   about_free (Fetch r) about = about
@@ -65,31 +65,31 @@ module _ (v w : World) (caller : Caller) where
   abbrev nearer : World
   nearer = moved near w.moment w.coordinator.given
 
-  same_on : (kind : Kind) (name : List ℕ) → SameOn v w kind name → SameOn (unbound nearer caller) (unbound w caller) kind name
+  same_on : (kind : Kind) (name : List ℕ) → SameOn v w kind name → SameOn (unrestricted_world nearer caller) (unrestricted_world w caller) kind name
   same_on Topic name same = same
   same_on Group name same = same
   same_on Cluster name same = same
   same_on TransactionalId name same = same
 
-  granted_both : (qs rest : List Question) → SameAbout v w qs → SameGranted (unbound nearer caller) (unbound w caller) rest → SameGranted (unbound nearer caller) (unbound w caller) (qs ++ rest)
+  granted_both : (qs rest : List Question) → SameAbout v w qs → SameGranted (unrestricted_world nearer caller) (unrestricted_world w caller) rest → SameGranted (unrestricted_world nearer caller) (unrestricted_world w caller) (qs ++ rest)
   granted_both [] rest about same = same
   granted_both (q ∷ qs) rest about same = (λ yes. same_on q.kind q.name about.0, granted_both qs rest about.1 same)
 
-  granted_all : (parts : List (List Question)) → AllByRecursion (SameAbout v w) parts → SameGranted (unbound nearer caller) (unbound w caller) (flat_map (λ part. part) parts)
+  granted_all : (parts : List (List Question)) → AllByRecursion (SameAbout v w) parts → SameGranted (unrestricted_world nearer caller) (unrestricted_world w caller) (flat_map (λ part. part) parts)
   granted_all [] about = tt
   granted_all (part ∷ parts) about = granted_both part (flat_map (λ part. part) parts) about.0 (granted_all parts about.1)
 
-  booked : (request : Request) (b : Bool) → is_about_bindings request ≡ b → (is_about_bindings request ≡ true → v.book ≡ w.book) → (plain v caller request).reply ≡ (plain near caller request).reply
-  booked request true is same = ap (λ (book : BookValue). (plain (record v { book = book }) caller request).reply) (same is)
+  booked : (request : Request) (b : Bool) → is_about_bindings request ≡ b → (is_about_bindings request ≡ true → v.book ≡ w.book) → (plain_outcome v caller request).reply ≡ (plain_outcome near caller request).reply
+  booked request true is same = ap (λ (book : BookValue). (plain_outcome (record v { book = book }) caller request).reply) (same is)
   booked request false is same = sym (looks_at_no_book v w.book caller request is).reply
 
   pub plain_same : (request : Request) → SameNumbers v w → wants_all request ≡ false → (is_about_bindings request ≡ true → v.book ≡ w.book) → AllByRecursion (SameAbout v w) (parts_of (rules_of w) caller request)
-      → (plain v caller request).reply ≡ (plain w caller request).reply
+      → (plain_outcome v caller request).reply ≡ (plain_outcome w caller request).reply
   plain_same request numbers named bindings about =
       booked request (is_about_bindings request) refl bindings
       ∙ sym (moved_same near caller w.moment w.coordinator.given (sym numbers.given) request)
-      ∙ (agreed_answers (unbound nearer caller) (unbound w caller) caller None request (record {
+      ∙ (agreed_answers (unrestricted_world nearer caller) (unrestricted_world w caller) caller None request (record {
         base = record { node = numbers.node; rules = refl; moment = refl; events = numbers.events; given = refl };
-        granted = granted_all (parts_of (rules_of (unbound w caller)) caller request) (about_free v w caller request about);
+        granted = granted_all (parts_of (rules_of (unrestricted_world w caller)) caller request) (about_free v w caller request about);
         described = λ all. absurd (let clash : false ≡ true = sym named ∙ all in cc);
       })).reply

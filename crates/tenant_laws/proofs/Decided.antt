@@ -22,13 +22,13 @@ use Rattle.data_handlers.specs.Metadata.{topic_error}
 use Rattle.api_dispatch.specs.Questions.{partition_parts}
 use Rattle.api_dispatch.specs.Refusals.{refusals_in}
 use Rattle.plain_broker.specs.Exactly.{is_granted}
-use Rattle.plain_broker.specs.Allowed.{kept_topic, kept_topics, kept_names}
+use Rattle.plain_broker.specs.Allowed.{unrefused_topic, unrefused_topics, unrefused_names}
 use Rattle.plain_broker.proofs.Terms.{refused_by, refused_answer}
-use Rattle.plain_broker.specs.PutBack.{put_topics, put_infos}
+use Rattle.plain_broker.specs.PutBack.{topics_with_refused, infos_with_refused}
 use Rattle.tenant_laws.specs.Laws.{SameVerdicts}
 use Rattle.tenant_laws.specs.Replies.{SameGrants, is_yes}
 
--- ---- lists behind one another
+-- ---- lists after one another
 
 pub all_front : {A : Type 0} (Is : A → Type 0) (xs ys : List A) → AllByRecursion Is (xs ++ ys) → AllByRecursion Is xs
 all_front Is [] ys all = tt
@@ -122,11 +122,11 @@ module _ (v w : World) where
         ap (λ (b : Bool). cond b (p ∷ filter (λ (x : P). is_granted (rules_of v) qs) ps) (filter (λ (x : P). is_granted (rules_of v) qs) ps)) (grant_same qs all.0)
         ∙ ap (λ (l : List P). cond (is_granted (rules_of w) qs) (p ∷ l) l) (parts_same qs ps all.1)
 
-    pub granted_same : (ts : List (Topic P)) → AllByRecursion SameCode (partition_parts asks ts) → kept_topics (refused_by (rules_of v) asks) ts ≡ kept_topics (refused_by (rules_of w) asks) ts
+    pub granted_same : (ts : List (Topic P)) → AllByRecursion SameCode (partition_parts asks ts) → unrefused_topics (refused_by (rules_of v) asks) ts ≡ unrefused_topics (refused_by (rules_of w) asks) ts
     granted_same [] all = refl
     granted_same (t ∷ ts) all =
-        ap (λ (l : List P). record { name = t.name; partitions = l } ∷ kept_topics (refused_by (rules_of v) asks) ts) (parts_same (asks t.name) t.partitions (all_front _ (map (λ (p : P). asks t.name) t.partitions) (partition_parts asks ts) all))
-        ∙ ap (λ (l : List (Topic P)). kept_topic (refused_by (rules_of w) asks) t ∷ l) (granted_same ts (all_back _ (map (λ (p : P). asks t.name) t.partitions) (partition_parts asks ts) all))
+        ap (λ (l : List P). record { name = t.name; partitions = l } ∷ unrefused_topics (refused_by (rules_of v) asks) ts) (parts_same (asks t.name) t.partitions (all_front _ (map (λ (p : P). asks t.name) t.partitions) (partition_parts asks ts) all))
+        ∙ ap (λ (l : List (Topic P)). unrefused_topic (refused_by (rules_of w) asks) t ∷ l) (granted_same ts (all_back _ (map (λ (p : P). asks t.name) t.partitions) (partition_parts asks ts) all))
 
     module _ {A : Type 0} (told : ErrorCode → P → A) where
       gaps_same : (qs : List Question) (ps : List P) → AllByRecursion SameCode (map (λ (p : P). qs) ps)
@@ -136,21 +136,21 @@ module _ (v w : World) where
           ap (λ (o : Option A). o ∷ map (λ (x : P). refused_answer (rules_of v) qs (λ (code : ErrorCode). told code x)) ps) (answer_same qs (λ (code : ErrorCode). told code p) all.0)
           ∙ ap (λ (l : List (Option A)). refused_answer (rules_of w) qs (λ (code : ErrorCode). told code p) ∷ l) (gaps_same qs ps all.1)
 
-      pub put_same : (ts : List (Topic P)) (xs : List (Topic A)) → AllByRecursion SameCode (partition_parts asks ts) → put_topics (refused_by (rules_of v) asks) told ts xs ≡ put_topics (refused_by (rules_of w) asks) told ts xs
+      pub put_same : (ts : List (Topic P)) (xs : List (Topic A)) → AllByRecursion SameCode (partition_parts asks ts) → topics_with_refused (refused_by (rules_of v) asks) told ts xs ≡ topics_with_refused (refused_by (rules_of w) asks) told ts xs
       put_same [] xs all = refl
       put_same (t ∷ ts) [] all = refl
       put_same (t ∷ ts) (a ∷ xs) all =
-          ap (λ (l : List (Option A)). record { name = a.name; partitions = weave l a.partitions } ∷ put_topics (refused_by (rules_of v) asks) told ts xs) (gaps_same (asks t.name) t.partitions (all_front _ (map (λ (p : P). asks t.name) t.partitions) (partition_parts asks ts) all))
+          ap (λ (l : List (Option A)). record { name = a.name; partitions = weave l a.partitions } ∷ topics_with_refused (refused_by (rules_of v) asks) told ts xs) (gaps_same (asks t.name) t.partitions (all_front _ (map (λ (p : P). asks t.name) t.partitions) (partition_parts asks ts) all))
           ∙ ap (λ (l : List (Topic A)). record { name = a.name; partitions = weave (map (λ (p : P). refused_answer (rules_of w) (asks t.name) (λ (code : ErrorCode). told code p)) t.partitions) a.partitions } ∷ l)
           (put_same ts xs (all_back _ (map (λ (p : P). asks t.name) t.partitions) (partition_parts asks ts) all))
 
   -- ---- names
 
   module _ (caller : Caller) where
-    pub names_same : (names : List (List ℕ)) → AllByRecursion SameCode (map (topic_part caller) names) → kept_names (refused_by (rules_of v) (topic_part caller)) names ≡ kept_names (refused_by (rules_of w) (topic_part caller)) names
+    pub names_same : (names : List (List ℕ)) → AllByRecursion SameCode (map (topic_part caller) names) → unrefused_names (refused_by (rules_of v) (topic_part caller)) names ≡ unrefused_names (refused_by (rules_of w) (topic_part caller)) names
     names_same [] all = refl
     names_same (name ∷ names) all =
-        ap (λ (b : Bool). cond b (name ∷ kept_names (refused_by (rules_of v) (topic_part caller)) names) (kept_names (refused_by (rules_of v) (topic_part caller)) names)) (grant_same (topic_part caller name) all.0)
+        ap (λ (b : Bool). cond b (name ∷ unrefused_names (refused_by (rules_of v) (topic_part caller)) names) (unrefused_names (refused_by (rules_of v) (topic_part caller)) names)) (grant_same (topic_part caller name) all.0)
         ∙ ap (λ (l : List (List ℕ)). cond (is_granted (rules_of w) (topic_part caller name)) (name ∷ l) l) (names_same names all.1)
 
     holes_same : (names : List (List ℕ)) → AllByRecursion SameCode (map (topic_part caller) names)
@@ -160,5 +160,5 @@ module _ (v w : World) where
         ap (λ (o : Option TopicInfo). o ∷ map (λ (n : List ℕ). refused_answer (rules_of v) (topic_part caller n) (λ (code : ErrorCode). topic_error code n)) names) (answer_same (topic_part caller name) (λ (code : ErrorCode). topic_error code name) all.0)
         ∙ ap (λ (l : List (Option TopicInfo)). refused_answer (rules_of w) (topic_part caller name) (λ (code : ErrorCode). topic_error code name) ∷ l) (holes_same names all.1)
 
-    pub infos_same : (names : List (List ℕ)) (infos : List TopicInfo) → AllByRecursion SameCode (map (topic_part caller) names) → put_infos (refused_by (rules_of v) (topic_part caller)) (Some names) infos ≡ put_infos (refused_by (rules_of w) (topic_part caller)) (Some names) infos
+    pub infos_same : (names : List (List ℕ)) (infos : List TopicInfo) → AllByRecursion SameCode (map (topic_part caller) names) → infos_with_refused (refused_by (rules_of v) (topic_part caller)) (Some names) infos ≡ infos_with_refused (refused_by (rules_of w) (topic_part caller)) (Some names) infos
     infos_same names infos all = ap (λ (l : List (Option TopicInfo)). weave l infos) (holes_same names all)

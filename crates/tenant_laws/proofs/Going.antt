@@ -12,7 +12,7 @@ use Rattle.audit_trail.specs.declared.event.Event.{Event}
 use Rattle.audit_trail.specs.declared.event.Event.TheVariants.{Ask}
 use Rattle.broker_world.specs.World.{World, rules_of}
 use Rattle.api_dispatch.specs.Questions.{questions_of, wants_all}
-use Rattle.api_dispatch.specs.Step.{request_outcome, step, counted}
+use Rattle.api_dispatch.specs.Step.{request_outcome, step, with_event_counted}
 use Rattle.api_dispatch.proofs.Wholes.{offsets_keep}
 use Rattle.plain_broker.specs.Plainness.{is_about_bindings}
 use Rattle.api_laws.specs.Tenants.{SameBase, SameOn, SameGranted}
@@ -111,7 +111,7 @@ module _ (v w : World) (caller : Caller) (client : Option (List ℕ)) (request :
   by_book true is named = about_book (same.bindings is) named
   by_book false is named = any_book is named
 
-  counted_goes : Goes v w (counted v) (counted w)
+  counted_goes : Goes v w (with_event_counted v) (with_event_counted w)
   counted_goes = record {
     base = record { node = same.base.node; supers = same.base.supers; moment = same.base.moment; events = ap (λ (n : ℕ). n + 1) same.base.events; given = same.base.given };
     resources = λ kind name on. counted_on v w kind name on;
@@ -119,8 +119,8 @@ module _ (v w : World) (caller : Caller) (client : Option (List ℕ)) (request :
 
   by_list : (b : Bool) → wants_all request ≡ b → Goes v w (step v e) (step w e)
   by_list true null =
-      subst (λ (x : World). Goes v w (counted x) (step w e)) (sym (null_reads v caller request null))
-      (subst (λ (y : World). Goes v w (counted v) (counted y)) (sym (null_reads w caller request null)) counted_goes)
+      subst (λ (x : World). Goes v w (with_event_counted x) (step w e)) (sym (null_reads v caller request null))
+      (subst (λ (y : World). Goes v w (with_event_counted v) (with_event_counted y)) (sym (null_reads w caller request null)) counted_goes)
   by_list false named = by_book (is_about_bindings request) refl named
 
   goes_on : Goes v w (step v e) (step w e)

@@ -15,22 +15,22 @@ use Rattle.msg_admin.specs.declared.reply.Reply.{Reply}
 use Rattle.audit_trail.specs.declared.event.Event.{Event}
 use Rattle.audit_trail.specs.declared.event.Event.TheVariants.{Ask, Mark, Tick}
 use Rattle.broker_world.specs.World.{World, rules_of}
-use Rattle.broker_world.specs.Whole.{Served, whole_by}
+use Rattle.broker_world.specs.Whole.{Served, whole_outcome_by}
 use Rattle.broker_world.specs.Questions.{read_question}
-use Rattle.group_handlers.specs.Members.{join_group_outcome, sync_group_outcome, heartbeat_outcome, leave_group_outcome, joined, synced, heard, left}
-use Rattle.txn_handlers.specs.InitProducerId.{init_questions, initialized}
-use Rattle.txn_handlers.specs.AddOffsets.{add_offsets_questions, offsets_added}
-use Rattle.txn_handlers.specs.EndTxn.{ended, end_questions}
+use Rattle.group_handlers.specs.Members.{join_group_outcome, sync_group_outcome, heartbeat_outcome, leave_group_outcome, served_join, served_sync, served_heartbeat, served_leave}
+use Rattle.txn_handlers.specs.InitProducerId.{init_questions, served_init}
+use Rattle.txn_handlers.specs.AddOffsets.{add_offsets_questions, served_add_offsets}
+use Rattle.txn_handlers.specs.EndTxn.{served_end, end_questions}
 use Rattle.acl_handlers.specs.CreateAcls.{alter_questions, book_created}
 use Rattle.acl_handlers.specs.DeleteAcls.{book_deleted}
-use Rattle.api_dispatch.specs.Step.{request_outcome, counted, step, reached}
+use Rattle.api_dispatch.specs.Step.{request_outcome, with_event_counted, step, world_after_events}
 use Rattle.api_laws.specs.Tenants.{SameOn}
 use Rattle.api_laws.proofs.Grouped.{groups_keep}
 use Rattle.txn_handlers.proofs.Adds.{add_keeps}
 use Rattle.api_laws.proofs.AclEdits.{refused_edit_nothing}
 use Rattle.api_dispatch.proofs.Wholes.{describe_keeps, find_keeps, offsets_keep}
 use Rattle.api_dispatch.specs.Questions.{parts_of, questions_of}
-use Rattle.tenant_laws.specs.Laws.{NoPartIsGranted, NoQuestionIsGranted, AreUngranted, owed_by, KeepsSettings, UngrantedStays}
+use Rattle.tenant_laws.specs.Laws.{NoPartIsGranted, NoQuestionIsGranted, AreUngranted, pending_markers_of, KeepsSettings, UngrantedStays}
 use Rattle.tenant_laws.proofs.Parts.{no_part_granted}
 use Rattle.tenant_laws.proofs.Settled.{whole_keeps, settings_kept}
 use Rattle.tenant_laws.proofs.Resources.{same_self, same_in, same_counted, same_then, whole_same, one_refused, member_kept}
@@ -79,12 +79,12 @@ module _ (w : World) (caller : Caller) where
   owed_kept (ListOffsets r) id none = refl
   owed_kept (Metadata r) id none = refl
   owed_kept (OffsetCommit r) id none = refl
-  owed_kept (OffsetFetch r) id none = ap (λ (u : World). owed_by id u.coordinator.warrants) (offsets_keep w caller r)
-  owed_kept (FindCoordinator r) id none = ap (λ (u : World). owed_by id u.coordinator.warrants) (find_keeps w caller r)
-  owed_kept (JoinGroup r) id none = whole_owed w caller id (read_question caller r.group ∷ []) _ (joined w r) refl
-  owed_kept (Heartbeat r) id none = whole_owed w caller id (read_question caller r.group ∷ []) _ (heard w r) refl
-  owed_kept (LeaveGroup r) id none = whole_owed w caller id (read_question caller r.group ∷ []) _ (left w r) refl
-  owed_kept (SyncGroup r) id none = whole_owed w caller id (read_question caller r.group ∷ []) _ (synced w r) refl
+  owed_kept (OffsetFetch r) id none = ap (λ (u : World). pending_markers_of id u.coordinator.warrants) (offsets_keep w caller r)
+  owed_kept (FindCoordinator r) id none = ap (λ (u : World). pending_markers_of id u.coordinator.warrants) (find_keeps w caller r)
+  owed_kept (JoinGroup r) id none = whole_owed w caller id (read_question caller r.group ∷ []) _ (served_join w r) refl
+  owed_kept (Heartbeat r) id none = whole_owed w caller id (read_question caller r.group ∷ []) _ (served_heartbeat w r) refl
+  owed_kept (LeaveGroup r) id none = whole_owed w caller id (read_question caller r.group ∷ []) _ (served_leave w r) refl
+  owed_kept (SyncGroup r) id none = whole_owed w caller id (read_question caller r.group ∷ []) _ (served_sync w r) refl
   owed_kept (InitProducerId r) id none = init_owed w caller id r none
   owed_kept (AddPartitionsToTxn r) id none = add_owed w caller id r none
   owed_kept (AddOffsetsToTxn r) id none = add_group_owed w caller id r none
@@ -93,12 +93,12 @@ module _ (w : World) (caller : Caller) where
   owed_kept (SaslHandshake r) id none = refl
   owed_kept ApiVersions id none = refl
   owed_kept (SaslAuthenticate r) id none = refl
-  owed_kept (DescribeAcls r) id none = ap (λ (u : World). owed_by id u.coordinator.warrants) (describe_keeps w caller r)
+  owed_kept (DescribeAcls r) id none = ap (λ (u : World). pending_markers_of id u.coordinator.warrants) (describe_keeps w caller r)
   owed_kept (CreateAcls r) id none = whole_owed w caller id (alter_questions caller) _ _ refl
   owed_kept (DeleteAcls r) id none = whole_owed w caller id (alter_questions caller) _ _ refl
 
   -- the book
-  asked_whole : (qs : List Question) (refused : ErrorCode → Reply) (served : Served) → served.world.book ≡ w.book → (whole_by (part_refusal (rules_of w) qs) w refused served).world.book ≡ w.book
+  asked_whole : (qs : List Question) (refused : ErrorCode → Reply) (served : Served) → served.world.book ≡ w.book → (whole_outcome_by (part_refusal (rules_of w) qs) w refused served).world.book ≡ w.book
   asked_whole qs refused served same = whole_keeps (λ (u : World). u.book) (part_refusal (rules_of w) qs) w refused served same
 
   not_altered : (Same : Type 0) → ((r : Refusal) → part_refusal (rules_of w) (alter_questions caller) ≡ Some r → Same) → NoPartIsGranted w Cluster cluster_name (alter_questions caller ∷ []) → Same
@@ -112,14 +112,14 @@ module _ (w : World) (caller : Caller) where
   book_kept (OffsetCommit r) none = refl
   book_kept (OffsetFetch r) none = ap (λ (u : World). u.book) (offsets_keep w caller r)
   book_kept (FindCoordinator r) none = ap (λ (u : World). u.book) (find_keeps w caller r)
-  book_kept (JoinGroup r) none = asked_whole (read_question caller r.group ∷ []) _ (joined w r) refl
-  book_kept (Heartbeat r) none = asked_whole (read_question caller r.group ∷ []) _ (heard w r) refl
-  book_kept (LeaveGroup r) none = asked_whole (read_question caller r.group ∷ []) _ (left w r) refl
-  book_kept (SyncGroup r) none = asked_whole (read_question caller r.group ∷ []) _ (synced w r) refl
-  book_kept (InitProducerId r) none = asked_whole (init_questions (rules_of w) caller r.transactional_id) _ (initialized w r) refl
+  book_kept (JoinGroup r) none = asked_whole (read_question caller r.group ∷ []) _ (served_join w r) refl
+  book_kept (Heartbeat r) none = asked_whole (read_question caller r.group ∷ []) _ (served_heartbeat w r) refl
+  book_kept (LeaveGroup r) none = asked_whole (read_question caller r.group ∷ []) _ (served_leave w r) refl
+  book_kept (SyncGroup r) none = asked_whole (read_question caller r.group ∷ []) _ (served_sync w r) refl
+  book_kept (InitProducerId r) none = asked_whole (init_questions (rules_of w) caller r.transactional_id) _ (served_init w r) refl
   book_kept (AddPartitionsToTxn r) none = add_keeps (λ (u : World). u.book) (λ u c. refl) w caller r
-  book_kept (AddOffsetsToTxn r) none = asked_whole (add_offsets_questions caller r.transactional_id r.group) _ (offsets_added w r) refl
-  book_kept (EndTxn r) none = asked_whole (end_questions caller r) _ (ended w r) refl
+  book_kept (AddOffsetsToTxn r) none = asked_whole (add_offsets_questions caller r.transactional_id r.group) _ (served_add_offsets w r) refl
+  book_kept (EndTxn r) none = asked_whole (end_questions caller r) _ (served_end w r) refl
   book_kept (TxnOffsetCommit r) none = refl
   book_kept (SaslHandshake r) none = refl
   book_kept ApiVersions none = refl
@@ -128,17 +128,17 @@ module _ (w : World) (caller : Caller) where
   book_kept (CreateAcls r) none = not_altered ((request_outcome w caller (CreateAcls r)).world.book ≡ w.book) (λ refusal is. ap (λ (u : World). u.book) (refused_edit_nothing.create w caller r refusal is).world) none
   book_kept (DeleteAcls r) none = not_altered ((request_outcome w caller (DeleteAcls r)).world.book ≡ w.book) (λ refusal is. ap (λ (u : World). u.book) (refused_edit_nothing.delete w caller r refusal is).world) none
 
-settings_counted : (w : World) (caller : Caller) (request : Request) → KeepsSettings w (counted (request_outcome w caller request).world)
+settings_counted : (w : World) (caller : Caller) (request : Request) → KeepsSettings w (with_event_counted (request_outcome w caller request).world)
 settings_counted w caller request = let kept = settings_kept w caller request in record { node = kept.node; supers = kept.supers; moment = kept.moment; names = kept.names }
 
 pub by_questions : (w : World) (caller : Caller) (client : Option (List ℕ)) (request : Request) (kind : Kind) (name : List ℕ) → NoQuestionIsGranted w kind name (questions_of (rules_of w) caller request) → SameOn w (step w (Ask caller client request)) kind name
 by_questions w caller client request kind name none = same_counted w (request_outcome w caller request).world kind name (kept w caller request kind name (no_part_granted w kind name (parts_of (rules_of w) caller request) none))
 
-over_events : (w : World) (kind : Kind) (name : List ℕ) (events : List Event) → AreUngranted w kind name events → SameOn w (reached w events) kind name
+over_events : (w : World) (kind : Kind) (name : List ℕ) (events : List Event) → AreUngranted w kind name events → SameOn w (world_after_events w events) kind name
 over_events w kind name [] none = same_self w kind name
 over_events w kind name (Ask caller client request ∷ es) none =
     let next : World = step w (Ask caller client request) in
-    same_then w next (reached next es) kind name (by_questions w caller client request kind name none.0) (over_events next kind name es none.1)
+    same_then w next (world_after_events next es) kind name (by_questions w caller client request kind name none.0) (over_events next kind name es none.1)
 over_events w kind name (Mark ∷ es) none = absurd none.0
 over_events w kind name (Tick told ∷ es) none = absurd none.0
 

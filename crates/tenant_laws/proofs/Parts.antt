@@ -13,7 +13,7 @@ use Rattle.api_laws.proofs.DataGrants.{yes_of, rest_of}
 use Rattle.api_dispatch.specs.Questions.{partition_parts}
 use Rattle.tenant_laws.specs.Laws.{AsksAbout, NoPartIsGranted, NoQuestionIsGranted}
 
--- ---- lists behind one another
+-- ---- lists after one another
 
 all_front : {A : Type 0} (Is : A → Type 0) (xs ys : List A) → AllByRecursion Is (xs ++ ys) → AllByRecursion Is xs
 all_front Is [] ys all = tt

@@ -12,17 +12,17 @@ use Rattle.wire_types.specs.declared.error_code.ErrorCode.TheVariants as codes
 use Rattle.wire_types.specs.declared.topic.Topic.{Topic}
 use Rattle.msg_data.specs.declared.metadata.TopicInfo.{TopicInfo}
 use Rattle.msg_group.specs.declared.offset_fetch.FetchedOffset.{FetchedOffset}
-use Rattle.offset_tables.specs.declared.event.OffsetEvent.{OffsetEvent}
+use Rattle.group_offsets.specs.declared.event.OffsetEvent.{OffsetEvent}
 use Rattle.broker_world.specs.World.{TopicValue, find_topic, topic_names}
 use Rattle.broker_world.specs.Partitions.{partitions_from}
 use Rattle.data_handlers.specs.Metadata.{topic_error, topic_found, describable}
 use Rattle.broker_world.specs.Questions.{topic_refusal}
-use Rattle.group_handlers.specs.OffsetFetch.{told_from, told_as, told_topics}
+use Rattle.group_handlers.specs.OffsetFetch.{listed_offsets_from, listed_topic_of, listed_topics}
 use Rattle.api_laws.specs.GroupLaws.{described_slots}
-use Rattle.tenant_laws.specs.Replies.{Sized, sized, described_sizes}
+use Rattle.tenant_laws.specs.Replies.{Sized, size_of_topic, described_sizes}
 
 abbrev pub told_sized : List OffsetEvent → Bool → Sized → Option (Topic FetchedOffset)
-told_sized es stable s = told_as s.name (told_from es stable s.name 0 s.count)
+told_sized es stable s = listed_topic_of s.name (listed_offsets_from es stable s.name 0 s.count)
 
 abbrev size_of : List TopicValue → List ℕ → Option ℕ
 size_of topics name = option_map (λ (t : TopicValue). length t.partitions) (find_topic topics name)
@@ -50,12 +50,12 @@ info_is node name (Some t) = refl
 module _ (rules : Rules) (caller : Caller) where
   -- ---- OffsetFetch
 
-  pub told_by_sizes : (es : List OffsetEvent) (stable : Bool) (topics : List TopicValue) → told_topics rules caller es stable topics ≡ filter_map (told_sized es stable) (described_sizes rules caller topics)
+  pub told_by_sizes : (es : List OffsetEvent) (stable : Bool) (topics : List TopicValue) → listed_topics rules caller es stable topics ≡ filter_map (told_sized es stable) (described_sizes rules caller topics)
   told_by_sizes es stable [] = refl
   told_by_sizes es stable (t ∷ ts) = by_grant (is_none (topic_refusal rules caller t.name)) (told_by_sizes es stable ts) where
-    by_grant : (b : Bool) → told_topics rules caller es stable ts ≡ filter_map (told_sized es stable) (described_sizes rules caller ts)
-        → cons_option (cond b (told_sized es stable (sized t)) None) (told_topics rules caller es stable ts) ≡ filter_map (told_sized es stable) (map sized (cond b (t ∷ described_slots rules caller ts) (described_slots rules caller ts)))
-    by_grant true rest = ap (cons_option (told_sized es stable (sized t))) rest
+    by_grant : (b : Bool) → listed_topics rules caller es stable ts ≡ filter_map (told_sized es stable) (described_sizes rules caller ts)
+        → cons_option (cond b (told_sized es stable (size_of_topic t)) None) (listed_topics rules caller es stable ts) ≡ filter_map (told_sized es stable) (map size_of_topic (cond b (t ∷ described_slots rules caller ts) (described_slots rules caller ts)))
+    by_grant true rest = ap (cons_option (told_sized es stable (size_of_topic t))) rest
     by_grant false rest = rest
 
   -- ---- Metadata
@@ -66,16 +66,16 @@ module _ (rules : Rules) (caller : Caller) where
     slots : List TopicValue
     slots = described_slots rules caller ts
 
-    by_test : (b : Bool) → bytes_eq t.name name ≡ false → size_in (map sized slots) name ≡ size_in (map sized (cond b (t ∷ slots) slots)) name
-    by_test true differ = sym (ap (λ (x : Bool). option_map (λ (s : Sized). s.count) (cond x (Some (sized t)) (find_size (map sized slots) name))) differ)
+    by_test : (b : Bool) → bytes_eq t.name name ≡ false → size_in (map size_of_topic slots) name ≡ size_in (map size_of_topic (cond b (t ∷ slots) slots)) name
+    by_test true differ = sym (ap (λ (x : Bool). option_map (λ (s : Sized). s.count) (cond x (Some (size_of_topic t)) (find_size (map size_of_topic slots) name))) differ)
     by_test false differ = refl
 
-    by_name : (b : Bool) → bytes_eq t.name name ≡ b → size_of ts name ≡ size_in (map sized slots) name
-        → option_map (λ (x : TopicValue). length x.partitions) (cond b (Some t) (find_topic ts name)) ≡ size_in (map sized (cond (is_none (topic_refusal rules caller t.name)) (t ∷ slots) slots)) name
+    by_name : (b : Bool) → bytes_eq t.name name ≡ b → size_of ts name ≡ size_in (map size_of_topic slots) name
+        → option_map (λ (x : TopicValue). length x.partitions) (cond b (Some t) (find_topic ts name)) ≡ size_in (map size_of_topic (cond (is_none (topic_refusal rules caller t.name)) (t ∷ slots) slots)) name
     by_name true same rest =
         let here : topic_refusal rules caller t.name ≡ None = ap (topic_refusal rules caller) ((bytes_eq-Decides t.name name).0 same) ∙ none in
-        sym (ap (λ (o : Option Refusal). size_in (map sized (cond (is_none o) (t ∷ slots) slots)) name) here
-        ∙ ap (λ (x : Bool). option_map (λ (s : Sized). s.count) (cond x (Some (sized t)) (find_size (map sized slots) name))) same)
+        sym (ap (λ (o : Option Refusal). size_in (map size_of_topic (cond (is_none o) (t ∷ slots) slots)) name) here
+        ∙ ap (λ (x : Bool). option_map (λ (s : Sized). s.count) (cond x (Some (size_of_topic t)) (find_size (map size_of_topic slots) name))) same)
     by_name false differ rest = rest ∙ by_test (is_none (topic_refusal rules caller t.name)) differ
 
   module _ (node : ℤ) (topics : List TopicValue) where
@@ -99,7 +99,7 @@ module _ (rules : Rules) (caller : Caller) where
   names_are [] = refl
   names_are (t ∷ ts) = by_grant (is_none (topic_refusal rules caller t.name)) (names_are ts) where
     by_grant : (b : Bool) → describable rules caller (topic_names ts) ≡ map (λ (s : Sized). s.name) (described_sizes rules caller ts)
-        → cond b (t.name ∷ describable rules caller (topic_names ts)) (describable rules caller (topic_names ts)) ≡ map (λ (s : Sized). s.name) (map sized (cond b (t ∷ described_slots rules caller ts) (described_slots rules caller ts)))
+        → cond b (t.name ∷ describable rules caller (topic_names ts)) (describable rules caller (topic_names ts)) ≡ map (λ (s : Sized). s.name) (map size_of_topic (cond b (t ∷ described_slots rules caller ts) (described_slots rules caller ts)))
     by_grant true rest = ap (λ (l : List (List ℕ)). t.name ∷ l) rest
     by_grant false rest = rest
 

@@ -20,18 +20,18 @@ use Rattle.msg_admin.specs.declared.reply.Reply.{Reply}
 use Rattle.walk.specs.Walk.{parts_refused, refusals}
 use Rattle.walk.specs.Woven.{has_any}
 use Rattle.walk.specs.Alike.{AllParts, AllTopics}
-use Rattle.transactions.specs.declared.marker.OwedMarker.{OwedMarker}
-use Rattle.transactions.specs.Coordinator.{recorded}
-use Rattle.transactions.specs.Coordinator.{CoordinatorValue}
-use Rattle.transactions.specs.InitProducerId.{init}
-use Rattle.offset_tables.specs.declared.group.Group.{Group as GroupValue}
-use Rattle.offset_tables.specs.Groups.{find_group}
+use Rattle.txn_coordinator.specs.declared.marker.PendingMarker.{PendingMarker}
+use Rattle.txn_coordinator.specs.Coordinator.{id_record}
+use Rattle.txn_coordinator.specs.Coordinator.{CoordinatorValue}
+use Rattle.txn_coordinator.specs.InitProducerId.{init}
+use Rattle.group_offsets.specs.declared.group.Group.{Group as GroupValue}
+use Rattle.group_offsets.specs.Groups.{find_group}
 use Rattle.broker_world.specs.World.{World, TopicValue, rules_of, find_topic}
-use Rattle.broker_world.specs.Whole.{Served, whole_by}
-use Rattle.txn_handlers.specs.InitProducerId.{init_questions, coordinator_for, initialized, init_producer_id_outcome}
-use Rattle.txn_handlers.specs.EndTxn.{end_turn, ended, end_txn_outcome, end_questions, ending_id, ending_outcome, form_of}
-use Rattle.txn_handlers.specs.AddPartitions.{add_questions, cut_rule, is_missing, is_cut, add_turn, cut_outcome, added_outcome, add_partitions_outcome, partitions_in, partitions_of}
-use Rattle.txn_handlers.specs.AddOffsets.{add_offsets_questions, add_offsets_turn, offsets_added, add_offsets_outcome}
+use Rattle.broker_world.specs.Whole.{Served, whole_outcome_by}
+use Rattle.txn_handlers.specs.InitProducerId.{init_questions, coordinator_for, served_init, init_producer_id_outcome}
+use Rattle.txn_handlers.specs.EndTxn.{end_transition, served_end, end_txn_outcome, end_questions, ending_id, ending_outcome, form_of}
+use Rattle.txn_handlers.specs.AddPartitions.{add_questions, cut_rule, is_missing, is_cut, add_transition, cut_outcome, added_outcome, add_partitions_outcome, partitions_in, partitions_of}
+use Rattle.txn_handlers.specs.AddOffsets.{add_offsets_questions, add_offsets_transition, served_add_offsets, add_offsets_outcome}
 use Rattle.api_laws.specs.Tenants.{SameOn}
 use Rattle.api_laws.proofs.Initials.{inits_once, init_depends}
 use Rattle.txn_handlers.proofs.Added.{nothing_added}
@@ -39,7 +39,7 @@ use Rattle.api_laws.proofs.Together.{keep_the_rest}
 use Rattle.api_laws.proofs.Staged.{staging_keeps}
 use Rattle.txn_handlers.proofs.Adds.{add_keeps}
 use Rattle.api_dispatch.specs.Questions.{partition_parts}
-use Rattle.tenant_laws.specs.Laws.{AsksAbout, NoPartIsGranted, owed_by}
+use Rattle.tenant_laws.specs.Laws.{AsksAbout, NoPartIsGranted, pending_markers_of}
 use Rattle.tenant_laws.proofs.Parts.{each_partition}
 use Rattle.tenant_laws.proofs.Owed.{other_owed, init_owes, end_owes, add_owes, add_group_owes}
 use Rattle.tenant_laws.proofs.Settled.{whole_keeps}
@@ -49,7 +49,7 @@ use Rattle.tenant_laws.proofs.Resources.{same_by, differ, id_kept, one_refused}
 
 module _ (w : World) (caller : Caller) (r : InitProducerIdRequest) (kind : Kind) (name : List ℕ) where
   init_groups : (init_producer_id_outcome w caller r).world.groups ≡ w.groups
-  init_groups = whole_keeps (λ (u : World). u.groups) (part_refusal (rules_of w) (init_questions (rules_of w) caller r.transactional_id)) w _ (initialized w r) refl
+  init_groups = whole_keeps (λ (u : World). u.groups) (part_refusal (rules_of w) (init_questions (rules_of w) caller r.transactional_id)) w _ (served_init w r) refl
 
   init_refused : (id : List ℕ) → r.transactional_id ≡ Some id → NoPartIsGranted w kind name (init_questions (rules_of w) caller r.transactional_id ∷ []) → kind ≡ TransactionalId → name ≡ id → (init_producer_id_outcome w caller r).world ≡ w
   init_refused id is none k named =
@@ -61,8 +61,8 @@ module _ (w : World) (caller : Caller) (r : InitProducerIdRequest) (kind : Kind)
     by_id : (id : Option (List ℕ)) → r.transactional_id ≡ id → SameOn w (init_producer_id_outcome w caller r).world kind name
     by_id None is =
         same_by w (init_producer_id_outcome w caller r).world kind name (λ k. ap (λ (ts : List TopicValue). find_topic ts name) (init_depends.topics w caller r)) (λ k. ap (λ (gs : List GroupValue). find_group gs name) init_groups)
-        (λ k. whole_keeps (λ (u : World). recorded u.coordinator.transactions name) (part_refusal (rules_of w) (init_questions (rules_of w) caller r.transactional_id)) w _ (initialized w r)
-        (ap (λ (id : Option (List ℕ)). recorded (coordinator_for id w.coordinator w.node.max_txn_timeout r.timeout).transactions name) is))
+        (λ k. whole_keeps (λ (u : World). id_record u.coordinator.transactions name) (part_refusal (rules_of w) (init_questions (rules_of w) caller r.transactional_id)) w _ (served_init w r)
+        (ap (λ (id : Option (List ℕ)). id_record (coordinator_for id w.coordinator w.node.max_txn_timeout r.timeout).transactions name) is))
     by_id (Some id) is = id_kept w id (init_producer_id_outcome w caller r) (keep_the_rest.inits w caller r id is) init_groups kind name (λ k named. init_refused id is none k named)
 
 -- ---- EndTxn
@@ -73,7 +73,7 @@ module _ (w : World) (caller : Caller) (r : EndTxnRequest) (kind : Kind) (name :
 
   pub end_kept : NoPartIsGranted w kind name (end_questions caller r ∷ []) → SameOn w (end_txn_outcome w caller r).world kind name
   end_kept none =
-      id_kept w (ending_id r) (end_txn_outcome w caller r) (keep_the_rest.ends w caller r) (whole_keeps (λ (u : World). u.groups) (part_refusal (rules_of w) (end_questions caller r)) w _ (ended w r) refl) kind name (end_refused none)
+      id_kept w (ending_id r) (end_txn_outcome w caller r) (keep_the_rest.ends w caller r) (whole_keeps (λ (u : World). u.groups) (part_refusal (rules_of w) (end_questions caller r)) w _ (served_end w r) refl) kind name (end_refused none)
 
 -- ---- AddPartitionsToTxn
 
@@ -130,44 +130,44 @@ module _ (w : World) (caller : Caller) (r : AddOffsetsToTxnRequest) (kind : Kind
 
 module _ (w : World) (caller : Caller) (id : List ℕ) where
   abbrev pub SameOwed : World → Type 0
-  SameOwed u = owed_by id u.coordinator.warrants ≡ owed_by id w.coordinator.warrants
+  SameOwed u = pending_markers_of id u.coordinator.warrants ≡ pending_markers_of id w.coordinator.warrants
 
   -- of a call for this id or for another one
   owed_after : (u : World) (own : List ℕ) → (id ≡ own → u ≡ w) → ((id ≡ own → ⊥) → SameOwed u) → SameOwed u
   owed_after u own refused other = by_name (bytes_eq id own) refl where
     by_name : (b : Bool) → bytes_eq id own ≡ b → SameOwed u
-    by_name true e = ap (λ (x : World). owed_by id x.coordinator.warrants) (refused ((bytes_eq-Decides id own).0 e))
+    by_name true e = ap (λ (x : World). pending_markers_of id x.coordinator.warrants) (refused ((bytes_eq-Decides id own).0 e))
     by_name false e = other (differ id own e)
 
-  pub whole_owed : (qs : List Question) (refused : ErrorCode → Reply) (served : Served) → SameOwed served.world → SameOwed (whole_by (part_refusal (rules_of w) qs) w refused served).world
-  whole_owed qs refused served same = whole_keeps (λ (u : World). owed_by id u.coordinator.warrants) (part_refusal (rules_of w) qs) w refused served same
+  pub whole_owed : (qs : List Question) (refused : ErrorCode → Reply) (served : Served) → SameOwed served.world → SameOwed (whole_outcome_by (part_refusal (rules_of w) qs) w refused served).world
+  whole_owed qs refused served same = whole_keeps (λ (u : World). pending_markers_of id u.coordinator.warrants) (part_refusal (rules_of w) qs) w refused served same
 
   pub init_owed : (r : InitProducerIdRequest) → NoPartIsGranted w TransactionalId id (init_questions (rules_of w) caller r.transactional_id ∷ []) → SameOwed (init_producer_id_outcome w caller r).world
   init_owed r none = by_id r.transactional_id refl where
-    owed_for : Option (List ℕ) → List OwedMarker
-    owed_for x = owed_by id (coordinator_for x w.coordinator w.node.max_txn_timeout r.timeout).warrants
+    owed_for : Option (List ℕ) → List PendingMarker
+    owed_for x = pending_markers_of id (coordinator_for x w.coordinator w.node.max_txn_timeout r.timeout).warrants
 
     by_id : (x : Option (List ℕ)) → r.transactional_id ≡ x → SameOwed (init_producer_id_outcome w caller r).world
-    by_id None is = whole_owed (init_questions (rules_of w) caller r.transactional_id) _ (initialized w r) (ap owed_for is)
+    by_id None is = whole_owed (init_questions (rules_of w) caller r.transactional_id) _ (served_init w r) (ap owed_for is)
     by_id (Some own) is =
         owed_after (init_producer_id_outcome w caller r).world own (λ named. init_refused w caller r TransactionalId id own is none refl named)
-        (λ apart. whole_owed (init_questions (rules_of w) caller r.transactional_id) _ (initialized w r)
+        (λ apart. whole_owed (init_questions (rules_of w) caller r.transactional_id) _ (served_init w r)
         (ap owed_for is ∙ other_owed w.coordinator own id (init w.coordinator own r.timeout w.node.max_txn_timeout) (init_owes w.coordinator own r.timeout w.node.max_txn_timeout) apart))
 
   pub end_owed : (r : EndTxnRequest) → NoPartIsGranted w TransactionalId id (end_questions caller r ∷ []) → SameOwed (end_txn_outcome w caller r).world
   end_owed r none =
       owed_after (end_txn_outcome w caller r).world (ending_id r) (end_refused w caller r TransactionalId id none refl)
-      (λ apart. whole_owed (end_questions caller r) _ (ended w r)
-      (other_owed w.coordinator (ending_id r) id (end_turn w.coordinator r) (end_owes w.coordinator (form_of r) (ending_id r) _ (ending_outcome r)) apart))
+      (λ apart. whole_owed (end_questions caller r) _ (served_end w r)
+      (other_owed w.coordinator (ending_id r) id (end_transition w.coordinator r) (end_owes w.coordinator (form_of r) (ending_id r) _ (ending_outcome r)) apart))
 
   pub add_owed : (r : AddPartitionsToTxnRequest) → NoPartIsGranted w TransactionalId id (partition_parts (add_questions caller r.transactional_id) r.topics) → SameOwed (add_partitions_outcome w caller r).world
   add_owed r none = owed_after (add_partitions_outcome w caller r).world r.transactional_id (add_refused w caller r TransactionalId id none refl) (by_cut (is_cut caller r.transactional_id w.topics (rules_of w) r.topics)) where
     by_cut : (b : Bool) → (id ≡ r.transactional_id → ⊥) → SameOwed (cond b (cut_outcome w caller r) (added_outcome w r)).world
     by_cut true apart = refl
-    by_cut false apart = other_owed w.coordinator r.transactional_id id (add_turn w.coordinator w.moment r) (add_owes w.coordinator r.transactional_id _ w.moment (partitions_of r.topics)) apart
+    by_cut false apart = other_owed w.coordinator r.transactional_id id (add_transition w.coordinator w.moment r) (add_owes w.coordinator r.transactional_id _ w.moment (partitions_of r.topics)) apart
 
   pub add_group_owed : (r : AddOffsetsToTxnRequest) → NoPartIsGranted w TransactionalId id (add_offsets_questions caller r.transactional_id r.group ∷ []) → SameOwed (add_offsets_outcome w caller r).world
   add_group_owed r none =
       owed_after (add_offsets_outcome w caller r).world r.transactional_id (group_refused w caller r TransactionalId id none refl)
-      (λ apart. whole_owed (add_offsets_questions caller r.transactional_id r.group) _ (offsets_added w r)
-      (other_owed w.coordinator r.transactional_id id (add_offsets_turn w.coordinator w.moment r) (add_group_owes w.coordinator r.transactional_id _ w.moment r.group) apart))
+      (λ apart. whole_owed (add_offsets_questions caller r.transactional_id r.group) _ (served_add_offsets w r)
+      (other_owed w.coordinator r.transactional_id id (add_offsets_transition w.coordinator w.moment r) (add_group_owes w.coordinator r.transactional_id _ w.moment r.group) apart))

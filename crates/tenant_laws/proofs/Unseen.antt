@@ -6,38 +6,38 @@ use Rattle.acl_binding.specs.declared.words.Kind.{Kind}
 use Rattle.acl_binding.specs.declared.words.Kind.TheVariants.{Topic, Group, Cluster, TransactionalId}
 use Rattle.audit_trail.specs.declared.event.Event.{Event}
 use Rattle.audit_trail.specs.declared.event.Event.TheVariants.{Ask, Mark, Tick}
-use Rattle.transactions.specs.declared.transaction.Transaction.{Transaction}
-use Rattle.transactions.specs.Coordinator.{recorded}
-use Rattle.transactions.specs.Preparing.{fenced}
-use Rattle.transactions.specs.Expiry.{is_due, expired}
-use Rattle.offset_tables.specs.Group.{expired as group_expired}
-use Rattle.offset_tables.specs.Groups.{find_group}
-use Rattle.offset_tables.proofs.Apart.{find_expired}
+use Rattle.txn_coordinator.specs.declared.transaction.Transaction.{Transaction}
+use Rattle.txn_coordinator.specs.Coordinator.{id_record}
+use Rattle.txn_coordinator.specs.Preparing.{fenced_transaction}
+use Rattle.txn_coordinator.specs.Expiry.{is_due, fenced_if_due}
+use Rattle.group_offsets.specs.Group.{without_lapsed as group_expired}
+use Rattle.group_offsets.specs.Groups.{find_group}
+use Rattle.group_offsets.proofs.Apart.{find_expired}
 use Rattle.broker_world.specs.World.{World}
 use Rattle.broker_world.specs.Clock.{moment_after}
 use Rattle.api_dispatch.specs.Step.{step}
 use Rattle.request_handlers.specs.Core.{entry_of}
 use Rattle.api_laws.specs.Tenants.{SameOn}
 use Rattle.tenant_laws.specs.Laws.{SameButForBook, AgreeAmong}
-use Rattle.tenant_laws.specs.Runs.{Round, Round as rounds, told_first, told_second, IsWithin, AreApart, OthersAreUnseen}
-use Rattle.tenant_laws.proofs.Within.{told_alike, agree_behind}
+use Rattle.tenant_laws.specs.Runs.{Round, Round as rounds, first_run_entries, second_run_entries, IsWithin, AreApart, OthersAreUnseen}
+use Rattle.tenant_laws.proofs.Within.{told_alike, agree_after}
 use Rattle.tenant_laws.proofs.Marked.{marks_agree}
 use Rattle.tenant_laws.proofs.Resources.{same_then, same_back}
 
 -- ---- a tick
 
-expired_id : (moment : ℕ) (t : Transaction) → (expired moment t).id ≡ t.id
+expired_id : (moment : ℕ) (t : Transaction) → (fenced_if_due moment t).id ≡ t.id
 expired_id moment t = by_due (is_due moment t) where
-  by_due : (b : Bool) → (cond b (fenced t) t).id ≡ t.id
+  by_due : (b : Bool) → (cond b (fenced_transaction t) t).id ≡ t.id
   by_due true = refl
   by_due false = refl
 
-recorded_expired : (moment : ℕ) (ts : List Transaction) (id : List ℕ) → recorded (map (expired moment) ts) id ≡ option_map (expired moment) (recorded ts id)
+recorded_expired : (moment : ℕ) (ts : List Transaction) (id : List ℕ) → id_record (map (fenced_if_due moment) ts) id ≡ option_map (fenced_if_due moment) (id_record ts id)
 recorded_expired moment [] id = refl
 recorded_expired moment (t ∷ ts) id =
-    ap (λ (own : List ℕ). cond (bytes_eq own id) (Some (expired moment t)) (recorded (map (expired moment) ts) id)) (expired_id moment t)
+    ap (λ (own : List ℕ). cond (bytes_eq own id) (Some (fenced_if_due moment t)) (id_record (map (fenced_if_due moment) ts) id)) (expired_id moment t)
     ∙ by_id (bytes_eq t.id id) (recorded_expired moment ts id) where
-      by_id : (b : Bool) → recorded (map (expired moment) ts) id ≡ option_map (expired moment) (recorded ts id) → cond b (Some (expired moment t)) (recorded (map (expired moment) ts) id) ≡ option_map (expired moment) (cond b (Some t) (recorded ts id))
+      by_id : (b : Bool) → id_record (map (fenced_if_due moment) ts) id ≡ option_map (fenced_if_due moment) (id_record ts id) → cond b (Some (fenced_if_due moment t)) (id_record (map (fenced_if_due moment) ts) id) ≡ option_map (fenced_if_due moment) (cond b (Some t) (id_record ts id))
       by_id true rest = refl
       by_id false rest = rest
 
@@ -58,8 +58,8 @@ module _ (v w : World) (told : ℕ) (base : SameButForBook v w) where
   tick_on Cluster name same = same
   tick_on TransactionalId name same =
       recorded_expired (moment_after v.moment told) v.coordinator.transactions name
-      ∙ ap (option_map (expired (moment_after v.moment told))) same
-      ∙ ap (λ (n : ℕ). option_map (expired n) (recorded w.coordinator.transactions name)) same_moment
+      ∙ ap (option_map (fenced_if_due (moment_after v.moment told))) same
+      ∙ ap (λ (n : ℕ). option_map (fenced_if_due n) (id_record w.coordinator.transactions name)) same_moment
       ∙ sym (recorded_expired (moment_after w.moment told) w.coordinator.transactions name)
 
 -- ---- the rounds
@@ -71,11 +71,11 @@ module _ (among : Kind → List ℕ → Bool) where
   asked_entry v w (Tick told) agree within = absurd within
 
   asked_on : (v w : World) (e : Event) → AgreeAmong among v w → IsWithin among v w e → AgreeAmong among (step v e) (step w e)
-  asked_on v w (Ask caller client request) agree within = agree_behind among v w caller client request agree within
+  asked_on v w (Ask caller client request) agree within = agree_after among v w caller client request agree within
   asked_on v w Mark agree within = absurd within
   asked_on v w (Tick told) agree within = absurd within
 
-  unseen : (v w : World) (rs : List Round) → AgreeAmong among v w → AreApart among v w rs → told_first v rs ≡ told_second w rs
+  unseen : (v w : World) (rs : List Round) → AgreeAmong among v w → AreApart among v w rs → first_run_entries v rs ≡ second_run_entries w rs
   unseen v w [] agree apart = refl
   unseen v w (rounds.Asks e ∷ rs) agree apart =
       let entry = asked_entry v w e agree apart.0 in

@@ -12,13 +12,13 @@ use Rattle.msg_data.specs.declared.produce.ProduceRequest.{ProduceRequest}
 use Rattle.msg_data.specs.declared.produce.ProducedRecords.{ProducedRecords}
 use Rattle.msg_group.specs.declared.offset_commit.OffsetCommitRequest.{OffsetCommitRequest}
 use Rattle.msg_txn.specs.declared.txn_offset_commit.TxnOffsetCommitRequest.{TxnOffsetCommitRequest}
-use Rattle.offset_tables.specs.Groups.{find_group}
+use Rattle.group_offsets.specs.Groups.{find_group}
 use Rattle.broker_world.specs.World.{World, TopicValue, LogValue, rules_of, find_topic}
-use Rattle.broker_world.specs.First.{magnitude}
-use Rattle.broker_world.specs.Logs.{log_at, log_after, appended_by}
-use Rattle.data_handlers.specs.Judged.{partition_at, judged, topics_produced}
-use Rattle.data_handlers.specs.Produce.{produce_questions, producing, produce_outcome}
-use Rattle.txn_handlers.specs.TxnOffsetCommit.{staging, stage_questions, staging_rule, txn_offset_commit_outcome}
+use Rattle.broker_world.specs.First.{non_negative}
+use Rattle.broker_world.specs.Logs.{log_at, log_after, topics_with_batch_by}
+use Rattle.data_handlers.specs.Judged.{partition_at, batch_to_append, topics_produced}
+use Rattle.data_handlers.specs.Produce.{produce_questions, producing_rule, produce_outcome}
+use Rattle.txn_handlers.specs.TxnOffsetCommit.{staging_of, stage_questions, staging_rule, txn_offset_commit_outcome}
 use Rattle.group_handlers.specs.OffsetCommit.{commit_questions, committing_rule, offset_commit_outcome}
 use Rattle.api_laws.specs.Tenants.{SameOn}
 use Rattle.api_laws.proofs.DataGrants.{find_other}
@@ -35,7 +35,7 @@ use Rattle.tenant_laws.proofs.Resources.{same_by, group_kept}
 pub other_topic : (batch : Result BatchData ErrorCode) (topics : List TopicValue) (name other : List ℕ) (index : ℤ) → bytes_eq name other ≡ false → find_topic (topics_produced batch topics name index) other ≡ find_topic topics other
 other_topic (Err code) topics name other index apart = refl
 other_topic (Ok b) topics name other index apart = by_log (log_at topics name index) where
-  by_log : (o : Option LogValue) → find_topic (appended_by topics name index b o) other ≡ find_topic topics other
+  by_log : (o : Option LogValue) → find_topic (topics_with_batch_by topics name index b o) other ≡ find_topic topics other
   by_log None = refl
   by_log (Some log) = find_other topics name other index (log_after log b) apart
 
@@ -45,10 +45,10 @@ asks_topic caller (Some id) name other kind is same = inr (inl (sym is, same))
 
 module _ (w : World) (caller : Caller) (r : ProduceRequest) (kind : Kind) (other : List ℕ) where
   produced_apart : kind ≡ Topic → (name : List ℕ) (p : ProducedRecords) → (AsksAbout kind other (produce_questions caller r.transactional_id name) → part_refusal (rules_of w) (produce_questions caller r.transactional_id name) ≡ None → ⊥)
-      → Leaves (producing w caller r) (rules_of w) (λ topics. find_topic topics other) name p
+      → Leaves (producing_rule w caller r) (rules_of w) (λ topics. find_topic topics other) name p
   produced_apart is name p none granted topics = by_name (bytes_eq name other) refl where
     batch : Result BatchData ErrorCode
-    batch = judged (magnitude w.node.max_batch) w.coordinator r.transactional_id r.acks (partition_at name p.index) p.records
+    batch = batch_to_append (non_negative w.node.max_batch) w.coordinator r.transactional_id r.acks (partition_at name p.index) p.records
 
     by_name : (b : Bool) → bytes_eq name other ≡ b → find_topic (topics_produced batch topics name p.index) other ≡ find_topic topics other
     by_name true e = absurd (none (asks_topic caller r.transactional_id name other kind is ((bytes_eq-Decides name other).0 e)) granted)
@@ -57,7 +57,7 @@ module _ (w : World) (caller : Caller) (r : ProduceRequest) (kind : Kind) (other
   pub produce_kept : NoPartIsGranted w kind other (partition_parts (produce_questions caller r.transactional_id) r.topics) → SameOn w (produce_outcome w caller r).world kind other
   produce_kept none =
       same_by w (produce_outcome w caller r).world kind other
-      (λ is. walk_leaves (producing w caller r) (rules_of w) (λ topics. find_topic topics other) w.topics r.topics (each_partition (produce_questions caller r.transactional_id) _ (Leaves (producing w caller r) (rules_of w) (λ topics. find_topic topics other)) (produced_apart is) r.topics none))
+      (λ is. walk_leaves (producing_rule w caller r) (rules_of w) (λ topics. find_topic topics other) w.topics r.topics (each_partition (produce_questions caller r.transactional_id) _ (Leaves (producing_rule w caller r) (rules_of w) (λ topics. find_topic topics other)) (produced_apart is) r.topics none))
       (λ is. refl) (λ is. refl)
 
 -- ---- OffsetCommit
@@ -74,10 +74,10 @@ module _ (w : World) (caller : Caller) (r : OffsetCommitRequest) (kind : Kind) (
 -- ---- TxnOffsetCommit
 
 module _ (w : World) (caller : Caller) (r : TxnOffsetCommitRequest) (kind : Kind) (name : List ℕ) where
-  staged_group : kind ≡ Group → name ≡ r.group → NoPartIsGranted w kind name (partition_parts (stage_questions caller (staging r)) r.topics) → find_group (txn_offset_commit_outcome w caller r).world.groups name ≡ find_group w.groups name
+  staged_group : kind ≡ Group → name ≡ r.group → NoPartIsGranted w kind name (partition_parts (stage_questions caller (staging_of r)) r.topics) → find_group (txn_offset_commit_outcome w caller r).world.groups name ≡ find_group w.groups name
   staged_group is named none =
       walk_leaves (staging_rule w caller r) (rules_of w) (λ groups. find_group groups name) w.groups r.topics
-      (each_partition (stage_questions caller (staging r)) _ (Leaves (staging_rule w caller r) (rules_of w) (λ groups. find_group groups name)) (λ topic p refused granted groups. absurd (refused (inr (inl (sym is, sym named))) granted)) r.topics none)
+      (each_partition (stage_questions caller (staging_of r)) _ (Leaves (staging_rule w caller r) (rules_of w) (λ groups. find_group groups name)) (λ topic p refused granted groups. absurd (refused (inr (inl (sym is, sym named))) granted)) r.topics none)
 
-  pub stage_kept : NoPartIsGranted w kind name (partition_parts (stage_questions caller (staging r)) r.topics) → SameOn w (txn_offset_commit_outcome w caller r).world kind name
+  pub stage_kept : NoPartIsGranted w kind name (partition_parts (stage_questions caller (staging_of r)) r.topics) → SameOn w (txn_offset_commit_outcome w caller r).world kind name
   stage_kept none = group_kept w r.group (txn_offset_commit_outcome w caller r) (staging_keeps.stages w caller r) kind name (λ is named. staged_group is named none)

@@ -44,7 +44,7 @@ module _ (among : Kind → List ℕ → Bool) where
         let told = answers_depend v w caller client request for_parts in
         λ i. record { event = Ask caller client request; reply = told.reply i; refusals = told.refusals i }
 
-    pub agree_behind : AgreeAmong among (step v (Ask caller client request)) (step w (Ask caller client request))
-    agree_behind =
+    pub agree_after : AgreeAmong among (step v (Ask caller client request)) (step w (Ask caller client request))
+    agree_after =
         let goes = agreement_goes_on v w caller client request (record { base = agree.base; questions = within.questions; verdicts = within.verdicts; granted = granted_among (questions_of (rules_of w) caller request) within.granted; bindings = within.bindings }) in
         record { base = goes.base; resources = λ kind name is. goes.resources kind name (agree.resources kind name is) }

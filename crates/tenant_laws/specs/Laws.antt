@@ -13,9 +13,9 @@ use Rattle.authorizer.specs.Asking.{part_refusal}
 use Rattle.msg_admin.specs.declared.request.Request.{Request}
 use Rattle.audit_trail.specs.declared.event.Event.{Event}
 use Rattle.audit_trail.specs.declared.event.Event.TheVariants.{Ask, Mark, Tick}
-use Rattle.transactions.specs.declared.marker.OwedMarker.{OwedMarker}
+use Rattle.txn_coordinator.specs.declared.marker.PendingMarker.{PendingMarker}
 use Rattle.broker_world.specs.World.{World, rules_of, topic_names}
-use Rattle.api_dispatch.specs.Step.{step, reply_to, refusals_of, reached}
+use Rattle.api_dispatch.specs.Step.{step, reply_to, refusals_of, world_after_events}
 use Rattle.request_handlers.specs.Core.{CoreValue, entry_of, receipt_of}
 use Rattle.plain_broker.specs.Plainness.{is_about_bindings}
 use Rattle.api_laws.specs.Tenants.{SameOn, SameGranted}
@@ -102,8 +102,8 @@ AreUngranted w kind name [] = Unit {0}
 AreUngranted w kind name (e ∷ es) = IsUngranted w kind name e × AreUngranted (step w e) kind name es
 
 -- the markers that the transactional id owes, in order
-abbrev pub owed_by : List ℕ → List OwedMarker → List OwedMarker
-owed_by id warrants = filter (λ (m : OwedMarker). bytes_eq m.id id) warrants
+abbrev pub pending_markers_of : List ℕ → List PendingMarker → List PendingMarker
+pending_markers_of id warrants = filter (λ (m : PendingMarker). bytes_eq m.id id) warrants
 
 -- what no request changes: the node, the super users, the moment, and which topics there are, in order
 pub record KeepsSettings (w new : World) : Type 0 where
@@ -119,10 +119,10 @@ pub record UngrantedStays : Type 0 where
       → NoPartIsGranted w kind name (parts_of (rules_of w) caller request) → SameOn w (step w (Ask caller client request)) kind name
   pub by_questions : (w : World) (caller : Caller) (client : Option (List ℕ)) (request : Request) (kind : Kind) (name : List ℕ)
       → NoQuestionIsGranted w kind name (questions_of (rules_of w) caller request) → SameOn w (step w (Ask caller client request)) kind name
-  pub over_events : (w : World) (kind : Kind) (name : List ℕ) (events : List Event) → AreUngranted w kind name events → SameOn w (reached w events) kind name
+  pub over_events : (w : World) (kind : Kind) (name : List ℕ) (events : List Event) → AreUngranted w kind name events → SameOn w (world_after_events w events) kind name
   -- what a transactional id owes
   pub owed : (w : World) (caller : Caller) (client : Option (List ℕ)) (request : Request) (id : List ℕ)
-      → NoPartIsGranted w TransactionalId id (parts_of (rules_of w) caller request) → owed_by id (step w (Ask caller client request)).coordinator.warrants ≡ owed_by id w.coordinator.warrants
+      → NoPartIsGranted w TransactionalId id (parts_of (rules_of w) caller request) → pending_markers_of id (step w (Ask caller client request)).coordinator.warrants ≡ pending_markers_of id w.coordinator.warrants
   -- the book of bindings, which is the cluster's
   pub book : (w : World) (caller : Caller) (client : Option (List ℕ)) (request : Request)
       → NoQuestionIsGranted w Cluster cluster_name (questions_of (rules_of w) caller request) → (step w (Ask caller client request)).book ≡ w.book

@@ -11,8 +11,8 @@ use Rattle.msg_group.specs.declared.offset_fetch.FetchedOffset.{FetchedOffset}
 use Rattle.msg_admin.specs.declared.request.Request.TheVariants.{OffsetFetch}
 use Rattle.audit_trail.specs.declared.event.Event.TheVariants.{Ask}
 use Rattle.walk.specs.Alike.{AllTopics}
-use Rattle.offset_tables.specs.declared.event.OffsetEvent.{OffsetEvent}
-use Rattle.offset_tables.specs.Offsets.{offset_of, is_staged, fetched}
+use Rattle.group_offsets.specs.declared.event.OffsetEvent.{OffsetEvent}
+use Rattle.group_offsets.specs.Offsets.{offset_of, is_staged, fetch_result}
 use Rattle.broker_world.specs.World.{World, TopicValue, rules_of}
 use Rattle.group_handlers.specs.OffsetFetch.{group_question, fetch_reply, offsets_of}
 use Rattle.group_handlers.specs.OffsetFetch.{fetched_offset}
@@ -45,7 +45,7 @@ pub record TellsOf (w : World) (caller : Caller) (client : Option (List ℕ)) (r
   -- each topic with such a partition stands there once, in the settings' order, and no other
   pub names : map (λ (t : Topic FetchedOffset). t.name) topics ≡ map (λ (t : TopicValue). t.name) (filter (λ (t : TopicValue). list_any (has_offset (offsets_of w r.group) r.require_stable) (places_of t)) (described_slots (rules_of w) caller w.topics))
   -- and each partition is told what it would be told by its name
-  pub answers : AllTopics (λ name (p : FetchedOffset). p ≡ fetched_offset (fetched (offsets_of w r.group) r.require_stable name p.index) p.index) topics
+  pub answers : AllTopics (λ name (p : FetchedOffset). p ≡ fetched_offset (fetch_result (offsets_of w r.group) r.require_stable name p.index) p.index) topics
 
 abbrev pub NullTellsOfAll : Type 0
 NullTellsOfAll = (w : World) (caller : Caller) (client : Option (List ℕ)) (r : OffsetFetchRequest)

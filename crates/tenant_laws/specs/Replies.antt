@@ -55,12 +55,12 @@ pub record Sized : Type 0 where
   pub name : List ℕ
   pub count : ℕ
 
-abbrev pub sized : TopicValue → Sized
-sized t = record { name = t.name; count = length t.partitions }
+abbrev pub size_of_topic : TopicValue → Sized
+size_of_topic t = record { name = t.name; count = length t.partitions }
 
 -- the topics that may be described, in order
 abbrev pub described_sizes : Rules → Caller → List TopicValue → List Sized
-described_sizes rules caller topics = map sized (described_slots rules caller topics)
+described_sizes rules caller topics = map size_of_topic (described_slots rules caller topics)
 
 -- the request comes to all topics that may be described
 abbrev pub comes_to_all : Rules → Caller → Request → Bool

@@ -12,10 +12,10 @@ use Rattle.msg_admin.specs.declared.request.Request.{Request}
 use Rattle.audit_trail.specs.declared.event.Event.{Event}
 use Rattle.audit_trail.specs.declared.event.Event.TheVariants.{Ask, Mark, Tick}
 use Rattle.audit_trail.specs.declared.trail.Entry.{Entry}
-use Rattle.transactions.specs.declared.marker.OwedMarker.{OwedMarker}
-use Rattle.transactions.specs.declared.target.Target.{Target}
-use Rattle.transactions.specs.declared.target.Target.TheVariants.{Partition, Group}
-use Rattle.transactions.specs.Warrants.{owes}
+use Rattle.txn_coordinator.specs.declared.marker.PendingMarker.{PendingMarker}
+use Rattle.txn_coordinator.specs.declared.target.Target.{Target}
+use Rattle.txn_coordinator.specs.declared.target.Target.TheVariants.{Partition, Group}
+use Rattle.txn_coordinator.specs.Warrants.{has_pending_marker}
 use Rattle.broker_world.specs.World.{World, rules_of}
 use Rattle.api_dispatch.specs.Questions.{parts_of, questions_of}
 use Rattle.api_dispatch.specs.Step.{step}
@@ -26,7 +26,7 @@ use Rattle.tenant_laws.specs.Laws.{SameButForBook, SameVerdicts, AgreeAmong}
 use Rattle.tenant_laws.specs.Replies.{described_sizes, comes_to_all}
 
 -- In a round each run takes an event: the tenant's request, the same in both; one of others in each; a tick of the clock,
--- which both see; or the marker step of a marker that is owed first in both.
+-- which both see; or the marker step of a marker that is pending first in both.
 pub data Round : Type 0 where
   Asks : Event → Round
   Others : Event → Event → Round
@@ -34,19 +34,19 @@ pub data Round : Type 0 where
   Marks : Round
 
 -- what the tenant is told in the one run, and in the other
-abbrev pub told_first : World → List Round → List Entry
-told_first w [] = []
-told_first w (Asks e ∷ rounds) = entry_of w e ∷ told_first (step w e) rounds
-told_first w (Others e f ∷ rounds) = told_first (step w e) rounds
-told_first w (Ticks told ∷ rounds) = told_first (step w (Tick told)) rounds
-told_first w (Marks ∷ rounds) = told_first (step w Mark) rounds
+abbrev pub first_run_entries : World → List Round → List Entry
+first_run_entries w [] = []
+first_run_entries w (Asks e ∷ rounds) = entry_of w e ∷ first_run_entries (step w e) rounds
+first_run_entries w (Others e f ∷ rounds) = first_run_entries (step w e) rounds
+first_run_entries w (Ticks told ∷ rounds) = first_run_entries (step w (Tick told)) rounds
+first_run_entries w (Marks ∷ rounds) = first_run_entries (step w Mark) rounds
 
-abbrev pub told_second : World → List Round → List Entry
-told_second w [] = []
-told_second w (Asks e ∷ rounds) = entry_of w e ∷ told_second (step w e) rounds
-told_second w (Others e f ∷ rounds) = told_second (step w f) rounds
-told_second w (Ticks told ∷ rounds) = told_second (step w (Tick told)) rounds
-told_second w (Marks ∷ rounds) = told_second (step w Mark) rounds
+abbrev pub second_run_entries : World → List Round → List Entry
+second_run_entries w [] = []
+second_run_entries w (Asks e ∷ rounds) = entry_of w e ∷ second_run_entries (step w e) rounds
+second_run_entries w (Others e f ∷ rounds) = second_run_entries (step w f) rounds
+second_run_entries w (Ticks told ∷ rounds) = second_run_entries (step w (Tick told)) rounds
+second_run_entries w (Marks ∷ rounds) = second_run_entries (step w Mark) rounds
 
 -- ---- the tenant's request
 
@@ -82,17 +82,17 @@ abbrev pub GoesAmong : (Kind → List ℕ → Bool) → Target → Type 0
 GoesAmong among (Partition p) = among kinds.Topic p.topic ≡ true
 GoesAmong among (Group name) = among kinds.Group name ≡ true
 
--- the same marker is owed first in both, of an id and to a place among the resources, and the id owes more in both or in
+-- the same marker is pending first in both, of an id and to a place among the resources, and the id owes more in both or in
 -- neither
 pub record OweAlike (among : Kind → List ℕ → Bool) (v w : World) : Type 0 where
-  pub marker : OwedMarker
+  pub marker : PendingMarker
   pub own : among kinds.TransactionalId marker.id ≡ true
   pub target : GoesAmong among marker.target
-  pub first : List OwedMarker
-  pub second : List OwedMarker
+  pub first : List PendingMarker
+  pub second : List PendingMarker
   pub in_first : v.coordinator.warrants ≡ marker ∷ first
   pub in_second : w.coordinator.warrants ≡ marker ∷ second
-  pub more : owes first marker.id ≡ owes second marker.id
+  pub more : has_pending_marker first marker.id ≡ has_pending_marker second marker.id
 
 -- ---- the runs
 
@@ -107,4 +107,4 @@ AreApart among v w (Marks ∷ rounds) = OweAlike among v w × AreApart among (st
 
 abbrev pub OthersAreUnseen : Type 0
 OthersAreUnseen = (among : Kind → List ℕ → Bool) (v w : World) (rounds : List Round)
-    → AgreeAmong among v w → AreApart among v w rounds → told_first v rounds ≡ told_second w rounds
+    → AgreeAmong among v w → AreApart among v w rounds → first_run_entries v rounds ≡ second_run_entries w rounds

@@ -1,1 +1,16 @@
+pub mod Words
+pub mod Transition
+pub mod Changes
+pub mod Coordinator
+pub mod Preparing
+pub mod InitProducerId
+pub mod Adding
+pub mod EndTxn
+pub mod Expiry
+pub mod Holding
+pub mod Warrants
+pub mod Bounds
+pub mod Kept
+pub mod Shared
+pub mod Laws
 pub mod Permission

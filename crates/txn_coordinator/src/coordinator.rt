@@ -1,39 +1,44 @@
-//! The coordinator: transactional ids, producer ids given out, and the markers that are owed.
+//! The coordinator: transactional ids, producer ids given out, and the markers that are pending.
 
-ghost use Rattle.std.specs.Prelude.{◌≡◌, ◌+◌, ◌<◌, ◌^◌, ◌++◌, ◌∷◌, [], IfOk, IfSome, OnOk, OnErr, Some, None, length};
+ghost use Rattle.std.specs.Prelude.{◌≡◌, ◌+◌, ◌<◌, ◌^◌, [], IfOk, OnOk, OnErr, Some, None, length};
 ghost use Rattle.std.specs.Option.{option_copied};
-ghost use Rattle.transactions.specs.Coordinator.{no_transactions, turned, turn_code, turn_answer, fresh, owner, given_by, given_free};
-ghost use Rattle.transactions.specs.InitProducerId.{init};
-ghost use Rattle.transactions.specs.Adding.{add_partitions, add_group};
-ghost use Rattle.transactions.specs.EndTxn.{end};
-ghost use Rattle.transactions.specs.Expiry.{expire};
-ghost use Rattle.transactions.specs.Holding.{holds, is_usable};
-ghost use Rattle.transactions.specs.Warrants.{next_warrant, written};
+ghost use Rattle.txn_coordinator.specs.Coordinator.{no_transactions, apply_transition, transition_code, transition_answer, fresh_producer_id, owner, given_by, given_free};
+ghost use Rattle.txn_coordinator.specs.InitProducerId.{init};
+ghost use Rattle.txn_coordinator.specs.Adding.{add_partitions, add_group};
+ghost use Rattle.txn_coordinator.specs.EndTxn.{end};
+ghost use Rattle.txn_coordinator.specs.Expiry.{expire};
+ghost use Rattle.txn_coordinator.specs.Holding.{holding_code, is_usable};
+ghost use Rattle.txn_coordinator.specs.Warrants.{next_warrant, with_front_written};
 ghost use Rattle.txn_coordinator.specs.Permission.{MayWrite};
 
+use crate::ending::EndForm;
+use crate::expiry::expiry_markers;
+use crate::init::timeout_within;
+use crate::marker::PendingMarker;
+use crate::pending_markers::PendingMarkers;
+use crate::producer_id::{ProducerIdAndEpoch, ProducerIdAnswer, ProducerIdOwner};
+use crate::records::Records;
+use crate::target::{Target, TopicPartition};
+use crate::transaction::{LAST_EPOCH, Transaction};
 use crate::warrant::Warrant;
 use authorizer::{Permit, Policy, Spent};
-use record_batch::Outcome;
+use record_batch::TransactionResult;
 use std::alloc::{AllocError, Global};
 use std::hash::RandomState;
 use std::marker::Model;
-use transactions::{
-    EndForm, Given, LAST_EPOCH, Owed, OwedMarker, Pair, PairAnswer, Records, Target,
-    TopicPartition, Transaction, expiry_markers, timeout_within,
-};
 use wire_types::{ErrorCode, Text};
 
-/// What is kept of transactional ids, of producer ids and of markers that are owed.
+/// What is kept of transactional ids, of producer ids and of markers that are pending.
 #[derive(Drop)]
 pub struct Coordinator {
     records: Records,
     given: Vec<Option<Text>>,
-    owed: Owed,
+    owed: PendingMarkers,
 }
 
 impl Model for Coordinator {
-    ghost use Rattle.transactions.specs.Coordinator.{CoordinatorValue};
-    ghost use Rattle.transactions.specs.Bounds.{AreInRange};
+    ghost use Rattle.txn_coordinator.specs.Coordinator.{CoordinatorValue};
+    ghost use Rattle.txn_coordinator.specs.Bounds.{AreInRange};
 
     ghost Value = { CoordinatorValue };
 
@@ -53,7 +58,7 @@ impl Coordinator {
         Coordinator {
             records: Records::new(alloc, hasher),
             given: Vec::new(alloc),
-            owed: Owed::new(alloc, hasher),
+            owed: PendingMarkers::new(alloc, hasher),
         }
     }
 
@@ -66,11 +71,14 @@ impl Coordinator {
         id: &Text,
         timeout: i32,
         greatest: i32,
-    ) -> (Spent, Result<PairAnswer, AllocError>)
+    ) -> (Spent, Result<ProducerIdAnswer, AllocError>)
         requires { MayWrite policy.now permit id.now }
         ensures spent { result.0 ≡ permit.question }
-        ensures ok { OnOk result.1 (self.new ≡ turned self.old (init self.old id.now timeout greatest)) }
-        ensures answer { IfOk result.1 (λ answer. answer ≡ turn_answer self.old id.now (init self.old id.now timeout greatest)) }
+        ensures ok { OnOk result.1
+            (self.new ≡ apply_transition self.old (init self.old id.now timeout greatest)) }
+        ensures answer { IfOk result.1
+            (λ answer. answer ≡ transition_answer self.old id.now
+            (init self.old id.now timeout greatest)) }
         ensures err { OnErr result.1 (self.new ≡ self.old) }
     {
         (
@@ -85,16 +93,19 @@ impl Coordinator {
         id: &Text,
         timeout: i32,
         greatest: i32,
-    ) -> Result<PairAnswer, AllocError>
-        ensures ok { OnOk result (self.new ≡ turned self.old (init self.old id.now timeout greatest)) }
-        ensures answer { IfOk result (λ answer. answer ≡ turn_answer self.old id.now (init self.old id.now timeout greatest)) }
+    ) -> Result<ProducerIdAnswer, AllocError>
+        ensures ok { OnOk result
+            (self.new ≡ apply_transition self.old (init self.old id.now timeout greatest)) }
+        ensures answer { IfOk result
+            (λ answer. answer ≡ transition_answer self.old id.now
+            (init self.old id.now timeout greatest)) }
         ensures err { OnErr result (self.new ≡ self.old) }
     {
         if id.is_empty() {
-            return Ok(PairAnswer::refused(ErrorCode::InvalidRequest));
+            return Ok(ProducerIdAnswer::refused(ErrorCode::InvalidRequest));
         }
         let Some(timeout) = timeout_within(timeout, greatest) else {
-            return Ok(PairAnswer::refused(ErrorCode::InvalidTransactionTimeout));
+            return Ok(ProducerIdAnswer::refused(ErrorCode::InvalidTransactionTimeout));
         };
         let (given, owed) = (&mut self.given, &mut self.owed);
         self.records.init(alloc, given, owed, id, timeout)
@@ -106,14 +117,18 @@ impl Coordinator {
         policy: &Policy,
         permit: Permit,
         id: &Text,
-        pair: Pair,
+        pair: ProducerIdAndEpoch,
         moment: u64,
         partitions: &[TopicPartition],
     ) -> (Spent, Result<ErrorCode, AllocError>)
         requires { MayWrite policy.now permit id.now }
         ensures spent { result.0 ≡ permit.question }
-        ensures ok { OnOk result.1 (self.new ≡ turned self.old (add_partitions self.old id.now pair moment partitions.now)) }
-        ensures code { IfOk result.1 (λ code. code ≡ turn_code (add_partitions self.old id.now pair moment partitions.now)) }
+        ensures ok { OnOk result.1
+            (self.new ≡ apply_transition self.old
+            (add_partitions self.old id.now pair moment partitions.now)) }
+        ensures code { IfOk result.1
+            (λ code. code ≡ transition_code
+            (add_partitions self.old id.now pair moment partitions.now)) }
         ensures err { OnErr result.1 (self.new ≡ self.old) }
     {
         (
@@ -125,12 +140,16 @@ impl Coordinator {
     fn take_partitions(
         &mut self,
         id: &Text,
-        pair: Pair,
+        pair: ProducerIdAndEpoch,
         moment: u64,
         partitions: &[TopicPartition],
     ) -> Result<ErrorCode, AllocError>
-        ensures ok { OnOk result (self.new ≡ turned self.old (add_partitions self.old id.now pair moment partitions.now)) }
-        ensures code { IfOk result (λ code. code ≡ turn_code (add_partitions self.old id.now pair moment partitions.now)) }
+        ensures ok { OnOk result
+            (self.new ≡ apply_transition self.old
+            (add_partitions self.old id.now pair moment partitions.now)) }
+        ensures code { IfOk result
+            (λ code. code ≡ transition_code
+            (add_partitions self.old id.now pair moment partitions.now)) }
         ensures err { OnErr result (self.new ≡ self.old) }
     {
         if partitions.is_empty() {
@@ -148,14 +167,17 @@ impl Coordinator {
         policy: &Policy,
         permit: Permit,
         id: &Text,
-        pair: Pair,
+        pair: ProducerIdAndEpoch,
         moment: u64,
         group: &Text,
     ) -> (Spent, Result<ErrorCode, AllocError>)
         requires { MayWrite policy.now permit id.now }
         ensures spent { result.0 ≡ permit.question }
-        ensures ok { OnOk result.1 (self.new ≡ turned self.old (add_group self.old id.now pair moment group.now)) }
-        ensures code { IfOk result.1 (λ code. code ≡ turn_code (add_group self.old id.now pair moment group.now)) }
+        ensures ok { OnOk result.1
+            (self.new ≡ apply_transition self.old
+            (add_group self.old id.now pair moment group.now)) }
+        ensures code { IfOk result.1
+            (λ code. code ≡ transition_code (add_group self.old id.now pair moment group.now)) }
         ensures err { OnErr result.1 (self.new ≡ self.old) }
     {
         (
@@ -167,12 +189,15 @@ impl Coordinator {
     fn take_group(
         &mut self,
         id: &Text,
-        pair: Pair,
+        pair: ProducerIdAndEpoch,
         moment: u64,
         group: &Text,
     ) -> Result<ErrorCode, AllocError>
-        ensures ok { OnOk result (self.new ≡ turned self.old (add_group self.old id.now pair moment group.now)) }
-        ensures code { IfOk result (λ code. code ≡ turn_code (add_group self.old id.now pair moment group.now)) }
+        ensures ok { OnOk result
+            (self.new ≡ apply_transition self.old
+            (add_group self.old id.now pair moment group.now)) }
+        ensures code { IfOk result
+            (λ code. code ≡ transition_code (add_group self.old id.now pair moment group.now)) }
         ensures err { OnErr result (self.new ≡ self.old) }
     {
         if id.is_empty() {
@@ -189,13 +214,16 @@ impl Coordinator {
         permit: Permit,
         form: EndForm,
         id: &Text,
-        pair: Pair,
-        outcome: Outcome,
-    ) -> (Spent, Result<PairAnswer, AllocError>)
+        pair: ProducerIdAndEpoch,
+        outcome: TransactionResult,
+    ) -> (Spent, Result<ProducerIdAnswer, AllocError>)
         requires { MayWrite policy.now permit id.now }
         ensures spent { result.0 ≡ permit.question }
-        ensures ok { OnOk result.1 (self.new ≡ turned self.old (end self.old form id.now pair outcome)) }
-        ensures answer { IfOk result.1 (λ answer. answer ≡ turn_answer self.old id.now (end self.old form id.now pair outcome)) }
+        ensures ok { OnOk result.1
+            (self.new ≡ apply_transition self.old (end self.old form id.now pair outcome)) }
+        ensures answer { IfOk result.1
+            (λ answer. answer ≡ transition_answer self.old id.now
+            (end self.old form id.now pair outcome)) }
         ensures err { OnErr result.1 (self.new ≡ self.old) }
     {
         let spent = permit.spend(policy);
@@ -205,7 +233,7 @@ impl Coordinator {
     /// Gives a producer id out to no transactional id (InitProducerId with the null id).
     pub fn fresh(&mut self) -> Result<i64, AllocError>
         ensures ok { OnOk result (self.new ≡ given_free self.old) }
-        ensures id { IfOk result (λ producer. producer ≡ fresh self.old) }
+        ensures id { IfOk result (λ producer. producer ≡ fresh_producer_id self.old) }
         ensures err { OnErr result (self.new ≡ self.old) }
     {
         let next = self.next_id();
@@ -214,23 +242,23 @@ impl Coordinator {
     }
 
     /// To whom a producer id was given. A negative one was never given out. It takes no memory.
-    pub fn given(&self, producer: i64) -> Given
+    pub fn given(&self, producer: i64) -> ProducerIdOwner
         ensures { result ≡ given_by (owner self.now producer) }
     {
         let Ok(place) = usize::try_from(producer) else {
-            return Given::Never;
+            return ProducerIdOwner::Never;
         };
         match self.given.get(place) {
-            None => Given::Never,
-            Some(None) => Given::Free,
-            Some(Some(_)) => Given::Owned,
+            None => ProducerIdOwner::Never,
+            Some(None) => ProducerIdOwner::Free,
+            Some(Some(_)) => ProducerIdOwner::Owned,
         }
     }
 
     /// Whether a transactional batch of the pair may be written to a partition, or offsets of it staged for a group: no
     /// error, or the code of the refusal. It takes no memory.
-    pub fn holds(&self, id: &Text, pair: Pair, target: &Target) -> ErrorCode
-        ensures { result ≡ holds self.now id.now pair target.now }
+    pub fn holds(&self, id: &Text, pair: ProducerIdAndEpoch, target: &Target) -> ErrorCode
+        ensures { result ≡ holding_code self.now id.now pair target.now }
     {
         let Some(transaction) = self.records.get(id) else {
             return ErrorCode::InvalidProducerIdMapping;
@@ -241,7 +269,7 @@ impl Coordinator {
         if transaction.pair.epoch != pair.epoch || !is_usable(target, pair.epoch) {
             return ErrorCode::InvalidProducerEpoch;
         }
-        if transaction.phase.is_ongoing() && transaction.has_target(target) {
+        if transaction.state.is_ongoing() && transaction.has_target(target) {
             ErrorCode::None
         } else {
             ErrorCode::InvalidTxnState
@@ -266,8 +294,8 @@ impl Coordinator {
         self.records.as_slice()
     }
 
-    /// The front marker, if one is owed. It takes no memory.
-    pub fn front(&self) -> Option<&OwedMarker>
+    /// The front marker, if one is pending. It takes no memory.
+    pub fn front(&self) -> Option<&PendingMarker>
         ensures { option_copied result ≡ next_warrant self.now }
     {
         match self.owed.front() {
@@ -276,14 +304,14 @@ impl Coordinator {
         }
     }
 
-    /// How many markers are owed. It takes no memory.
+    /// How many markers are pending. It takes no memory.
     pub fn owed(&self) -> usize
         ensures { result ≡ length self.now.warrants }
     {
         self.owed.len()
     }
 
-    /// A warrant for the front marker, if one is owed. The marker stays owed until it is written. It takes no memory.
+    /// A warrant for the front marker, if one is pending. The marker stays pending until it is written. It takes no memory.
     pub fn next_warrant(&self) -> Option<Warrant>
         ensures { result ≡ next_warrant self.now }
     {
@@ -294,7 +322,7 @@ impl Coordinator {
     }
 
     /// What the warrant is for: what is to be written, and where. It takes no memory.
-    pub fn marker(&self, warrant: &Warrant) -> &OwedMarker
+    pub fn marker(&self, warrant: &Warrant) -> &PendingMarker
         requires { next_warrant self.now ≡ Some warrant.now }
         ensures { result.now ≡ warrant.now }
     {
@@ -304,7 +332,7 @@ impl Coordinator {
     /// The front marker was written. The last one of an id completes its transaction. It takes no memory.
     pub fn written(&mut self, warrant: Warrant)
         requires { next_warrant self.old ≡ Some warrant }
-        ensures { self.new ≡ written self.old }
+        ensures { self.new ≡ with_front_written self.old }
     {
         warrant.end();
         let front = self.owed.pop();
@@ -314,7 +342,7 @@ impl Coordinator {
         }
     }
 
-    /// The front marker couldn't be written, for lack of memory: it stays owed.
+    /// The front marker couldn't be written, for lack of memory: it stays pending.
     pub fn give_back(&self, warrant: Warrant)
         requires { next_warrant self.now ≡ Some warrant }
     {
@@ -324,7 +352,7 @@ impl Coordinator {
 
 impl Coordinator {
     fn next_id(&self) -> i64
-        ensures { result ≡ fresh self.now }
+        ensures { result ≡ fresh_producer_id self.now }
     {
         self.given.len() as i64
     }
@@ -334,15 +362,18 @@ impl Coordinator {
         alloc: Global,
         form: EndForm,
         id: &Text,
-        pair: Pair,
-        outcome: Outcome,
-    ) -> Result<PairAnswer, AllocError>
-        ensures ok { OnOk result (self.new ≡ turned self.old (end self.old form id.now pair outcome)) }
-        ensures answer { IfOk result (λ answer. answer ≡ turn_answer self.old id.now (end self.old form id.now pair outcome)) }
+        pair: ProducerIdAndEpoch,
+        outcome: TransactionResult,
+    ) -> Result<ProducerIdAnswer, AllocError>
+        ensures ok { OnOk result
+            (self.new ≡ apply_transition self.old (end self.old form id.now pair outcome)) }
+        ensures answer { IfOk result
+            (λ answer. answer ≡ transition_answer self.old id.now
+            (end self.old form id.now pair outcome)) }
         ensures err { OnErr result (self.new ≡ self.old) }
     {
         if id.is_empty() {
-            return Ok(PairAnswer::refused(ErrorCode::InvalidRequest));
+            return Ok(ProducerIdAnswer::refused(ErrorCode::InvalidRequest));
         }
         let (given, owed) = (&mut self.given, &mut self.owed);
         self.records

@@ -2,27 +2,27 @@
 
 ghost use Rattle.std.specs.Prelude.{◌≡◌};
 
+use crate::marker::PendingMarker;
 use std::marker::Model;
 use std::snapshot::Snapshot;
-use transactions::OwedMarker;
 
 /// The right to write the front marker, once; seen as that marker. It keeps nothing of it at run time, so it takes no memory: the
 /// coordinator lends what is to be written (`Coordinator::marker`). Neither `Clone` nor `Drop`: it goes back to the coordinator,
 /// its marker written or not.
 pub struct Warrant {
-    marker: Snapshot<OwedMarker>,
+    marker: Snapshot<PendingMarker>,
 }
 
 impl Model for Warrant {
-    ghost use Rattle.transactions.specs.declared.marker.OwedMarker.{OwedMarker};
+    ghost use Rattle.txn_coordinator.specs.declared.marker.PendingMarker.{PendingMarker};
 
-    ghost Value = { OwedMarker };
+    ghost Value = { PendingMarker };
 
     ghost view = { λ w. w.marker.value };
 }
 
 impl Warrant {
-    pub(crate) fn of(front: &OwedMarker) -> Warrant
+    pub(crate) fn of(front: &PendingMarker) -> Warrant
         ensures { result ≡ front.now }
     {
         Warrant {

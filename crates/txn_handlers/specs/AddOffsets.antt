@@ -6,12 +6,12 @@ use Rattle.wire_types.specs.declared.error_code.ErrorCode.{ErrorCode}
 use Rattle.msg_txn.specs.declared.add_offsets.AddOffsetsToTxnRequest.{AddOffsetsToTxnRequest}
 use Rattle.msg_txn.specs.declared.add_offsets.AddOffsetsToTxnReply.{AddOffsetsToTxnReply}
 use Rattle.msg_admin.specs.declared.reply.Reply.TheVariants as replies
-use Rattle.transactions.specs.Turn.{Turn}
-use Rattle.transactions.specs.Coordinator.{CoordinatorValue, turned, turn_code}
-use Rattle.transactions.specs.Adding.{add_group}
+use Rattle.txn_coordinator.specs.Transition.{Transition}
+use Rattle.txn_coordinator.specs.Coordinator.{CoordinatorValue, apply_transition, transition_code}
+use Rattle.txn_coordinator.specs.Adding.{add_group}
 use Rattle.broker_world.specs.World.{World}
-use Rattle.broker_world.specs.Outcome.{Outcome}
-use Rattle.broker_world.specs.Whole.{Served, whole}
+use Rattle.broker_world.specs.HandlerResult.{HandlerResult}
+use Rattle.broker_world.specs.Whole.{Served, whole_outcome}
 use Rattle.broker_world.specs.Questions.{id_question}
 use Rattle.broker_world.specs.Questions.{read_question}
 
@@ -23,14 +23,14 @@ abbrev pub add_offsets_reply : ErrorCode → AddOffsetsToTxnReply
 add_offsets_reply code = record { throttle = pos 0; error = code }
 
 -- what the coordinator makes of it
-abbrev pub add_offsets_turn : CoordinatorValue → ℕ → AddOffsetsToTxnRequest → Turn
-add_offsets_turn c moment r = add_group c r.transactional_id (record { producer = r.producer; epoch = r.epoch }) moment r.group
+abbrev pub add_offsets_transition : CoordinatorValue → ℕ → AddOffsetsToTxnRequest → Transition
+add_offsets_transition c moment r = add_group c r.transactional_id (record { producer = r.producer; epoch = r.epoch }) moment r.group
 
-abbrev pub offsets_added : World → AddOffsetsToTxnRequest → Served
-offsets_added w r = record {
-  world = record w { coordinator = turned w.coordinator (add_offsets_turn w.coordinator w.moment r) };
-  reply = replies.AddOffsetsToTxn (add_offsets_reply (turn_code (add_offsets_turn w.coordinator w.moment r)));
+abbrev pub served_add_offsets : World → AddOffsetsToTxnRequest → Served
+served_add_offsets w r = record {
+  world = record w { coordinator = apply_transition w.coordinator (add_offsets_transition w.coordinator w.moment r) };
+  reply = replies.AddOffsetsToTxn (add_offsets_reply (transition_code (add_offsets_transition w.coordinator w.moment r)));
 }
 
-abbrev pub add_offsets_outcome : World → Caller → AddOffsetsToTxnRequest → Outcome
-add_offsets_outcome w caller r = whole w (add_offsets_questions caller r.transactional_id r.group) (λ code. replies.AddOffsetsToTxn (add_offsets_reply code)) (offsets_added w r)
+abbrev pub add_offsets_outcome : World → Caller → AddOffsetsToTxnRequest → HandlerResult
+add_offsets_outcome w caller r = whole_outcome w (add_offsets_questions caller r.transactional_id r.group) (λ code. replies.AddOffsetsToTxn (add_offsets_reply code)) (served_add_offsets w r)

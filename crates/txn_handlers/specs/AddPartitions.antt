@@ -7,7 +7,7 @@ use Rattle.acl_binding.specs.declared.question.Caller.{Caller}
 use Rattle.acl_binding.specs.declared.question.Question.{Question}
 use Rattle.acl_binding.specs.declared.words.Kind.TheVariants as kinds
 use Rattle.acl_binding.specs.declared.words.Operation.TheVariants as operations
-use Rattle.acl_binding.specs.Verdict.{asked}
+use Rattle.acl_binding.specs.Verdict.{question_of}
 use Rattle.authorizer.specs.Asking.{Rules}
 use Rattle.wire_types.specs.declared.error_code.ErrorCode.{ErrorCode}
 use Rattle.wire_types.specs.declared.error_code.ErrorCode.TheVariants as codes
@@ -19,12 +19,12 @@ use Rattle.msg_admin.specs.declared.reply.Reply.TheVariants as replies
 use Rattle.walk.specs.Rule.{PartRule}
 use Rattle.walk.specs.Walk.{plain_topics, answers, refusals, asked_in}
 use Rattle.walk.specs.Woven.{has_any}
-use Rattle.transactions.specs.declared.target.TopicPartition.{TopicPartition}
-use Rattle.transactions.specs.Turn.{Turn}
-use Rattle.transactions.specs.Coordinator.{CoordinatorValue, turned, turn_code}
-use Rattle.transactions.specs.Adding.{add_partitions}
+use Rattle.txn_coordinator.specs.declared.target.TopicPartition.{TopicPartition}
+use Rattle.txn_coordinator.specs.Transition.{Transition}
+use Rattle.txn_coordinator.specs.Coordinator.{CoordinatorValue, apply_transition, transition_code}
+use Rattle.txn_coordinator.specs.Adding.{add_partitions}
 use Rattle.broker_world.specs.World.{World, TopicValue, LogValue, rules_of}
-use Rattle.broker_world.specs.Outcome.{Outcome}
+use Rattle.broker_world.specs.HandlerResult.{HandlerResult}
 use Rattle.broker_world.specs.Logs.{log_at}
 use Rattle.broker_world.specs.Questions.{id_question}
 
@@ -32,7 +32,7 @@ use Rattle.broker_world.specs.Questions.{id_question}
 
 -- to write with the transactional id, and then to write the topic
 abbrev pub add_questions : Caller → List ℕ → List ℕ → List Question
-add_questions caller id name = id_question caller id ∷ asked caller operations.Write kinds.Topic name ∷ []
+add_questions caller id name = id_question caller id ∷ question_of caller operations.Write kinds.Topic name ∷ []
 
 abbrev pub added_partition : ErrorCode → ℤ → AddedPartition
 added_partition code index = record { index = index; error = code }
@@ -67,8 +67,8 @@ is_cut caller id topics rules ts = has_any (refusals (cut_rule caller id topics)
 
 -- ---- any other: one code for all
 
-abbrev pub told_rule : ErrorCode → PartRule ℤ AddedPartition (Unit {0})
-told_rule code = record {
+abbrev pub code_rule : ErrorCode → PartRule ℤ AddedPartition (Unit {0})
+code_rule code = record {
   questions = λ name index. [];
   plain = λ w name index. added_partition code index;
   after = λ w name index. w;
@@ -79,8 +79,8 @@ told_rule code = record {
 }
 
 -- who is told so has asked for each of them
-abbrev pub told_for : Caller → List ℕ → ErrorCode → PartRule ℤ AddedPartition (Unit {0})
-told_for caller id code = record (told_rule code) { questions = λ name index. add_questions caller id name }
+abbrev pub code_rule_for : Caller → List ℕ → ErrorCode → PartRule ℤ AddedPartition (Unit {0})
+code_rule_for caller id code = record (code_rule code) { questions = λ name index. add_questions caller id name }
 
 -- the parts for which permits are spent: none of a request that is cut, and else all
 abbrev pub added_parts : World → Caller → AddPartitionsToTxnRequest → List (List Question)
@@ -94,27 +94,27 @@ abbrev pub partitions_of : List (Topic ℤ) → List TopicPartition
 partitions_of ts = flat_map (λ (t : Topic ℤ). partitions_in t.name t.partitions) ts
 
 -- what the coordinator makes of it
-abbrev pub add_turn : CoordinatorValue → ℕ → AddPartitionsToTxnRequest → Turn
-add_turn c moment r = add_partitions c r.transactional_id (record { producer = r.producer; epoch = r.epoch }) moment (partitions_of r.topics)
+abbrev pub add_transition : CoordinatorValue → ℕ → AddPartitionsToTxnRequest → Transition
+add_transition c moment r = add_partitions c r.transactional_id (record { producer = r.producer; epoch = r.epoch }) moment (partitions_of r.topics)
 
 -- ---- the request
 
 abbrev pub add_reply : List (Topic AddedPartition) → Reply
 add_reply topics = replies.AddPartitionsToTxn (record { throttle = pos 0; topics = topics })
 
-abbrev pub cut_outcome : World → Caller → AddPartitionsToTxnRequest → Outcome
+abbrev pub cut_outcome : World → Caller → AddPartitionsToTxnRequest → HandlerResult
 cut_outcome w caller r = record {
   world = w;
   reply = add_reply (answers (cut_rule caller r.transactional_id w.topics) (rules_of w) tt r.topics);
   refusals = refusals (cut_rule caller r.transactional_id w.topics) (rules_of w) r.topics;
 }
 
-abbrev pub added_outcome : World → AddPartitionsToTxnRequest → Outcome
+abbrev pub added_outcome : World → AddPartitionsToTxnRequest → HandlerResult
 added_outcome w r = record {
-  world = record w { coordinator = turned w.coordinator (add_turn w.coordinator w.moment r) };
-  reply = add_reply (plain_topics (told_rule (turn_code (add_turn w.coordinator w.moment r))) tt r.topics);
+  world = record w { coordinator = apply_transition w.coordinator (add_transition w.coordinator w.moment r) };
+  reply = add_reply (plain_topics (code_rule (transition_code (add_transition w.coordinator w.moment r))) tt r.topics);
   refusals = [];
 }
 
-abbrev pub add_partitions_outcome : World → Caller → AddPartitionsToTxnRequest → Outcome
+abbrev pub add_partitions_outcome : World → Caller → AddPartitionsToTxnRequest → HandlerResult
 add_partitions_outcome w caller r = if is_cut caller r.transactional_id w.topics (rules_of w) r.topics then cut_outcome w caller r else added_outcome w r

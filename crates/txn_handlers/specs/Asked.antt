@@ -5,7 +5,7 @@ use Rattle.acl_binding.specs.declared.question.Question.{Question}
 use Rattle.acl_binding.specs.declared.words.Kind.TheVariants.{TransactionalId}
 use Rattle.acl_binding.specs.declared.words.Operation.TheVariants.{Write}
 use Rattle.authorizer.specs.Policy.{PolicyValue}
-use Rattle.authorizer.specs.Settled.{SettledValue, settled}
+use Rattle.authorizer.specs.Settled.{SettledValue, settled_value}
 use Rattle.broker_world.specs.Questions.{id_question, read_question}
 
 -- to write with this transactional id
@@ -16,5 +16,5 @@ pub record AsksForId (question : Question) (id : List ℕ) : Type 0 where
 
 -- of a TxnOffsetCommit: to write with the transactional id, and to read the group
 pub record AreAsked (policy : PolicyValue) (caller : Caller) (id group : List ℕ) (id_asked group_asked : SettledValue) : Type 0 where
-  pub written : id_asked ≡ settled policy (id_question caller id)
-  pub read : group_asked ≡ settled policy (read_question caller group)
+  pub written : id_asked ≡ settled_value policy (id_question caller id)
+  pub read : group_asked ≡ settled_value policy (read_question caller group)

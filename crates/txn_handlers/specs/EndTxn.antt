@@ -7,21 +7,21 @@ use Rattle.msg_txn.specs.declared.end_txn.EndTxnRequest.{EndTxnRequest}
 use Rattle.msg_txn.specs.declared.end_txn.EndTxnRequest.TheVariants as versions
 use Rattle.msg_txn.specs.declared.end_txn.EndTxnReply.{EndTxnReply}
 use Rattle.msg_txn.specs.declared.end_txn.EndTxnReply.TheVariants as told
-use Rattle.msg_txn.specs.EndTxn.{asked}
+use Rattle.msg_txn.specs.EndTxn.{end_txn_of}
 use Rattle.msg_admin.specs.declared.reply.Reply.TheVariants as replies
-use Rattle.record_batch.specs.declared.outcome.Outcome.{Outcome as Ending}
-use Rattle.record_batch.specs.declared.outcome.Outcome.TheVariants.{Commit, Abort}
-use Rattle.transactions.specs.declared.ending.EndForm.{EndForm}
-use Rattle.transactions.specs.declared.ending.EndForm.TheVariants.{Plain, Fencing, Raising}
-use Rattle.transactions.specs.declared.pair.Pair.{Pair}
-use Rattle.transactions.specs.declared.pair.PairAnswer.{PairAnswer}
-use Rattle.transactions.specs.Turn.{Turn}
-use Rattle.transactions.specs.Words.{no_pair}
-use Rattle.transactions.specs.Coordinator.{CoordinatorValue, turned, turn_answer}
-use Rattle.transactions.specs.EndTxn.{end}
+use Rattle.record_batch.specs.declared.transaction_result.TransactionResult.{TransactionResult}
+use Rattle.record_batch.specs.declared.transaction_result.TransactionResult.TheVariants.{Commit, Abort}
+use Rattle.txn_coordinator.specs.declared.ending.EndForm.{EndForm}
+use Rattle.txn_coordinator.specs.declared.ending.EndForm.TheVariants.{Plain, Fencing, Raising}
+use Rattle.txn_coordinator.specs.declared.producer_id.ProducerIdAndEpoch.{ProducerIdAndEpoch}
+use Rattle.txn_coordinator.specs.declared.producer_id.ProducerIdAnswer.{ProducerIdAnswer}
+use Rattle.txn_coordinator.specs.Transition.{Transition}
+use Rattle.txn_coordinator.specs.Words.{no_producer}
+use Rattle.txn_coordinator.specs.Coordinator.{CoordinatorValue, apply_transition, transition_answer}
+use Rattle.txn_coordinator.specs.EndTxn.{end}
 use Rattle.broker_world.specs.World.{World}
-use Rattle.broker_world.specs.Outcome.{Outcome}
-use Rattle.broker_world.specs.Whole.{Served, whole}
+use Rattle.broker_world.specs.HandlerResult.{HandlerResult}
+use Rattle.broker_world.specs.Whole.{Served, whole_outcome}
 use Rattle.broker_world.specs.Questions.{id_question}
 
 -- ---- what is asked
@@ -36,16 +36,16 @@ form_of (versions.Version4 r) = Fencing
 form_of (versions.Version5 r) = Raising
 
 abbrev pub ending_id : EndTxnRequest → List ℕ
-ending_id r = (asked r).transactional_id
+ending_id r = (end_txn_of r).transactional_id
 
-abbrev pub ending_pair : EndTxnRequest → Pair
-ending_pair r = record { producer = (asked r).producer; epoch = (asked r).epoch }
+abbrev pub ending_id_and_epoch : EndTxnRequest → ProducerIdAndEpoch
+ending_id_and_epoch r = record { producer = (end_txn_of r).producer; epoch = (end_txn_of r).epoch }
 
-abbrev pub ending : Bool → Ending
-ending committed = if committed then Commit else Abort
+abbrev pub ending_of : Bool → TransactionResult
+ending_of committed = if committed then Commit else Abort
 
-abbrev pub ending_outcome : EndTxnRequest → Ending
-ending_outcome r = ending (asked r).committed
+abbrev pub ending_outcome : EndTxnRequest → TransactionResult
+ending_outcome r = ending_of (end_txn_of r).committed
 
 -- to write with the transactional id
 abbrev pub end_questions : Caller → EndTxnRequest → List Question
@@ -54,7 +54,7 @@ end_questions caller r = id_question caller (ending_id r) ∷ []
 -- ---- what is answered
 
 -- in the version of the request; version 5 tells the pair too
-abbrev pub end_reply : EndTxnRequest → PairAnswer → EndTxnReply
+abbrev pub end_reply : EndTxnRequest → ProducerIdAnswer → EndTxnReply
 end_reply (versions.Version0 r) a = told.Version0 (record { throttle = pos 0; error = a.code })
 end_reply (versions.Version1 r) a = told.Version1 (record { throttle = pos 0; error = a.code })
 end_reply (versions.Version2 r) a = told.Version2 (record { throttle = pos 0; error = a.code })
@@ -64,17 +64,17 @@ end_reply (versions.Version5 r) a = told.Version5 (record { throttle = pos 0; er
 
 -- a code without a pair
 abbrev pub end_error : EndTxnRequest → ErrorCode → EndTxnReply
-end_error r code = end_reply r (record { code = code; pair = no_pair })
+end_error r code = end_reply r (record { code = code; pair = no_producer })
 
 -- what the coordinator makes of it
-abbrev pub end_turn : CoordinatorValue → EndTxnRequest → Turn
-end_turn c r = end c (form_of r) (ending_id r) (ending_pair r) (ending_outcome r)
+abbrev pub end_transition : CoordinatorValue → EndTxnRequest → Transition
+end_transition c r = end c (form_of r) (ending_id r) (ending_id_and_epoch r) (ending_outcome r)
 
-abbrev pub ended : World → EndTxnRequest → Served
-ended w r = record {
-  world = record w { coordinator = turned w.coordinator (end_turn w.coordinator r) };
-  reply = replies.EndTxn (end_reply r (turn_answer w.coordinator (ending_id r) (end_turn w.coordinator r)));
+abbrev pub served_end : World → EndTxnRequest → Served
+served_end w r = record {
+  world = record w { coordinator = apply_transition w.coordinator (end_transition w.coordinator r) };
+  reply = replies.EndTxn (end_reply r (transition_answer w.coordinator (ending_id r) (end_transition w.coordinator r)));
 }
 
-abbrev pub end_txn_outcome : World → Caller → EndTxnRequest → Outcome
-end_txn_outcome w caller r = whole w (end_questions caller r) (λ code. replies.EndTxn (end_error r code)) (ended w r)
+abbrev pub end_txn_outcome : World → Caller → EndTxnRequest → HandlerResult
+end_txn_outcome w caller r = whole_outcome w (end_questions caller r) (λ code. replies.EndTxn (end_error r code)) (served_end w r)

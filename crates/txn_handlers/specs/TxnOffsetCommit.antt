@@ -6,7 +6,7 @@ use Rattle.acl_binding.specs.declared.question.Caller.{Caller}
 use Rattle.acl_binding.specs.declared.question.Question.{Question}
 use Rattle.acl_binding.specs.declared.words.Kind.TheVariants as kinds
 use Rattle.acl_binding.specs.declared.words.Operation.TheVariants as operations
-use Rattle.acl_binding.specs.Verdict.{asked}
+use Rattle.acl_binding.specs.Verdict.{question_of}
 use Rattle.wire_types.specs.declared.error_code.ErrorCode.{ErrorCode}
 use Rattle.wire_types.specs.declared.error_code.ErrorCode.TheVariants as codes
 use Rattle.msg_txn.specs.declared.txn_offset_commit.TxnOffsetCommitRequest.{TxnOffsetCommitRequest}
@@ -15,18 +15,18 @@ use Rattle.msg_txn.specs.declared.txn_offset_commit.StagedOffset.{StagedOffset}
 use Rattle.msg_admin.specs.declared.reply.Reply.TheVariants as replies
 use Rattle.walk.specs.Rule.{PartRule}
 use Rattle.walk.specs.Walk.{world_after, answers, refusals}
-use Rattle.transactions.specs.declared.pair.Pair.{Pair}
-use Rattle.transactions.specs.declared.target.Target.TheVariants.{Group as group_target}
-use Rattle.transactions.specs.Coordinator.{CoordinatorValue}
-use Rattle.transactions.specs.Holding.{holds}
-use Rattle.offset_tables.specs.declared.event.PartitionOffset.{PartitionOffset}
-use Rattle.offset_tables.specs.declared.group.Group.{Group}
-use Rattle.offset_tables.specs.Turn.{Turn, Stays, answered}
-use Rattle.offset_tables.specs.Groups.{turned, stage}
+use Rattle.txn_coordinator.specs.declared.producer_id.ProducerIdAndEpoch.{ProducerIdAndEpoch}
+use Rattle.txn_coordinator.specs.declared.target.Target.TheVariants.{Group as group_target}
+use Rattle.txn_coordinator.specs.Coordinator.{CoordinatorValue}
+use Rattle.txn_coordinator.specs.Holding.{holding_code}
+use Rattle.group_offsets.specs.declared.event.PartitionOffset.{PartitionOffset}
+use Rattle.group_offsets.specs.declared.group.Group.{Group}
+use Rattle.group_offsets.specs.GroupTransition.{GroupTransition, Stays, answer_of}
+use Rattle.group_offsets.specs.Groups.{groups_after, stage}
 use Rattle.broker_world.specs.World.{World, TopicValue, LogValue, rules_of}
-use Rattle.broker_world.specs.Outcome.{Outcome}
+use Rattle.broker_world.specs.HandlerResult.{HandlerResult}
 use Rattle.broker_world.specs.Logs.{log_at}
-use Rattle.broker_world.specs.Codes.{refused_by}
+use Rattle.broker_world.specs.Codes.{code_unless_none}
 use Rattle.broker_world.specs.Questions.{id_question}
 use Rattle.broker_world.specs.Questions.{read_question}
 use Rattle.broker_world.specs.Codes.{code_in}
@@ -34,17 +34,17 @@ use Rattle.broker_world.specs.Codes.{code_in}
 -- whose transaction commits for which group, and by which member
 pub record Staging : Type 0 where
   pub id : List ℕ
-  pub pair : Pair
+  pub pair : ProducerIdAndEpoch
   pub group : List ℕ
   pub generation : ℤ
   pub member : List ℕ
 
-abbrev pub staging : TxnOffsetCommitRequest → Staging
-staging r = record { id = r.transactional_id; pair = record { producer = r.producer; epoch = r.epoch }; group = r.group; generation = r.generation; member = r.member }
+abbrev pub staging_of : TxnOffsetCommitRequest → Staging
+staging_of r = record { id = r.transactional_id; pair = record { producer = r.producer; epoch = r.epoch }; group = r.group; generation = r.generation; member = r.member }
 
 -- to write with the transactional id, to read the group, and then to read the topic
 abbrev pub stage_questions : Caller → Staging → List ℕ → List Question
-stage_questions caller s name = id_question caller s.id ∷ read_question caller s.group ∷ asked caller operations.Read kinds.Topic name ∷ []
+stage_questions caller s name = id_question caller s.id ∷ read_question caller s.group ∷ question_of caller operations.Read kinds.Topic name ∷ []
 
 -- null metadata is kept as the empty text
 abbrev pub offset_staged : List ℕ → OffsetToStage → PartitionOffset
@@ -56,27 +56,27 @@ staged_code code p = record { index = p.index; error = code }
 -- ---- a partition, permission aside
 
 -- the offset waits for the transaction's end, if the transaction takes the group in and the member may commit for it
-abbrev pub held_turn : Option ErrorCode → Staging → List Group → PartitionOffset → Turn (Unit {0})
-held_turn (Some code) s gs o = Stays code
-held_turn None s gs o = stage gs s.group s.pair.producer s.generation s.member o
+abbrev pub held_transition : Option ErrorCode → Staging → List Group → PartitionOffset → GroupTransition (Unit {0})
+held_transition (Some code) s gs o = Stays code
+held_transition None s gs o = stage gs s.group s.pair.producer s.generation s.member o
 
 -- nothing is staged for a partition that isn't there
-abbrev pub turn_by : Option ErrorCode → Staging → List Group → PartitionOffset → Option LogValue → Turn (Unit {0})
-turn_by refusal s gs o None = Stays codes.UnknownTopicOrPartition
-turn_by refusal s gs o (Some log) = held_turn refusal s gs o
+abbrev pub transition_by : Option ErrorCode → Staging → List Group → PartitionOffset → Option LogValue → GroupTransition (Unit {0})
+transition_by refusal s gs o None = Stays codes.UnknownTopicOrPartition
+transition_by refusal s gs o (Some log) = held_transition refusal s gs o
 
 -- why the transaction can't commit for the group, if it can't
 abbrev pub staging_refusal : CoordinatorValue → Staging → Option ErrorCode
-staging_refusal c s = refused_by (holds c s.id s.pair (group_target s.group))
+staging_refusal c s = code_unless_none (holding_code c s.id s.pair (group_target s.group))
 
-abbrev pub stage_turn : Option ErrorCode → List TopicValue → Staging → List Group → List ℕ → OffsetToStage → Turn (Unit {0})
-stage_turn refusal topics s gs name p = turn_by refusal s gs (offset_staged name p) (log_at topics name p.index)
+abbrev pub stage_transition : Option ErrorCode → List TopicValue → Staging → List Group → List ℕ → OffsetToStage → GroupTransition (Unit {0})
+stage_transition refusal topics s gs name p = transition_by refusal s gs (offset_staged name p) (log_at topics name p.index)
 
 abbrev pub stage_rule : Caller → Staging → Option ErrorCode → List TopicValue → PartRule OffsetToStage StagedOffset (List Group)
 stage_rule caller s refusal topics = record {
   questions = λ name p. stage_questions caller s name;
-  plain = λ gs name p. staged_code (code_in (answered (stage_turn refusal topics s gs name p))) p;
-  after = λ gs name p. turned gs (stage_turn refusal topics s gs name p);
+  plain = λ gs name p. staged_code (code_in (answer_of (stage_transition refusal topics s gs name p))) p;
+  after = λ gs name p. groups_after gs (stage_transition refusal topics s gs name p);
   refused = λ code name p. staged_code code p;
   weight = λ p. 0;
   room = λ gs. 0;
@@ -86,9 +86,9 @@ stage_rule caller s refusal topics = record {
 -- ---- the request
 
 abbrev pub staging_rule : World → Caller → TxnOffsetCommitRequest → PartRule OffsetToStage StagedOffset (List Group)
-staging_rule w caller r = stage_rule caller (staging r) (staging_refusal w.coordinator (staging r)) w.topics
+staging_rule w caller r = stage_rule caller (staging_of r) (staging_refusal w.coordinator (staging_of r)) w.topics
 
-abbrev pub txn_offset_commit_outcome : World → Caller → TxnOffsetCommitRequest → Outcome
+abbrev pub txn_offset_commit_outcome : World → Caller → TxnOffsetCommitRequest → HandlerResult
 txn_offset_commit_outcome w caller r = record {
   world = record w { groups = world_after (staging_rule w caller r) (rules_of w) w.groups r.topics };
   reply = replies.TxnOffsetCommit (record { throttle = pos 0; topics = answers (staging_rule w caller r) (rules_of w) w.groups r.topics });

@@ -4,17 +4,16 @@ ghost use Rattle.std.specs.Prelude.{◌≡◌, IfOk, OnOk};
 ghost use Rattle.authorizer.specs.Asking.{part_paid};
 ghost use Rattle.broker_world.specs.World.{rules_of};
 ghost use Rattle.txn_coordinator.specs.Permission.{MayWrite as MayWriteId};
-ghost use Rattle.transactions.specs.Coordinator.{turned, turn_code};
-ghost use Rattle.txn_handlers.specs.AddOffsets.{add_offsets_questions, add_offsets_reply, add_offsets_turn, add_offsets_outcome};
+ghost use Rattle.txn_coordinator.specs.Coordinator.{apply_transition, transition_code};
+ghost use Rattle.txn_handlers.specs.AddOffsets.{add_offsets_questions, add_offsets_reply, add_offsets_transition, add_offsets_outcome};
 
 use acl_binding::Caller;
 use authorizer::{Paid, Permit, Policy, Spent, TwoPermits, ask_two};
-use broker_world::{Outcome, State, id_question, read_question, refused_whole, served_whole};
+use broker_world::{HandlerResult, State, id_question, read_question, refused_whole, served_whole};
 use msg_admin::Reply;
 use msg_txn::{AddOffsetsToTxnReply, AddOffsetsToTxnRequest};
 use std::alloc::{AllocError, Global};
-use transactions::Pair;
-use txn_coordinator::Coordinator;
+use txn_coordinator::{Coordinator, ProducerIdAndEpoch};
 use walk::refusal_code;
 use wire_types::ErrorCode;
 
@@ -34,10 +33,13 @@ fn add_by(
 ) -> Result<(Spent, ErrorCode), AllocError>
     requires { MayWriteId policy.now permit request.now.transactional_id }
     ensures spent { IfOk result (λ r. r.0 ≡ permit.question) }
-    ensures coordinator { OnOk result (coordinator.new ≡ turned coordinator.old (add_offsets_turn coordinator.old moment request.now)) }
-    ensures code { IfOk result (λ r. r.1 ≡ turn_code (add_offsets_turn coordinator.old moment request.now)) }
+    ensures coordinator { OnOk result
+        (coordinator.new ≡ apply_transition coordinator.old
+        (add_offsets_transition coordinator.old moment request.now)) }
+    ensures code { IfOk result
+        (λ r. r.1 ≡ transition_code (add_offsets_transition coordinator.old moment request.now)) }
 {
-    let pair = Pair {
+    let pair = ProducerIdAndEpoch {
         producer: request.producer,
         epoch: request.epoch,
     };
@@ -53,11 +55,16 @@ pub fn answer_add_offsets(
     state: &mut State,
     caller: &Caller,
     request: &AddOffsetsToTxnRequest,
-) -> Result<Outcome, AllocError>
-    ensures world { OnOk result (state.new ≡ (add_offsets_outcome state.old caller.now request.now).world) }
-    ensures reply { IfOk result (λ o. o.reply ≡ (add_offsets_outcome state.old caller.now request.now).reply) }
-    ensures refusals { IfOk result (λ o. o.refusals ≡ (add_offsets_outcome state.old caller.now request.now).refusals) }
-    ensures paid { IfOk result (λ o. o.paid ≡ part_paid (rules_of state.old) (add_offsets_questions caller.now request.now.transactional_id request.now.group)) }
+) -> Result<HandlerResult, AllocError>
+    ensures world { OnOk result
+        (state.new ≡ (add_offsets_outcome state.old caller.now request.now).world) }
+    ensures reply { IfOk result
+        (λ o. o.reply ≡ (add_offsets_outcome state.old caller.now request.now).reply) }
+    ensures refusals { IfOk result
+        (λ o. o.refusals ≡ (add_offsets_outcome state.old caller.now request.now).refusals) }
+    ensures paid { IfOk result
+        (λ o. o.paid ≡ part_paid (rules_of state.old)
+        (add_offsets_questions caller.now request.now.transactional_id request.now.group)) }
     ensures spent { IfOk result (λ o. o.spent ≡ 0) }
 {
     let id = state

@@ -4,41 +4,40 @@ ghost use Rattle.std.specs.Prelude.{◌≡◌, ◌++◌, [], None, true, IfOk, O
 ghost use Rattle.std.specs.Option.{option_copied};
 ghost use Rattle.authorizer.specs.Asking.{policy_rules, question_refusal};
 ghost use Rattle.authorizer.specs.Policy.{IsGranted};
-ghost use Rattle.authorizer.specs.Settled.{IsSettled, settled};
-ghost use Rattle.authorizer.specs.Tally.{counted};
+ghost use Rattle.authorizer.specs.Settled.{IsSettled, settled_value};
+ghost use Rattle.authorizer.specs.Tally.{count_after_parts};
 ghost use Rattle.walk.specs.Walk.{plain_topics, answers, refusals, asked_in};
 ghost use Rattle.walk.specs.Woven.{has_part};
-ghost use Rattle.transactions.specs.Coordinator.{turn_code, turned};
+ghost use Rattle.txn_coordinator.specs.Coordinator.{transition_code, apply_transition};
 ghost use Rattle.broker_world.specs.Questions.{id_question};
 ghost use Rattle.broker_world.specs.World.{rules_of};
 ghost use Rattle.txn_handlers.specs.Asked.{AsksForId};
-ghost use Rattle.txn_handlers.specs.AddPartitions.{added_partition, cut_code, is_missing_in, is_missing, cut_rule, told_rule, told_for, added_parts, partitions_in, partitions_of, add_turn, add_reply, add_partitions_outcome};
+ghost use Rattle.txn_handlers.specs.AddPartitions.{added_partition, cut_code, is_missing_in, is_missing, cut_rule, code_rule, code_rule_for, added_parts, partitions_in, partitions_of, add_transition, add_reply, add_partitions_outcome};
 
 use acl_binding::{Caller, Kind, Operation};
 use authorizer::{Permit, Policy, Settled, Tally, TwoPermits, ask_settled, ask_two};
-use broker_world::{Outcome, State, Topics, id_question, served_in_parts};
+use broker_world::{HandlerResult, State, Topics, id_question, served_in_parts};
 use msg_admin::Reply;
 use msg_txn::{AddPartitionsToTxnReply, AddPartitionsToTxnRequest, AddedPartition};
 use partition_log::Log;
 use std::alloc::{AllocError, Global};
-use transactions::{Pair, TopicPartition};
-use txn_coordinator::Coordinator;
+use txn_coordinator::{Coordinator, ProducerIdAndEpoch, TopicPartition};
 use walk::{Part, PartApi, Walked, has_part, refusal_code, walk_cut, walk_granted};
 use wire_types::{ErrorCode, Items, Text, Topic};
 
 /// Who asks to add partitions to the transaction of an id, what is said to writing with that, and what partitions there are.
 /// Nothing is added, and nothing spent.
 #[derive(Drop)]
-pub(crate) struct Cutting<'a> {
+pub(crate) struct AddPartitionsCheck<'a> {
     pub(crate) caller: &'a Caller,
     pub(crate) id: &'a Text,
     pub(crate) asked: &'a Settled,
     pub(crate) topics: &'a Topics,
 }
 
-impl<'a> PartApi<i32, AddedPartition, ()> for Cutting<'a> {
+impl<'a> PartApi<i32, AddedPartition, ()> for AddPartitionsCheck<'a> {
     ghost use Rattle.std.specs.Prelude.{true};
-    ghost use Rattle.authorizer.specs.Settled.{settled};
+    ghost use Rattle.authorizer.specs.Settled.{settled_value};
     ghost use Rattle.broker_world.specs.Questions.{id_question};
     ghost use Rattle.txn_handlers.specs.AddPartitions.{cut_rule};
 
@@ -46,7 +45,7 @@ impl<'a> PartApi<i32, AddedPartition, ()> for Cutting<'a> {
 
     ghost cuts = { λ _. true };
 
-    ghost settles = { λ api policy. api.asked.now ≡ settled policy (id_question api.caller.now api.id.now) };
+    ghost settles = { λ api policy. api.asked.now ≡ settled_value policy (id_question api.caller.now api.id.now) };
 
     fn serve(
         &self,
@@ -76,24 +75,24 @@ impl<'a> PartApi<i32, AddedPartition, ()> for Cutting<'a> {
 /// Who has added partitions to the transaction of an id, what is said to writing with that, and the code that each of them is
 /// told.
 #[derive(Drop)]
-struct Telling<'a> {
+struct AddPartitionsHandler<'a> {
     caller: &'a Caller,
     id: &'a Text,
     asked: &'a Settled,
     code: ErrorCode,
 }
 
-impl<'a> PartApi<i32, AddedPartition, ()> for Telling<'a> {
+impl<'a> PartApi<i32, AddedPartition, ()> for AddPartitionsHandler<'a> {
     ghost use Rattle.std.specs.Prelude.{false};
-    ghost use Rattle.authorizer.specs.Settled.{settled};
+    ghost use Rattle.authorizer.specs.Settled.{settled_value};
     ghost use Rattle.broker_world.specs.Questions.{id_question};
-    ghost use Rattle.txn_handlers.specs.AddPartitions.{told_for};
+    ghost use Rattle.txn_handlers.specs.AddPartitions.{code_rule_for};
 
-    ghost rule = { λ api. told_for api.caller.now api.id.now api.code };
+    ghost rule = { λ api. code_rule_for api.caller.now api.id.now api.code };
 
     ghost cuts = { λ _. false };
 
-    ghost settles = { λ api policy. api.asked.now ≡ settled policy (id_question api.caller.now api.id.now) };
+    ghost settles = { λ api policy. api.asked.now ≡ settled_value policy (id_question api.caller.now api.id.now) };
 
     fn serve(
         &self,
@@ -165,7 +164,8 @@ fn push_partitions(
     name: &Text,
     indices: &[i32],
 ) -> Result<(), AllocError>
-    ensures { OnOk result (partitions.new.items ≡ partitions.old.items ++ partitions_in name.now indices.now) }
+    ensures { OnOk result
+        (partitions.new.items ≡ partitions.old.items ++ partitions_in name.now indices.now) }
 {
     for index in indices {
         let topic = name.clone()?;
@@ -197,12 +197,16 @@ fn told(
     code: ErrorCode,
     named: &[Topic<i32>],
 ) -> Result<(Reply, Tally), AllocError>
-    requires settled { asked.now ≡ settled policy.now (id_question caller.now id.now) }
-    requires granted { refusals (told_for caller.now id.now code) (policy_rules policy.now) named.now ≡ [] }
-    ensures reply { IfOk result (λ r. r.0 ≡ add_reply (plain_topics (told_rule code) tt named.now)) }
-    ensures spent { IfOk result (λ r. r.1 ≡ counted (policy_rules policy.now) 0 (asked_in (told_for caller.now id.now code) named.now)) }
+    requires settled { asked.now ≡ settled_value policy.now (id_question caller.now id.now) }
+    requires granted { refusals (code_rule_for caller.now id.now code) (policy_rules policy.now)
+        named.now ≡ [] }
+    ensures reply { IfOk result
+        (λ r. r.0 ≡ add_reply (plain_topics (code_rule code) tt named.now)) }
+    ensures spent { IfOk result
+        (λ r. r.1 ≡ count_after_parts (policy_rules policy.now) 0
+        (asked_in (code_rule_for caller.now id.now code) named.now)) }
 {
-    let api = Telling {
+    let api = AddPartitionsHandler {
         caller,
         id,
         asked,
@@ -230,12 +234,17 @@ pub fn answer_add_partitions(
     state: &mut State,
     caller: &Caller,
     request: &AddPartitionsToTxnRequest,
-) -> Result<Outcome, AllocError>
-    ensures world { OnOk result (state.new ≡ (add_partitions_outcome state.old caller.now request.now).world) }
-    ensures reply { IfOk result (λ o. o.reply ≡ (add_partitions_outcome state.old caller.now request.now).reply) }
-    ensures refusals { IfOk result (λ o. o.refusals ≡ (add_partitions_outcome state.old caller.now request.now).refusals) }
+) -> Result<HandlerResult, AllocError>
+    ensures world { OnOk result
+        (state.new ≡ (add_partitions_outcome state.old caller.now request.now).world) }
+    ensures reply { IfOk result
+        (λ o. o.reply ≡ (add_partitions_outcome state.old caller.now request.now).reply) }
+    ensures refusals { IfOk result
+        (λ o. o.refusals ≡ (add_partitions_outcome state.old caller.now request.now).refusals) }
     ensures paid { IfOk result (λ o. o.paid ≡ []) }
-    ensures spent { IfOk result (λ o. o.spent ≡ counted (rules_of state.old) 0 (added_parts state.old caller.now request.now)) }
+    ensures spent { IfOk result
+        (λ o. o.spent ≡ count_after_parts (rules_of state.old) 0
+        (added_parts state.old caller.now request.now)) }
 {
     let (id, named) = (&request.transactional_id, request.topics.as_slice());
     let asked = state.policy.settle(id_question(caller, id)?);
@@ -268,12 +277,16 @@ fn cut(
     asked: &Settled,
     named: &[Topic<i32>],
 ) -> Result<Walked<AddedPartition>, AllocError>
-    requires { asked.now ≡ settled policy.now (id_question caller.now id.now) }
-    ensures answers { IfOk result (λ r. r.topics ≡ answers (cut_rule caller.now id.now topics.now) (policy_rules policy.now) tt named.now) }
-    ensures refusals { IfOk result (λ r. r.refusals ≡ refusals (cut_rule caller.now id.now topics.now) (policy_rules policy.now) named.now) }
+    requires { asked.now ≡ settled_value policy.now (id_question caller.now id.now) }
+    ensures answers { IfOk result
+        (λ r. r.topics ≡ answers (cut_rule caller.now id.now topics.now) (policy_rules policy.now)
+        tt named.now) }
+    ensures refusals { IfOk result
+        (λ r. r.refusals ≡ refusals (cut_rule caller.now id.now topics.now)
+        (policy_rules policy.now) named.now) }
     ensures spent { IfOk result (λ r. r.spent ≡ 0) }
 {
-    let api = Cutting {
+    let api = AddPartitionsCheck {
         caller,
         id,
         asked,
@@ -293,16 +306,20 @@ fn add_all(
 ) -> Result<ErrorCode, AllocError>
     requires settled { IsSettled policy.now asked }
     requires asked { AsksForId asked.question request.now.transactional_id }
-    requires granted { has_part request.now.topics ≡ true → question_refusal (policy_rules policy.now) asked.question ≡ None }
-    ensures coordinator { OnOk result (coordinator.new ≡ turned coordinator.old (add_turn coordinator.old moment request.now)) }
-    ensures code { IfOk result (λ code. code ≡ turn_code (add_turn coordinator.old moment request.now)) }
+    requires granted { has_part request.now.topics ≡ true
+        → question_refusal (policy_rules policy.now) asked.question ≡ None }
+    ensures coordinator { OnOk result
+        (coordinator.new ≡ apply_transition coordinator.old
+        (add_transition coordinator.old moment request.now)) }
+    ensures code { IfOk result
+        (λ code. code ≡ transition_code (add_transition coordinator.old moment request.now)) }
 {
     if !has_part(request.topics.as_slice()) {
         return Ok(ErrorCode::None);
     }
     let partitions = partitions_of(alloc, request.topics.as_slice())?;
     let id = &request.transactional_id;
-    let pair = Pair {
+    let pair = ProducerIdAndEpoch {
         producer: request.producer,
         epoch: request.epoch,
     };

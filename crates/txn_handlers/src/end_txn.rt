@@ -4,27 +4,26 @@ ghost use Rattle.std.specs.Prelude.{◌≡◌, IfOk, OnOk};
 ghost use Rattle.authorizer.specs.Asking.{part_paid};
 ghost use Rattle.broker_world.specs.World.{rules_of};
 ghost use Rattle.txn_coordinator.specs.Permission.{MayWrite as MayWriteId};
-ghost use Rattle.transactions.specs.Coordinator.{turned, turn_answer};
-ghost use Rattle.txn_handlers.specs.EndTxn.{form_of, ending_id, ending, end_questions, end_reply, end_turn, end_txn_outcome};
+ghost use Rattle.txn_coordinator.specs.Coordinator.{apply_transition, transition_answer};
+ghost use Rattle.txn_handlers.specs.EndTxn.{form_of, ending_id, ending_of, end_questions, end_reply, end_transition, end_txn_outcome};
 
 use acl_binding::Caller;
 use authorizer::{Paid, Permit, Policy, Spent, ask_one};
-use broker_world::{Outcome, State, id_question, refused_whole, served_whole};
+use broker_world::{HandlerResult, State, id_question, refused_whole, served_whole};
 use msg_admin::Reply;
 use msg_txn::{EndTxnReply, EndTxnRequest, Ended, EndedWithPair, FlexibleEnded};
-use record_batch::Outcome as Ending;
+use record_batch::TransactionResult;
 use std::alloc::{AllocError, Global};
-use transactions::{EndForm, Pair, PairAnswer};
-use txn_coordinator::Coordinator;
+use txn_coordinator::{Coordinator, EndForm, ProducerIdAndEpoch, ProducerIdAnswer};
 use walk::refusal_code;
 
-fn ending(committed: bool) -> Ending
-    ensures { result ≡ ending committed }
+fn ending(committed: bool) -> TransactionResult
+    ensures { result ≡ ending_of committed }
 {
     if committed {
-        Ending::Commit
+        TransactionResult::Commit
     } else {
-        Ending::Abort
+        TransactionResult::Abort
     }
 }
 
@@ -41,7 +40,7 @@ fn form_of(request: &EndTxnRequest) -> EndForm
 }
 
 /// The answer in the request's version.
-fn end_reply(request: &EndTxnRequest, answer: PairAnswer) -> Reply
+fn end_reply(request: &EndTxnRequest, answer: ProducerIdAnswer) -> Reply
     ensures { result ≡ Reply.EndTxn (end_reply request.now answer) }
 {
     let (throttle, error) = (0, answer.code);
@@ -67,14 +66,18 @@ fn end_by(
     policy: &Policy,
     permit: Permit,
     request: &EndTxnRequest,
-) -> Result<(Spent, PairAnswer), AllocError>
+) -> Result<(Spent, ProducerIdAnswer), AllocError>
     requires { MayWriteId policy.now permit (ending_id request.now) }
     ensures spent { IfOk result (λ r. r.0 ≡ permit.question) }
-    ensures coordinator { OnOk result (coordinator.new ≡ turned coordinator.old (end_turn coordinator.old request.now)) }
-    ensures answer { IfOk result (λ r. r.1 ≡ turn_answer coordinator.old (ending_id request.now) (end_turn coordinator.old request.now)) }
+    ensures coordinator { OnOk result
+        (coordinator.new ≡ apply_transition coordinator.old
+        (end_transition coordinator.old request.now)) }
+    ensures answer { IfOk result
+        (λ r. r.1 ≡ transition_answer coordinator.old (ending_id request.now)
+        (end_transition coordinator.old request.now)) }
 {
     let asked = request.asked();
-    let pair = Pair {
+    let pair = ProducerIdAndEpoch {
         producer: asked.producer,
         epoch: asked.epoch,
     };
@@ -91,11 +94,15 @@ pub fn answer_end_txn(
     state: &mut State,
     caller: &Caller,
     request: &EndTxnRequest,
-) -> Result<Outcome, AllocError>
-    ensures world { OnOk result (state.new ≡ (end_txn_outcome state.old caller.now request.now).world) }
-    ensures reply { IfOk result (λ o. o.reply ≡ (end_txn_outcome state.old caller.now request.now).reply) }
-    ensures refusals { IfOk result (λ o. o.refusals ≡ (end_txn_outcome state.old caller.now request.now).refusals) }
-    ensures paid { IfOk result (λ o. o.paid ≡ part_paid (rules_of state.old) (end_questions caller.now request.now)) }
+) -> Result<HandlerResult, AllocError>
+    ensures world { OnOk result
+        (state.new ≡ (end_txn_outcome state.old caller.now request.now).world) }
+    ensures reply { IfOk result
+        (λ o. o.reply ≡ (end_txn_outcome state.old caller.now request.now).reply) }
+    ensures refusals { IfOk result
+        (λ o. o.refusals ≡ (end_txn_outcome state.old caller.now request.now).refusals) }
+    ensures paid { IfOk result
+        (λ o. o.paid ≡ part_paid (rules_of state.old) (end_questions caller.now request.now)) }
     ensures spent { IfOk result (λ o. o.spent ≡ 0) }
 {
     let question = id_question(caller, &request.asked().transactional_id)?;
@@ -106,9 +113,9 @@ pub fn answer_end_txn(
             Ok(served_whole(alloc, end_reply(request, answer), Paid::one(spent)))
         }
         Err(refusal) => {
-            let answer = PairAnswer {
+            let answer = ProducerIdAnswer {
                 code: refusal_code(&refusal),
-                pair: Pair::NONE,
+                pair: ProducerIdAndEpoch::NONE,
             };
             refused_whole(alloc, end_reply(request, answer), refusal)
         }

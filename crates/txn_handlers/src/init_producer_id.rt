@@ -8,12 +8,11 @@ ghost use Rattle.txn_handlers.specs.InitProducerId.{IsInitPermit, init_question,
 
 use acl_binding::{Caller, Kind, Operation, Question};
 use authorizer::{Paid, Permit, Policy, Spent, ask_one};
-use broker_world::{Outcome, State, asks_cluster, refused_whole, served_whole};
+use broker_world::{HandlerResult, State, asks_cluster, refused_whole, served_whole};
 use msg_admin::Reply;
 use msg_txn::{InitProducerIdReply, InitProducerIdRequest};
 use std::alloc::{AllocError, Global};
-use transactions::PairAnswer;
-use txn_coordinator::Coordinator;
+use txn_coordinator::{Coordinator, ProducerIdAnswer};
 use walk::refusal_code;
 use wire_types::{ErrorCode, Text};
 
@@ -50,7 +49,7 @@ fn init_error(error: ErrorCode) -> Reply
 }
 
 /// The pair of a transactional id, or an error.
-fn init_answered(answer: PairAnswer) -> Reply
+fn init_answered(answer: ProducerIdAnswer) -> Reply
     ensures { result ≡ Reply.InitProducerId (init_answered answer) }
 {
     Reply::InitProducerId(InitProducerIdReply {
@@ -67,18 +66,23 @@ pub fn answer_init_producer_id(
     state: &mut State,
     caller: &Caller,
     request: &InitProducerIdRequest,
-) -> Result<Outcome, AllocError>
-    ensures world { OnOk result (state.new ≡ (init_producer_id_outcome state.old caller.now request.now).world) }
-    ensures reply { IfOk result (λ o. o.reply ≡ (init_producer_id_outcome state.old caller.now request.now).reply) }
-    ensures refusals { IfOk result (λ o. o.refusals ≡ (init_producer_id_outcome state.old caller.now request.now).refusals) }
-    ensures paid { IfOk result (λ o. o.paid ≡ part_paid (rules_of state.old) (init_questions (rules_of state.old) caller.now request.now.transactional_id)) }
+) -> Result<HandlerResult, AllocError>
+    ensures world { OnOk result
+        (state.new ≡ (init_producer_id_outcome state.old caller.now request.now).world) }
+    ensures reply { IfOk result
+        (λ o. o.reply ≡ (init_producer_id_outcome state.old caller.now request.now).reply) }
+    ensures refusals { IfOk result
+        (λ o. o.refusals ≡ (init_producer_id_outcome state.old caller.now request.now).refusals) }
+    ensures paid { IfOk result
+        (λ o. o.paid ≡ part_paid (rules_of state.old)
+        (init_questions (rules_of state.old) caller.now request.now.transactional_id)) }
     ensures spent { IfOk result (λ o. o.spent ≡ 0) }
 {
     let question = init_question(alloc, caller, &request.transactional_id)?;
     match ask_one(&state.policy, question) {
         Ok(permit) => {
             let (coordinator, policy) = (&mut state.coordinator, &state.policy);
-            let greatest = state.node.max_txn_timeout;
+            let greatest = state.cluster.node().max_txn_timeout;
             let (spent, reply) = initialize(alloc, coordinator, policy, permit, greatest, request)?;
             Ok(served_whole(alloc, reply, Paid::one(spent)))
         }
@@ -95,7 +99,9 @@ pub fn answer_init_producer_id(
 
 /// Without an id it is enough that the caller may write to some topic.
 fn any_topic_suffices(state: &State, caller: &Caller, request: &InitProducerIdRequest) -> bool
-    ensures { result ≡ (is_none request.now.transactional_id && any_topic state.now.book.entries caller.now.who caller.now.host) }
+    ensures { result
+        ≡ (is_none request.now.transactional_id && any_topic state.now.book.entries caller.now.who
+        caller.now.host) }
 {
     request.transactional_id.is_none() && state.policy.any_topic(&caller.who, &caller.host)
 }
@@ -111,7 +117,8 @@ fn initialize(
 ) -> Result<(Spent, Reply), AllocError>
     requires { IsInitPermit policy.now permit request.now.transactional_id }
     ensures spent { IfOk result (λ r. r.0 ≡ permit.question) }
-    ensures coordinator { OnOk result (coordinator.new ≡ coordinator_after coordinator.old greatest request.now) }
+    ensures coordinator { OnOk result
+        (coordinator.new ≡ coordinator_after coordinator.old greatest request.now) }
     ensures reply { IfOk result (λ r. r.1 ≡ init_reply coordinator.old greatest request.now) }
 {
     match &request.transactional_id {

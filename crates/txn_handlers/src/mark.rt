@@ -1,29 +1,31 @@
-//! A marker step: the front marker that is owed is written.
+//! A marker step: the front marker that is pending is written.
 
 ghost use Rattle.std.specs.Prelude.{◌≡◌, ◌<◌, [], IfOk, OnOk, OnErr};
 ghost use Rattle.broker_world.specs.Logs.{most_end};
-ghost use Rattle.broker_world.specs.Clock.{last_moment};
 ghost use Rattle.broker_world.specs.Markers.{marker_batch};
-ghost use Rattle.txn_handlers.specs.Marks.{marked_at, decided_at, mark_outcome};
+ghost use Rattle.txn_handlers.specs.Marks.{topics_with_marker_at, groups_with_decision_at, mark_outcome};
 
 use authorizer::Paid;
-use broker_world::{Moment, Outcome, State, Topics, served_whole};
+use broker_world::{HandlerResult, Moment, State, Topics, served_whole};
 use group_offsets::Groups;
 use msg_admin::Reply;
 use std::alloc::{AllocError, Global};
-use transactions::{OwedMarker, Target};
+use txn_coordinator::{PendingMarker, Target};
 
-/// Writes a marker where it is owed: to a partition's log, or as a decision to a group.
+/// Writes a marker where it is pending: to a partition's log, or as a decision to a group.
 fn write_marker(
     alloc: Global,
     topics: &mut Topics,
     groups: &mut Groups,
-    marker: &OwedMarker,
+    marker: &PendingMarker,
     moment: &Moment,
 ) -> Result<(), AllocError>
     requires { most_end topics.old < 9223372036854775807 }
-    ensures topics { OnOk result (topics.new ≡ marked_at topics.old marker.now.target (marker_batch marker.now moment.now)) }
-    ensures groups { OnOk result (groups.new ≡ decided_at groups.old marker.now.target marker.now) }
+    ensures topics { OnOk result
+        (topics.new ≡ topics_with_marker_at topics.old marker.now.target
+        (marker_batch marker.now moment.now)) }
+    ensures groups { OnOk result
+        (groups.new ≡ groups_with_decision_at groups.old marker.now.target marker.now) }
     ensures err { OnErr result ((topics.new ≡ topics.old) × (groups.new ≡ groups.old)) }
 {
     match &marker.target {
@@ -41,7 +43,7 @@ fn write_marker(
 
 /// What a marker step does and is answered. Whose transaction it is, and what that principal may do by now, isn't
 /// asked.
-pub fn answer_mark(alloc: Global, state: &mut State) -> Result<Outcome, AllocError>
+pub fn answer_mark(alloc: Global, state: &mut State) -> Result<HandlerResult, AllocError>
     requires { most_end state.old.topics < 9223372036854775807 }
     ensures world { OnOk result (state.new ≡ (mark_outcome state.old).world) }
     ensures reply { IfOk result (λ o. o.reply ≡ (mark_outcome state.old).reply) }

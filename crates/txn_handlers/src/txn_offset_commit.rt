@@ -3,40 +3,38 @@
 ghost use Rattle.std.specs.Prelude.{◌≡◌, [], IfOk, OnOk};
 ghost use Rattle.std.specs.Option.{option_copied};
 ghost use Rattle.acl_binding.specs.declared.words.Operation.TheVariants as operations;
-ghost use Rattle.offset_tables.specs.Groups.{turned};
+ghost use Rattle.group_offsets.specs.Groups.{groups_after};
 ghost use Rattle.group_offsets.specs.Permission.{MayUse};
-ghost use Rattle.offset_tables.specs.Turn.{answered};
+ghost use Rattle.group_offsets.specs.GroupTransition.{answer_of};
 ghost use Rattle.broker_world.specs.Codes.{code_in};
 ghost use Rattle.authorizer.specs.Asking.{policy_rules};
-ghost use Rattle.authorizer.specs.Tally.{counted};
+ghost use Rattle.authorizer.specs.Tally.{count_after_parts};
 ghost use Rattle.broker_world.specs.World.{rules_of};
 ghost use Rattle.walk.specs.Walk.{world_after, answers, refusals, asked_in};
-ghost use Rattle.txn_handlers.specs.TxnOffsetCommit.{staging, offset_staged, staged_code, staging_refusal, turn_by, stage_rule, staging_rule, txn_offset_commit_outcome};
+ghost use Rattle.txn_handlers.specs.TxnOffsetCommit.{staging_of, offset_staged, staged_code, staging_refusal, transition_by, stage_rule, staging_rule, txn_offset_commit_outcome};
 
 use acl_binding::{Caller, Kind, Operation};
 use authorizer::{Paid, Permit, Policy, Settled, Spent, ThreePermits, ask_three};
 use broker_world::{
-    Outcome, State, Topics, code_in, id_question, read_question, refused_by, served_in_parts,
+    HandlerResult, State, Topics, code_in, id_question, read_question, refused_by, served_in_parts,
 };
-use group_offsets::Groups;
+use group_offsets::{Groups, PartitionOffset};
 use msg_admin::Reply;
 use msg_txn::{OffsetToStage, StagedOffset, TxnOffsetCommitReply, TxnOffsetCommitRequest};
-use offset_tables::PartitionOffset;
 use partition_log::Log;
 use std::alloc::{AllocError, Global};
-use transactions::{Pair, Target};
-use txn_coordinator::Coordinator;
+use txn_coordinator::{Coordinator, ProducerIdAndEpoch, Target};
 use walk::{Part, PartApi, Walked, refusal_code, walk};
 use wire_types::{ErrorCode, Text};
 
 /// Whose transaction commits for which group, what is said to writing with its id and to reading the group, and what partitions
 /// there are.
 #[derive(Drop)]
-pub(crate) struct Staging<'a> {
+pub(crate) struct TxnOffsetCommitHandler<'a> {
     pub(crate) caller: &'a Caller,
     pub(crate) id: &'a Text,
     pub(crate) id_asked: &'a Settled,
-    pub(crate) pair: Pair,
+    pub(crate) pair: ProducerIdAndEpoch,
     pub(crate) group: &'a Text,
     pub(crate) group_asked: &'a Settled,
     pub(crate) generation: i32,
@@ -46,7 +44,7 @@ pub(crate) struct Staging<'a> {
     pub(crate) topics: &'a Topics,
 }
 
-impl<'a> PartApi<OffsetToStage, StagedOffset, Groups> for Staging<'a> {
+impl<'a> PartApi<OffsetToStage, StagedOffset, Groups> for TxnOffsetCommitHandler<'a> {
     ghost use Rattle.std.specs.Prelude.{false};
     ghost use Rattle.txn_handlers.specs.TxnOffsetCommit.{stage_rule};
     ghost use Rattle.txn_handlers.specs.Asked.{AreAsked};
@@ -92,7 +90,7 @@ impl<'a> PartApi<OffsetToStage, StagedOffset, Groups> for Staging<'a> {
     }
 }
 
-impl<'a> Staging<'a> {
+impl<'a> TxnOffsetCommitHandler<'a> {
     /// Stages the offset of a part that was granted, if the partition is there.
     fn stage(
         &self,
@@ -108,8 +106,29 @@ impl<'a> Staging<'a> {
         requires permit { MayUse policy.now operations.Read self.now.group.now permit }
         requires offset { offset ≡ offset_staged name.now part.now }
         ensures spent { IfOk result (λ r. r.0 ≡ permit.question) }
-        ensures groups { OnOk result (groups.new ≡ turned groups.old (turn_by self.now.refusal (record { id = self.now.id.now; pair = self.now.pair; group = self.now.group.now; generation = self.now.generation; member = self.now.member.now }) groups.old (offset_staged name.now part.now) (option_copied log.entry))) }
-        ensures answer { IfOk result (λ r. r.1 ≡ staged_code (code_in (answered (turn_by self.now.refusal (record { id = self.now.id.now; pair = self.now.pair; group = self.now.group.now; generation = self.now.generation; member = self.now.member.now }) groups.old (offset_staged name.now part.now) (option_copied log.entry)))) part.now) }
+        ensures groups { OnOk result
+            (groups.new ≡ groups_after groups.old
+            (transition_by self.now.refusal
+            (record {
+              id = self.now.id.now;
+              pair = self.now.pair;
+              group = self.now.group.now;
+              generation = self.now.generation;
+              member = self.now.member.now;
+            }) groups.old (offset_staged name.now part.now)
+            (option_copied log.entry))) }
+        ensures answer { IfOk result
+            (λ r. r.1 ≡ staged_code
+            (code_in (answer_of
+            (transition_by self.now.refusal
+            (record {
+              id = self.now.id.now;
+              pair = self.now.pair;
+              group = self.now.group.now;
+              generation = self.now.generation;
+              member = self.now.member.now;
+            }) groups.old (offset_staged name.now part.now)
+            (option_copied log.entry)))) part.now) }
     {
         if log.is_none() {
             let answer = staged_code(ErrorCode::UnknownTopicOrPartition, part);
@@ -150,9 +169,10 @@ fn staging_refusal(
     coordinator: &Coordinator,
     request: &TxnOffsetCommitRequest,
 ) -> Result<Option<ErrorCode>, AllocError>
-    ensures { IfOk result (λ refusal. refusal ≡ staging_refusal coordinator.now (staging request.now)) }
+    ensures { IfOk result
+        (λ refusal. refusal ≡ staging_refusal coordinator.now (staging_of request.now)) }
 {
-    let pair = Pair {
+    let pair = ProducerIdAndEpoch {
         producer: request.producer,
         epoch: request.epoch,
     };
@@ -170,18 +190,30 @@ fn stage_all(
     request: &TxnOffsetCommitRequest,
     refusal: Option<ErrorCode>,
 ) -> Result<Walked<StagedOffset>, AllocError>
-    ensures groups { OnOk result (groups.new ≡ world_after (stage_rule caller.now (staging request.now) refusal topics.now) (policy_rules policy.now) groups.old request.now.topics) }
-    ensures answers { IfOk result (λ walked. walked.topics ≡ answers (stage_rule caller.now (staging request.now) refusal topics.now) (policy_rules policy.now) groups.old request.now.topics) }
-    ensures refusals { IfOk result (λ walked. walked.refusals ≡ refusals (stage_rule caller.now (staging request.now) refusal topics.now) (policy_rules policy.now) request.now.topics) }
-    ensures spent { IfOk result (λ walked. walked.spent ≡ counted (policy_rules policy.now) 0 (asked_in (stage_rule caller.now (staging request.now) refusal topics.now) request.now.topics)) }
+    ensures groups { OnOk result
+        (groups.new ≡ world_after
+        (stage_rule caller.now (staging_of request.now) refusal topics.now)
+        (policy_rules policy.now) groups.old request.now.topics) }
+    ensures answers { IfOk result
+        (λ walked. walked.topics
+        ≡ answers (stage_rule caller.now (staging_of request.now) refusal topics.now)
+        (policy_rules policy.now) groups.old request.now.topics) }
+    ensures refusals { IfOk result
+        (λ walked. walked.refusals
+        ≡ refusals (stage_rule caller.now (staging_of request.now) refusal topics.now)
+        (policy_rules policy.now) request.now.topics) }
+    ensures spent { IfOk result
+        (λ walked. walked.spent ≡ count_after_parts (policy_rules policy.now) 0
+        (asked_in (stage_rule caller.now (staging_of request.now) refusal topics.now)
+        request.now.topics)) }
 {
     let id_asked = policy.settle(id_question(caller, &request.transactional_id)?);
     let group_asked = policy.settle(read_question(caller, &request.group)?);
-    let api = Staging {
+    let api = TxnOffsetCommitHandler {
         caller,
         id: &request.transactional_id,
         id_asked: &id_asked,
-        pair: Pair {
+        pair: ProducerIdAndEpoch {
             producer: request.producer,
             epoch: request.epoch,
         },
@@ -201,12 +233,17 @@ pub fn answer_txn_offset_commit(
     state: &mut State,
     caller: &Caller,
     request: &TxnOffsetCommitRequest,
-) -> Result<Outcome, AllocError>
-    ensures world { OnOk result (state.new ≡ (txn_offset_commit_outcome state.old caller.now request.now).world) }
-    ensures reply { IfOk result (λ o. o.reply ≡ (txn_offset_commit_outcome state.old caller.now request.now).reply) }
-    ensures refusals { IfOk result (λ o. o.refusals ≡ (txn_offset_commit_outcome state.old caller.now request.now).refusals) }
+) -> Result<HandlerResult, AllocError>
+    ensures world { OnOk result
+        (state.new ≡ (txn_offset_commit_outcome state.old caller.now request.now).world) }
+    ensures reply { IfOk result
+        (λ o. o.reply ≡ (txn_offset_commit_outcome state.old caller.now request.now).reply) }
+    ensures refusals { IfOk result
+        (λ o. o.refusals ≡ (txn_offset_commit_outcome state.old caller.now request.now).refusals) }
     ensures paid { IfOk result (λ o. o.paid ≡ []) }
-    ensures spent { IfOk result (λ o. o.spent ≡ counted (rules_of state.old) 0 (asked_in (staging_rule state.old caller.now request.now) request.now.topics)) }
+    ensures spent { IfOk result
+        (λ o. o.spent ≡ count_after_parts (rules_of state.old) 0
+        (asked_in (staging_rule state.old caller.now request.now) request.now.topics)) }
 {
     let refusal = staging_refusal(&state.coordinator, request)?;
     let (policy, groups) = (&state.policy, &mut state.groups);

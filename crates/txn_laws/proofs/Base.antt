@@ -5,10 +5,10 @@ use Rattle.std.specs.Str.{bytes_eq}
 use Rattle.std.proofs.lemmas.Int.{ints}
 use Rattle.std.proofs.lemmas.Option.{slice_get_within}
 use Rattle.std.proofs.lemmas.Slice.Eq.{bytes_eq-Decides}
-use Rattle.transactions.specs.declared.transaction.Transaction.{Transaction}
-use Rattle.transactions.specs.declared.marker.OwedMarker.{OwedMarker}
-use Rattle.transactions.specs.Warrants.{owes}
-use Rattle.transactions.specs.Coordinator.{CoordinatorValue, has_id, recorded, put, owner}
+use Rattle.txn_coordinator.specs.declared.transaction.Transaction.{Transaction}
+use Rattle.txn_coordinator.specs.declared.marker.PendingMarker.{PendingMarker}
+use Rattle.txn_coordinator.specs.Warrants.{has_pending_marker}
+use Rattle.txn_coordinator.specs.Coordinator.{CoordinatorValue, has_id, id_record, records_with, owner}
 use Rattle.txn_laws.specs.Sound.{Each, HaveOwnIds}
 
 -- ---- Each
@@ -43,39 +43,39 @@ is_same a b h = (bytes_eq-Decides a b).1 h
 
 -- ---- records
 
-pub recorded_put : (ts : List Transaction) (r : Transaction) (id : List ℕ) → recorded (put ts r) id ≡ cond (has_id id r) (Some r) (recorded ts id)
+pub recorded_put : (ts : List Transaction) (r : Transaction) (id : List ℕ) → id_record (records_with ts r) id ≡ cond (has_id id r) (Some r) (id_record ts id)
 recorded_put [] r id = refl
 recorded_put (t ∷ ts) r id = by_same (recorded_put ts r id) (has_id r.id t) refl where
-  hit : (b c : Bool) → b ≡ c → cond b (Some r) (recorded ts id) ≡ cond b (Some r) (cond c (Some t) (recorded ts id))
+  hit : (b c : Bool) → b ≡ c → cond b (Some r) (id_record ts id) ≡ cond b (Some r) (cond c (Some t) (id_record ts id))
   hit true c e = refl
   hit false false e = refl
   hit false true e = cc
 
-  miss : (b c : Bool) → (b ≡ true → c ≡ true → ⊥) → cond c (Some t) (cond b (Some r) (recorded ts id)) ≡ cond b (Some r) (cond c (Some t) (recorded ts id))
+  miss : (b c : Bool) → (b ≡ true → c ≡ true → ⊥) → cond c (Some t) (cond b (Some r) (id_record ts id)) ≡ cond b (Some r) (cond c (Some t) (id_record ts id))
   miss true true h = absurd (h refl refl)
   miss true false h = refl
   miss false c h = refl
 
-  by_same : recorded (put ts r) id ≡ cond (has_id id r) (Some r) (recorded ts id) → (b : Bool) → has_id r.id t ≡ b → recorded (cond b (r ∷ ts) (t ∷ put ts r)) id ≡ cond (has_id id r) (Some r) (cond (has_id id t) (Some t) (recorded ts id))
+  by_same : id_record (records_with ts r) id ≡ cond (has_id id r) (Some r) (id_record ts id) → (b : Bool) → has_id r.id t ≡ b → id_record (cond b (r ∷ ts) (t ∷ records_with ts r)) id ≡ cond (has_id id r) (Some r) (cond (has_id id t) (Some t) (id_record ts id))
   by_same rest true h = hit (has_id id r) (has_id id t) (ap (λ (own : List ℕ). bytes_eq own id) (sym (same_is t.id r.id h)))
   by_same rest false h = ap (λ o. cond (has_id id t) (Some t) o) rest ∙ miss (has_id id r) (has_id id t) (λ p q. let both : has_id r.id t ≡ true = is_same t.id r.id (same_is t.id id q ∙ sym (same_is r.id id p)) in cc)
 
 -- where the test is known
-pub put_at_test : (ts : List Transaction) (r : Transaction) (id : List ℕ) (b : Bool) → has_id id r ≡ b → recorded (put ts r) id ≡ cond b (Some r) (recorded ts id)
-put_at_test ts r id b h = recorded_put ts r id ∙ ap (λ b. cond b (Some r) (recorded ts id)) h
+pub put_at_test : (ts : List Transaction) (r : Transaction) (id : List ℕ) (b : Bool) → has_id id r ≡ b → id_record (records_with ts r) id ≡ cond b (Some r) (id_record ts id)
+put_at_test ts r id b h = recorded_put ts r id ∙ ap (λ b. cond b (Some r) (id_record ts id)) h
 
 -- a record's id stays its own
-lacks_put : (ts : List Transaction) (r : Transaction) (id : List ℕ) → (r.id ≡ id → ⊥) → Each (λ (u : Transaction). u.id ≡ id → ⊥) ts → Each (λ (u : Transaction). u.id ≡ id → ⊥) (put ts r)
+lacks_put : (ts : List Transaction) (r : Transaction) (id : List ℕ) → (r.id ≡ id → ⊥) → Each (λ (u : Transaction). u.id ≡ id → ⊥) ts → Each (λ (u : Transaction). u.id ≡ id → ⊥) (records_with ts r)
 lacks_put [] r id other h = (other, tt)
 lacks_put (t ∷ ts) r id other h = by_same (lacks_put ts r id other h.1) (has_id r.id t) where
-  by_same : Each (λ (u : Transaction). u.id ≡ id → ⊥) (put ts r) → (b : Bool) → Each (λ (u : Transaction). u.id ≡ id → ⊥) (cond b (r ∷ ts) (t ∷ put ts r))
+  by_same : Each (λ (u : Transaction). u.id ≡ id → ⊥) (records_with ts r) → (b : Bool) → Each (λ (u : Transaction). u.id ≡ id → ⊥) (cond b (r ∷ ts) (t ∷ records_with ts r))
   by_same rest true = (other, h.1)
   by_same rest false = (h.0, rest)
 
-pub own_put : (ts : List Transaction) (r : Transaction) → HaveOwnIds ts → HaveOwnIds (put ts r)
+pub own_put : (ts : List Transaction) (r : Transaction) → HaveOwnIds ts → HaveOwnIds (records_with ts r)
 own_put [] r h = (tt, tt)
 own_put (t ∷ ts) r h = by_same (own_put ts r h.1) (has_id r.id t) refl where
-  by_same : HaveOwnIds (put ts r) → (b : Bool) → has_id r.id t ≡ b → HaveOwnIds (cond b (r ∷ ts) (t ∷ put ts r))
+  by_same : HaveOwnIds (records_with ts r) → (b : Bool) → has_id r.id t ≡ b → HaveOwnIds (cond b (r ∷ ts) (t ∷ records_with ts r))
   by_same rest true e = (each_weaker (λ (u : Transaction). u.id ≡ t.id → ⊥) (λ (u : Transaction). u.id ≡ r.id → ⊥) (λ u other same. other (same ∙ sym (same_is t.id r.id e))) ts h.0, h.1)
   by_same rest false e = (lacks_put ts r t.id (λ same. let yes : has_id r.id t ≡ true = is_same t.id r.id (sym same) in let clash : true ≡ false = sym yes ∙ e in absurd (cc)) h.0, rest)
 
@@ -85,20 +85,20 @@ or_true : (a b : Bool) → b ≡ true → (a || b) ≡ true
 or_true true b h = refl
 or_true false b h = h
 
-pub owes_more : (xs ys : List OwedMarker) (id : List ℕ) → owes xs id ≡ true → owes (xs ++ ys) id ≡ true
+pub owes_more : (xs ys : List PendingMarker) (id : List ℕ) → has_pending_marker xs id ≡ true → has_pending_marker (xs ++ ys) id ≡ true
 owes_more [] ys id h = cc
 owes_more (x ∷ xs) ys id h = by_same (bytes_eq x.id id) (owes_more xs ys id) h where
-  by_same : (b : Bool) → (owes xs id ≡ true → owes (xs ++ ys) id ≡ true) → (b || owes xs id) ≡ true → (b || owes (xs ++ ys) id) ≡ true
+  by_same : (b : Bool) → (has_pending_marker xs id ≡ true → has_pending_marker (xs ++ ys) id ≡ true) → (b || has_pending_marker xs id) ≡ true → (b || has_pending_marker (xs ++ ys) id) ≡ true
   by_same true rest h = refl
   by_same false rest h = rest h
 
-pub owes_behind : (xs ys : List OwedMarker) (id : List ℕ) → owes ys id ≡ true → owes (xs ++ ys) id ≡ true
-owes_behind [] ys id h = h
-owes_behind (x ∷ xs) ys id h = or_true (bytes_eq x.id id) (owes (xs ++ ys) id) (owes_behind xs ys id h)
+pub owes_after : (xs ys : List PendingMarker) (id : List ℕ) → has_pending_marker ys id ≡ true → has_pending_marker (xs ++ ys) id ≡ true
+owes_after [] ys id h = h
+owes_after (x ∷ xs) ys id h = or_true (bytes_eq x.id id) (has_pending_marker (xs ++ ys) id) (owes_after xs ys id h)
 
-pub owes_rest : (x : OwedMarker) (xs : List OwedMarker) (id : List ℕ) → (x.id ≡ id → ⊥) → owes (x ∷ xs) id ≡ true → owes xs id ≡ true
+pub owes_rest : (x : PendingMarker) (xs : List PendingMarker) (id : List ℕ) → (x.id ≡ id → ⊥) → has_pending_marker (x ∷ xs) id ≡ true → has_pending_marker xs id ≡ true
 owes_rest x xs id other h = by_same (bytes_eq x.id id) refl h where
-  by_same : (b : Bool) → bytes_eq x.id id ≡ b → (b || owes xs id) ≡ true → owes xs id ≡ true
+  by_same : (b : Bool) → bytes_eq x.id id ≡ b → (b || has_pending_marker xs id) ≡ true → has_pending_marker xs id ≡ true
   by_same true e h = absurd (other (same_is x.id id e))
   by_same false e h = h
 

@@ -1,20 +1,20 @@
 -- To move what is kept is to keep what was moved.
 use Rattle.std.proofs.Common.{◌≡◌, ℕ, ℤ, List, [], ◌∷◌, ◌++◌, map, Bool, true, false, cond, refl, sym, ap, ◌∙◌}
 use Rattle.std.specs.Str.{bytes_eq}
-use Rattle.transactions.specs.declared.pair.Pair.{Pair}
-use Rattle.transactions.specs.declared.target.Target.{Target}
-use Rattle.transactions.specs.declared.target.Target.TheVariants.{Partition, Group}
-use Rattle.transactions.specs.declared.transaction.Transaction.{Transaction}
-use Rattle.transactions.specs.declared.marker.OwedMarker.{OwedMarker}
-use Rattle.transactions.specs.Coordinator.{CoordinatorValue, owner, no_transactions}
-use Rattle.transactions.specs.Holding.{holds}
-use Rattle.transactions.specs.Warrants.{written_by}
-use Rattle.txn_laws.specs.Small.{World, Entry, Move, is_same_target, with_entry, appended, is_no_error, is_free, moved, moved_all, marked, first_world}
+use Rattle.txn_coordinator.specs.declared.producer_id.ProducerIdAndEpoch.{ProducerIdAndEpoch}
+use Rattle.txn_coordinator.specs.declared.target.Target.{Target}
+use Rattle.txn_coordinator.specs.declared.target.Target.TheVariants.{Partition, Group}
+use Rattle.txn_coordinator.specs.declared.transaction.Transaction.{Transaction}
+use Rattle.txn_coordinator.specs.declared.marker.PendingMarker.{PendingMarker}
+use Rattle.txn_coordinator.specs.Coordinator.{CoordinatorValue, owner, no_transactions}
+use Rattle.txn_coordinator.specs.Holding.{holding_code}
+use Rattle.txn_coordinator.specs.Warrants.{with_first_written}
+use Rattle.txn_laws.specs.Small.{World, Entry, Move, is_same_target, with_entry, world_with_entry, is_no_error, is_free, world_after_move, world_after_moves, world_after_mark, first_world}
 use Rattle.txn_laws.specs.Small.Entry.{Data, Marker, Other}
 use Rattle.txn_laws.specs.Small.Move.{Init, Give, AddPartitions, AddGroup, End, Expire, Moment, Store, Send, Plain, Mark}
 use Rattle.txn_laws.specs.Sound.{Each, HaveOwnIds}
-use Rattle.txn_laws.specs.Laws.{IsNotOf, expiries, ticked}
-use Rattle.txn_laws.specs.Kept.{kept_pair, kept_entry, kept_entries, kept_world, kept_appended, kept_marked, kept_moved, kept_moved_all, KeptLaw, KeptEndLaw}
+use Rattle.txn_laws.specs.Laws.{IsNotOf, expiries, world_after_tick}
+use Rattle.txn_laws.specs.Kept.{kept_id_and_epoch, kept_entry, kept_entries, kept_world, kept_world_with_entry, kept_world_after_mark, kept_world_after_move, kept_world_after_moves, KeptLaw, KeptEndLaw}
 use Rattle.txn_laws.proofs.Ticks.{one_by_one}
 
 -- ---- one entry more
@@ -31,7 +31,7 @@ entry_same g h Other = refl
 partition_entry : (entry kept : Entry) (xs : List Entry) (b : Bool) → entry ≡ kept → cond b (xs ++ entry ∷ []) xs ≡ cond b (xs ++ kept ∷ []) xs
 partition_entry entry kept xs b e = ap (λ x. cond b (xs ++ x ∷ []) xs) e
 
-whole_entry : (target : Target) (entry : Entry) → ((pair : Pair) → kept_pair target pair ≡ pair) → entry ≡ kept_entry target entry
+whole_entry : (target : Target) (entry : Entry) → ((pair : ProducerIdAndEpoch) → kept_id_and_epoch target pair ≡ pair) → entry ≡ kept_entry target entry
 whole_entry target (Data p) whole = ap (λ q. Data q) (sym (whole p))
 whole_entry target (Marker p o) whole = ap (λ q. Marker q o) (sym (whole p))
 whole_entry target Other whole = refl
@@ -54,15 +54,15 @@ put_kept c entries moment target entry = λ i. record { coordinator = c; entries
 
 -- ---- moves
 
-let_in : (b : Bool) (w : World) (target : Target) (entry : Entry) → kept_world (cond b (appended w target entry) w) ≡ cond b (kept_appended (kept_world w) target entry) (kept_world w)
+let_in : (b : Bool) (w : World) (target : Target) (entry : Entry) → kept_world (cond b (world_with_entry w target entry) w) ≡ cond b (kept_world_with_entry (kept_world w) target entry) (kept_world w)
 let_in true w target entry = put_kept w.coordinator w.entries w.moment target entry
 let_in false w target entry = refl
 
-mark_kept : (ws : List OwedMarker) (w : World) → kept_world (marked ws w) ≡ kept_marked ws (kept_world w)
+mark_kept : (ws : List PendingMarker) (w : World) → kept_world (world_after_mark ws w) ≡ kept_world_after_mark ws (kept_world w)
 mark_kept [] w = refl
-mark_kept (x ∷ xs) w = put_kept (written_by w.coordinator (x ∷ xs)) w.entries w.moment x.target (Marker x.pair x.outcome)
+mark_kept (x ∷ xs) w = put_kept (with_first_written w.coordinator (x ∷ xs)) w.entries w.moment x.target (Marker x.pair x.outcome)
 
-move_kept : (w : World) (m : Move) → kept_world (moved w m) ≡ kept_moved (kept_world w) m
+move_kept : (w : World) (m : Move) → kept_world (world_after_move w m) ≡ kept_world_after_move (kept_world w) m
 move_kept w (Init id timeout greatest) = refl
 move_kept w Give = refl
 move_kept w (AddPartitions id pair partitions) = refl
@@ -70,14 +70,14 @@ move_kept w (AddGroup id pair group) = refl
 move_kept w (End form id pair outcome) = refl
 move_kept w (Expire id) = refl
 move_kept w (Moment moment) = refl
-move_kept w (Store id pair target) = let_in (is_no_error (holds w.coordinator id pair target)) w target (Data pair)
+move_kept w (Store id pair target) = let_in (is_no_error (holding_code w.coordinator id pair target)) w target (Data pair)
 move_kept w (Send pair target) = let_in (is_free (owner w.coordinator pair.producer)) w target (Data pair)
 move_kept w (Plain target) = put_kept w.coordinator w.entries w.moment target Other
 move_kept w Mark = mark_kept w.coordinator.warrants w
 
-moves_kept : (w : World) (ms : List Move) → kept_world (moved_all w ms) ≡ kept_moved_all (kept_world w) ms
+moves_kept : (w : World) (ms : List Move) → kept_world (world_after_moves w ms) ≡ kept_world_after_moves (kept_world w) ms
 moves_kept w [] = refl
-moves_kept w (m ∷ ms) = moves_kept (moved w m) ms ∙ ap (λ v. kept_moved_all v ms) (move_kept w m)
+moves_kept w (m ∷ ms) = moves_kept (world_after_move w m) ms ∙ ap (λ v. kept_world_after_moves v ms) (move_kept w m)
 
 nothing_kept : (target : Target) → kept_entries target [] ≡ []
 nothing_kept (Partition p) = refl
@@ -90,18 +90,18 @@ pub kept_law : KeptLaw
 kept_law = record { first = first_kept; next = moves_kept }
 
 -- moves after moves
-pub kept_append : (w : World) (xs ys : List Move) → kept_moved_all w (xs ++ ys) ≡ kept_moved_all (kept_moved_all w xs) ys
+pub kept_append : (w : World) (xs ys : List Move) → kept_world_after_moves w (xs ++ ys) ≡ kept_world_after_moves (kept_world_after_moves w xs) ys
 kept_append w [] ys = refl
-kept_append w (m ∷ ms) ys = kept_append (kept_moved w m) ms ys
+kept_append w (m ∷ ms) ys = kept_append (kept_world_after_move w m) ms ys
 
 -- ---- ticks
 
-kept_expiries : (w : World) (ts : List Transaction) → kept_moved_all w (expiries ts) ≡ moved_all w (expiries ts)
+kept_expiries : (w : World) (ts : List Transaction) → kept_world_after_moves w (expiries ts) ≡ world_after_moves w (expiries ts)
 kept_expiries w [] = refl
-kept_expiries w (t ∷ ts) = kept_expiries (moved w (Expire t.id)) ts
+kept_expiries w (t ∷ ts) = kept_expiries (world_after_move w (Expire t.id)) ts
 
-pub kept_tick : (w : World) (moment : ℕ) → HaveOwnIds w.coordinator.transactions → kept_moved_all w (Moment moment ∷ expiries w.coordinator.transactions) ≡ ticked w moment
-kept_tick w moment own = kept_expiries (moved w (Moment moment)) w.coordinator.transactions ∙ one_by_one w own moment
+pub kept_tick : (w : World) (moment : ℕ) → HaveOwnIds w.coordinator.transactions → kept_world_after_moves w (Moment moment ∷ expiries w.coordinator.transactions) ≡ world_after_tick w moment
+kept_tick w moment own = kept_expiries (world_after_move w (Moment moment)) w.coordinator.transactions ∙ one_by_one w own moment
 
 -- ---- ends
 

@@ -10,24 +10,24 @@ use Rattle.std.proofs.lemmas.List.{length-append, length-map}
 use Rattle.wire_types.specs.declared.error_code.ErrorCode.{ErrorCode}
 use Rattle.wire_types.specs.declared.error_code.ErrorCode.TheVariants as errors
 use Rattle.wire_types.specs.ErrorCode.{number_of}
-use Rattle.record_batch.specs.declared.outcome.Outcome.{Outcome}
-use Rattle.record_batch.specs.declared.outcome.Outcome.TheVariants.{Commit, Abort}
-use Rattle.transactions.specs.declared.pair.Pair.{Pair}
-use Rattle.transactions.specs.declared.marker.OwedMarker.{OwedMarker}
-use Rattle.transactions.specs.declared.target.TopicPartition.{TopicPartition}
-use Rattle.transactions.specs.declared.target.Target.TheVariants.{Partition, Group}
-use Rattle.transactions.specs.Turn.{Turn, Stays, Puts}
-use Rattle.transactions.specs.declared.transaction.Transaction.{Transaction}
-use Rattle.transactions.specs.declared.transaction.Phase.{Phase}
-use Rattle.transactions.specs.declared.transaction.Phase.TheVariants.{Empty, Ongoing, PrepareCommit, PrepareAbort, CompleteCommit, CompleteAbort}
-use Rattle.transactions.specs.declared.ending.EndForm.{EndForm}
-use Rattle.transactions.specs.declared.ending.EndForm.TheVariants.{Plain, Fencing, Raising}
-use Rattle.transactions.specs.Words.{is_empty, is_same_pair, raised, pair_after, given_after, last_epoch, targets, is_same_partition, has_partition, has_group}
-use Rattle.transactions.specs.Coordinator.{CoordinatorValue, has_id, recorded, put, fresh, turn_code, turned, pair_answer, turn_answer}
-use Rattle.transactions.specs.Preparing.{markers, marker_for, pair_refusal}
-use Rattle.transactions.specs.EndTxn.{other_epoch, renewed, end_in, is_kept, is_again, end_again, end_by, end_found, end}
-use Rattle.transactions.specs.Adding.{partition_added, partitions_added, with_partitions, group_added, with_group, beginning, open_in, open_by, open_found, open_transaction, grown, add_partitions, add_group}
-use Rattle.transactions.specs.InitProducerId.{timeout_within, created, begun, init_in, init_for, init}
+use Rattle.record_batch.specs.declared.transaction_result.TransactionResult.{TransactionResult}
+use Rattle.record_batch.specs.declared.transaction_result.TransactionResult.TheVariants.{Commit, Abort}
+use Rattle.txn_coordinator.specs.declared.producer_id.ProducerIdAndEpoch.{ProducerIdAndEpoch}
+use Rattle.txn_coordinator.specs.declared.marker.PendingMarker.{PendingMarker}
+use Rattle.txn_coordinator.specs.declared.target.TopicPartition.{TopicPartition}
+use Rattle.txn_coordinator.specs.declared.target.Target.TheVariants.{Partition, Group}
+use Rattle.txn_coordinator.specs.Transition.{Transition, Stays, Puts}
+use Rattle.txn_coordinator.specs.declared.transaction.Transaction.{Transaction}
+use Rattle.txn_coordinator.specs.declared.transaction.TransactionState.{TransactionState}
+use Rattle.txn_coordinator.specs.declared.transaction.TransactionState.TheVariants.{Empty, Ongoing, PrepareCommit, PrepareAbort, CompleteCommit, CompleteAbort}
+use Rattle.txn_coordinator.specs.declared.ending.EndForm.{EndForm}
+use Rattle.txn_coordinator.specs.declared.ending.EndForm.TheVariants.{Plain, Fencing, Raising}
+use Rattle.txn_coordinator.specs.Words.{is_empty, is_same_producer, with_next_epoch, next_id_and_epoch, given_after, last_epoch, targets, is_same_partition, has_partition, has_group}
+use Rattle.txn_coordinator.specs.Coordinator.{CoordinatorValue, has_id, id_record, records_with, fresh_producer_id, transition_code, apply_transition, id_and_epoch_answer, transition_answer}
+use Rattle.txn_coordinator.specs.Preparing.{markers, marker_for, producer_refusal}
+use Rattle.txn_coordinator.specs.EndTxn.{other_epoch, renewal_transition, end_in, is_kept, is_again, end_again, end_by, end_found, end}
+use Rattle.txn_coordinator.specs.Adding.{partition_added, partitions_added, with_partitions, group_added, with_group, begun_transaction, open_in, open_by, open_found, open_transaction, growth_transition, add_partitions, add_group}
+use Rattle.txn_coordinator.specs.InitProducerId.{timeout_within, new_transaction, begin_transition, init_in, init_for, init}
 use Rattle.txn_laws.specs.Tables.{end_code, end_markers, IsRenewing, IsNext, ComesWithOwn, EndTable, init_code, IsClosed, InitsByTable, InitsNew, InitTable, add_code, AddsEach, TakesIn, AddTable, TakesGroupIn, GroupTable}
 use Rattle.txn_laws.specs.Sound.{IsAmong}
 use Rattle.txn_laws.proofs.Base.{same_is, is_same, recorded_put}
@@ -45,43 +45,43 @@ is_low : (e : ℤ) → e <ℤ pos 32767 → int_lt e last_epoch ≡ true
 is_low e h = grind (arith, ints)
 
 -- nothing refuses the own pair
-unrefused : (code : ErrorCode) (t : Transaction) → t.pair.epoch <ℤ pos 32767 → pair_refusal code t t.pair ≡ None
+unrefused : (code : ErrorCode) (t : Transaction) → t.pair.epoch <ℤ pos 32767 → producer_refusal code t t.pair ≡ None
 unrefused code t low =
     ap (λ (b : Bool). cond b (cond (int_eq t.pair.epoch t.pair.epoch && int_lt t.pair.epoch last_epoch) None (Some code)) (Some errors.InvalidProducerIdMapping)) (same_int t.pair.producer)
     ∙ ap (λ (b : Bool). cond (b && int_lt t.pair.epoch last_epoch) None (Some code)) (same_int t.pair.epoch)
     ∙ ap (λ (b : Bool). cond b None (Some code)) (is_low t.pair.epoch low)
 
-same_pair : (a b : Pair) → is_same_pair a b ≡ true → a ≡ b
+same_pair : (a b : ProducerIdAndEpoch) → is_same_producer a b ≡ true → a ≡ b
 same_pair a b h =
     let parts = and_parts (int_eq a.producer b.producer) (int_eq a.epoch b.epoch) h in
     let producer = (Decides-int_eq a.producer b.producer).0 parts.0 in
     let epoch = (Decides-int_eq a.epoch b.epoch).0 parts.1 in
     (λ i. record { producer = producer i; epoch = epoch i })
 
-not_kept : (kept : Option Pair) (pair : Pair) → kept ≢ Some pair → is_kept kept pair ≡ false
+not_kept : (kept : Option ProducerIdAndEpoch) (pair : ProducerIdAndEpoch) → kept ≢ Some pair → is_kept kept pair ≡ false
 not_kept None pair new = refl
-not_kept (Some k) pair new = by_same (is_same_pair k pair) refl where
-  by_same : (b : Bool) → is_same_pair k pair ≡ b → b ≡ false
-  by_same true h = absurd (new (ap (λ (p : Pair). Some p) (same_pair k pair h)))
+not_kept (Some k) pair new = by_same (is_same_producer k pair) refl where
+  by_same : (b : Bool) → is_same_producer k pair ≡ b → b ≡ false
+  by_same true h = absurd (new (ap (λ (p : ProducerIdAndEpoch). Some p) (same_pair k pair h)))
   by_same false h = refl
 
-pub not_again : (form : EndForm) (t : Transaction) (pair : Pair) → t.kept ≢ Some pair → is_again form t pair ≡ false
+pub not_again : (form : EndForm) (t : Transaction) (pair : ProducerIdAndEpoch) → t.kept ≢ Some pair → is_again form t pair ≡ false
 not_again Plain t pair new = refl
 not_again Fencing t pair new = refl
 not_again Raising t pair new = not_kept t.kept pair new
 
--- a call with the own pair goes by the phase
-goes_by_phase : (c : CoordinatorValue) (form : EndForm) (id : List ℕ) (pair : Pair) (outcome : Outcome) (t : Transaction) → ComesWithOwn c id pair t → end c form id pair outcome ≡ end_in t.phase form t (fresh c) outcome
-goes_by_phase c form id pair outcome t h =
-    ap (λ (b : Bool). cond b (Stays errors.InvalidRequest) (end_found (recorded c.transactions id) form (fresh c) pair outcome)) (not_empty id h.named)
-    ∙ ap (λ (o : Option Transaction). end_found o form (fresh c) pair outcome) h.found
-    ∙ ap (λ (b : Bool). cond b (Stays (end_again t.phase outcome)) (end_by (pair_refusal (other_epoch form) t pair) form t (fresh c) outcome)) (not_again form t pair h.new)
-    ∙ ap (λ (p : Pair). end_by (pair_refusal (other_epoch form) t p) form t (fresh c) outcome) h.own
-    ∙ ap (λ (o : Option ErrorCode). end_by o form t (fresh c) outcome) (unrefused (other_epoch form) t h.low)
+-- a call with the own pair goes by the state
+goes_by_state : (c : CoordinatorValue) (form : EndForm) (id : List ℕ) (pair : ProducerIdAndEpoch) (outcome : TransactionResult) (t : Transaction) → ComesWithOwn c id pair t → end c form id pair outcome ≡ end_in t.state form t (fresh_producer_id c) outcome
+goes_by_state c form id pair outcome t h =
+    ap (λ (b : Bool). cond b (Stays errors.InvalidRequest) (end_found (id_record c.transactions id) form (fresh_producer_id c) pair outcome)) (not_empty id h.named)
+    ∙ ap (λ (o : Option Transaction). end_found o form (fresh_producer_id c) pair outcome) h.found
+    ∙ ap (λ (b : Bool). cond b (Stays (end_again t.state outcome)) (end_by (producer_refusal (other_epoch form) t pair) form t (fresh_producer_id c) outcome)) (not_again form t pair h.new)
+    ∙ ap (λ (p : ProducerIdAndEpoch). end_by (producer_refusal (other_epoch form) t p) form t (fresh_producer_id c) outcome) h.own
+    ∙ ap (λ (o : Option ErrorCode). end_by o form t (fresh_producer_id c) outcome) (unrefused (other_epoch form) t h.low)
 
 -- ---- the rows
 
-codes_are : (phase : Phase) (form : EndForm) (t : Transaction) (next : ℤ) (outcome : Outcome) → number_of (turn_code (end_in phase form t next outcome)) ≡ end_code form phase outcome
+codes_are : (state : TransactionState) (form : EndForm) (t : Transaction) (next : ℤ) (outcome : TransactionResult) → number_of (transition_code (end_in state form t next outcome)) ≡ end_code form state outcome
 unfolding number_of
 codes_are Empty Plain t next Commit = refl
 codes_are Empty Plain t next Abort = refl
@@ -120,17 +120,17 @@ codes_are CompleteAbort Fencing t next Abort = refl
 codes_are CompleteAbort Raising t next Commit = refl
 codes_are CompleteAbort Raising t next Abort = refl
 
-abbrev owed_in : Turn → List OwedMarker
+abbrev owed_in : Transition → List PendingMarker
 owed_in (Stays code) = []
 owed_in (Puts code t given owed) = owed
 
-markers_are : (t : Transaction) (pair : Pair) (outcome : Outcome) → length (markers t pair outcome) ≡ length t.partitions + length t.groups
+markers_are : (t : Transaction) (pair : ProducerIdAndEpoch) (outcome : TransactionResult) → length (markers t pair outcome) ≡ length t.partitions + length t.groups
 markers_are t pair outcome =
     length-map (targets t) (marker_for t.id pair outcome)
     ∙ length-append (map (λ p. Partition p) t.partitions) (map (λ g. Group g) t.groups)
     ∙ (λ i. length-map t.partitions (λ p. Partition p) i + length-map t.groups (λ g. Group g) i)
 
-owed_is : (phase : Phase) (form : EndForm) (t : Transaction) (next : ℤ) (outcome : Outcome) → length (owed_in (end_in phase form t next outcome)) ≡ end_markers phase t
+owed_is : (state : TransactionState) (form : EndForm) (t : Transaction) (next : ℤ) (outcome : TransactionResult) → length (owed_in (end_in state form t next outcome)) ≡ end_markers state t
 owed_is Empty Plain t next Commit = refl
 owed_is Empty Plain t next Abort = refl
 owed_is Empty Fencing t next Commit = refl
@@ -168,15 +168,15 @@ owed_is CompleteAbort Fencing t next Abort = refl
 owed_is CompleteAbort Raising t next Commit = refl
 owed_is CompleteAbort Raising t next Abort = refl
 
-owed_then : (c : CoordinatorValue) (turn : Turn) → length (turned c turn).warrants ≡ length c.warrants + length (owed_in turn)
+owed_then : (c : CoordinatorValue) (transition : Transition) → length (apply_transition c transition).warrants ≡ length c.warrants + length (owed_in transition)
 owed_then c (Stays code) = omega arith
 owed_then c (Puts code t given owed) = length-append c.warrants owed
 
 -- the record that a renewing call puts
-abbrev IsRenewed : Transaction → ℤ → Turn → Type 0
-IsRenewed t next turn = (phase : Phase) × (owed : List OwedMarker) × (turn ≡ renewed t next phase owed)
+abbrev IsRenewed : Transaction → ℤ → Transition → Type 0
+IsRenewed t next transition = (state : TransactionState) × (owed : List PendingMarker) × (transition ≡ renewal_transition t next state owed)
 
-renewing : (phase : Phase) (form : EndForm) (t : Transaction) (next : ℤ) (outcome : Outcome) → IsRenewing form phase outcome → IsRenewed t next (end_in phase form t next outcome)
+renewing : (state : TransactionState) (form : EndForm) (t : Transaction) (next : ℤ) (outcome : TransactionResult) → IsRenewing form state outcome → IsRenewed t next (end_in state form t next outcome)
 renewing Empty Plain t next Commit h = absurd h
 renewing Empty Plain t next Abort h = absurd h
 renewing Empty Fencing t next Commit h = absurd h
@@ -228,35 +228,35 @@ exhausted e high = by_test (int_le (pos 32766) e) refl where
   by_test true h = refl
   by_test false h = absurd (grind (arith, ints))
 
-next_is : (c : CoordinatorValue) (old new : Pair) → new ≡ pair_after old (fresh c) → IsNext c old new
+next_is : (c : CoordinatorValue) (old new : ProducerIdAndEpoch) → new ≡ next_id_and_epoch old (fresh_producer_id c) → IsNext c old new
 next_is c old new is = record {
-  raised = λ low. let same : new ≡ raised old = is ∙ ap (λ (b : Bool). cond b (record { producer = fresh c; epoch = pos 0 }) (raised old)) (exhausted_not old.epoch low) in (ap (λ (p : Pair). p.producer) same, ap (λ (p : Pair). p.epoch) same);
-  fresh = λ high. let same : new ≡ record { producer = fresh c; epoch = pos 0 } = is ∙ ap (λ (b : Bool). cond b (record { producer = fresh c; epoch = pos 0 }) (raised old)) (exhausted old.epoch high) in (ap (λ (p : Pair). p.producer) same, ap (λ (p : Pair). p.epoch) same);
+  raised = λ low. let same : new ≡ with_next_epoch old = is ∙ ap (λ (b : Bool). cond b (record { producer = fresh_producer_id c; epoch = pos 0 }) (with_next_epoch old)) (exhausted_not old.epoch low) in (ap (λ (p : ProducerIdAndEpoch). p.producer) same, ap (λ (p : ProducerIdAndEpoch). p.epoch) same);
+  fresh = λ high. let same : new ≡ record { producer = fresh_producer_id c; epoch = pos 0 } = is ∙ ap (λ (b : Bool). cond b (record { producer = fresh_producer_id c; epoch = pos 0 }) (with_next_epoch old)) (exhausted old.epoch high) in (ap (λ (p : ProducerIdAndEpoch). p.producer) same, ap (λ (p : ProducerIdAndEpoch). p.epoch) same);
 }
 
 -- what is recorded under an id has it
-has_own : (ts : List Transaction) (id : List ℕ) (t : Transaction) → recorded ts id ≡ Some t → has_id id t ≡ true
+has_own : (ts : List Transaction) (id : List ℕ) (t : Transaction) → id_record ts id ≡ Some t → has_id id t ≡ true
 has_own [] id t h = absurd (let clash : None ≡ Some t = h in cc)
 has_own (x ∷ xs) id t h = by_test (has_id id x) refl h (has_own xs id t) where
-  by_test : (b : Bool) → has_id id x ≡ b → cond b (Some x) (recorded xs id) ≡ Some t → (recorded xs id ≡ Some t → has_id id t ≡ true) → has_id id t ≡ true
+  by_test : (b : Bool) → has_id id x ≡ b → cond b (Some x) (id_record xs id) ≡ Some t → (id_record xs id ≡ Some t → has_id id t ≡ true) → has_id id t ≡ true
   by_test true same h more = let is : x ≡ t = cc in ap (has_id id) (sym is) ∙ same
   by_test false other h more = more h
 
 -- an id whose record is put without an error is answered its pair
-answered_own : (c : CoordinatorValue) (id : List ℕ) (r : Transaction) (given : List (Option (List ℕ))) (owed : List OwedMarker) → has_id id r ≡ true → (turn_answer c id (Puts errors.None r given owed)).pair ≡ r.pair
-answered_own c id r given owed own = ap (λ (o : Option Transaction). (pair_answer errors.None o).pair) (recorded_put c.transactions r id ∙ ap (λ (b : Bool). cond b (Some r) (recorded c.transactions id)) own)
+answered_own : (c : CoordinatorValue) (id : List ℕ) (r : Transaction) (given : List (Option (List ℕ))) (owed : List PendingMarker) → has_id id r ≡ true → (transition_answer c id (Puts errors.None r given owed)).pair ≡ r.pair
+answered_own c id r given owed own = ap (λ (o : Option Transaction). (id_and_epoch_answer errors.None o).pair) (recorded_put c.transactions r id ∙ ap (λ (b : Bool). cond b (Some r) (id_record c.transactions id)) own)
 
-renewed_pair : (c : CoordinatorValue) (id : List ℕ) (t : Transaction) (turn : Turn) → has_id id t ≡ true → IsRenewed t (fresh c) turn → IsNext c t.pair (turn_answer c id turn).pair
-renewed_pair c id t turn own (phase, owed, is) =
-    next_is c t.pair _ (ap (λ (u : Turn). (turn_answer c id u).pair) is ∙ answered_own c id (record t { pair = pair_after t.pair (fresh c); phase = phase; kept = Some t.pair }) (given_after t.pair t.id) owed own)
+renewed_pair : (c : CoordinatorValue) (id : List ℕ) (t : Transaction) (transition : Transition) → has_id id t ≡ true → IsRenewed t (fresh_producer_id c) transition → IsNext c t.pair (transition_answer c id transition).pair
+renewed_pair c id t transition own (state, owed, is) =
+    next_is c t.pair _ (ap (λ (u : Transition). (transition_answer c id u).pair) is ∙ answered_own c id (record t { pair = next_id_and_epoch t.pair (fresh_producer_id c); state = state; kept = Some t.pair }) (given_after t.pair t.id) owed own)
 
 pub ends : EndTable
 ends c form id pair outcome t h =
-    let same = goes_by_phase c form id pair outcome t h in
+    let same = goes_by_state c form id pair outcome t h in
     record {
-      code = ap (λ (u : Turn). number_of (turn_code u)) same ∙ codes_are t.phase form t (fresh c) outcome;
-      markers = ap (λ (u : Turn). length (turned c u).warrants) same ∙ owed_then c (end_in t.phase form t (fresh c) outcome) ∙ ap (λ (n : ℕ). length c.warrants + n) (owed_is t.phase form t (fresh c) outcome);
-      renewed = λ renews. subst (λ (u : Turn). IsNext c t.pair (turn_answer c id u).pair) (sym same) (renewed_pair c id t (end_in t.phase form t (fresh c) outcome) (has_own c.transactions id t h.found) (renewing t.phase form t (fresh c) outcome renews));
+      code = ap (λ (u : Transition). number_of (transition_code u)) same ∙ codes_are t.state form t (fresh_producer_id c) outcome;
+      markers = ap (λ (u : Transition). length (apply_transition c u).warrants) same ∙ owed_then c (end_in t.state form t (fresh_producer_id c) outcome) ∙ ap (λ (n : ℕ). length c.warrants + n) (owed_is t.state form t (fresh_producer_id c) outcome);
+      renewed = λ renews. subst (λ (u : Transition). IsNext c t.pair (transition_answer c id u).pair) (sym same) (renewed_pair c id t (end_in t.state form t (fresh_producer_id c) outcome) (has_own c.transactions id t h.found) (renewing t.state form t (fresh_producer_id c) outcome renews));
     }
 
 -- ---- InitProducerId
@@ -269,12 +269,12 @@ within n greatest low high =
       by_test true h = refl
       by_test false h = absurd (grind (arith, ints))
 
-inits_for : (c : CoordinatorValue) (id : List ℕ) (n : ℕ) (greatest : ℤ) (o : Option Transaction) → id ≢ [] → 1 ≤ n → pos n ≤ℤ greatest → recorded c.transactions id ≡ o → init c id (pos n) greatest ≡ init_for (Some n) o id (fresh c)
+inits_for : (c : CoordinatorValue) (id : List ℕ) (n : ℕ) (greatest : ℤ) (o : Option Transaction) → id ≢ [] → 1 ≤ n → pos n ≤ℤ greatest → id_record c.transactions id ≡ o → init c id (pos n) greatest ≡ init_for (Some n) o id (fresh_producer_id c)
 inits_for c id n greatest o named low high found =
-    ap (λ (b : Bool). cond b (Stays errors.InvalidRequest) (init_for (timeout_within (pos n) greatest) (recorded c.transactions id) id (fresh c))) (not_empty id named)
-    ∙ (λ i. init_for (within n greatest low high i) (found i) id (fresh c))
+    ap (λ (b : Bool). cond b (Stays errors.InvalidRequest) (init_for (timeout_within (pos n) greatest) (id_record c.transactions id) id (fresh_producer_id c))) (not_empty id named)
+    ∙ (λ i. init_for (within n greatest low high i) (found i) id (fresh_producer_id c))
 
-init_codes : (phase : Phase) (t : Transaction) (next : ℤ) (n : ℕ) → number_of (turn_code (init_in phase t next n)) ≡ init_code phase
+init_codes : (state : TransactionState) (t : Transaction) (next : ℤ) (n : ℕ) → number_of (transition_code (init_in state t next n)) ≡ init_code state
 unfolding number_of
 init_codes Empty t next n = refl
 init_codes CompleteCommit t next n = refl
@@ -283,7 +283,7 @@ init_codes Ongoing t next n = refl
 init_codes PrepareCommit t next n = refl
 init_codes PrepareAbort t next n = refl
 
-closed_begins : (phase : Phase) (t : Transaction) (next : ℤ) (n : ℕ) → IsClosed phase → init_in phase t next n ≡ begun t next n
+closed_begins : (state : TransactionState) (t : Transaction) (next : ℤ) (n : ℕ) → IsClosed state → init_in state t next n ≡ begin_transition t next n
 closed_begins Empty t next n h = refl
 closed_begins CompleteCommit t next n h = refl
 closed_begins CompleteAbort t next n h = refl
@@ -291,30 +291,30 @@ closed_begins Ongoing t next n h = absurd h
 closed_begins PrepareCommit t next n h = absurd h
 closed_begins PrepareAbort t next n h = absurd h
 
-begun_pair : (c : CoordinatorValue) (id : List ℕ) (t : Transaction) (n : ℕ) → has_id id t ≡ true → (turn_answer c id (begun t (fresh c) n)).pair ≡ pair_after t.pair (fresh c)
-begun_pair c id t n own = answered_own c id (record t { pair = pair_after t.pair (fresh c); timeout = n; phase = Empty; kept = None }) (given_after t.pair t.id) [] own
+begun_pair : (c : CoordinatorValue) (id : List ℕ) (t : Transaction) (n : ℕ) → has_id id t ≡ true → (transition_answer c id (begin_transition t (fresh_producer_id c) n)).pair ≡ next_id_and_epoch t.pair (fresh_producer_id c)
+begun_pair c id t n own = answered_own c id (record t { pair = next_id_and_epoch t.pair (fresh_producer_id c); timeout = n; state = Empty; kept = None }) (given_after t.pair t.id) [] own
 
-known : (c : CoordinatorValue) (id : List ℕ) (n : ℕ) (greatest : ℤ) (t : Transaction) → id ≢ [] → 1 ≤ n → pos n ≤ℤ greatest → recorded c.transactions id ≡ Some t → InitsByTable c id (pos n) greatest t
+known : (c : CoordinatorValue) (id : List ℕ) (n : ℕ) (greatest : ℤ) (t : Transaction) → id ≢ [] → 1 ≤ n → pos n ≤ℤ greatest → id_record c.transactions id ≡ Some t → InitsByTable c id (pos n) greatest t
 known c id n greatest t named low high found =
     let same = inits_for c id n greatest (Some t) named low high found in
     record {
-      code = ap (λ (u : Turn). number_of (turn_code u)) same ∙ init_codes t.phase t (fresh c) n;
-      next = λ closed. next_is c t.pair _ (ap (λ (u : Turn). (turn_answer c id u).pair) (same ∙ closed_begins t.phase t (fresh c) n closed) ∙ begun_pair c id t n (has_own c.transactions id t found));
+      code = ap (λ (u : Transition). number_of (transition_code u)) same ∙ init_codes t.state t (fresh_producer_id c) n;
+      next = λ closed. next_is c t.pair _ (ap (λ (u : Transition). (transition_answer c id u).pair) (same ∙ closed_begins t.state t (fresh_producer_id c) n closed) ∙ begun_pair c id t n (has_own c.transactions id t found));
     }
 
 zero_is : number_of errors.None ≡ pos 0
 unfolding number_of
 zero_is = refl
 
-new : (c : CoordinatorValue) (id : List ℕ) (n : ℕ) (greatest : ℤ) → id ≢ [] → 1 ≤ n → pos n ≤ℤ greatest → recorded c.transactions id ≡ None → InitsNew c id (pos n) greatest
+new : (c : CoordinatorValue) (id : List ℕ) (n : ℕ) (greatest : ℤ) → id ≢ [] → 1 ≤ n → pos n ≤ℤ greatest → id_record c.transactions id ≡ None → InitsNew c id (pos n) greatest
 new c id n greatest named low high found =
     let same = inits_for c id n greatest None named low high found in
-    let pair : (turn_answer c id (init c id (pos n) greatest)).pair ≡ record { producer = fresh c; epoch = pos 0 } =
-    ap (λ (u : Turn). (turn_answer c id u).pair) same ∙ answered_own c id (created id (fresh c) n) (Some id ∷ []) [] (is_same id id refl) in
+    let pair : (transition_answer c id (init c id (pos n) greatest)).pair ≡ record { producer = fresh_producer_id c; epoch = pos 0 } =
+    ap (λ (u : Transition). (transition_answer c id u).pair) same ∙ answered_own c id (new_transaction id (fresh_producer_id c) n) (Some id ∷ []) [] (is_same id id refl) in
     record {
-      code = ap (λ (u : Turn). number_of (turn_code u)) same ∙ zero_is;
-      producer = ap (λ (p : Pair). p.producer) pair;
-      epoch = ap (λ (p : Pair). p.epoch) pair;
+      code = ap (λ (u : Transition). number_of (transition_code u)) same ∙ zero_is;
+      producer = ap (λ (p : ProducerIdAndEpoch). p.producer) pair;
+      epoch = ap (λ (p : ProducerIdAndEpoch). p.epoch) pair;
     }
 
 pub inits : InitTable
@@ -421,13 +421,13 @@ each_added : (added ps : List TopicPartition) → AddsEach added ps (partitions_
 each_added added [] = record { kept = λ p h. h; all = λ p h. absurd h; alone = λ p h. inl h }
 each_added added (r ∷ rs) = then_more added (partition_added added r) (partitions_added (partition_added added r) rs) r rs (one_added added r) (each_added (partition_added added r) rs)
 
-opens : (c : CoordinatorValue) (id : List ℕ) (pair : Pair) (moment : ℕ) (t : Transaction) → id ≢ [] → recorded c.transactions id ≡ Some t → pair ≡ t.pair → t.pair.epoch <ℤ pos 32767 → open_transaction c id pair moment ≡ open_in t.phase t moment
+opens : (c : CoordinatorValue) (id : List ℕ) (pair : ProducerIdAndEpoch) (moment : ℕ) (t : Transaction) → id ≢ [] → id_record c.transactions id ≡ Some t → pair ≡ t.pair → t.pair.epoch <ℤ pos 32767 → open_transaction c id pair moment ≡ open_in t.state t moment
 opens c id pair moment t named found own low =
-    ap (λ (b : Bool). cond b (Err errors.InvalidRequest) (open_found (recorded c.transactions id) pair moment)) (not_empty id named)
+    ap (λ (b : Bool). cond b (Err errors.InvalidRequest) (open_found (id_record c.transactions id) pair moment)) (not_empty id named)
     ∙ (λ i. open_found (found i) (own i) moment)
     ∙ ap (λ (o : Option ErrorCode). open_by o t moment) (unrefused errors.InvalidProducerEpoch t low)
 
-add_codes : (phase : Phase) (t : Transaction) (moment : ℕ) (grow : Transaction → Transaction) → number_of (turn_code (grown grow (open_in phase t moment))) ≡ add_code phase
+add_codes : (state : TransactionState) (t : Transaction) (moment : ℕ) (grow : Transaction → Transaction) → number_of (transition_code (growth_transition grow (open_in state t moment))) ≡ add_code state
 unfolding number_of
 add_codes Empty t moment grow = refl
 add_codes CompleteCommit t moment grow = refl
@@ -436,17 +436,17 @@ add_codes Ongoing t moment grow = refl
 add_codes PrepareCommit t moment grow = refl
 add_codes PrepareAbort t moment grow = refl
 
-put_found : (c : CoordinatorValue) (id : List ℕ) (r : Transaction) → has_id id r ≡ true → recorded (turned c (Puts errors.None r [] [])).transactions id ≡ Some r
-put_found c id r own = recorded_put c.transactions r id ∙ ap (λ (b : Bool). cond b (Some r) (recorded c.transactions id)) own
+put_found : (c : CoordinatorValue) (id : List ℕ) (r : Transaction) → has_id id r ≡ true → id_record (apply_transition c (Puts errors.None r [] [])).transactions id ≡ Some r
+put_found c id r own = recorded_put c.transactions r id ∙ ap (λ (b : Bool). cond b (Some r) (id_record c.transactions id)) own
 
 no_code : pos 51 ≡ pos 0 → ⊥
 no_code h = omega (arith, ints, h)
 
 -- a closed one begins now
-begins_now : (c : CoordinatorValue) (id : List ℕ) (moment : ℕ) (ps : List TopicPartition) (t : Transaction) → has_id id t ≡ true → (t.phase ≡ Ongoing → ⊥) → TakesIn c id moment ps t (Puts errors.None (with_partitions ps (beginning t moment)) [] [])
+begins_now : (c : CoordinatorValue) (id : List ℕ) (moment : ℕ) (ps : List TopicPartition) (t : Transaction) → has_id id t ≡ true → (t.state ≡ Ongoing → ⊥) → TakesIn c id moment ps t (Puts errors.None (with_partitions ps (begun_transaction t moment)) [] [])
 begins_now c id moment ps t own closed = record {
-  transaction = with_partitions ps (beginning t moment);
-  found = put_found c id (with_partitions ps (beginning t moment)) own;
+  transaction = with_partitions ps (begun_transaction t moment);
+  found = put_found c id (with_partitions ps (begun_transaction t moment)) own;
   ongoing = refl;
   pair = refl;
   begins = λ h. refl;
@@ -455,7 +455,7 @@ begins_now c id moment ps t own closed = record {
   groups = refl;
 }
 
-takes : (phase : Phase) (c : CoordinatorValue) (id : List ℕ) (moment : ℕ) (ps : List TopicPartition) (t : Transaction) → t.phase ≡ phase → has_id id t ≡ true → add_code phase ≡ pos 0 → TakesIn c id moment ps t (grown (with_partitions ps) (open_in phase t moment))
+takes : (state : TransactionState) (c : CoordinatorValue) (id : List ℕ) (moment : ℕ) (ps : List TopicPartition) (t : Transaction) → t.state ≡ state → has_id id t ≡ true → add_code state ≡ pos 0 → TakesIn c id moment ps t (growth_transition (with_partitions ps) (open_in state t moment))
 takes Empty c id moment ps t is own h = begins_now c id moment ps t own (λ ongoing. other (sym is ∙ ongoing)) where
   other : Empty ≡ Ongoing → ⊥
   other e = cc
@@ -480,18 +480,18 @@ takes PrepareAbort c id moment ps t is own h = absurd (no_code h)
 
 pub adds : AddTable
 adds c id pair moment p ps t named found own low =
-    let same = ap (grown (with_partitions (p ∷ ps))) (opens c id pair moment t named found own low) in
+    let same = ap (growth_transition (with_partitions (p ∷ ps))) (opens c id pair moment t named found own low) in
     record {
-      code = ap (λ (u : Turn). number_of (turn_code u)) same ∙ add_codes t.phase t moment (with_partitions (p ∷ ps));
-      taken = λ h. subst (TakesIn c id moment (p ∷ ps) t) (sym same) (takes t.phase c id moment (p ∷ ps) t refl (has_own c.transactions id t found) h);
+      code = ap (λ (u : Transition). number_of (transition_code u)) same ∙ add_codes t.state t moment (with_partitions (p ∷ ps));
+      taken = λ h. subst (TakesIn c id moment (p ∷ ps) t) (sym same) (takes t.state c id moment (p ∷ ps) t refl (has_own c.transactions id t found) h);
     }
 
 -- ---- AddOffsetsToTxn
 
-group_begins : (c : CoordinatorValue) (id : List ℕ) (moment : ℕ) (group : List ℕ) (t : Transaction) → has_id id t ≡ true → (t.phase ≡ Ongoing → ⊥) → TakesGroupIn c id moment group t (Puts errors.None (with_group group (beginning t moment)) [] [])
+group_begins : (c : CoordinatorValue) (id : List ℕ) (moment : ℕ) (group : List ℕ) (t : Transaction) → has_id id t ≡ true → (t.state ≡ Ongoing → ⊥) → TakesGroupIn c id moment group t (Puts errors.None (with_group group (begun_transaction t moment)) [] [])
 group_begins c id moment group t own closed = record {
-  transaction = with_group group (beginning t moment);
-  found = put_found c id (with_group group (beginning t moment)) own;
+  transaction = with_group group (begun_transaction t moment);
+  found = put_found c id (with_group group (begun_transaction t moment)) own;
   ongoing = refl;
   pair = refl;
   begins = λ h. refl;
@@ -500,7 +500,7 @@ group_begins c id moment group t own closed = record {
   partitions = refl;
 }
 
-takes_group : (phase : Phase) (c : CoordinatorValue) (id : List ℕ) (moment : ℕ) (group : List ℕ) (t : Transaction) → t.phase ≡ phase → has_id id t ≡ true → add_code phase ≡ pos 0 → TakesGroupIn c id moment group t (grown (with_group group) (open_in phase t moment))
+takes_group : (state : TransactionState) (c : CoordinatorValue) (id : List ℕ) (moment : ℕ) (group : List ℕ) (t : Transaction) → t.state ≡ state → has_id id t ≡ true → add_code state ≡ pos 0 → TakesGroupIn c id moment group t (growth_transition (with_group group) (open_in state t moment))
 takes_group Empty c id moment group t is own h = group_begins c id moment group t own (λ ongoing. other (sym is ∙ ongoing)) where
   other : Empty ≡ Ongoing → ⊥
   other e = cc
@@ -525,8 +525,8 @@ takes_group PrepareAbort c id moment group t is own h = absurd (no_code h)
 
 pub adds_group : GroupTable
 adds_group c id pair moment group t named found own low =
-    let same = ap (grown (with_group group)) (opens c id pair moment t named found own low) in
+    let same = ap (growth_transition (with_group group)) (opens c id pair moment t named found own low) in
     record {
-      code = ap (λ (u : Turn). number_of (turn_code u)) same ∙ add_codes t.phase t moment (with_group group);
-      taken = λ h. subst (TakesGroupIn c id moment group t) (sym same) (takes_group t.phase c id moment group t refl (has_own c.transactions id t found) h);
+      code = ap (λ (u : Transition). number_of (transition_code u)) same ∙ add_codes t.state t moment (with_group group);
+      taken = λ h. subst (TakesGroupIn c id moment group t) (sym same) (takes_group t.state c id moment group t refl (has_own c.transactions id t found) h);
     }

@@ -4,16 +4,16 @@ use Rattle.std.specs.Prelude.{◌||◌, ◌&&◌, ◌≤ℤ◌}
 use Rattle.std.specs.Ordering.{int_eq}
 use Rattle.std.specs.Str.{bytes_eq}
 use Rattle.std.proofs.lemmas.Bool.Decides.{Decides-int_eq}
-use Rattle.transactions.specs.declared.pair.Pair.{Pair}
-use Rattle.transactions.specs.declared.target.TopicPartition.{TopicPartition}
-use Rattle.transactions.specs.declared.target.Target.{Target}
-use Rattle.transactions.specs.declared.target.Target.TheVariants.{Partition, Group}
-use Rattle.transactions.specs.declared.transaction.Transaction.{Transaction}
-use Rattle.record_batch.specs.declared.outcome.Outcome.{Outcome}
-use Rattle.transactions.specs.Words.{is_same_partition, has_partition, has_group, prepared, targets}
-use Rattle.transactions.specs.Adding.{partition_added, partitions_added, group_added}
-use Rattle.transactions.specs.Preparing.{marker_for, markers}
-use Rattle.transactions.specs.Warrants.{owes}
+use Rattle.txn_coordinator.specs.declared.producer_id.ProducerIdAndEpoch.{ProducerIdAndEpoch}
+use Rattle.txn_coordinator.specs.declared.target.TopicPartition.{TopicPartition}
+use Rattle.txn_coordinator.specs.declared.target.Target.{Target}
+use Rattle.txn_coordinator.specs.declared.target.Target.TheVariants.{Partition, Group}
+use Rattle.txn_coordinator.specs.declared.transaction.Transaction.{Transaction}
+use Rattle.record_batch.specs.declared.transaction_result.TransactionResult.{TransactionResult}
+use Rattle.txn_coordinator.specs.Words.{is_same_partition, has_partition, has_group, prepared_phase, targets}
+use Rattle.txn_coordinator.specs.Adding.{partition_added, partitions_added, group_added}
+use Rattle.txn_coordinator.specs.Preparing.{marker_for, markers}
+use Rattle.txn_coordinator.specs.Warrants.{has_pending_marker}
 use Rattle.txn_laws.specs.Small.{is_same_target}
 use Rattle.txn_laws.specs.Sound.{Each, AreDistinct, AreApart, IsApart}
 use Rattle.txn_laws.proofs.Base.{each_map, same_is, is_same, given_to}
@@ -147,23 +147,23 @@ filled_group ps added g h = group_in added g (no_group ps (group_added added g) 
 
 -- ---- what is owed to them
 
-owing_map : (id : List ℕ) (p : Pair) (o : Outcome) (xs : List Target) → (xs ≡ [] → ⊥) → owes (map (marker_for id p o) xs) id ≡ true
+owing_map : (id : List ℕ) (p : ProducerIdAndEpoch) (o : TransactionResult) (xs : List Target) → (xs ≡ [] → ⊥) → has_pending_marker (map (marker_for id p o) xs) id ≡ true
 owing_map id p o [] some = absurd (some refl)
-owing_map id p o (x ∷ xs) some = ap (λ b. b || owes (map (marker_for id p o) xs) id) (is_same id id refl)
+owing_map id p o (x ∷ xs) some = ap (λ b. b || has_pending_marker (map (marker_for id p o) xs) id) (is_same id id refl)
 
-pub markers_owing : (t : Transaction) (p : Pair) (o : Outcome) → (targets t ≡ [] → ⊥) → owes (markers t p o) t.id ≡ true
+pub markers_owing : (t : Transaction) (p : ProducerIdAndEpoch) (o : TransactionResult) → (targets t ≡ [] → ⊥) → has_pending_marker (markers t p o) t.id ≡ true
 markers_owing t p o some = owing_map t.id p o (targets t) some
 
-pub markers_owed : (given : List (Option (List ℕ))) (r t : Transaction) (p : Pair) (o : Outcome) → t.id ≡ r.id → given_to given p.producer ≡ Some (Some t.id) → (r.pair.producer ≡ p.producer → p.epoch ≤ℤ r.pair.epoch) → r.phase ≡ prepared o → Each (IsOwedBy given r) (markers t p o)
+pub markers_owed : (given : List (Option (List ℕ))) (r t : Transaction) (p : ProducerIdAndEpoch) (o : TransactionResult) → t.id ≡ r.id → given_to given p.producer ≡ Some (Some t.id) → (r.pair.producer ≡ p.producer → p.epoch ≤ℤ r.pair.epoch) → r.state ≡ prepared_phase o → Each (IsOwedBy given r) (markers t p o)
 markers_owed given r t p o own owned reached waits = each_map (marker_for t.id p o) (IsOwedBy given r) (λ target. record { own = own; owned = owned; reached = reached; waits = waits }) (targets t)
 
-apart_one : (id : List ℕ) (p : Pair) (o : Outcome) (x : Target) (xs : List Target) → Each (λ y. x ≡ y → ⊥) xs → Each (IsApart (marker_for id p o x)) (map (marker_for id p o) xs)
+apart_one : (id : List ℕ) (p : ProducerIdAndEpoch) (o : TransactionResult) (x : Target) (xs : List Target) → Each (λ y. x ≡ y → ⊥) xs → Each (IsApart (marker_for id p o x)) (map (marker_for id p o) xs)
 apart_one id p o x [] h = tt
 apart_one id p o x (y ∷ ys) h = ((λ same_id same. h.0 same), apart_one id p o x ys h.1)
 
-apart_map : (id : List ℕ) (p : Pair) (o : Outcome) (xs : List Target) → AreDistinct xs → AreApart (map (marker_for id p o) xs)
+apart_map : (id : List ℕ) (p : ProducerIdAndEpoch) (o : TransactionResult) (xs : List Target) → AreDistinct xs → AreApart (map (marker_for id p o) xs)
 apart_map id p o [] h = tt
 apart_map id p o (x ∷ xs) h = (apart_one id p o x xs h.0, apart_map id p o xs h.1)
 
-pub markers_apart : (t : Transaction) (p : Pair) (o : Outcome) → AreDistinct (targets t) → AreApart (markers t p o)
+pub markers_apart : (t : Transaction) (p : ProducerIdAndEpoch) (o : TransactionResult) → AreDistinct (targets t) → AreApart (markers t p o)
 markers_apart t p o h = apart_map t.id p o (targets t) h

@@ -7,27 +7,27 @@ use Rattle.std.proofs.lemmas.Int.{ints}
 use Rattle.wire_types.specs.declared.error_code.ErrorCode.{ErrorCode}
 use Rattle.wire_types.specs.declared.error_code.ErrorCode.TheVariants as errors
 use Rattle.wire_types.specs.ErrorCode.{number_of}
-use Rattle.record_batch.specs.declared.outcome.Outcome.{Outcome}
-use Rattle.record_batch.specs.declared.outcome.Outcome.TheVariants.{Commit, Abort}
-use Rattle.transactions.specs.declared.pair.Pair.{Pair}
-use Rattle.transactions.specs.declared.target.TopicPartition.{TopicPartition}
-use Rattle.transactions.specs.Turn.{Turn, Stays}
-use Rattle.transactions.specs.declared.transaction.Transaction.{Transaction}
-use Rattle.transactions.specs.declared.transaction.Phase.{Phase}
-use Rattle.transactions.specs.declared.transaction.Phase.TheVariants.{Empty, Ongoing, PrepareCommit, PrepareAbort, CompleteCommit, CompleteAbort}
-use Rattle.transactions.specs.declared.ending.EndForm.{EndForm}
-use Rattle.transactions.specs.declared.ending.EndForm.TheVariants.{Plain, Fencing, Raising}
-use Rattle.transactions.specs.Words.{is_same_pair, last_epoch}
-use Rattle.transactions.specs.Coordinator.{CoordinatorValue, recorded, fresh, turn_code, turned}
-use Rattle.transactions.specs.Preparing.{pair_refusal}
-use Rattle.transactions.specs.EndTxn.{other_epoch, is_kept, is_again, end_again, end_by, end_found, end}
-use Rattle.transactions.specs.Adding.{with_partitions, with_group, open_by, open_found, open_transaction, grown, add_partitions, add_group}
-use Rattle.transactions.specs.InitProducerId.{timeout_within, init_for, init}
+use Rattle.record_batch.specs.declared.transaction_result.TransactionResult.{TransactionResult}
+use Rattle.record_batch.specs.declared.transaction_result.TransactionResult.TheVariants.{Commit, Abort}
+use Rattle.txn_coordinator.specs.declared.producer_id.ProducerIdAndEpoch.{ProducerIdAndEpoch}
+use Rattle.txn_coordinator.specs.declared.target.TopicPartition.{TopicPartition}
+use Rattle.txn_coordinator.specs.Transition.{Transition, Stays}
+use Rattle.txn_coordinator.specs.declared.transaction.Transaction.{Transaction}
+use Rattle.txn_coordinator.specs.declared.transaction.TransactionState.{TransactionState}
+use Rattle.txn_coordinator.specs.declared.transaction.TransactionState.TheVariants.{Empty, Ongoing, PrepareCommit, PrepareAbort, CompleteCommit, CompleteAbort}
+use Rattle.txn_coordinator.specs.declared.ending.EndForm.{EndForm}
+use Rattle.txn_coordinator.specs.declared.ending.EndForm.TheVariants.{Plain, Fencing, Raising}
+use Rattle.txn_coordinator.specs.Words.{is_same_producer, last_epoch}
+use Rattle.txn_coordinator.specs.Coordinator.{CoordinatorValue, id_record, fresh_producer_id, transition_code, apply_transition}
+use Rattle.txn_coordinator.specs.Preparing.{producer_refusal}
+use Rattle.txn_coordinator.specs.EndTxn.{other_epoch, is_kept, is_again, end_again, end_by, end_found, end}
+use Rattle.txn_coordinator.specs.Adding.{with_partitions, with_group, open_by, open_found, open_transaction, growth_transition, add_partitions, add_group}
+use Rattle.txn_coordinator.specs.InitProducerId.{timeout_within, init_for, init}
 use Rattle.txn_laws.specs.TurnedAway.{IsTold, IsOfOtherEpoch, epoch_number, again_number, EmptyId, UnknownId, OtherProducer, OtherEpoch, TurnsAwayByTable}
 use Rattle.txn_laws.proofs.Tables.{not_empty, same_int, not_again}
 
-told : (number : ℤ) (c : CoordinatorValue) (turn : Turn) (code : ErrorCode) → turn ≡ Stays code → number_of code ≡ number → IsTold number c turn
-told number c turn code is numbered = record { code = ap (λ (u : Turn). number_of (turn_code u)) is ∙ numbered; same = ap (turned c) is }
+told : (number : ℤ) (c : CoordinatorValue) (transition : Transition) (code : ErrorCode) → transition ≡ Stays code → number_of code ≡ number → IsTold number c transition
+told number c transition code is numbered = record { code = ap (λ (u : Transition). number_of (transition_code u)) is ∙ numbered; same = ap (apply_transition c) is }
 
 -- ---- numbers
 
@@ -57,7 +57,7 @@ epoch_numbered Plain = refl
 epoch_numbered Fencing = refl
 epoch_numbered Raising = refl
 
-again_numbered : (phase : Phase) (outcome : Outcome) → number_of (end_again phase outcome) ≡ again_number phase outcome
+again_numbered : (state : TransactionState) (outcome : TransactionResult) → number_of (end_again state outcome) ≡ again_number state outcome
 unfolding number_of
 again_numbered Empty Commit = refl
 again_numbered Empty Abort = refl
@@ -74,7 +74,7 @@ again_numbered CompleteAbort Abort = refl
 
 -- ---- who doesn't speak for the id
 
-other_producer : (code : ErrorCode) (t : Transaction) (p : Pair) → p.producer ≢ t.pair.producer → pair_refusal code t p ≡ Some errors.InvalidProducerIdMapping
+other_producer : (code : ErrorCode) (t : Transaction) (p : ProducerIdAndEpoch) → p.producer ≢ t.pair.producer → producer_refusal code t p ≡ Some errors.InvalidProducerIdMapping
 other_producer code t p other = by_test (int_eq t.pair.producer p.producer) refl where
   by_test : (b : Bool) → int_eq t.pair.producer p.producer ≡ b → cond b (cond (int_eq t.pair.epoch p.epoch && int_lt p.epoch last_epoch) None (Some code)) (Some errors.InvalidProducerIdMapping) ≡ Some errors.InvalidProducerIdMapping
   by_test true e = absurd (other (sym ((Decides-int_eq t.pair.producer p.producer).0 e)))
@@ -89,7 +89,7 @@ differs a b other = by_test (int_eq a b) refl where
   by_test true e = absurd (other (sym ((Decides-int_eq a b).0 e)))
   by_test false e = refl
 
-other_epoch_refused : (code : ErrorCode) (t : Transaction) (p : Pair) → IsOfOtherEpoch t p → pair_refusal code t p ≡ Some code
+other_epoch_refused : (code : ErrorCode) (t : Transaction) (p : ProducerIdAndEpoch) → IsOfOtherEpoch t p → producer_refusal code t p ≡ Some code
 other_epoch_refused code t p h =
     ap (λ (b : Bool). cond b (cond (int_eq t.pair.epoch p.epoch && int_lt p.epoch last_epoch) None (Some code)) (Some errors.InvalidProducerIdMapping)) (ap (int_eq t.pair.producer) h.producer ∙ same_int t.pair.producer)
     ∙ by_epoch h.epoch where
@@ -105,41 +105,41 @@ other_epoch_refused code t p h =
 
 -- ---- what is added to
 
-opens_none : (c : CoordinatorValue) (id : List ℕ) (pair : Pair) (moment : ℕ) → id ≢ [] → recorded c.transactions id ≡ None → open_transaction c id pair moment ≡ Err errors.InvalidProducerIdMapping
+opens_none : (c : CoordinatorValue) (id : List ℕ) (pair : ProducerIdAndEpoch) (moment : ℕ) → id ≢ [] → id_record c.transactions id ≡ None → open_transaction c id pair moment ≡ Err errors.InvalidProducerIdMapping
 opens_none c id pair moment named none =
-    ap (λ (b : Bool). cond b (Err errors.InvalidRequest) (open_found (recorded c.transactions id) pair moment)) (not_empty id named)
+    ap (λ (b : Bool). cond b (Err errors.InvalidRequest) (open_found (id_record c.transactions id) pair moment)) (not_empty id named)
     ∙ ap (λ (o : Option Transaction). open_found o pair moment) none
 
-opens_refused : (c : CoordinatorValue) (id : List ℕ) (pair : Pair) (moment : ℕ) (t : Transaction) (code : ErrorCode) → id ≢ [] → recorded c.transactions id ≡ Some t → pair_refusal errors.InvalidProducerEpoch t pair ≡ Some code
+opens_refused : (c : CoordinatorValue) (id : List ℕ) (pair : ProducerIdAndEpoch) (moment : ℕ) (t : Transaction) (code : ErrorCode) → id ≢ [] → id_record c.transactions id ≡ Some t → producer_refusal errors.InvalidProducerEpoch t pair ≡ Some code
     → open_transaction c id pair moment ≡ Err code
 opens_refused c id pair moment t code named found refused =
-    ap (λ (b : Bool). cond b (Err errors.InvalidRequest) (open_found (recorded c.transactions id) pair moment)) (not_empty id named)
+    ap (λ (b : Bool). cond b (Err errors.InvalidRequest) (open_found (id_record c.transactions id) pair moment)) (not_empty id named)
     ∙ ap (λ (o : Option Transaction). open_found o pair moment) found
     ∙ ap (λ (o : Option ErrorCode). open_by o t moment) refused
 
 -- ---- what is ended
 
-ends_none : (c : CoordinatorValue) (form : EndForm) (id : List ℕ) (pair : Pair) (outcome : Outcome) → id ≢ [] → recorded c.transactions id ≡ None → end c form id pair outcome ≡ Stays errors.InvalidProducerIdMapping
+ends_none : (c : CoordinatorValue) (form : EndForm) (id : List ℕ) (pair : ProducerIdAndEpoch) (outcome : TransactionResult) → id ≢ [] → id_record c.transactions id ≡ None → end c form id pair outcome ≡ Stays errors.InvalidProducerIdMapping
 ends_none c form id pair outcome named none =
-    ap (λ (b : Bool). cond b (Stays errors.InvalidRequest) (end_found (recorded c.transactions id) form (fresh c) pair outcome)) (not_empty id named)
-    ∙ ap (λ (o : Option Transaction). end_found o form (fresh c) pair outcome) none
+    ap (λ (b : Bool). cond b (Stays errors.InvalidRequest) (end_found (id_record c.transactions id) form (fresh_producer_id c) pair outcome)) (not_empty id named)
+    ∙ ap (λ (o : Option Transaction). end_found o form (fresh_producer_id c) pair outcome) none
 
-ends_refused : (c : CoordinatorValue) (form : EndForm) (id : List ℕ) (pair : Pair) (outcome : Outcome) (t : Transaction) (code : ErrorCode) → id ≢ [] → recorded c.transactions id ≡ Some t → t.kept ≢ Some pair → pair_refusal (other_epoch form) t pair ≡ Some code
+ends_refused : (c : CoordinatorValue) (form : EndForm) (id : List ℕ) (pair : ProducerIdAndEpoch) (outcome : TransactionResult) (t : Transaction) (code : ErrorCode) → id ≢ [] → id_record c.transactions id ≡ Some t → t.kept ≢ Some pair → producer_refusal (other_epoch form) t pair ≡ Some code
     → end c form id pair outcome ≡ Stays code
 ends_refused c form id pair outcome t code named found new refused =
-    ap (λ (b : Bool). cond b (Stays errors.InvalidRequest) (end_found (recorded c.transactions id) form (fresh c) pair outcome)) (not_empty id named)
-    ∙ ap (λ (o : Option Transaction). end_found o form (fresh c) pair outcome) found
-    ∙ ap (λ (b : Bool). cond b (Stays (end_again t.phase outcome)) (end_by (pair_refusal (other_epoch form) t pair) form t (fresh c) outcome)) (not_again form t pair new)
-    ∙ ap (λ (o : Option ErrorCode). end_by o form t (fresh c) outcome) refused
+    ap (λ (b : Bool). cond b (Stays errors.InvalidRequest) (end_found (id_record c.transactions id) form (fresh_producer_id c) pair outcome)) (not_empty id named)
+    ∙ ap (λ (o : Option Transaction). end_found o form (fresh_producer_id c) pair outcome) found
+    ∙ ap (λ (b : Bool). cond b (Stays (end_again t.state outcome)) (end_by (producer_refusal (other_epoch form) t pair) form t (fresh_producer_id c) outcome)) (not_again form t pair new)
+    ∙ ap (λ (o : Option ErrorCode). end_by o form t (fresh_producer_id c) outcome) refused
 
-is_again_kept : (kept : Option Pair) (pair : Pair) → kept ≡ Some pair → is_kept kept pair ≡ true
-is_again_kept kept pair is = ap (λ (o : Option Pair). is_kept o pair) is ∙ ap (λ (b : Bool). b && int_eq pair.epoch pair.epoch) (same_int pair.producer) ∙ same_int pair.epoch
+is_again_kept : (kept : Option ProducerIdAndEpoch) (pair : ProducerIdAndEpoch) → kept ≡ Some pair → is_kept kept pair ≡ true
+is_again_kept kept pair is = ap (λ (o : Option ProducerIdAndEpoch). is_kept o pair) is ∙ ap (λ (b : Bool). b && int_eq pair.epoch pair.epoch) (same_int pair.producer) ∙ same_int pair.epoch
 
-ends_again : (c : CoordinatorValue) (id : List ℕ) (pair : Pair) (outcome : Outcome) (t : Transaction) → id ≢ [] → recorded c.transactions id ≡ Some t → t.kept ≡ Some pair → end c Raising id pair outcome ≡ Stays (end_again t.phase outcome)
+ends_again : (c : CoordinatorValue) (id : List ℕ) (pair : ProducerIdAndEpoch) (outcome : TransactionResult) (t : Transaction) → id ≢ [] → id_record c.transactions id ≡ Some t → t.kept ≡ Some pair → end c Raising id pair outcome ≡ Stays (end_again t.state outcome)
 ends_again c id pair outcome t named found kept =
-    ap (λ (b : Bool). cond b (Stays errors.InvalidRequest) (end_found (recorded c.transactions id) Raising (fresh c) pair outcome)) (not_empty id named)
-    ∙ ap (λ (o : Option Transaction). end_found o Raising (fresh c) pair outcome) found
-    ∙ ap (λ (b : Bool). cond b (Stays (end_again t.phase outcome)) (end_by (pair_refusal (other_epoch Raising) t pair) Raising t (fresh c) outcome)) (is_again_kept t.kept pair kept)
+    ap (λ (b : Bool). cond b (Stays errors.InvalidRequest) (end_found (id_record c.transactions id) Raising (fresh_producer_id c) pair outcome)) (not_empty id named)
+    ∙ ap (λ (o : Option Transaction). end_found o Raising (fresh_producer_id c) pair outcome) found
+    ∙ ap (λ (b : Bool). cond b (Stays (end_again t.state outcome)) (end_by (producer_refusal (other_epoch Raising) t pair) Raising t (fresh_producer_id c) outcome)) (is_again_kept t.kept pair kept)
 
 -- ---- timeouts
 
@@ -157,8 +157,8 @@ no_timeout (pos (suc n)) greatest (inr high) = ap (λ (b : Bool). cond (nat_le 1
 
 timed_out : (c : CoordinatorValue) (id : List ℕ) (timeout greatest : ℤ) → id ≢ [] → (timeout ≤ℤ pos 0) ⊎ (greatest <ℤ timeout) → init c id timeout greatest ≡ Stays errors.InvalidTransactionTimeout
 timed_out c id timeout greatest named h =
-    ap (λ (b : Bool). cond b (Stays errors.InvalidRequest) (init_for (timeout_within timeout greatest) (recorded c.transactions id) id (fresh c))) (not_empty id named)
-    ∙ ap (λ (o : Option ℕ). init_for o (recorded c.transactions id) id (fresh c)) (no_timeout timeout greatest h)
+    ap (λ (b : Bool). cond b (Stays errors.InvalidRequest) (init_for (timeout_within timeout greatest) (id_record c.transactions id) id (fresh_producer_id c))) (not_empty id named)
+    ∙ ap (λ (o : Option ℕ). init_for o (id_record c.transactions id) id (fresh_producer_id c)) (no_timeout timeout greatest h)
 
 -- ---- the table
 
@@ -172,17 +172,17 @@ empty_id = record {
 
 unknown_id : UnknownId
 unknown_id = record {
-  add = λ c id pair moment p ps named none. told (pos 49) c _ errors.InvalidProducerIdMapping (ap (grown (with_partitions (p ∷ ps))) (opens_none c id pair moment named none)) numbered_49;
-  group = λ c id pair moment g named none. told (pos 49) c _ errors.InvalidProducerIdMapping (ap (grown (with_group g)) (opens_none c id pair moment named none)) numbered_49;
+  add = λ c id pair moment p ps named none. told (pos 49) c _ errors.InvalidProducerIdMapping (ap (growth_transition (with_partitions (p ∷ ps))) (opens_none c id pair moment named none)) numbered_49;
+  group = λ c id pair moment g named none. told (pos 49) c _ errors.InvalidProducerIdMapping (ap (growth_transition (with_group g)) (opens_none c id pair moment named none)) numbered_49;
   end = λ c form id pair outcome named none. told (pos 49) c _ errors.InvalidProducerIdMapping (ends_none c form id pair outcome named none) numbered_49;
 }
 
 of_other_producer : OtherProducer
 of_other_producer = record {
   add = λ c id pair moment p ps t named found other.
-      told (pos 49) c _ errors.InvalidProducerIdMapping (ap (grown (with_partitions (p ∷ ps))) (opens_refused c id pair moment t _ named found (other_producer errors.InvalidProducerEpoch t pair other))) numbered_49;
+      told (pos 49) c _ errors.InvalidProducerIdMapping (ap (growth_transition (with_partitions (p ∷ ps))) (opens_refused c id pair moment t _ named found (other_producer errors.InvalidProducerEpoch t pair other))) numbered_49;
   group = λ c id pair moment g t named found other.
-      told (pos 49) c _ errors.InvalidProducerIdMapping (ap (grown (with_group g)) (opens_refused c id pair moment t _ named found (other_producer errors.InvalidProducerEpoch t pair other))) numbered_49;
+      told (pos 49) c _ errors.InvalidProducerIdMapping (ap (growth_transition (with_group g)) (opens_refused c id pair moment t _ named found (other_producer errors.InvalidProducerEpoch t pair other))) numbered_49;
   end = λ c form id pair outcome t named found new other.
       told (pos 49) c _ errors.InvalidProducerIdMapping (ends_refused c form id pair outcome t _ named found new (other_producer (other_epoch form) t pair other)) numbered_49;
 }
@@ -190,9 +190,9 @@ of_other_producer = record {
 of_other_epoch : OtherEpoch
 of_other_epoch = record {
   add = λ c id pair moment p ps t named found other.
-      told (pos 47) c _ errors.InvalidProducerEpoch (ap (grown (with_partitions (p ∷ ps))) (opens_refused c id pair moment t _ named found (other_epoch_refused errors.InvalidProducerEpoch t pair other))) numbered_47;
+      told (pos 47) c _ errors.InvalidProducerEpoch (ap (growth_transition (with_partitions (p ∷ ps))) (opens_refused c id pair moment t _ named found (other_epoch_refused errors.InvalidProducerEpoch t pair other))) numbered_47;
   group = λ c id pair moment g t named found other.
-      told (pos 47) c _ errors.InvalidProducerEpoch (ap (grown (with_group g)) (opens_refused c id pair moment t _ named found (other_epoch_refused errors.InvalidProducerEpoch t pair other))) numbered_47;
+      told (pos 47) c _ errors.InvalidProducerEpoch (ap (growth_transition (with_group g)) (opens_refused c id pair moment t _ named found (other_epoch_refused errors.InvalidProducerEpoch t pair other))) numbered_47;
   end = λ c form id pair outcome t named found new other.
       told (epoch_number form) c _ (other_epoch form) (ends_refused c form id pair outcome t _ named found new (other_epoch_refused (other_epoch form) t pair other)) (epoch_numbered form);
 }
@@ -205,5 +205,5 @@ turns_away = record {
   epoch = of_other_epoch;
   timeout = λ c id timeout greatest named h. told (pos 50) c _ errors.InvalidTransactionTimeout (timed_out c id timeout greatest named h) numbered_50;
   nothing = λ c id pair moment. told (pos 0) c _ errors.None refl numbered_none;
-  again = λ c id pair outcome t named found kept. told (again_number t.phase outcome) c _ (end_again t.phase outcome) (ends_again c id pair outcome t named found kept) (again_numbered t.phase outcome);
+  again = λ c id pair outcome t named found kept. told (again_number t.state outcome) c _ (end_again t.state outcome) (ends_again c id pair outcome t named found kept) (again_numbered t.state outcome);
 }

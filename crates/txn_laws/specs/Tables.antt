@@ -1,27 +1,27 @@
--- What an EndTxn, an InitProducerId, an AddPartitionsToTxn and an AddOffsetsToTxn come to, as tables: by the phase of the id's transaction, in the numbers of the protocol's
+-- What an EndTxn, an InitProducerId, an AddPartitionsToTxn and an AddOffsetsToTxn come to, as tables: by the state of the id's transaction, in the numbers of the protocol's
 -- guide (KIP-98, 'Transaction Coordinator'; KIP-890 for version 5). 48 is INVALID_TXN_STATE, 51 CONCURRENT_TRANSACTIONS.
 use Rattle.std.specs.Prelude.{◌≡◌, ◌≢◌, ◌⊎◌, ◌<ℤ◌, ◌≤ℤ◌, ◌+ℤ◌, ℕ, ◌+◌, ◌≤◌, ℤ, pos, List, [], ◌∷◌, length, Some, None}
 use Rattle.wire_types.specs.ErrorCode.{number_of}
-use Rattle.record_batch.specs.declared.outcome.Outcome.{Outcome}
-use Rattle.record_batch.specs.declared.outcome.Outcome.TheVariants.{Commit, Abort}
-use Rattle.transactions.specs.declared.pair.Pair.{Pair}
-use Rattle.transactions.specs.declared.transaction.Transaction.{Transaction}
-use Rattle.transactions.specs.declared.transaction.Phase.{Phase}
-use Rattle.transactions.specs.declared.transaction.Phase.TheVariants.{Empty, Ongoing, PrepareCommit, PrepareAbort, CompleteCommit, CompleteAbort}
-use Rattle.transactions.specs.declared.ending.EndForm.{EndForm}
-use Rattle.transactions.specs.declared.ending.EndForm.TheVariants.{Plain, Fencing, Raising}
-use Rattle.transactions.specs.Coordinator.{CoordinatorValue, recorded, turn_code, turned, turn_answer}
-use Rattle.transactions.specs.EndTxn.{end}
-use Rattle.transactions.specs.InitProducerId.{init}
-use Rattle.transactions.specs.declared.target.TopicPartition.{TopicPartition}
-use Rattle.transactions.specs.Turn.{Turn}
-use Rattle.transactions.specs.Adding.{add_partitions, add_group}
+use Rattle.record_batch.specs.declared.transaction_result.TransactionResult.{TransactionResult}
+use Rattle.record_batch.specs.declared.transaction_result.TransactionResult.TheVariants.{Commit, Abort}
+use Rattle.txn_coordinator.specs.declared.producer_id.ProducerIdAndEpoch.{ProducerIdAndEpoch}
+use Rattle.txn_coordinator.specs.declared.transaction.Transaction.{Transaction}
+use Rattle.txn_coordinator.specs.declared.transaction.TransactionState.{TransactionState}
+use Rattle.txn_coordinator.specs.declared.transaction.TransactionState.TheVariants.{Empty, Ongoing, PrepareCommit, PrepareAbort, CompleteCommit, CompleteAbort}
+use Rattle.txn_coordinator.specs.declared.ending.EndForm.{EndForm}
+use Rattle.txn_coordinator.specs.declared.ending.EndForm.TheVariants.{Plain, Fencing, Raising}
+use Rattle.txn_coordinator.specs.Coordinator.{CoordinatorValue, id_record, transition_code, apply_transition, transition_answer}
+use Rattle.txn_coordinator.specs.EndTxn.{end}
+use Rattle.txn_coordinator.specs.InitProducerId.{init}
+use Rattle.txn_coordinator.specs.declared.target.TopicPartition.{TopicPartition}
+use Rattle.txn_coordinator.specs.Transition.{Transition}
+use Rattle.txn_coordinator.specs.Adding.{add_partitions, add_group}
 use Rattle.txn_laws.specs.Sound.{IsAmong}
 
 -- ---- EndTxn
 
 -- versions 0 to 4
-abbrev pub code_until_4 : Phase → Outcome → ℤ
+abbrev pub code_until_4 : TransactionState → TransactionResult → ℤ
 code_until_4 Empty Commit = pos 48
 code_until_4 Empty Abort = pos 48
 code_until_4 Ongoing Commit = pos 0
@@ -36,7 +36,7 @@ code_until_4 CompleteAbort Commit = pos 48
 code_until_4 CompleteAbort Abort = pos 0
 
 -- version 5, in which nothing that is closed is committed, and all that is closed may be aborted
-abbrev pub code_of_5 : Phase → Outcome → ℤ
+abbrev pub code_of_5 : TransactionState → TransactionResult → ℤ
 code_of_5 Empty Commit = pos 48
 code_of_5 Empty Abort = pos 0
 code_of_5 Ongoing Commit = pos 0
@@ -50,13 +50,13 @@ code_of_5 CompleteCommit Abort = pos 0
 code_of_5 CompleteAbort Commit = pos 48
 code_of_5 CompleteAbort Abort = pos 0
 
-abbrev pub end_code : EndForm → Phase → Outcome → ℤ
-end_code Plain phase outcome = code_until_4 phase outcome
-end_code Fencing phase outcome = code_until_4 phase outcome
-end_code Raising phase outcome = code_of_5 phase outcome
+abbrev pub end_code : EndForm → TransactionState → TransactionResult → ℤ
+end_code Plain state outcome = code_until_4 state outcome
+end_code Fencing state outcome = code_until_4 state outcome
+end_code Raising state outcome = code_of_5 state outcome
 
--- the markers that are owed then: one for each partition and group of an open transaction, and none else
-abbrev pub end_markers : Phase → Transaction → ℕ
+-- the markers that are pending then: one for each partition and group of an open transaction, and none else
+abbrev pub end_markers : TransactionState → Transaction → ℕ
 end_markers Ongoing t = length t.partitions + length t.groups
 end_markers Empty t = 0
 end_markers PrepareCommit t = 0
@@ -65,39 +65,39 @@ end_markers CompleteCommit t = 0
 end_markers CompleteAbort t = 0
 
 -- version 5 gives the id another pair, where it ends a transaction or aborts what is closed
-abbrev pub IsRenewing : EndForm → Phase → Outcome → Type 0
+abbrev pub IsRenewing : EndForm → TransactionState → TransactionResult → Type 0
 IsRenewing Raising Ongoing outcome = Unit {0}
 IsRenewing Raising Empty Abort = Unit {0}
 IsRenewing Raising CompleteCommit Abort = Unit {0}
 IsRenewing Raising CompleteAbort Abort = Unit {0}
-IsRenewing form phase outcome = ⊥
+IsRenewing form state outcome = ⊥
 
 -- ---- the next pair
 
 -- the same producer id in the next epoch, and from epoch 32,766 on the next producer id that wasn't given out, in epoch 0
-pub record IsNext (c : CoordinatorValue) (old new : Pair) : Type 0 where
+pub record IsNext (c : CoordinatorValue) (old new : ProducerIdAndEpoch) : Type 0 where
   pub raised : old.epoch <ℤ pos 32766 → (new.producer ≡ old.producer) × (new.epoch ≡ old.epoch +ℤ pos 1)
   pub fresh : pos 32766 ≤ℤ old.epoch → (new.producer ≡ pos (length c.given)) × (new.epoch ≡ pos 0)
 
 -- a call that comes with the id's own pair, and not once more with the one that version 5 left
-pub record ComesWithOwn (c : CoordinatorValue) (id : List ℕ) (pair : Pair) (t : Transaction) : Type 0 where
+pub record ComesWithOwn (c : CoordinatorValue) (id : List ℕ) (pair : ProducerIdAndEpoch) (t : Transaction) : Type 0 where
   pub named : id ≢ []
-  pub found : recorded c.transactions id ≡ Some t
+  pub found : id_record c.transactions id ≡ Some t
   pub own : pair ≡ t.pair
   pub low : t.pair.epoch <ℤ pos 32767
   pub new : t.kept ≢ Some pair
 
-pub record EndsByTable (c : CoordinatorValue) (form : EndForm) (id : List ℕ) (pair : Pair) (outcome : Outcome) (t : Transaction) : Type 0 where
-  pub code : number_of (turn_code (end c form id pair outcome)) ≡ end_code form t.phase outcome
-  pub markers : length (turned c (end c form id pair outcome)).warrants ≡ length c.warrants + end_markers t.phase t
-  pub renewed : IsRenewing form t.phase outcome → IsNext c t.pair (turn_answer c id (end c form id pair outcome)).pair
+pub record EndsByTable (c : CoordinatorValue) (form : EndForm) (id : List ℕ) (pair : ProducerIdAndEpoch) (outcome : TransactionResult) (t : Transaction) : Type 0 where
+  pub code : number_of (transition_code (end c form id pair outcome)) ≡ end_code form t.state outcome
+  pub markers : length (apply_transition c (end c form id pair outcome)).warrants ≡ length c.warrants + end_markers t.state t
+  pub renewed : IsRenewing form t.state outcome → IsNext c t.pair (transition_answer c id (end c form id pair outcome)).pair
 
 abbrev pub EndTable : Type 0
-EndTable = (c : CoordinatorValue) (form : EndForm) (id : List ℕ) (pair : Pair) (outcome : Outcome) (t : Transaction) → ComesWithOwn c id pair t → EndsByTable c form id pair outcome t
+EndTable = (c : CoordinatorValue) (form : EndForm) (id : List ℕ) (pair : ProducerIdAndEpoch) (outcome : TransactionResult) (t : Transaction) → ComesWithOwn c id pair t → EndsByTable c form id pair outcome t
 
 -- ---- InitProducerId
 
-abbrev pub init_code : Phase → ℤ
+abbrev pub init_code : TransactionState → ℤ
 init_code Empty = pos 0
 init_code CompleteCommit = pos 0
 init_code CompleteAbort = pos 0
@@ -105,7 +105,7 @@ init_code Ongoing = pos 51
 init_code PrepareCommit = pos 51
 init_code PrepareAbort = pos 51
 
-abbrev pub IsClosed : Phase → Type 0
+abbrev pub IsClosed : TransactionState → Type 0
 IsClosed Empty = Unit {0}
 IsClosed CompleteCommit = Unit {0}
 IsClosed CompleteAbort = Unit {0}
@@ -115,22 +115,22 @@ IsClosed PrepareAbort = ⊥
 
 -- an id that has a record: what is closed gets the next pair, anything else is waited for
 pub record InitsByTable (c : CoordinatorValue) (id : List ℕ) (timeout greatest : ℤ) (t : Transaction) : Type 0 where
-  pub code : number_of (turn_code (init c id timeout greatest)) ≡ init_code t.phase
-  pub next : IsClosed t.phase → IsNext c t.pair (turn_answer c id (init c id timeout greatest)).pair
+  pub code : number_of (transition_code (init c id timeout greatest)) ≡ init_code t.state
+  pub next : IsClosed t.state → IsNext c t.pair (transition_answer c id (init c id timeout greatest)).pair
 
 -- a new id gets the next producer id, in epoch 0
 pub record InitsNew (c : CoordinatorValue) (id : List ℕ) (timeout greatest : ℤ) : Type 0 where
-  pub code : number_of (turn_code (init c id timeout greatest)) ≡ pos 0
-  pub producer : (turn_answer c id (init c id timeout greatest)).pair.producer ≡ pos (length c.given)
-  pub epoch : (turn_answer c id (init c id timeout greatest)).pair.epoch ≡ pos 0
+  pub code : number_of (transition_code (init c id timeout greatest)) ≡ pos 0
+  pub producer : (transition_answer c id (init c id timeout greatest)).pair.producer ≡ pos (length c.given)
+  pub epoch : (transition_answer c id (init c id timeout greatest)).pair.epoch ≡ pos 0
 
 pub record InitTable : Type 0 where
-  pub known : (c : CoordinatorValue) (id : List ℕ) (n : ℕ) (greatest : ℤ) (t : Transaction) → id ≢ [] → 1 ≤ n → pos n ≤ℤ greatest → recorded c.transactions id ≡ Some t → InitsByTable c id (pos n) greatest t
-  pub new : (c : CoordinatorValue) (id : List ℕ) (n : ℕ) (greatest : ℤ) → id ≢ [] → 1 ≤ n → pos n ≤ℤ greatest → recorded c.transactions id ≡ None → InitsNew c id (pos n) greatest
+  pub known : (c : CoordinatorValue) (id : List ℕ) (n : ℕ) (greatest : ℤ) (t : Transaction) → id ≢ [] → 1 ≤ n → pos n ≤ℤ greatest → id_record c.transactions id ≡ Some t → InitsByTable c id (pos n) greatest t
+  pub new : (c : CoordinatorValue) (id : List ℕ) (n : ℕ) (greatest : ℤ) → id ≢ [] → 1 ≤ n → pos n ≤ℤ greatest → id_record c.transactions id ≡ None → InitsNew c id (pos n) greatest
 
 -- ---- AddPartitionsToTxn
 
-abbrev pub add_code : Phase → ℤ
+abbrev pub add_code : TransactionState → ℤ
 add_code Ongoing = pos 0
 add_code Empty = pos 0
 add_code CompleteCommit = pos 0
@@ -145,42 +145,42 @@ pub record AddsEach {X : Type 0} (old named new : List X) : Type 0 where
   pub alone : (x : X) → IsAmong new x → IsAmong old x ⊎ IsAmong named x
 
 -- the id's transaction t is open then, since this moment where it was closed, and has taken them in
-pub record TakesIn (c : CoordinatorValue) (id : List ℕ) (moment : ℕ) (ps : List TopicPartition) (t : Transaction) (turn : Turn) : Type 0 where
+pub record TakesIn (c : CoordinatorValue) (id : List ℕ) (moment : ℕ) (ps : List TopicPartition) (t : Transaction) (transition : Transition) : Type 0 where
   pub transaction : Transaction
-  pub found : recorded (turned c turn).transactions id ≡ Some transaction
-  pub ongoing : transaction.phase ≡ Ongoing
+  pub found : id_record (apply_transition c transition).transactions id ≡ Some transaction
+  pub ongoing : transaction.state ≡ Ongoing
   pub pair : transaction.pair ≡ t.pair
-  pub begins : IsClosed t.phase → transaction.start ≡ moment
-  pub goes_on : t.phase ≡ Ongoing → transaction.start ≡ t.start
+  pub begins : IsClosed t.state → transaction.start ≡ moment
+  pub goes_on : t.state ≡ Ongoing → transaction.start ≡ t.start
   pub partitions : AddsEach t.partitions ps transaction.partitions
   pub groups : transaction.groups ≡ t.groups
 
-pub record AddsByTable (c : CoordinatorValue) (id : List ℕ) (pair : Pair) (moment : ℕ) (ps : List TopicPartition) (t : Transaction) : Type 0 where
-  pub code : number_of (turn_code (add_partitions c id pair moment ps)) ≡ add_code t.phase
-  pub taken : add_code t.phase ≡ pos 0 → TakesIn c id moment ps t (add_partitions c id pair moment ps)
+pub record AddsByTable (c : CoordinatorValue) (id : List ℕ) (pair : ProducerIdAndEpoch) (moment : ℕ) (ps : List TopicPartition) (t : Transaction) : Type 0 where
+  pub code : number_of (transition_code (add_partitions c id pair moment ps)) ≡ add_code t.state
+  pub taken : add_code t.state ≡ pos 0 → TakesIn c id moment ps t (add_partitions c id pair moment ps)
 
 -- where some partition is named
 abbrev pub AddTable : Type 0
-AddTable = (c : CoordinatorValue) (id : List ℕ) (pair : Pair) (moment : ℕ) (p : TopicPartition) (ps : List TopicPartition) (t : Transaction)
-    → id ≢ [] → recorded c.transactions id ≡ Some t → pair ≡ t.pair → t.pair.epoch <ℤ pos 32767 → AddsByTable c id pair moment (p ∷ ps) t
+AddTable = (c : CoordinatorValue) (id : List ℕ) (pair : ProducerIdAndEpoch) (moment : ℕ) (p : TopicPartition) (ps : List TopicPartition) (t : Transaction)
+    → id ≢ [] → id_record c.transactions id ≡ Some t → pair ≡ t.pair → t.pair.epoch <ℤ pos 32767 → AddsByTable c id pair moment (p ∷ ps) t
 
 -- ---- AddOffsetsToTxn
 
 -- the same of a group
-pub record TakesGroupIn (c : CoordinatorValue) (id : List ℕ) (moment : ℕ) (group : List ℕ) (t : Transaction) (turn : Turn) : Type 0 where
+pub record TakesGroupIn (c : CoordinatorValue) (id : List ℕ) (moment : ℕ) (group : List ℕ) (t : Transaction) (transition : Transition) : Type 0 where
   pub transaction : Transaction
-  pub found : recorded (turned c turn).transactions id ≡ Some transaction
-  pub ongoing : transaction.phase ≡ Ongoing
+  pub found : id_record (apply_transition c transition).transactions id ≡ Some transaction
+  pub ongoing : transaction.state ≡ Ongoing
   pub pair : transaction.pair ≡ t.pair
-  pub begins : IsClosed t.phase → transaction.start ≡ moment
-  pub goes_on : t.phase ≡ Ongoing → transaction.start ≡ t.start
+  pub begins : IsClosed t.state → transaction.start ≡ moment
+  pub goes_on : t.state ≡ Ongoing → transaction.start ≡ t.start
   pub groups : AddsEach t.groups (group ∷ []) transaction.groups
   pub partitions : transaction.partitions ≡ t.partitions
 
-pub record AddsGroupByTable (c : CoordinatorValue) (id : List ℕ) (pair : Pair) (moment : ℕ) (group : List ℕ) (t : Transaction) : Type 0 where
-  pub code : number_of (turn_code (add_group c id pair moment group)) ≡ add_code t.phase
-  pub taken : add_code t.phase ≡ pos 0 → TakesGroupIn c id moment group t (add_group c id pair moment group)
+pub record AddsGroupByTable (c : CoordinatorValue) (id : List ℕ) (pair : ProducerIdAndEpoch) (moment : ℕ) (group : List ℕ) (t : Transaction) : Type 0 where
+  pub code : number_of (transition_code (add_group c id pair moment group)) ≡ add_code t.state
+  pub taken : add_code t.state ≡ pos 0 → TakesGroupIn c id moment group t (add_group c id pair moment group)
 
 abbrev pub GroupTable : Type 0
-GroupTable = (c : CoordinatorValue) (id : List ℕ) (pair : Pair) (moment : ℕ) (group : List ℕ) (t : Transaction)
-    → id ≢ [] → recorded c.transactions id ≡ Some t → pair ≡ t.pair → t.pair.epoch <ℤ pos 32767 → AddsGroupByTable c id pair moment group t
+GroupTable = (c : CoordinatorValue) (id : List ℕ) (pair : ProducerIdAndEpoch) (moment : ℕ) (group : List ℕ) (t : Transaction)
+    → id ≢ [] → id_record c.transactions id ≡ Some t → pair ≡ t.pair → t.pair.epoch <ℤ pos 32767 → AddsGroupByTable c id pair moment group t

@@ -3,28 +3,28 @@
 -- guide, "Error Codes"; KIP-98, KIP-588, KIP-890).
 use Rattle.std.specs.Prelude.{◌≡◌, ◌≢◌, ◌⊎◌, ◌<ℤ◌, ◌≤ℤ◌, ℕ, ℤ, pos, List, [], ◌∷◌, Some, None}
 use Rattle.wire_types.specs.ErrorCode.{number_of}
-use Rattle.record_batch.specs.declared.outcome.Outcome.{Outcome}
-use Rattle.record_batch.specs.declared.outcome.Outcome.TheVariants.{Commit, Abort}
-use Rattle.transactions.specs.declared.pair.Pair.{Pair}
-use Rattle.transactions.specs.declared.target.TopicPartition.{TopicPartition}
-use Rattle.transactions.specs.declared.transaction.Transaction.{Transaction}
-use Rattle.transactions.specs.declared.transaction.Phase.{Phase}
-use Rattle.transactions.specs.declared.transaction.Phase.TheVariants.{Empty, Ongoing, PrepareCommit, PrepareAbort, CompleteCommit, CompleteAbort}
-use Rattle.transactions.specs.declared.ending.EndForm.{EndForm}
-use Rattle.transactions.specs.declared.ending.EndForm.TheVariants.{Plain, Fencing, Raising}
-use Rattle.transactions.specs.Turn.{Turn}
-use Rattle.transactions.specs.Coordinator.{CoordinatorValue, recorded, turn_code, turned}
-use Rattle.transactions.specs.EndTxn.{end}
-use Rattle.transactions.specs.InitProducerId.{init}
-use Rattle.transactions.specs.Adding.{add_partitions, add_group}
+use Rattle.record_batch.specs.declared.transaction_result.TransactionResult.{TransactionResult}
+use Rattle.record_batch.specs.declared.transaction_result.TransactionResult.TheVariants.{Commit, Abort}
+use Rattle.txn_coordinator.specs.declared.producer_id.ProducerIdAndEpoch.{ProducerIdAndEpoch}
+use Rattle.txn_coordinator.specs.declared.target.TopicPartition.{TopicPartition}
+use Rattle.txn_coordinator.specs.declared.transaction.Transaction.{Transaction}
+use Rattle.txn_coordinator.specs.declared.transaction.TransactionState.{TransactionState}
+use Rattle.txn_coordinator.specs.declared.transaction.TransactionState.TheVariants.{Empty, Ongoing, PrepareCommit, PrepareAbort, CompleteCommit, CompleteAbort}
+use Rattle.txn_coordinator.specs.declared.ending.EndForm.{EndForm}
+use Rattle.txn_coordinator.specs.declared.ending.EndForm.TheVariants.{Plain, Fencing, Raising}
+use Rattle.txn_coordinator.specs.Transition.{Transition}
+use Rattle.txn_coordinator.specs.Coordinator.{CoordinatorValue, id_record, transition_code, apply_transition}
+use Rattle.txn_coordinator.specs.EndTxn.{end}
+use Rattle.txn_coordinator.specs.InitProducerId.{init}
+use Rattle.txn_coordinator.specs.Adding.{add_partitions, add_group}
 
 -- it is told the code of this number, and changes nothing
-pub record IsTold (number : ℤ) (c : CoordinatorValue) (turn : Turn) : Type 0 where
-  pub code : number_of (turn_code turn) ≡ number
-  pub same : turned c turn ≡ c
+pub record IsTold (number : ℤ) (c : CoordinatorValue) (transition : Transition) : Type 0 where
+  pub code : number_of (transition_code transition) ≡ number
+  pub same : apply_transition c transition ≡ c
 
 -- the id's producer, in another epoch than the id's; and nobody has the last epoch
-pub record IsOfOtherEpoch (t : Transaction) (pair : Pair) : Type 0 where
+pub record IsOfOtherEpoch (t : Transaction) (pair : ProducerIdAndEpoch) : Type 0 where
   pub producer : pair.producer ≡ t.pair.producer
   pub epoch : (pair.epoch ≢ t.pair.epoch) ⊎ (pos 32767 ≤ℤ pair.epoch)
 
@@ -35,7 +35,7 @@ epoch_number Fencing = pos 90
 epoch_number Raising = pos 90
 
 -- an EndTxn of version 5 once more, with the pair that it came with the first time
-abbrev pub again_number : Phase → Outcome → ℤ
+abbrev pub again_number : TransactionState → TransactionResult → ℤ
 again_number Empty Commit = pos 48
 again_number Empty Abort = pos 48
 again_number Ongoing Commit = pos 48
@@ -52,27 +52,27 @@ again_number CompleteAbort Abort = pos 0
 -- the empty id
 pub record EmptyId : Type 0 where
   pub init : (c : CoordinatorValue) (timeout greatest : ℤ) → IsTold (pos 42) c (init c [] timeout greatest)
-  pub add : (c : CoordinatorValue) (pair : Pair) (moment : ℕ) (p : TopicPartition) (ps : List TopicPartition) → IsTold (pos 42) c (add_partitions c [] pair moment (p ∷ ps))
-  pub group : (c : CoordinatorValue) (pair : Pair) (moment : ℕ) (g : List ℕ) → IsTold (pos 42) c (add_group c [] pair moment g)
-  pub end : (c : CoordinatorValue) (form : EndForm) (pair : Pair) (outcome : Outcome) → IsTold (pos 42) c (end c form [] pair outcome)
+  pub add : (c : CoordinatorValue) (pair : ProducerIdAndEpoch) (moment : ℕ) (p : TopicPartition) (ps : List TopicPartition) → IsTold (pos 42) c (add_partitions c [] pair moment (p ∷ ps))
+  pub group : (c : CoordinatorValue) (pair : ProducerIdAndEpoch) (moment : ℕ) (g : List ℕ) → IsTold (pos 42) c (add_group c [] pair moment g)
+  pub end : (c : CoordinatorValue) (form : EndForm) (pair : ProducerIdAndEpoch) (outcome : TransactionResult) → IsTold (pos 42) c (end c form [] pair outcome)
 
 -- an id that has no record
 pub record UnknownId : Type 0 where
-  pub add : (c : CoordinatorValue) (id : List ℕ) (pair : Pair) (moment : ℕ) (p : TopicPartition) (ps : List TopicPartition) → id ≢ [] → recorded c.transactions id ≡ None → IsTold (pos 49) c (add_partitions c id pair moment (p ∷ ps))
-  pub group : (c : CoordinatorValue) (id : List ℕ) (pair : Pair) (moment : ℕ) (g : List ℕ) → id ≢ [] → recorded c.transactions id ≡ None → IsTold (pos 49) c (add_group c id pair moment g)
-  pub end : (c : CoordinatorValue) (form : EndForm) (id : List ℕ) (pair : Pair) (outcome : Outcome) → id ≢ [] → recorded c.transactions id ≡ None → IsTold (pos 49) c (end c form id pair outcome)
+  pub add : (c : CoordinatorValue) (id : List ℕ) (pair : ProducerIdAndEpoch) (moment : ℕ) (p : TopicPartition) (ps : List TopicPartition) → id ≢ [] → id_record c.transactions id ≡ None → IsTold (pos 49) c (add_partitions c id pair moment (p ∷ ps))
+  pub group : (c : CoordinatorValue) (id : List ℕ) (pair : ProducerIdAndEpoch) (moment : ℕ) (g : List ℕ) → id ≢ [] → id_record c.transactions id ≡ None → IsTold (pos 49) c (add_group c id pair moment g)
+  pub end : (c : CoordinatorValue) (form : EndForm) (id : List ℕ) (pair : ProducerIdAndEpoch) (outcome : TransactionResult) → id ≢ [] → id_record c.transactions id ≡ None → IsTold (pos 49) c (end c form id pair outcome)
 
 -- another producer id than the id's
 pub record OtherProducer : Type 0 where
-  pub add : (c : CoordinatorValue) (id : List ℕ) (pair : Pair) (moment : ℕ) (p : TopicPartition) (ps : List TopicPartition) (t : Transaction) → id ≢ [] → recorded c.transactions id ≡ Some t → pair.producer ≢ t.pair.producer → IsTold (pos 49) c (add_partitions c id pair moment (p ∷ ps))
-  pub group : (c : CoordinatorValue) (id : List ℕ) (pair : Pair) (moment : ℕ) (g : List ℕ) (t : Transaction) → id ≢ [] → recorded c.transactions id ≡ Some t → pair.producer ≢ t.pair.producer → IsTold (pos 49) c (add_group c id pair moment g)
-  pub end : (c : CoordinatorValue) (form : EndForm) (id : List ℕ) (pair : Pair) (outcome : Outcome) (t : Transaction) → id ≢ [] → recorded c.transactions id ≡ Some t → t.kept ≢ Some pair → pair.producer ≢ t.pair.producer → IsTold (pos 49) c (end c form id pair outcome)
+  pub add : (c : CoordinatorValue) (id : List ℕ) (pair : ProducerIdAndEpoch) (moment : ℕ) (p : TopicPartition) (ps : List TopicPartition) (t : Transaction) → id ≢ [] → id_record c.transactions id ≡ Some t → pair.producer ≢ t.pair.producer → IsTold (pos 49) c (add_partitions c id pair moment (p ∷ ps))
+  pub group : (c : CoordinatorValue) (id : List ℕ) (pair : ProducerIdAndEpoch) (moment : ℕ) (g : List ℕ) (t : Transaction) → id ≢ [] → id_record c.transactions id ≡ Some t → pair.producer ≢ t.pair.producer → IsTold (pos 49) c (add_group c id pair moment g)
+  pub end : (c : CoordinatorValue) (form : EndForm) (id : List ℕ) (pair : ProducerIdAndEpoch) (outcome : TransactionResult) (t : Transaction) → id ≢ [] → id_record c.transactions id ≡ Some t → t.kept ≢ Some pair → pair.producer ≢ t.pair.producer → IsTold (pos 49) c (end c form id pair outcome)
 
 -- another epoch
 pub record OtherEpoch : Type 0 where
-  pub add : (c : CoordinatorValue) (id : List ℕ) (pair : Pair) (moment : ℕ) (p : TopicPartition) (ps : List TopicPartition) (t : Transaction) → id ≢ [] → recorded c.transactions id ≡ Some t → IsOfOtherEpoch t pair → IsTold (pos 47) c (add_partitions c id pair moment (p ∷ ps))
-  pub group : (c : CoordinatorValue) (id : List ℕ) (pair : Pair) (moment : ℕ) (g : List ℕ) (t : Transaction) → id ≢ [] → recorded c.transactions id ≡ Some t → IsOfOtherEpoch t pair → IsTold (pos 47) c (add_group c id pair moment g)
-  pub end : (c : CoordinatorValue) (form : EndForm) (id : List ℕ) (pair : Pair) (outcome : Outcome) (t : Transaction) → id ≢ [] → recorded c.transactions id ≡ Some t → t.kept ≢ Some pair → IsOfOtherEpoch t pair → IsTold (epoch_number form) c (end c form id pair outcome)
+  pub add : (c : CoordinatorValue) (id : List ℕ) (pair : ProducerIdAndEpoch) (moment : ℕ) (p : TopicPartition) (ps : List TopicPartition) (t : Transaction) → id ≢ [] → id_record c.transactions id ≡ Some t → IsOfOtherEpoch t pair → IsTold (pos 47) c (add_partitions c id pair moment (p ∷ ps))
+  pub group : (c : CoordinatorValue) (id : List ℕ) (pair : ProducerIdAndEpoch) (moment : ℕ) (g : List ℕ) (t : Transaction) → id ≢ [] → id_record c.transactions id ≡ Some t → IsOfOtherEpoch t pair → IsTold (pos 47) c (add_group c id pair moment g)
+  pub end : (c : CoordinatorValue) (form : EndForm) (id : List ℕ) (pair : ProducerIdAndEpoch) (outcome : TransactionResult) (t : Transaction) → id ≢ [] → id_record c.transactions id ≡ Some t → t.kept ≢ Some pair → IsOfOtherEpoch t pair → IsTold (epoch_number form) c (end c form id pair outcome)
 
 pub record TurnsAwayByTable : Type 0 where
   pub empty : EmptyId
@@ -82,6 +82,6 @@ pub record TurnsAwayByTable : Type 0 where
   -- a timeout that isn't from 1 to the greatest
   pub timeout : (c : CoordinatorValue) (id : List ℕ) (timeout greatest : ℤ) → id ≢ [] → (timeout ≤ℤ pos 0) ⊎ (greatest <ℤ timeout) → IsTold (pos 50) c (init c id timeout greatest)
   -- no partition at all
-  pub nothing : (c : CoordinatorValue) (id : List ℕ) (pair : Pair) (moment : ℕ) → IsTold (pos 0) c (add_partitions c id pair moment [])
+  pub nothing : (c : CoordinatorValue) (id : List ℕ) (pair : ProducerIdAndEpoch) (moment : ℕ) → IsTold (pos 0) c (add_partitions c id pair moment [])
   -- once more
-  pub again : (c : CoordinatorValue) (id : List ℕ) (pair : Pair) (outcome : Outcome) (t : Transaction) → id ≢ [] → recorded c.transactions id ≡ Some t → t.kept ≡ Some pair → IsTold (again_number t.phase outcome) c (end c Raising id pair outcome)
+  pub again : (c : CoordinatorValue) (id : List ℕ) (pair : ProducerIdAndEpoch) (outcome : TransactionResult) (t : Transaction) → id ≢ [] → id_record c.transactions id ≡ Some t → t.kept ≡ Some pair → IsTold (again_number t.state outcome) c (end c Raising id pair outcome)

@@ -10,7 +10,7 @@ ghost use Rattle.txn_laws.specs.Kept.{KeptLaw, KeptEndLaw};
 ghost use Rattle.txn_laws.specs.Tables.{AddTable, EndTable, GroupTable, InitTable};
 ghost use Rattle.txn_laws.specs.TurnedAway.{TurnsAwayByTable};
 
-/// What an EndTxn with an id's own pair is answered, how many markers it owes and which pair it leaves, by the phase of the
+/// What an EndTxn with an id's own pair is answered, how many markers it owes and which pair it leaves, by the state of the
 /// id's transaction, the version and what is asked for; and the same of an InitProducerId, and of an AddPartitionsToTxn
 /// and an AddOffsetsToTxn, which take in what they name and nothing else: as tables of the protocol's numbers.
 pub fn calls_by_table()
@@ -31,9 +31,9 @@ pub fn soundness()
     ensures { SoundLaw }
 {}
 
-/// A marker that is owed with fewer than k in front of it is written by k marks, before anything else of its producer
+/// A marker that is pending with fewer than k in front of it is written by k marks, before anything else of its producer
 /// comes there; so a transaction that is prepared is completed at each partition and group that was added, and one that
-/// waits is completed at each for which a marker is still owed.
+/// waits is completed at each for which a marker is still pending.
 pub fn completion()
     ensures owed { InSound CompletionLaw }
     ensures owed_reached { InReached CompletionLaw }
@@ -47,7 +47,7 @@ pub fn completion()
     ensures completed_reached { InReached CompletedLaw }
 {}
 
-/// A pair that a record has left writes nothing more, each check refuses it, and no data stands behind a marker that
+/// A pair that a record has left writes nothing more, each check refuses it, and no data stands after a marker that
 /// fenced its producer.
 pub fn fencing()
     ensures left { InSound FencingLaw }

@@ -3,10 +3,10 @@ use Rattle.std.proofs.Common.{◌≡◌, ℕ, Bool, true, false, List, Option, S
 use Rattle.acl_binding.specs.declared.question.Question.{Question}
 use Rattle.authorizer.specs.declared.answer.Refusal.{Refusal}
 use Rattle.authorizer.specs.Asking.{Rules}
-use Rattle.walk.specs.declared.part.Ending.TheVariants.{Served}
+use Rattle.walk.specs.declared.part.PartResult.TheVariants.{Served}
 use Rattle.walk.specs.declared.part.Part.{Part}
 use Rattle.walk.specs.Rule.{PartRule, refusal_of}
-use Rattle.walk.specs.Steps.{answer_by, ending_by, refusal_in, part_done, part_told}
+use Rattle.walk.specs.Steps.{answer_by, ending_by, refusal_in, part_done, part_answer}
 
 pub refusal_in_ending : (cuts : Bool) (r : Option Refusal) (qs : List Question) → refusal_in (ending_by cuts r qs) ≡ r
 refusal_in_ending cuts (Some r) qs = refl
@@ -15,7 +15,7 @@ refusal_in_ending false None qs = refl
 
 -- what is told of a part that is done, with the refusal in how it went
 pub done_told : {P A W : Type 0} (cuts : Bool) (api : PartRule P A W) (rules : Rules) (w : W) (name : List ℕ) (p : P) (done : Part A) (refusal : Option Refusal) → done ≡ part_done cuts api rules w name p → refusal ≡ refusal_in done.ending
-    → record { answer = done.answer; refusal = refusal } ≡ part_told api rules w name p
+    → record { answer = done.answer; refusal = refusal } ≡ part_answer api rules w name p
 done_told {A = A} cuts api rules w name p done refusal is told =
     ap (λ (r : Option Refusal). record { answer = done.answer; refusal = r }) (told ∙ ap (λ (d : Part A). refusal_in d.ending) is ∙ refusal_in_ending cuts (refusal_of api rules name p) (api.questions name p))
     ∙ ap (λ (d : Part A). record { answer = d.answer; refusal = refusal_of api rules name p }) is

@@ -5,7 +5,7 @@ use Rattle.wire_types.specs.declared.topic.Topic.{Topic}
 use Rattle.walk.specs.Rule.{PartRule, refusal_of}
 use Rattle.walk.specs.Walk.{world_after, answers}
 use Rattle.walk.specs.Steps.{answer_by, world_by, parts_world, parts_answers, topics_world, topics_answers}
-use Rattle.walk.specs.Headline.{at, IsAnswered, AnswersEachPart}
+use Rattle.walk.specs.Headline.{element_at, IsAnswered, AnswersEachPart}
 use Rattle.walk.proofs.Weaving.{parts_world_woven, woven}
 
 same_element : {X : Type 0} (x y : X) → Some x ≡ Some y → x ≡ y
@@ -13,7 +13,7 @@ same_element x y h = cc
 
 -- ---- the parts of a topic
 
-part_at : {P A W : Type 0} (api : PartRule P A W) (rules : Rules) (w : W) (name : List ℕ) (ps : List P) (j : ℕ) (p : P) → at ps j ≡ Some p → at (parts_answers api rules w name ps) j ≡ Some (answer_by api (refusal_of api rules name p) (parts_world api rules w name (take j ps)) name p)
+part_at : {P A W : Type 0} (api : PartRule P A W) (rules : Rules) (w : W) (name : List ℕ) (ps : List P) (j : ℕ) (p : P) → element_at ps j ≡ Some p → element_at (parts_answers api rules w name ps) j ≡ Some (answer_by api (refusal_of api rules name p) (parts_world api rules w name (take j ps)) name p)
 part_at api rules w name [] j p h = absurd (let clash : None ≡ Some p = h in cc)
 part_at api rules w name (x ∷ xs) zero p h = ap (λ y. Some (answer_by api (refusal_of api rules name y) w name y)) (same_element x p h)
 part_at api rules w name (x ∷ xs) (suc j) p h = part_at api rules (world_by api (refusal_of api rules name x) w name x) name xs j p h
@@ -27,7 +27,7 @@ parts_number api rules w name (p ∷ ps) = ap suc (parts_number api rules (world
 abbrev stepped : {P A W : Type 0} → PartRule P A W → Rules → W → Topic P → Topic A
 stepped api rules w t = record { name = t.name; partitions = parts_answers api rules w t.name t.partitions }
 
-topic_at : {P A W : Type 0} (api : PartRule P A W) (rules : Rules) (w : W) (ts : List (Topic P)) (i : ℕ) (t : Topic P) → at ts i ≡ Some t → at (topics_answers api rules w ts) i ≡ Some (stepped api rules (topics_world api rules w (take i ts)) t)
+topic_at : {P A W : Type 0} (api : PartRule P A W) (rules : Rules) (w : W) (ts : List (Topic P)) (i : ℕ) (t : Topic P) → element_at ts i ≡ Some t → element_at (topics_answers api rules w ts) i ≡ Some (stepped api rules (topics_world api rules w (take i ts)) t)
 topic_at api rules w [] i t h = absurd (let clash : None ≡ Some t = h in cc)
 topic_at api rules w (x ∷ xs) zero t h = ap (λ y. Some (stepped api rules w y)) (same_element x t h)
 topic_at api rules w (x ∷ xs) (suc i) t h = topic_at api rules (parts_world api rules w x.name x.partitions) xs i t h
@@ -38,9 +38,9 @@ topics_number api rules w (t ∷ ts) = ap suc (topics_number api rules (parts_wo
 
 -- ---- the woven answers
 
-answers_at : {P A W : Type 0} (api : PartRule P A W) (rules : Rules) (w : W) (ts : List (Topic P)) (i : ℕ) (t : Topic P) → at ts i ≡ Some t → at (answers api rules w ts) i ≡ Some (stepped api rules (world_after api rules w (take i ts)) t)
+answers_at : {P A W : Type 0} (api : PartRule P A W) (rules : Rules) (w : W) (ts : List (Topic P)) (i : ℕ) (t : Topic P) → element_at ts i ≡ Some t → element_at (answers api rules w ts) i ≡ Some (stepped api rules (world_after api rules w (take i ts)) t)
 answers_at api rules w ts i t h =
-    ap (λ l. at l i) (sym (woven api rules w ts).answers)
+    ap (λ l. element_at l i) (sym (woven api rules w ts).answers)
     ∙ topic_at api rules w ts i t h
     ∙ ap (λ v. Some (stepped api rules v t)) (woven api rules w (take i ts)).world
 

@@ -12,6 +12,6 @@ mod walking;
 
 pub use code::refusal_code;
 pub use laws::{answers_each_part, first_is_granted, one_walk};
-pub use part::{Ending, Part, PartApi};
+pub use part::{Part, PartApi, PartResult};
 pub use parts::has_part;
 pub use walking::{Walked, walk, walk_cut, walk_granted};

@@ -4,9 +4,9 @@ ghost use Rattle.std.specs.Prelude.{◌≡◌, ◌≤◌, Bool, IfOk, OnOk};
 ghost use Rattle.authorizer.specs.Asking.{policy_rules};
 ghost use Rattle.authorizer.specs.Policy.{PolicyValue};
 ghost use Rattle.walk.specs.Rule.{PartRule};
-ghost use Rattle.authorizer.specs.Tally.{raised};
+ghost use Rattle.authorizer.specs.Tally.{count_after};
 ghost use Rattle.walk.specs.Steps.{refusal_in, spent_in, part_done, part_world};
-ghost use Rattle.walk.specs.declared.part.Ending.TheVariants as endings;
+ghost use Rattle.walk.specs.declared.part.PartResult.TheVariants as endings;
 
 use authorizer::{Paid, Policy, Refusal, Tally};
 use std::alloc::{AllocError, Global};
@@ -14,7 +14,7 @@ use wire_types::Text;
 
 /// How a part went.
 #[derive(Drop)]
-pub enum Ending {
+pub enum PartResult {
     /// It was served, and this was spent for it.
     Served(Paid),
     /// It was refused.
@@ -23,19 +23,19 @@ pub enum Ending {
     Cut,
 }
 
-impl Ending {
+impl PartResult {
     /// Counts what was spent for a part that was served, and gives the refusal of one that was refused.
     pub fn counted(self, spent: &mut Tally) -> Option<Refusal>
         ensures refusal { result ≡ refusal_in self }
-        ensures spent { spent.new ≡ raised spent.old (spent_in self) }
+        ensures spent { spent.new ≡ count_after spent.old (spent_in self) }
     {
         match self {
-            Ending::Served(paid) => {
+            PartResult::Served(paid) => {
                 spent.add(paid);
                 None
             }
-            Ending::Refused(refusal) => Some(refusal),
-            Ending::Cut => None,
+            PartResult::Refused(refusal) => Some(refusal),
+            PartResult::Cut => None,
         }
     }
 }
@@ -44,7 +44,7 @@ impl Ending {
 #[derive(Drop)]
 pub struct Part<A> {
     pub answer: A,
-    pub ending: Ending,
+    pub ending: PartResult,
 }
 
 impl<A> Part<A> {
@@ -54,7 +54,7 @@ impl<A> Part<A> {
     {
         Part {
             answer,
-            ending: Ending::Served(paid),
+            ending: PartResult::Served(paid),
         }
     }
 
@@ -64,7 +64,7 @@ impl<A> Part<A> {
     {
         Part {
             answer,
-            ending: Ending::Refused(refusal),
+            ending: PartResult::Refused(refusal),
         }
     }
 
@@ -74,7 +74,7 @@ impl<A> Part<A> {
     {
         Part {
             answer,
-            ending: Ending::Cut,
+            ending: PartResult::Cut,
         }
     }
 }
@@ -101,6 +101,8 @@ pub trait PartApi<P, A, W> {
     ) -> Result<Part<A>, AllocError>
         requires settled { settles self.now policy.now }
         requires room { (rule self.now).weight part.now ≤ (rule self.now).room world.old }
-        ensures world { OnOk result (world.new ≡ part_world (rule self.now) (policy_rules policy.now) world.old name.now part.now) }
+        ensures world { OnOk result
+            (world.new ≡ part_world (rule self.now) (policy_rules policy.now) world.old name.now
+            part.now) }
         ensures done { IfOk result (λ done. done ≡ part_done (cuts self.now) (rule self.now) (policy_rules policy.now) world.old name.now part.now) };
 }

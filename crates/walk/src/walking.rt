@@ -2,9 +2,9 @@
 
 ghost use Rattle.std.specs.Prelude.{◌≡◌, true, false, ◌+◌, ◌≤◌, [], ◌++◌, IfOk, OnOk};
 ghost use Rattle.authorizer.specs.Asking.{policy_rules};
-ghost use Rattle.authorizer.specs.Tally.{counted};
+ghost use Rattle.authorizer.specs.Tally.{count_after_parts};
 ghost use Rattle.walk.specs.Walk.{asked_in, plain_world, plain_topics, world_after, answers, parts_refused, refusals, parts_weight, topics_weight};
-ghost use Rattle.walk.specs.Steps.{part_world, part_told, part_spent, parts_world, parts_answers, parts_spent, topics_world, topics_answers, topics_spent};
+ghost use Rattle.walk.specs.Steps.{part_world, part_answer, part_spent, parts_world, parts_answers, parts_spent, topics_world, topics_answers, topics_spent};
 
 use crate::part::{Part, PartApi};
 use authorizer::{Policy, Refusal, Tally};
@@ -31,10 +31,15 @@ pub fn walk<P, A: Drop, W, X: PartApi<P, A, W>>(
     requires served { X.cuts api.now ≡ false }
     requires settled { X.settles api.now policy.now }
     requires room { topics_weight (X.rule api.now) topics.now ≤ (X.rule api.now).room world.old }
-    ensures world { OnOk result (world.new ≡ world_after (X.rule api.now) (policy_rules policy.now) world.old topics.now) }
-    ensures answers { IfOk result (λ r. r.topics ≡ answers (X.rule api.now) (policy_rules policy.now) world.old topics.now) }
-    ensures refusals { IfOk result (λ r. r.refusals ≡ refusals (X.rule api.now) (policy_rules policy.now) topics.now) }
-    ensures spent { IfOk result (λ r. r.spent ≡ counted (policy_rules policy.now) 0 (asked_in (X.rule api.now) topics.now)) }
+    ensures world { OnOk result
+        (world.new ≡ world_after (X.rule api.now) (policy_rules policy.now) world.old topics.now) }
+    ensures answers { IfOk result
+        (λ r. r.topics ≡ answers (X.rule api.now) (policy_rules policy.now) world.old topics.now) }
+    ensures refusals { IfOk result
+        (λ r. r.refusals ≡ refusals (X.rule api.now) (policy_rules policy.now) topics.now) }
+    ensures spent { IfOk result
+        (λ r. r.spent ≡ count_after_parts (policy_rules policy.now) 0
+        (asked_in (X.rule api.now) topics.now)) }
 {
     walk_topics(alloc, api, policy, world, topics)
 }
@@ -53,9 +58,12 @@ pub fn walk_granted<P, A: Drop, W, X: PartApi<P, A, W>>(
     requires granted { refusals (X.rule api.now) (policy_rules policy.now) topics.now ≡ [] }
     requires room { topics_weight (X.rule api.now) topics.now ≤ (X.rule api.now).room world.old }
     ensures world { OnOk result (world.new ≡ plain_world (X.rule api.now) world.old topics.now) }
-    ensures answers { IfOk result (λ r. r.topics ≡ plain_topics (X.rule api.now) world.old topics.now) }
+    ensures answers { IfOk result
+        (λ r. r.topics ≡ plain_topics (X.rule api.now) world.old topics.now) }
     ensures refusals { IfOk result (λ r. r.refusals ≡ []) }
-    ensures spent { IfOk result (λ r. r.spent ≡ counted (policy_rules policy.now) 0 (asked_in (X.rule api.now) topics.now)) }
+    ensures spent { IfOk result
+        (λ r. r.spent ≡ count_after_parts (policy_rules policy.now) 0
+        (asked_in (X.rule api.now) topics.now)) }
 {
     walk_topics(alloc, api, policy, world, topics)
 }
@@ -72,14 +80,16 @@ pub fn walk_cut<P, A: Drop, X: PartApi<P, A, ()>>(
     requires cut { X.cuts api.now ≡ true }
     requires settled { X.settles api.now policy.now }
     requires room { topics_weight (X.rule api.now) topics.now ≤ (X.rule api.now).room tt }
-    ensures answers { IfOk result (λ r. r.topics ≡ answers (X.rule api.now) (policy_rules policy.now) tt topics.now) }
-    ensures refusals { IfOk result (λ r. r.refusals ≡ refusals (X.rule api.now) (policy_rules policy.now) topics.now) }
+    ensures answers { IfOk result
+        (λ r. r.topics ≡ answers (X.rule api.now) (policy_rules policy.now) tt topics.now) }
+    ensures refusals { IfOk result
+        (λ r. r.refusals ≡ refusals (X.rule api.now) (policy_rules policy.now) topics.now) }
     ensures spent { IfOk result (λ r. r.spent ≡ 0) }
 {
     walk_topics(alloc, api, policy, &mut (), topics)
 }
 
-/// One topic after the other.
+/// Walks the topics of a request, one after the other.
 fn walk_topics<P, A: Drop, W, X: PartApi<P, A, W>>(
     alloc: Global,
     api: &X,
@@ -89,10 +99,16 @@ fn walk_topics<P, A: Drop, W, X: PartApi<P, A, W>>(
 ) -> Result<Walked<A>, AllocError>
     requires settled { X.settles api.now policy.now }
     requires room { topics_weight (X.rule api.now) topics.now ≤ (X.rule api.now).room world.old }
-    ensures world { OnOk result (world.new ≡ topics_world (X.rule api.now) (policy_rules policy.now) world.old topics.now) }
-    ensures answers { IfOk result (λ r. r.topics ≡ topics_answers (X.rule api.now) (policy_rules policy.now) world.old topics.now) }
-    ensures refusals { IfOk result (λ r. r.refusals ≡ refusals (X.rule api.now) (policy_rules policy.now) topics.now) }
-    ensures spent { IfOk result (λ r. r.spent ≡ topics_spent (X.cuts api.now) (X.rule api.now) (policy_rules policy.now) 0 topics.now) }
+    ensures world { OnOk result
+        (world.new ≡ topics_world (X.rule api.now) (policy_rules policy.now) world.old topics.now) }
+    ensures answers { IfOk result
+        (λ r. r.topics ≡ topics_answers (X.rule api.now) (policy_rules policy.now) world.old
+        topics.now) }
+    ensures refusals { IfOk result
+        (λ r. r.refusals ≡ refusals (X.rule api.now) (policy_rules policy.now) topics.now) }
+    ensures spent { IfOk result
+        (λ r. r.spent ≡ topics_spent (X.cuts api.now) (X.rule api.now) (policy_rules policy.now) 0
+        topics.now) }
 {
     let mut answers = Items::new(alloc);
     let mut refusals = Items::new(alloc);
@@ -121,7 +137,7 @@ fn walk_topics<P, A: Drop, W, X: PartApi<P, A, W>>(
     })
 }
 
-/// One partition after the other. Their refusals go behind those that are there, and what is spent is counted.
+/// One partition after the other. Their refusals go after those that are there, and what is spent is counted.
 #[tactic(auto, using(crate::proofs::Weights::part_takes))]
 fn walk_parts<P, A: Drop, W, X: PartApi<P, A, W>>(
     alloc: Global,
@@ -135,30 +151,40 @@ fn walk_parts<P, A: Drop, W, X: PartApi<P, A, W>>(
 ) -> Result<Items<A>, AllocError>
     requires settled { X.settles api.now policy.now }
     requires room { parts_weight (X.rule api.now) parts.now ≤ (X.rule api.now).room world.old }
-    ensures world { OnOk result (world.new ≡ parts_world (X.rule api.now) (policy_rules policy.now) world.old name.now parts.now) }
-    ensures answers { IfOk result (λ r. r ≡ parts_answers (X.rule api.now) (policy_rules policy.now) world.old name.now parts.now) }
-    ensures refusals { OnOk result (refusals.new ≡ refusals.old ++ parts_refused (X.rule api.now) (policy_rules policy.now) name.now parts.now) }
-    ensures spent { OnOk result (spent.new ≡ parts_spent (X.cuts api.now) (X.rule api.now) (policy_rules policy.now) spent.old name.now parts.now) }
-    ensures room { OnOk result ((X.rule api.now).room world.old ≤ parts_weight (X.rule api.now) parts.now + (X.rule api.now).room world.new) }
+    ensures world { OnOk result
+        (world.new ≡ parts_world (X.rule api.now) (policy_rules policy.now) world.old name.now
+        parts.now) }
+    ensures answers { IfOk result
+        (λ r. r ≡ parts_answers (X.rule api.now) (policy_rules policy.now) world.old name.now
+        parts.now) }
+    ensures refusals { OnOk result
+        (refusals.new ≡ refusals.old ++ parts_refused (X.rule api.now) (policy_rules policy.now)
+        name.now parts.now) }
+    ensures spent { OnOk result
+        (spent.new ≡ parts_spent (X.cuts api.now) (X.rule api.now) (policy_rules policy.now)
+        spent.old name.now parts.now) }
+    ensures room { OnOk result
+        ((X.rule api.now).room world.old ≤ parts_weight (X.rule api.now) parts.now
+        + (X.rule api.now).room world.new) }
 {
     let mut answers = Items::new(alloc);
     for part in parts {
-        let told = tell(alloc, api, policy, world, name, part, spent)?;
+        let told = answer_part(alloc, api, policy, world, name, part, spent)?;
         answers.push(told.answer)?;
         refusals.push_some(told.refusal)?;
     }
     Ok(answers)
 }
 
-/// What is told of a part: its answer, and its refusal if it was refused.
+/// A part's answer, and its refusal if it was refused.
 #[derive(Drop)]
-struct Told<A> {
+struct PartAnswer<A> {
     answer: A,
     refusal: Option<Refusal>,
 }
 
 /// Serves one part or refuses it, and counts what was spent for it.
-fn tell<P, A: Drop, W, X: PartApi<P, A, W>>(
+fn answer_part<P, A: Drop, W, X: PartApi<P, A, W>>(
     alloc: Global,
     api: &X,
     policy: &Policy,
@@ -166,15 +192,21 @@ fn tell<P, A: Drop, W, X: PartApi<P, A, W>>(
     name: &Text,
     part: &P,
     spent: &mut Tally,
-) -> Result<Told<A>, AllocError>
+) -> Result<PartAnswer<A>, AllocError>
     requires settled { X.settles api.now policy.now }
     requires room { (X.rule api.now).weight part.now ≤ (X.rule api.now).room world.old }
-    ensures world { OnOk result (world.new ≡ part_world (X.rule api.now) (policy_rules policy.now) world.old name.now part.now) }
-    ensures spent { OnOk result (spent.new ≡ part_spent (X.cuts api.now) (X.rule api.now) (policy_rules policy.now) spent.old name.now part.now) }
-    ensures told { IfOk result (λ told. told ≡ part_told (X.rule api.now) (policy_rules policy.now) world.old name.now part.now) }
+    ensures world { OnOk result
+        (world.new ≡ part_world (X.rule api.now) (policy_rules policy.now) world.old name.now
+        part.now) }
+    ensures spent { OnOk result
+        (spent.new ≡ part_spent (X.cuts api.now) (X.rule api.now) (policy_rules policy.now)
+        spent.old name.now part.now) }
+    ensures told { IfOk result
+        (λ told. told ≡ part_answer (X.rule api.now) (policy_rules policy.now) world.old name.now
+        part.now) }
 {
     let Part { answer, ending } = api.serve(alloc, policy, world, name, part)?;
-    Ok(Told {
+    Ok(PartAnswer {
         answer,
         refusal: ending.counted(spent),
     })

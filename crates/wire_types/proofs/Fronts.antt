@@ -7,12 +7,12 @@ use Rattle.wire_types.specs.Grammar.{Grammar}
 pub own_front : (bytes : List ℕ) → StartsWith bytes bytes
 own_front bytes = take_all (length bytes) bytes (le_refl (length bytes))
 
-pub behind_text : (front bytes text : List ℕ) → StartsWith bytes front → StartsWith (bytes ++ text) front
-behind_text front bytes text is = starts_with_trans (bytes ++ text) bytes front (starts_with_of_append (bytes ++ text) bytes text refl) is
+pub after_text : (front bytes text : List ℕ) → StartsWith bytes front → StartsWith (bytes ++ text) front
+after_text front bytes text is = starts_with_trans (bytes ++ text) bytes front (starts_with_of_append (bytes ++ text) bytes text refl) is
 
-pub behind_put : {A : Type 0} (g : Grammar A) (front bytes : List ℕ) (x : A) → StartsWith bytes front → StartsWith (g.put bytes x) front
-behind_put g front bytes x is = starts_with_trans (g.put bytes x) bytes front (starts_with_of_append (g.put bytes x) bytes (g.written x) (g.puts bytes x)) is
+pub after_put : {A : Type 0} (g : Grammar A) (front bytes : List ℕ) (x : A) → StartsWith bytes front → StartsWith (g.put bytes x) front
+after_put g front bytes x is = starts_with_trans (g.put bytes x) bytes front (starts_with_of_append (g.put bytes x) bytes (g.written x) (g.puts bytes x)) is
 
 -- what was written after it
-pub behind_spelling : {A : Type 0} (g : Grammar A) (front old new : List ℕ) (x : A) → new ≡ g.put old x → StartsWith old front → StartsWith new front
-behind_spelling g front old new x there is = subst (λ (bytes : List ℕ). StartsWith bytes front) (sym there) (behind_put g front old x is)
+pub after_spelling : {A : Type 0} (g : Grammar A) (front old new : List ℕ) (x : A) → new ≡ g.put old x → StartsWith old front → StartsWith new front
+after_spelling g front old new x there is = subst (λ (bytes : List ℕ). StartsWith bytes front) (sym there) (after_put g front old x is)

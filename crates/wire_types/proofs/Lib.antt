@@ -6,7 +6,6 @@ pub mod Sizes
 pub mod OneValue
 pub mod StringLaws
 pub mod Announced
-pub mod Taken
 pub mod Fronts
 pub mod Runs
 pub mod FirstBytes

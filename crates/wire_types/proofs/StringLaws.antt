@@ -7,15 +7,15 @@ use Rattle.std.proofs.lemmas.List.{length-append}
 use Rattle.std.proofs.lemmas.List.Folds.{list_all-append}
 use Rattle.std.proofs.lemmas.List.Concat.{flat_map-cons}
 use Rattle.wire_types.specs.Grammar.{Grammar, Content}
-use Rattle.wire_types.specs.Spelling.{int_written, bool_written, varint_written, behind_written, behind_fits, null_behind_written, null_behind_fits, null_count_fits, compact_null_count_written, compact_null_count_fits, many_fit, many_written}
+use Rattle.wire_types.specs.Spelling.{int_written, bool_written, varint_written, after_count_written, after_count_fits, after_null_count_written, after_null_count_fits, null_count_fits, compact_null_count_written, compact_null_count_fits, many_fit, many_written}
 use Rattle.wire_types.specs.ListLaws.{and_parts}
 use Rattle.wire_types.specs.NumberLaws.{IsWide, wide8, wide16, wide32, wide64}
-use Rattle.wire_types.specs.Combinators.{◌⨟◌, struct, raw, utf8, items, behind}
-use Rattle.wire_types.specs.Schema.{int_grammar, int8, int16, int32, int64, boolean, compact_null_count, count32, compact_count, string, nullable_string, bytes, array, compact_string, compact_nullable_string, compact_array, tags, tagged, no_fields}
+use Rattle.wire_types.specs.Combinators.{◌⨟◌, struct, raw, utf8, items, after_count}
+use Rattle.wire_types.specs.Schema.{int_grammar, int8, int16, int32, int64, boolean, compact_null_count, count32, compact_count, string, nullable_string, bytes, array, compact_string, compact_nullable_string, compact_array, tags, tagged_struct, no_fields}
 use Rattle.wire_types.specs.ErrorCode.{error_code, number_of, code_of, code_of-number_of, number_of-code_of}
 use Rattle.wire_types.specs.Topic.{topic_of, flexible_topic_of}
 use Rattle.wire_types.specs.Strings.{is_short, text_of, name_of, no_strings}
-use Rattle.wire_types.specs.Coded.{coded}
+use Rattle.wire_types.specs.Coded.{coded_value}
 
 pub record TellsStrings {A : Type 0} (g : Grammar A) (strings : A → List (List ℕ)) : Type 0 where
   pub short : (x : A) → g.fits x ≡ true → list_all is_short (strings x) ≡ true
@@ -80,7 +80,7 @@ pub struct_strings : {A S : Type 0} (make : A → S) (parts : S → A) (parts_ma
 struct_strings make parts parts_make make_parts g s p = record { short = λ x. p.short (parts x); fits = λ x. p.fits (parts x); some = λ x. p.some (parts x) }
 
 pub coded_strings : {A S : Type 0} (code : S → A) (named : A → Option S) (told : (s : S) → named (code s) ≡ Some s) (tells : (a : A) (s : S) → named a ≡ Some s → code s ≡ a) (g : Grammar A)
-    → TellsStrings g no_strings → TellsStrings (coded code named told tells g) no_strings
+    → TellsStrings g no_strings → TellsStrings (coded_value code named told tells g) no_strings
 coded_strings code named told tells g p = record { short = λ x. p.short (code x); fits = λ x. p.fits (code x); some = λ x. p.some (code x) }
 
 pub error_code_strings : TellsStrings error_code no_strings
@@ -103,11 +103,11 @@ one_is : (t : List ℕ) → list_all is_short (t ∷ []) ≡ true → is_short t
 one_is t all = (and_parts (is_short t) true all).0
 
 string_some : (t : List ℕ) → 0 < length (string.written t)
-unfolding behind_written int_written
+unfolding after_count_written int_written
 string_some t = omega arith
 
 pub string_strings : TellsStrings string (λ t. t ∷ [])
-unfolding behind_fits
+unfolding after_count_fits
 string_strings = record {
   short = λ t e. one_short t (fits_short t (and_parts (null_count_fits (2 ^ 15) (Some (length t))) true e).0);
   fits = λ t all lt. rw (short_fits t (one_is t all)) refl;
@@ -115,17 +115,17 @@ string_strings = record {
 }
 
 nullable_short : (o : Option (List ℕ)) → nullable_string.fits o ≡ true → list_all is_short (text_of o) ≡ true
-unfolding null_behind_fits
+unfolding after_null_count_fits
 nullable_short None e = refl
 nullable_short (Some t) e = one_short t (fits_short t (and_parts (null_count_fits (2 ^ 15) (Some (length t))) true e).0)
 
 nullable_fits : (o : Option (List ℕ)) → list_all is_short (text_of o) ≡ true → nullable_string.fits o ≡ true
-unfolding null_behind_fits null_count_fits
+unfolding after_null_count_fits null_count_fits
 nullable_fits None all = refl
 nullable_fits (Some t) all = rw (short_fits t (one_is t all)) refl
 
 nullable_some : (o : Option (List ℕ)) → 0 < length (nullable_string.written o)
-unfolding null_behind_written int_written
+unfolding after_null_count_written int_written
 nullable_some None = omega arith
 nullable_some (Some t) = omega arith
 
@@ -162,7 +162,7 @@ unfolding int_written
 count_len n = refl
 
 array_len : {A : Type 0} (g : Grammar A) (xs : List A) → length ((array g).written xs) ≡ 4 + length (many_written g.written xs)
-unfolding behind_written
+unfolding after_count_written
 array_len g xs = length-append (int32.written (pos (length xs))) (many_written g.written xs) ∙ ap (λ (n : ℕ). n + length (many_written g.written xs)) (count_len (length xs))
 
 count_fits : (n : ℕ) → n < 2 ^ 31 → null_count_fits (2 ^ 31) (Some n) ≡ true
@@ -170,7 +170,7 @@ unfolding null_count_fits
 count_fits n lt = lt-ltb _ _ lt
 
 pub array_strings : {A : Type 0} {g : Grammar A} {s : A → List (List ℕ)} → TellsStrings g s → TellsStrings (array g) (flat_map s)
-unfolding behind_fits
+unfolding after_count_fits
 array_strings {g = g} {s = s} p = record {
   short = λ xs e. many_short g s p xs (and_parts (null_count_fits (2 ^ 31) (Some (length xs))) (many_fit g.fits xs) e).1;
   fits = λ xs all lt.
@@ -193,15 +193,15 @@ plain_array p =
 pub topic_strings : {P : Type 0} {g : Grammar P} → TellsStrings g no_strings → TellsStrings (topic_of g) name_of
 topic_strings p = struct_strings _ _ _ _ _ _ (front_strings string_strings (plain_array p))
 
--- ---- what stands behind other counts
+-- ---- what stands after other counts
 
 -- a content whose count and fitting follow from its length
 abbrev pub IsCounted : {A : Type 0} → Content A → Type 0
 IsCounted {A} k = (x : A) → length (k.written x) < 2 ^ 31 → (k.count x < 2 ^ 31) × (k.fits x ≡ true)
 
-behind_strings : {A : Type 0} (c : Grammar ℕ) (k : Content A) → ((n : ℕ) → n < 2 ^ 31 → c.fits n ≡ true) → ((n : ℕ) → 0 < length (c.written n)) → IsCounted k → TellsStrings (behind c k) no_strings
-unfolding behind_fits behind_written
-behind_strings c k fit some counted = record {
+after_strings : {A : Type 0} (c : Grammar ℕ) (k : Content A) → ((n : ℕ) → n < 2 ^ 31 → c.fits n ≡ true) → ((n : ℕ) → 0 < length (c.written n)) → IsCounted k → TellsStrings (after_count c k) no_strings
+unfolding after_count_fits after_count_written
+after_strings c k fit some counted = record {
   short = λ x e. refl;
   fits = λ x short lt.
       let p = counted x (omega (arith, lt, length-append (c.written (k.count x)) (k.written x))) in
@@ -222,7 +222,7 @@ count_some : (n : ℕ) → 0 < length (count32.written n)
 count_some n = omega (arith, count_len n)
 
 pub bytes_strings : TellsStrings bytes no_strings
-bytes_strings = behind_strings count32 raw count_fits count_some raw_counted
+bytes_strings = after_strings count32 raw count_fits count_some raw_counted
 
 -- ---- compact forms
 
@@ -240,18 +240,18 @@ compact_some None = omega arith
 compact_some (Some n) = digit_some _ _ _ _
 
 pub compact_string_strings : TellsStrings compact_string no_strings
-compact_string_strings = behind_strings compact_count utf8 compact_fits (λ n. compact_some (Some n)) utf8_counted
+compact_string_strings = after_strings compact_count utf8 compact_fits (λ n. compact_some (Some n)) utf8_counted
 
 pub compact_array_strings : {A : Type 0} {g : Grammar A} → TellsStrings g no_strings → TellsStrings (compact_array g) no_strings
-compact_array_strings {g = g} p = behind_strings compact_count (items g) compact_fits (λ n. compact_some (Some n)) (items_counted p)
+compact_array_strings {g = g} p = after_strings compact_count (items g) compact_fits (λ n. compact_some (Some n)) (items_counted p)
 
 compact_null_fits : (o : Option (List ℕ)) → length (compact_nullable_string.written o) < 2 ^ 31 → compact_nullable_string.fits o ≡ true
-unfolding null_behind_fits null_behind_written compact_null_count_fits
+unfolding after_null_count_fits after_null_count_written compact_null_count_fits
 compact_null_fits None lt = refl
 compact_null_fits (Some t) lt = rw (lt-ltb (length t + 1) (2 ^ 32) (omega (arith, lt, length-append (compact_null_count.written (Some (length t))) t))) refl
 
 compact_null_some : (o : Option (List ℕ)) → 0 < length (compact_nullable_string.written o)
-unfolding null_behind_written
+unfolding after_null_count_written
 compact_null_some None = compact_some None
 compact_null_some (Some t) = omega (arith, compact_some (Some (length t)), length-append (compact_null_count.written (Some (length t))) t)
 
@@ -265,7 +265,7 @@ tags_strings : TellsStrings tags no_strings
 tags_strings = record { short = λ s e. refl; fits = λ s short lt. refl; some = tags_some }
 
 pub tagged_strings : {A S : Type 0} (make : A → S) (parts : S → A) (parts_make : (x : A) → parts (make x) ≡ x) (make_parts : (s : S) → make (parts s) ≡ s) (g : Grammar A)
-    → TellsStrings g no_strings → TellsStrings (tagged make parts parts_make make_parts g) no_strings
+    → TellsStrings g no_strings → TellsStrings (tagged_struct make parts parts_make make_parts g) no_strings
 tagged_strings make parts parts_make make_parts g p =
     struct_strings _ _ _ _ _ _ (both_strings p tags_strings)
 

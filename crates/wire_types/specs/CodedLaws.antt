@@ -38,16 +38,16 @@ named_ok {S} (Some x) bytes s rest e =
     let same : (x, bytes) ≡ (s, rest) = ok_is (x, bytes) (s, rest) e in
     (ap (λ (y : S × List ℕ). Some y.0) same, ap (λ (y : S × List ℕ). y.1) same)
 
-pub coded-sound : {A S : Type 0} (code : S → A) (named : A → Option S) (g : Grammar A) → ((a : A) (s : S) → named a ≡ Some s → code s ≡ a)
+pub coded_value-sound : {A S : Type 0} (code : S → A) (named : A → Option S) (g : Grammar A) → ((a : A) (s : S) → named a ≡ Some s → code s ≡ a)
     → (bytes : List ℕ) (s : S) (rest : List ℕ) → coded_at named g.reading bytes ≡ Ok (s, rest) → (text : List ℕ) × (bytes ≡ text ++ rest) × g.Spells text (code s)
 unfolding coded_at
-coded-sound code named g tells bytes s rest e =
+coded_value-sound code named g tells bytes s rest e =
     let a = bind_ok (g.reading bytes) (λ n. named_or (named n.0) n.1) (s, rest) e in
     let n = named_ok (named a.0.0) a.0.1 s rest a.2 in
     let p = g.sound bytes a.0.0 a.0.1 a.1 in
     (p.0, p.1 ∙ ap (λ (t : List ℕ). p.0 ++ t) n.1, rw (tells a.0.0 s n.0) p.2)
 
-pub coded-complete : {A S : Type 0} (code : S → A) (named : A → Option S) (g : Grammar A) → ((s : S) → named (code s) ≡ Some s)
+pub coded_value-complete : {A S : Type 0} (code : S → A) (named : A → Option S) (g : Grammar A) → ((s : S) → named (code s) ≡ Some s)
     → (text rest : List ℕ) (s : S) → g.Spells text (code s) → coded_at named g.reading (text ++ rest) ≡ Ok (s, rest)
 unfolding coded_at named_or
-coded-complete code named g told text rest s h = rw (g.complete text rest (code s) h) (rw (told s) refl)
+coded_value-complete code named g told text rest s h = rw (g.complete text rest (code s) h) (rw (told s) refl)

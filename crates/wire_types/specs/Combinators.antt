@@ -4,11 +4,11 @@ use Rattle.std.proofs.Common.{ap, sym, Ok}
 use Rattle.std.proofs.lemmas.List.{append-nil}
 use Rattle.std.specs.Str.{IsUtf8}
 use Rattle.std.specs.List.{AllByRecursion}
-use Rattle.wire_types.specs.Reading.{front_at, utf8_at, items_at, required_at, behind_at, null_behind_at}
-use Rattle.wire_types.specs.Grammar.{Grammar, Content, Body, AreBoth, AreMany, IsBehind, IsNullBehind}
-use Rattle.wire_types.specs.Spelling.{many_written, many_fit, many_left, behind_written, behind_fits, null_behind_written, null_behind_put, null_behind_fits, null_behind_left, room_left, then_left}
-use Rattle.wire_types.specs.CountLaws.{required-sound, required-complete}
-use Rattle.wire_types.specs.BehindLaws.{front-sound, front-complete, utf8-sound, utf8-complete, items-sound, items-complete, items-lefts, behind-sound, behind-complete, behind-puts, behind-lefts, behind-canonical, behind-shortest, behind-some, null_behind-sound, null_behind-complete, null_behind-puts, null_behind-lefts, NullInType, null_behind-canonical, null_behind-shortest, null_behind-some}
+use Rattle.wire_types.specs.Reading.{front_at, utf8_at, items_at, required_at, after_count_at, after_null_count_at}
+use Rattle.wire_types.specs.Grammar.{Grammar, Content, Body, AreBoth, AreMany, IsAfter, IsNullAfter}
+use Rattle.wire_types.specs.Spelling.{many_written, many_fit, many_left, after_count_written, after_count_fits, after_null_count_written, after_null_count_put, after_null_count_fits, after_null_count_left, room_left, then_left}
+use Rattle.wire_types.specs.CountLaws.{required_count-sound, required_count-complete}
+use Rattle.wire_types.specs.AfterLaws.{front-sound, front-complete, utf8-sound, utf8-complete, items-sound, items-complete, items-lefts, after_count-sound, after_count-complete, after_count-puts, after_count-lefts, after_count-canonical, after_count-shortest, after_count-some, after_null_count-sound, after_null_count-complete, after_null_count-puts, after_null_count-lefts, NullInType, after_null_count-canonical, after_null_count-shortest, after_null_count-some}
 use Rattle.wire_types.specs.RoomLaws.{room_of_parts}
 use Rattle.wire_types.specs.ListLaws.{both_at, via_at, both-puts, both-sound, both-complete, both-canonical, both-shortest, both-some, via-sound, via-complete, many-canonical, many-shortest, part_written, part_put, part_fits, part_left, part-lefts, part-puts, arm-sound, arm-complete, part-canonical, part-shortest, part-some, skip-sound, skip-complete, IsLeast, value-sound, value-complete, value-fits, value-short, raw-shortest}
 
@@ -72,11 +72,11 @@ variant make part part_make make_part g = record {
   some_bytes = λ text s. part-some g text (part s);
 }
 
--- ---- what stands behind a count
+-- ---- what stands after a count
 
 -- where null is not allowed
-abbrev pub required : Grammar (Option ℕ) → Grammar ℕ
-required c = record {
+abbrev pub required_count : Grammar (Option ℕ) → Grammar ℕ
+required_count c = record {
   Spells = λ text n. c.Spells text (Some n);
   reading = required_at c.reading;
   written = λ n. c.written (Some n);
@@ -86,8 +86,8 @@ required c = record {
   InType = λ n. c.InType (Some n);
   puts = λ old n. c.puts old (Some n);
   lefts = λ n. c.lefts (Some n);
-  sound = required-sound c;
-  complete = required-complete c;
+  sound = required_count-sound c;
+  complete = required_count-complete c;
   canonical = λ n. c.canonical (Some n);
   shortest = λ text n. c.shortest text (Some n);
   some_bytes = λ text n. c.some_bytes text (Some n);
@@ -144,47 +144,47 @@ items g = record {
   shortest = many-shortest g;
 }
 
-abbrev pub behind : {A : Type 0} → Grammar ℕ → Content A → Grammar A
-behind c k = record {
-  Spells = IsBehind k.count c.Spells k.Spells;
-  reading = behind_at c.reading k.reading;
-  written = behind_written k.count c.written k.written;
+abbrev pub after_count : {A : Type 0} → Grammar ℕ → Content A → Grammar A
+after_count c k = record {
+  Spells = IsAfter k.count c.Spells k.Spells;
+  reading = after_count_at c.reading k.reading;
+  written = after_count_written k.count c.written k.written;
   put = λ old x. c.put old (k.count x) ++ k.written x;
-  fits = behind_fits k.count c.fits k.fits;
+  fits = after_count_fits k.count c.fits k.fits;
   left = λ x room. then_left (c.left (k.count x) room) (k.left x);
   InType = λ x. c.InType (k.count x) × k.InType x;
-  puts = behind-puts c k;
-  lefts = behind-lefts c k;
-  sound = behind-sound c k;
-  complete = behind-complete c k;
-  canonical = behind-canonical c k;
-  shortest = behind-shortest c k;
-  some_bytes = behind-some c k;
+  puts = after_count-puts c k;
+  lefts = after_count-lefts c k;
+  sound = after_count-sound c k;
+  complete = after_count-complete c k;
+  canonical = after_count-canonical c k;
+  shortest = after_count-shortest c k;
+  some_bytes = after_count-some c k;
 }
 
-abbrev pub null_behind : {A : Type 0} → Grammar (Option ℕ) → Content A → Grammar (Option A)
-null_behind c k = record {
-  Spells = IsNullBehind k.count c.Spells k.Spells;
-  reading = null_behind_at c.reading k.reading;
-  written = null_behind_written k.count c.written k.written;
-  put = null_behind_put k.count c.put k.written;
-  fits = null_behind_fits k.count c.fits k.fits;
-  left = null_behind_left k.count c.left k.left;
+abbrev pub after_null_count : {A : Type 0} → Grammar (Option ℕ) → Content A → Grammar (Option A)
+after_null_count c k = record {
+  Spells = IsNullAfter k.count c.Spells k.Spells;
+  reading = after_null_count_at c.reading k.reading;
+  written = after_null_count_written k.count c.written k.written;
+  put = after_null_count_put k.count c.put k.written;
+  fits = after_null_count_fits k.count c.fits k.fits;
+  left = after_null_count_left k.count c.left k.left;
   InType = NullInType k.count c.InType k.InType;
-  puts = null_behind-puts c k;
-  lefts = null_behind-lefts c k;
-  sound = null_behind-sound c k;
-  complete = null_behind-complete c k;
-  canonical = null_behind-canonical c k;
-  shortest = null_behind-shortest c k;
-  some_bytes = null_behind-some c k;
+  puts = after_null_count-puts c k;
+  lefts = after_null_count-lefts c k;
+  sound = after_null_count-sound c k;
+  complete = after_null_count-complete c k;
+  canonical = after_null_count-canonical c k;
+  shortest = after_null_count-shortest c k;
+  some_bytes = after_null_count-some c k;
 }
 
 -- ---- what is skipped
 
 -- whatever this grammar spells, as one value; the shortest, of so many bytes, is written
-abbrev pub skipped : {A : Type 0} (g : Grammar A) (least : A) (size : ℕ) → IsLeast g least size → Grammar (Unit {0})
-skipped {A} g least size is = record {
+abbrev pub skipped_value : {A : Type 0} (g : Grammar A) (least : A) (size : ℕ) → IsLeast g least size → Grammar (Unit {0})
+skipped_value {A} g least size is = record {
   Spells = λ text s. (x : A) × g.Spells text x;
   reading = via_at (λ (x : A). tt) g.reading;
   written = λ s. g.written least;

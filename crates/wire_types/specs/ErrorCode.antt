@@ -6,7 +6,7 @@ use Rattle.std.proofs.lemmas.Bool.Decides.{Decides-int_eq}
 use Rattle.wire_types.specs.Grammar.{Grammar}
 use Rattle.wire_types.specs.Schema.{int16}
 use Rattle.wire_types.specs.CodedLaws.{find-passes}
-use Rattle.wire_types.specs.Coded.{coded}
+use Rattle.wire_types.specs.Coded.{coded_value}
 use Rattle.wire_types.specs.declared.error_code.ErrorCode.{ErrorCode}
 use Rattle.wire_types.specs.declared.error_code.ErrorCode.TheVariants as codes
 
@@ -73,4 +73,4 @@ number_of-code_of number code e = (Decides-int_eq (number_of code) number).0 (fi
 
 -- INT16
 abbrev pub error_code : Grammar ErrorCode
-error_code = coded number_of code_of code_of-number_of number_of-code_of int16
+error_code = coded_value number_of code_of code_of-number_of number_of-code_of int16

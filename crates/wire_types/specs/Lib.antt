@@ -7,7 +7,7 @@ pub mod VarintLaws
 pub mod ListLaws
 pub mod Zigzag
 pub mod CountLaws
-pub mod BehindLaws
+pub mod AfterLaws
 pub mod Combinators
 pub mod Schema
 pub mod CodedLaws
@@ -18,5 +18,4 @@ pub mod Writing
 pub mod Place
 pub mod Pieces
 pub mod Laws
-pub mod Device
 pub mod Strings

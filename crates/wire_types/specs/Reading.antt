@@ -16,7 +16,7 @@ abbrev pub ◌>>=◌ : {A B : Type 0} → Result A Malformed → (A → Result B
 (Ok x) >>= f = f x
 (Err e) >>= f = Err e
 
--- The call answered what stands at the front, and left the cursor behind it.
+-- The call answered what stands at the front, and left the cursor after it.
 abbrev pub Takes : {A : Type 0} → Found A → Result A Malformed → List ℕ → Type 0
 Takes found (Ok x) new = found ≡ Ok (x, new)
 Takes found (Err e) new = found ≡ Err e
@@ -28,8 +28,8 @@ Reads found (Err faults.NoMemory) new = Unit {0}
 Reads found (Err (faults.Malformed e)) new = found ≡ Err e
 
 -- what is found is skipped
-abbrev pub skipping : {A : Type 0} → Found A → Found (Unit {0})
-skipping found = found >>= λ x. Ok (tt, x.1)
+abbrev pub skipped_if_found : {A : Type 0} → Found A → Found (Unit {0})
+skipped_if_found found = found >>= λ x. Ok (tt, x.1)
 
 -- the next byte
 abbrev pub byte_at : List ℕ → Found ℕ
@@ -70,17 +70,17 @@ many_at one (suc n) bytes = one bytes >>= λ x. many_at one n x.1 >>= λ xs. Ok 
 unfoldable pub items_at : {A : Type 0} → (List ℕ → Found A) → ℕ → List ℕ → Found (List A)
 items_at one n bytes = if nat_lt (length bytes) n then Err Short else many_at one n bytes
 
--- ---- what stands behind its count
+-- ---- what stands after its count
 
-unfoldable pub behind_at : {A : Type 0} → (List ℕ → Found ℕ) → (ℕ → List ℕ → Found A) → List ℕ → Found A
-behind_at count content bytes = count bytes >>= λ n. content n.0 n.1
+unfoldable pub after_count_at : {A : Type 0} → (List ℕ → Found ℕ) → (ℕ → List ℕ → Found A) → List ℕ → Found A
+after_count_at count content bytes = count bytes >>= λ n. content n.0 n.1
 
 unfoldable pub null_or : {A : Type 0} → (ℕ → List ℕ → Found A) → Option ℕ → List ℕ → Found (Option A)
 null_or content None bytes = Ok (None, bytes)
 null_or content (Some n) bytes = content n bytes >>= λ x. Ok (Some x.0, x.1)
 
-unfoldable pub null_behind_at : {A : Type 0} → (List ℕ → Found (Option ℕ)) → (ℕ → List ℕ → Found A) → List ℕ → Found (Option A)
-null_behind_at count content bytes = count bytes >>= λ n. null_or content n.0 n.1
+unfoldable pub after_null_count_at : {A : Type 0} → (List ℕ → Found (Option ℕ)) → (ℕ → List ℕ → Found A) → List ℕ → Found (Option A)
+after_null_count_at count content bytes = count bytes >>= λ n. null_or content n.0 n.1
 
 -- ---- numbers of variable length
 
@@ -122,7 +122,7 @@ not_null (Some n) bytes = Ok (n, bytes)
 unfoldable pub required_at : (List ℕ → Found (Option ℕ)) → List ℕ → Found ℕ
 required_at count bytes = count bytes >>= λ n. not_null n.0 n.1
 
--- a count of no more than there are bytes left behind it
+-- a count of no more than there are bytes left after it
 unfoldable pub counted_at : (List ℕ → Found ℕ) → List ℕ → Found ℕ
 counted_at count bytes = count bytes >>= λ n. if nat_lt (length n.1) n.0 then Err Short else Ok n
 

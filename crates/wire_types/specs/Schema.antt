@@ -6,12 +6,12 @@ use Rattle.std.proofs.Common.{ap, lit<, arith}
 use Rattle.wire_types.specs.Reading.{nat_at, int_at, bool_at, varint_at, varint_limit, null_count_at, compact_null_count_at}
 use Rattle.wire_types.specs.Grammar.{Grammar, IsNat, IsInt, IsBool, IsVarint, IsNullCount, IsCompactNullCount}
 use Rattle.wire_types.specs.NumberLaws.{IsWide, wide8, wide16, wide32, wide64, nat-sound, nat-complete, nat-canonical, nat-shortest, nat-some, nat-lefts, int-sound, int-complete, int-canonical, int-shortest, int-some, int-lefts, bool-sound, bool-complete, bool-canonical, bool-shortest, bool-some, bool-lefts}
-use Rattle.wire_types.specs.Spelling.{int_written, bool_written, varint_written, count_number, null_count_fits, compact_null_count_written, compact_null_count_fits, many_written, many_fit, behind_written, behind_fits, room_left}
+use Rattle.wire_types.specs.Spelling.{int_written, bool_written, varint_written, count_number, null_count_fits, compact_null_count_written, compact_null_count_fits, many_written, many_fit, after_count_written, after_count_fits, room_left}
 use Rattle.wire_types.specs.VarintLaws.{varint-sound, varint-complete, varint-canonical, varint-shortest, varint-some}
 use Rattle.wire_types.specs.CountLaws.{TellsCounts, null_count-sound, null_count-complete, null_count-puts, null_count-canonical, null_count-shortest, null_count-some, null_count-lefts, compact_count-sound, compact_count-complete, compact_count-canonical, compact_count-shortest, compact_count-some}
 use Rattle.wire_types.specs.Zigzag.{unzigzag, zigzag, zigzag-unzigzag, unzigzag-zigzag}
 use Rattle.wire_types.specs.ListLaws.{IsLeast}
-use Rattle.wire_types.specs.Combinators.{◌⨟◌, struct, required, raw, utf8, items, behind, null_behind, skipped}
+use Rattle.wire_types.specs.Combinators.{◌⨟◌, struct, required_count, raw, utf8, items, after_count, after_null_count, skipped_value}
 
 -- an unsigned number, big-endian
 abbrev pub uint32 : Grammar ℕ
@@ -178,75 +178,75 @@ compact_null_count = record {
 }
 
 abbrev pub count16 : Grammar ℕ
-count16 = required null_count16
+count16 = required_count null_count16
 
 abbrev pub count32 : Grammar ℕ
-count32 = required null_count32
+count32 = required_count null_count32
 
 abbrev pub varint_count : Grammar ℕ
-varint_count = required varint_null_count
+varint_count = required_count varint_null_count
 
 abbrev pub compact_count : Grammar ℕ
-compact_count = required compact_null_count
+compact_count = required_count compact_null_count
 
 -- ---- texts, bytes and arrays
 
 abbrev pub string : Grammar (List ℕ)
-string = behind count16 utf8
+string = after_count count16 utf8
 
 abbrev pub nullable_string : Grammar (Option (List ℕ))
-nullable_string = null_behind null_count16 utf8
+nullable_string = after_null_count null_count16 utf8
 
 abbrev pub bytes : Grammar (List ℕ)
-bytes = behind count32 raw
+bytes = after_count count32 raw
 
 abbrev pub nullable_bytes : Grammar (Option (List ℕ))
-nullable_bytes = null_behind null_count32 raw
+nullable_bytes = after_null_count null_count32 raw
 
 abbrev pub array : {A : Type 0} → Grammar A → Grammar (List A)
-array g = behind count32 (items g)
+array g = after_count count32 (items g)
 
 abbrev pub nullable_array : {A : Type 0} → Grammar A → Grammar (Option (List A))
-nullable_array g = null_behind null_count32 (items g)
+nullable_array g = after_null_count null_count32 (items g)
 
 abbrev pub compact_string : Grammar (List ℕ)
-compact_string = behind compact_count utf8
+compact_string = after_count compact_count utf8
 
 abbrev pub compact_nullable_string : Grammar (Option (List ℕ))
-compact_nullable_string = null_behind compact_null_count utf8
+compact_nullable_string = after_null_count compact_null_count utf8
 
 abbrev pub compact_bytes : Grammar (List ℕ)
-compact_bytes = behind compact_count raw
+compact_bytes = after_count compact_count raw
 
 abbrev pub compact_nullable_bytes : Grammar (Option (List ℕ))
-compact_nullable_bytes = null_behind compact_null_count raw
+compact_nullable_bytes = after_null_count compact_null_count raw
 
 abbrev pub varint_bytes : Grammar (List ℕ)
-varint_bytes = behind varint_count raw
+varint_bytes = after_count varint_count raw
 
 abbrev pub varint_nullable_bytes : Grammar (Option (List ℕ))
-varint_nullable_bytes = null_behind varint_null_count raw
+varint_nullable_bytes = after_null_count varint_null_count raw
 
 abbrev pub varint_array : {A : Type 0} → Grammar A → Grammar (List A)
-varint_array g = behind varint_count (items g)
+varint_array g = after_count varint_count (items g)
 
 abbrev pub compact_array : {A : Type 0} → Grammar A → Grammar (List A)
-compact_array g = behind compact_count (items g)
+compact_array g = after_count compact_count (items g)
 
 abbrev pub compact_nullable_array : {A : Type 0} → Grammar A → Grammar (Option (List A))
-compact_nullable_array g = null_behind compact_null_count (items g)
+compact_nullable_array g = after_null_count compact_null_count (items g)
 
 -- ---- tagged sections
 
 -- a tag, and so many bytes
 abbrev pub field : Grammar (ℕ × List ℕ)
-field = uvarint ⨟ behind uvarint raw
+field = uvarint ⨟ after_count uvarint raw
 
 abbrev pub fields : Grammar (List (ℕ × List ℕ))
-fields = behind uvarint (items field)
+fields = after_count uvarint (items field)
 
 pub no_fields : IsLeast fields [] 1
-unfolding varint_limit varint_written behind_written behind_fits many_written many_fit
+unfolding varint_limit varint_written after_count_written after_count_fits many_written many_fit
 no_fields = record {
   in_type = (lit< tt, tt);
   fits = refl;
@@ -256,9 +256,9 @@ no_fields = record {
 
 -- a tagged section, whose fields are skipped
 abbrev pub tags : Grammar (Unit {0})
-tags = skipped fields [] 1 no_fields
+tags = skipped_value fields [] 1 no_fields
 
--- a struct behind which a tagged section stands
-abbrev pub tagged : {A S : Type 0} (make : A → S) (parts : S → A) → ((x : A) → parts (make x) ≡ x) → ((s : S) → make (parts s) ≡ s) → Grammar A → Grammar S
-tagged {A} make parts parts_make make_parts g =
+-- a struct after which a tagged section stands
+abbrev pub tagged_struct : {A S : Type 0} (make : A → S) (parts : S → A) → ((x : A) → parts (make x) ≡ x) → ((s : S) → make (parts s) ≡ s) → Grammar A → Grammar S
+tagged_struct {A} make parts parts_make make_parts g =
     struct (λ (x : A × Unit {0}). make x.0) (λ s. (parts s, tt)) (λ x. ap (λ (y : A). (y, tt)) (parts_make x.0)) make_parts (g ⨟ tags)

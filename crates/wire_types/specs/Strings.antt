@@ -1,4 +1,4 @@
--- The texts of a message that stand behind a length of two bytes, STRING and NULLABLE_STRING.
+-- The texts of a message that stand after a length of two bytes, STRING and NULLABLE_STRING.
 use Rattle.std.specs.Prelude.{ℕ, List, [], ◌∷◌, length, Bool, nat_le, Option, Some, None}
 use Rattle.wire_types.specs.declared.topic.Topic.{Topic}
 

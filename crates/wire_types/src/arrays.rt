@@ -1,8 +1,8 @@
-//! Values one after the other behind their count: ARRAY, nullable ARRAY, COMPACT_ARRAY, and those whose count is a VARINT.
+//! Values one after the other after their count: ARRAY, nullable ARRAY, COMPACT_ARRAY, and those whose count is a VARINT.
 
 ghost use Rattle.std.specs.Io.{StartsWith};
-ghost use Rattle.std.specs.Prelude.{◌≡◌, ◌+◌, ◌<◌, ◌≤◌, ◌++◌, ◌^◌, length, true, None, Some, OnOk, OnErr, IfOk, IfSome, MatchResult, Ok, Err};
-ghost use Rattle.wire_types.specs.Reading.{Takes, Reads, skipping, nat_at, int_at, bool_at, front_at, utf8_at, varint_at, varint_limit, many_at, all_at};
+ghost use Rattle.std.specs.Prelude.{◌≡◌, ◌+◌, ◌<◌, ◌++◌, ◌^◌, None, Some, OnErr, Ok, Err};
+ghost use Rattle.wire_types.specs.Reading.{Reads, many_at, all_at};
 ghost use Rattle.wire_types.specs.Writing.{Writes, Puts};
 ghost use Rattle.wire_types.specs.Spelling.{room_left, varint_written, many_fit, many_written, many_left};
 ghost use Rattle.wire_types.specs.Combinators.{items};
@@ -15,7 +15,7 @@ use crate::counts::{
 use crate::cursor::Cursor;
 use crate::fault::{Malformed, ReadFault, WriteFault};
 use crate::items::Items;
-use crate::room::room_behind;
+use crate::room::room_after;
 use crate::wire::Wire;
 use std::alloc::Global;
 
@@ -70,7 +70,8 @@ pub fn read_all<T: Wire>(
 /// Values one after the other.
 #[tactic(auto, unfolding(crate::specs::Spelling::many_fit, crate::specs::Spelling::many_written))]
 fn write_many<T: Wire>(out: &mut Vec<u8>, items: &[T]) -> Result<(), WriteFault>
-    ensures spelled { Writes (many_fit T.grammar.fits items.now) (out.old.items ++ many_written T.grammar.written items.now) result out.new.items }
+    ensures spelled { Writes (many_fit T.grammar.fits items.now)
+        (out.old.items ++ many_written T.grammar.written items.now) result out.new.items }
     ensures err { OnErr result (out.new.items ≡ out.old.items) }
     ensures grown { StartsWith out.new.items out.old.items }
 {
@@ -99,7 +100,7 @@ fn many_room<T: Wire>(items: &[T], room: usize) -> Option<usize>
 }
 
 /// A count in four bytes, and that many values.
-#[tactic(auto, using(crate::proofs::Announced::many_behind, crate::proofs::Announced::many_refused))]
+#[tactic(auto, using(crate::proofs::Announced::many_after, crate::proofs::Announced::many_refused))]
 pub fn read_array<T: Wire>(alloc: Global, cursor: &mut Cursor<'_>) -> Result<Items<T>, ReadFault>
     ensures { Reads ((array T.grammar).reading cursor.old) result cursor.new }
 {
@@ -107,7 +108,7 @@ pub fn read_array<T: Wire>(alloc: Global, cursor: &mut Cursor<'_>) -> Result<Ite
     read_many(alloc, cursor, count)
 }
 
-#[tactic(auto, unfolding(crate::specs::Spelling::behind_fits))]
+#[tactic(auto, unfolding(crate::specs::Spelling::after_count_fits))]
 pub fn write_array<T: Wire>(out: &mut Vec<u8>, items: &Items<T>) -> Result<(), WriteFault>
     ensures spelled { Puts (array T.grammar) items.now out.old.items result out.new.items }
     ensures err { OnErr result (out.new.items ≡ out.old.items) }
@@ -130,7 +131,7 @@ pub fn array_room<T: Wire>(items: &Items<T>, room: usize) -> Option<usize>
 }
 
 /// The same, or nothing for null.
-#[tactic(auto, unfolding(crate::specs::Reading::null_behind_at, crate::specs::Reading::null_or))]
+#[tactic(auto, unfolding(crate::specs::Reading::after_null_count_at, crate::specs::Reading::null_or))]
 pub fn read_nullable_array<T: Wire>(
     alloc: Global,
     cursor: &mut Cursor<'_>,
@@ -143,7 +144,7 @@ pub fn read_nullable_array<T: Wire>(
     }
 }
 
-#[tactic(auto, unfolding(crate::specs::Spelling::behind_fits, crate::specs::Spelling::null_behind_fits, crate::specs::Spelling::null_behind_put, crate::specs::Spelling::null_count_fits, crate::specs::Spelling::compact_null_count_fits))]
+#[tactic(auto, unfolding(crate::specs::Spelling::after_count_fits, crate::specs::Spelling::after_null_count_fits, crate::specs::Spelling::after_null_count_put, crate::specs::Spelling::null_count_fits, crate::specs::Spelling::compact_null_count_fits))]
 pub fn write_nullable_array<T: Wire>(
     out: &mut Vec<u8>,
     items: &Option<Items<T>>,
@@ -159,18 +160,18 @@ pub fn write_nullable_array<T: Wire>(
     Ok(())
 }
 
-#[tactic(auto, unfolding(crate::specs::Spelling::null_behind_left, crate::specs::Spelling::null_count_fits))]
+#[tactic(auto, unfolding(crate::specs::Spelling::after_null_count_left, crate::specs::Spelling::null_count_fits))]
 pub fn nullable_array_room<T: Wire>(items: &Option<Items<T>>, room: usize) -> Option<usize>
     ensures { result ≡ (nullable_array T.grammar).left items.now room }
 {
     match items {
-        None => room_behind(4, room),
+        None => room_after(4, room),
         Some(items) => array_room(items, room),
     }
 }
 
 /// A count and one in a number of variable length, and that many values.
-#[tactic(auto, using(crate::proofs::Announced::many_behind, crate::proofs::Announced::many_refused))]
+#[tactic(auto, using(crate::proofs::Announced::many_after, crate::proofs::Announced::many_refused))]
 pub fn read_compact_array<T: Wire>(
     alloc: Global,
     cursor: &mut Cursor<'_>,
@@ -181,7 +182,7 @@ pub fn read_compact_array<T: Wire>(
     read_many(alloc, cursor, count)
 }
 
-#[tactic(auto, unfolding(crate::specs::Spelling::behind_fits))]
+#[tactic(auto, unfolding(crate::specs::Spelling::after_count_fits))]
 pub fn write_compact_array<T: Wire>(out: &mut Vec<u8>, items: &Items<T>) -> Result<(), WriteFault>
     ensures spelled { Puts (compact_array T.grammar) items.now out.old.items result out.new.items }
     ensures err { OnErr result (out.new.items ≡ out.old.items) }
@@ -204,7 +205,7 @@ pub fn compact_array_room<T: Wire>(items: &Items<T>, room: usize) -> Option<usiz
 }
 
 /// The same, or nothing for null.
-#[tactic(auto, unfolding(crate::specs::Reading::null_behind_at, crate::specs::Reading::null_or))]
+#[tactic(auto, unfolding(crate::specs::Reading::after_null_count_at, crate::specs::Reading::null_or))]
 pub fn read_compact_nullable_array<T: Wire>(
     alloc: Global,
     cursor: &mut Cursor<'_>,
@@ -217,12 +218,13 @@ pub fn read_compact_nullable_array<T: Wire>(
     }
 }
 
-#[tactic(auto, unfolding(crate::specs::Spelling::behind_fits, crate::specs::Spelling::null_behind_fits, crate::specs::Spelling::null_behind_put, crate::specs::Spelling::null_count_fits, crate::specs::Spelling::compact_null_count_fits))]
+#[tactic(auto, unfolding(crate::specs::Spelling::after_count_fits, crate::specs::Spelling::after_null_count_fits, crate::specs::Spelling::after_null_count_put, crate::specs::Spelling::null_count_fits, crate::specs::Spelling::compact_null_count_fits))]
 pub fn write_compact_nullable_array<T: Wire>(
     out: &mut Vec<u8>,
     items: &Option<Items<T>>,
 ) -> Result<(), WriteFault>
-    ensures spelled { Puts (compact_nullable_array T.grammar) items.now out.old.items result out.new.items }
+    ensures spelled { Puts (compact_nullable_array T.grammar) items.now out.old.items result
+        out.new.items }
     ensures err { OnErr result (out.new.items ≡ out.old.items) }
     ensures grown { StartsWith out.new.items out.old.items }
 {
@@ -233,18 +235,18 @@ pub fn write_compact_nullable_array<T: Wire>(
     Ok(())
 }
 
-#[tactic(auto, unfolding(crate::specs::Spelling::null_behind_left, crate::specs::Spelling::null_count_fits, crate::specs::Spelling::compact_null_count_fits, crate::specs::Spelling::compact_null_count_written, crate::specs::Spelling::varint_written))]
+#[tactic(auto, unfolding(crate::specs::Spelling::after_null_count_left, crate::specs::Spelling::null_count_fits, crate::specs::Spelling::compact_null_count_fits, crate::specs::Spelling::compact_null_count_written, crate::specs::Spelling::varint_written))]
 pub fn compact_nullable_array_room<T: Wire>(items: &Option<Items<T>>, room: usize) -> Option<usize>
     ensures { result ≡ (compact_nullable_array T.grammar).left items.now room }
 {
     match items {
-        None => room_behind(1, room),
+        None => room_after(1, room),
         Some(items) => compact_array_room(items, room),
     }
 }
 
 /// A count in a signed number of variable length, and that many values.
-#[tactic(auto, using(crate::proofs::Announced::many_behind, crate::proofs::Announced::many_refused))]
+#[tactic(auto, using(crate::proofs::Announced::many_after, crate::proofs::Announced::many_refused))]
 pub fn read_varint_array<T: Wire>(
     alloc: Global,
     cursor: &mut Cursor<'_>,
@@ -255,7 +257,7 @@ pub fn read_varint_array<T: Wire>(
     read_many(alloc, cursor, count)
 }
 
-#[tactic(auto, unfolding(crate::specs::Spelling::behind_fits))]
+#[tactic(auto, unfolding(crate::specs::Spelling::after_count_fits))]
 pub fn write_varint_array<T: Wire>(out: &mut Vec<u8>, items: &Items<T>) -> Result<(), WriteFault>
     ensures spelled { Puts (varint_array T.grammar) items.now out.old.items result out.new.items }
     ensures err { OnErr result (out.new.items ≡ out.old.items) }

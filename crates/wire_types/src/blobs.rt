@@ -1,10 +1,10 @@
 //! Bytes: BYTES, NULLABLE_BYTES, their compact forms, and those whose length is a VARINT.
 
 ghost use Rattle.std.specs.Io.{StartsWith};
-ghost use Rattle.std.specs.Prelude.{◌≡◌, ◌+◌, ◌<◌, ◌≤◌, ◌++◌, ◌^◌, length, true, None, Some, OnOk, OnErr, IfOk, IfSome, MatchResult, Ok, Err};
-ghost use Rattle.wire_types.specs.Reading.{Takes, Reads, skipping, nat_at, int_at, bool_at, front_at, utf8_at, varint_at, varint_limit, many_at, all_at};
-ghost use Rattle.wire_types.specs.Writing.{Writes, Puts};
-ghost use Rattle.wire_types.specs.Spelling.{room_left, varint_written, many_fit, many_written, many_left};
+ghost use Rattle.std.specs.Prelude.{◌≡◌, ◌+◌, ◌<◌, ◌^◌, None, Some, OnErr, Ok};
+ghost use Rattle.wire_types.specs.Reading.{Reads};
+ghost use Rattle.wire_types.specs.Writing.{Puts};
+ghost use Rattle.wire_types.specs.Spelling.{varint_written};
 ghost use Rattle.wire_types.specs.Schema.{bytes, nullable_bytes, compact_bytes, compact_nullable_bytes, varint_bytes, varint_nullable_bytes};
 
 use crate::counts::{
@@ -13,14 +13,14 @@ use crate::counts::{
 };
 use crate::cursor::Cursor;
 use crate::fault::{ReadFault, WriteFault};
-use crate::room::room_behind;
+use crate::room::room_after;
 use crate::shared_bytes::Bytes;
 use crate::varints::varint_room;
 use std::alloc::Global;
 
 impl<'a> Cursor<'a> {
-    /// Bytes behind their number in four bytes.
-    #[tactic(auto, using(crate::proofs::Announced::content_behind, crate::proofs::Announced::front_refused))]
+    /// Bytes after their number in four bytes.
+    #[tactic(auto, using(crate::proofs::Announced::content_after, crate::proofs::Announced::front_refused))]
     pub fn read_bytes(&mut self, alloc: Global) -> Result<Bytes, ReadFault>
         ensures { Reads (bytes.reading self.old) result self.new }
     {
@@ -28,8 +28,8 @@ impl<'a> Cursor<'a> {
         self.read_shared(alloc, len as usize)
     }
 
-    /// Bytes behind their number in four bytes, or nothing for -1.
-    #[tactic(auto, unfolding(crate::specs::Reading::null_behind_at, crate::specs::Reading::null_or))]
+    /// Bytes after their number in four bytes, or nothing for -1.
+    #[tactic(auto, unfolding(crate::specs::Reading::after_null_count_at, crate::specs::Reading::null_or))]
     pub fn read_nullable_bytes(&mut self, alloc: Global) -> Result<Option<Bytes>, ReadFault>
         ensures { Reads (nullable_bytes.reading self.old) result self.new }
     {
@@ -39,8 +39,8 @@ impl<'a> Cursor<'a> {
         }
     }
 
-    /// Bytes behind their number and one in a number of variable length.
-    #[tactic(auto, using(crate::proofs::Announced::content_behind, crate::proofs::Announced::front_refused))]
+    /// Bytes after their number and one in a number of variable length.
+    #[tactic(auto, using(crate::proofs::Announced::content_after, crate::proofs::Announced::front_refused))]
     pub fn read_compact_bytes(&mut self, alloc: Global) -> Result<Bytes, ReadFault>
         ensures { Reads (compact_bytes.reading self.old) result self.new }
     {
@@ -49,7 +49,7 @@ impl<'a> Cursor<'a> {
     }
 
     /// The same, or nothing for 0.
-    #[tactic(auto, unfolding(crate::specs::Reading::null_behind_at, crate::specs::Reading::null_or))]
+    #[tactic(auto, unfolding(crate::specs::Reading::after_null_count_at, crate::specs::Reading::null_or))]
     pub fn read_compact_nullable_bytes(&mut self, alloc: Global) -> Result<Option<Bytes>, ReadFault>
         ensures { Reads (compact_nullable_bytes.reading self.old) result self.new }
     {
@@ -59,8 +59,8 @@ impl<'a> Cursor<'a> {
         }
     }
 
-    /// Bytes behind their number in a signed number of variable length.
-    #[tactic(auto, using(crate::proofs::Announced::content_behind, crate::proofs::Announced::front_refused))]
+    /// Bytes after their number in a signed number of variable length.
+    #[tactic(auto, using(crate::proofs::Announced::content_after, crate::proofs::Announced::front_refused))]
     pub fn read_varint_bytes(&mut self, alloc: Global) -> Result<Bytes, ReadFault>
         ensures { Reads (varint_bytes.reading self.old) result self.new }
     {
@@ -69,7 +69,7 @@ impl<'a> Cursor<'a> {
     }
 
     /// The same, or nothing for -1.
-    #[tactic(auto, unfolding(crate::specs::Reading::null_behind_at, crate::specs::Reading::null_or))]
+    #[tactic(auto, unfolding(crate::specs::Reading::after_null_count_at, crate::specs::Reading::null_or))]
     pub fn read_varint_nullable_bytes(&mut self, alloc: Global) -> Result<Option<Bytes>, ReadFault>
         ensures { Reads (varint_nullable_bytes.reading self.old) result self.new }
     {
@@ -81,7 +81,7 @@ impl<'a> Cursor<'a> {
 }
 
 /// A number of bytes in four bytes, and the bytes.
-#[tactic(auto, unfolding(crate::specs::Spelling::behind_fits))]
+#[tactic(auto, unfolding(crate::specs::Spelling::after_count_fits))]
 pub fn write_bytes(out: &mut Vec<u8>, value: &Bytes) -> Result<(), WriteFault>
     ensures spelled { Puts bytes value.now out.old.items result out.new.items }
     ensures err { OnErr result (out.new.items ≡ out.old.items) }
@@ -97,7 +97,7 @@ pub fn write_bytes(out: &mut Vec<u8>, value: &Bytes) -> Result<(), WriteFault>
 }
 
 /// Bytes, or the number -1 for nothing.
-#[tactic(auto, unfolding(crate::specs::Spelling::behind_fits, crate::specs::Spelling::null_behind_fits, crate::specs::Spelling::null_behind_put, crate::specs::Spelling::null_count_fits, crate::specs::Spelling::compact_null_count_fits))]
+#[tactic(auto, unfolding(crate::specs::Spelling::after_count_fits, crate::specs::Spelling::after_null_count_fits, crate::specs::Spelling::after_null_count_put, crate::specs::Spelling::null_count_fits, crate::specs::Spelling::compact_null_count_fits))]
 pub fn write_nullable_bytes(out: &mut Vec<u8>, value: &Option<Bytes>) -> Result<(), WriteFault>
     ensures spelled { Puts nullable_bytes value.now out.old.items result out.new.items }
     ensures err { OnErr result (out.new.items ≡ out.old.items) }
@@ -111,7 +111,7 @@ pub fn write_nullable_bytes(out: &mut Vec<u8>, value: &Option<Bytes>) -> Result<
 }
 
 /// A number of bytes and one in a number of variable length, and the bytes.
-#[tactic(auto, unfolding(crate::specs::Spelling::behind_fits))]
+#[tactic(auto, unfolding(crate::specs::Spelling::after_count_fits))]
 pub fn write_compact_bytes(out: &mut Vec<u8>, value: &Bytes) -> Result<(), WriteFault>
     ensures spelled { Puts compact_bytes value.now out.old.items result out.new.items }
     ensures err { OnErr result (out.new.items ≡ out.old.items) }
@@ -127,7 +127,7 @@ pub fn write_compact_bytes(out: &mut Vec<u8>, value: &Bytes) -> Result<(), Write
 }
 
 /// The same, or 0 for nothing.
-#[tactic(auto, unfolding(crate::specs::Spelling::behind_fits, crate::specs::Spelling::null_behind_fits, crate::specs::Spelling::null_behind_put, crate::specs::Spelling::null_count_fits, crate::specs::Spelling::compact_null_count_fits))]
+#[tactic(auto, unfolding(crate::specs::Spelling::after_count_fits, crate::specs::Spelling::after_null_count_fits, crate::specs::Spelling::after_null_count_put, crate::specs::Spelling::null_count_fits, crate::specs::Spelling::compact_null_count_fits))]
 pub fn write_compact_nullable_bytes(
     out: &mut Vec<u8>,
     value: &Option<Bytes>,
@@ -144,7 +144,7 @@ pub fn write_compact_nullable_bytes(
 }
 
 /// A number of bytes as a signed number of variable length, and the bytes.
-#[tactic(auto, unfolding(crate::specs::Spelling::behind_fits))]
+#[tactic(auto, unfolding(crate::specs::Spelling::after_count_fits))]
 pub fn write_varint_bytes(out: &mut Vec<u8>, value: &Bytes) -> Result<(), WriteFault>
     ensures spelled { Puts varint_bytes value.now out.old.items result out.new.items }
     ensures err { OnErr result (out.new.items ≡ out.old.items) }
@@ -160,7 +160,7 @@ pub fn write_varint_bytes(out: &mut Vec<u8>, value: &Bytes) -> Result<(), WriteF
 }
 
 /// The same, or -1 for nothing.
-#[tactic(auto, unfolding(crate::specs::Spelling::behind_fits, crate::specs::Spelling::null_behind_fits, crate::specs::Spelling::null_behind_put, crate::specs::Spelling::null_count_fits))]
+#[tactic(auto, unfolding(crate::specs::Spelling::after_count_fits, crate::specs::Spelling::after_null_count_fits, crate::specs::Spelling::after_null_count_put, crate::specs::Spelling::null_count_fits))]
 pub fn write_varint_nullable_bytes(
     out: &mut Vec<u8>,
     value: &Option<Bytes>,
@@ -180,15 +180,15 @@ pub fn bytes_room(value: &Bytes, room: usize) -> Option<usize>
     ensures { result ≡ bytes.left value.now room }
 {
     let room = count_room(value.len(), room)?;
-    room_behind(value.len(), room)
+    room_after(value.len(), room)
 }
 
-#[tactic(auto, unfolding(crate::specs::Spelling::null_behind_left, crate::specs::Spelling::null_count_fits))]
+#[tactic(auto, unfolding(crate::specs::Spelling::after_null_count_left, crate::specs::Spelling::null_count_fits))]
 pub fn nullable_bytes_room(value: &Option<Bytes>, room: usize) -> Option<usize>
     ensures { result ≡ nullable_bytes.left value.now room }
 {
     match value {
-        None => room_behind(4, room),
+        None => room_after(4, room),
         Some(value) => bytes_room(value, room),
     }
 }
@@ -197,15 +197,15 @@ pub fn compact_bytes_room(value: &Bytes, room: usize) -> Option<usize>
     ensures { result ≡ compact_bytes.left value.now room }
 {
     let room = compact_count_room(value.len(), room)?;
-    room_behind(value.len(), room)
+    room_after(value.len(), room)
 }
 
-#[tactic(auto, unfolding(crate::specs::Spelling::null_behind_left, crate::specs::Spelling::null_count_fits, crate::specs::Spelling::compact_null_count_fits, crate::specs::Spelling::compact_null_count_written, crate::specs::Spelling::varint_written))]
+#[tactic(auto, unfolding(crate::specs::Spelling::after_null_count_left, crate::specs::Spelling::null_count_fits, crate::specs::Spelling::compact_null_count_fits, crate::specs::Spelling::compact_null_count_written, crate::specs::Spelling::varint_written))]
 pub fn compact_nullable_bytes_room(value: &Option<Bytes>, room: usize) -> Option<usize>
     ensures { result ≡ compact_nullable_bytes.left value.now room }
 {
     match value {
-        None => room_behind(1, room),
+        None => room_after(1, room),
         Some(value) => compact_bytes_room(value, room),
     }
 }
@@ -214,10 +214,10 @@ pub fn varint_bytes_room(value: &Bytes, room: usize) -> Option<usize>
     ensures { result ≡ varint_bytes.left value.now room }
 {
     let room = varint_count_room(value.len(), room)?;
-    room_behind(value.len(), room)
+    room_after(value.len(), room)
 }
 
-#[tactic(auto, unfolding(crate::specs::Spelling::null_behind_left, crate::specs::Spelling::null_count_fits))]
+#[tactic(auto, unfolding(crate::specs::Spelling::after_null_count_left, crate::specs::Spelling::null_count_fits))]
 pub fn varint_nullable_bytes_room(value: &Option<Bytes>, room: usize) -> Option<usize>
     ensures { result ≡ varint_nullable_bytes.left value.now room }
 {

@@ -1,17 +1,17 @@
 //! Lengths and counts, in each form that stands before a text, bytes or an array.
 
 ghost use Rattle.std.specs.Io.{StartsWith};
-ghost use Rattle.std.specs.Prelude.{◌≡◌, ◌+◌, ◌<◌, ◌≤◌, ◌++◌, ◌^◌, length, true, None, Some, OnOk, OnErr, IfOk, IfSome, MatchResult, Ok, Err, nat_lt, if◌then◌else◌};
-ghost use Rattle.wire_types.specs.Reading.{Takes, Reads, skipping, nat_at, int_at, bool_at, front_at, utf8_at, varint_at, varint_limit, many_at, all_at, counted_at};
+ghost use Rattle.std.specs.Prelude.{◌≡◌, ◌+◌, ◌<◌, ◌^◌, length, None, Some, OnOk, OnErr, Ok, Err, nat_lt, if◌then◌else◌};
+ghost use Rattle.wire_types.specs.Reading.{Takes, counted_at};
 ghost use Rattle.wire_types.specs.declared.fault.Malformed.TheVariants.{Short};
-ghost use Rattle.wire_types.specs.Writing.{Writes, Puts};
-ghost use Rattle.wire_types.specs.Spelling.{room_left, varint_written, many_fit, many_written, many_left};
+ghost use Rattle.wire_types.specs.Writing.{Puts};
+ghost use Rattle.wire_types.specs.Spelling.{room_left};
 ghost use Rattle.wire_types.specs.Schema.{null_count16, null_count32, compact_null_count, varint_null_count, varint_count, count16, count32, compact_count};
 
 use crate::cursor::Cursor;
 use crate::fault::{Malformed, WriteFault};
 use crate::numbers::{write_i16, write_i32};
-use crate::room::room_behind;
+use crate::room::room_after;
 use crate::varints::{varint_len, varint_room, write_uvarint, write_varint};
 use std::alloc::AllocError;
 
@@ -228,7 +228,7 @@ pub(crate) fn count16_room(count: usize, room: usize) -> Option<usize>
     if count >= 32_768 {
         return None;
     }
-    room_behind(2, room)
+    room_after(2, room)
 }
 
 #[tactic(auto, unfolding(crate::specs::Spelling::null_count_fits, crate::specs::Spelling::room_left))]
@@ -238,7 +238,7 @@ pub(crate) fn count_room(count: usize, room: usize) -> Option<usize>
     if count >= 2_147_483_648 {
         return None;
     }
-    room_behind(4, room)
+    room_after(4, room)
 }
 
 #[tactic(auto, unfolding(crate::specs::Spelling::compact_null_count_fits, crate::specs::Spelling::compact_null_count_written, crate::specs::Spelling::room_left))]
@@ -248,7 +248,7 @@ pub(crate) fn compact_count_room(count: usize, room: usize) -> Option<usize>
     if count >= 4_294_967_295 {
         return None;
     }
-    room_behind(varint_len(4, count as u64 + 1), room)
+    room_after(varint_len(4, count as u64 + 1), room)
 }
 
 #[tactic(auto, unfolding(crate::specs::Spelling::null_count_fits))]

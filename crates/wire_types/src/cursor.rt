@@ -1,7 +1,7 @@
 //! A place in bytes that are read from left to right.
 
-ghost use Rattle.std.specs.Prelude.{◌≡◌, ◌↔◌, [], IsTrue, ◌+◌, ◌<◌, ◌≤◌, ◌++◌, ◌^◌, length, true, None, Some, OnOk, IfOk, IfSome, MatchResult, Ok, Err};
-ghost use Rattle.wire_types.specs.Reading.{Takes, byte_at, Reads, skipping, nat_at, int_at, bool_at, front_at, utf8_at, varint_at, varint_limit, many_at, all_at};
+ghost use Rattle.std.specs.Prelude.{◌≡◌, ◌↔◌, [], IsTrue, ◌+◌, ◌<◌, ◌^◌, length, None, Some, MatchResult, Ok, Err};
+ghost use Rattle.wire_types.specs.Reading.{Takes, byte_at, Reads, front_at};
 
 use crate::fault::{Malformed, ReadFault};
 use crate::shared_bytes::Bytes;

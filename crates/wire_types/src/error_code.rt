@@ -1,4 +1,4 @@
-//! The codes that tell how a request, or a part of it, came off.
+//! The protocol's error codes: how a request, or a part of it, ended.
 
 ghost use Rattle.std.specs.Prelude.{◌≡◌};
 ghost use Rattle.std.specs.List.{find};
@@ -8,7 +8,7 @@ ghost use Rattle.wire_types.specs.ErrorCode.{number_of, code_of};
 use crate::cursor::Cursor;
 use crate::fault::{Malformed, ReadFault, WriteFault};
 use crate::numbers::write_i16;
-use crate::room::room_behind;
+use crate::room::room_after;
 use crate::wire::Wire;
 use std::alloc::Global;
 
@@ -133,6 +133,6 @@ impl Wire for ErrorCode {
     }
 
     fn room_left(&self, room: usize) -> Option<usize> {
-        room_behind(2, room)
+        room_after(2, room)
     }
 }

@@ -1,4 +1,4 @@
-//! Topics in the messages of flexible versions: in compact forms, with a tagged section behind each.
+//! Topics in the messages of flexible versions: in compact forms, with a tagged section after each.
 
 ghost use Rattle.std.specs.Prelude.{◌≡◌, ◌++◌, OnErr};
 ghost use Rattle.std.specs.Io.{StartsWith};
@@ -14,7 +14,7 @@ use crate::counts::{compact_count_room, write_compact_count, write_compact_null}
 use crate::cursor::Cursor;
 use crate::fault::{Malformed, ReadFault, WriteFault};
 use crate::items::Items;
-use crate::room::room_behind;
+use crate::room::room_after;
 use crate::tags::write_no_tags;
 use crate::texts::{compact_string_room, write_compact_string};
 use crate::topic::Topic;
@@ -34,7 +34,8 @@ fn read_topic<P: Wire>(alloc: Global, cursor: &mut Cursor<'_>) -> Result<Topic<P
 /// The topic's spelling, or a part of it.
 #[tactic(auto, unfolding(crate::specs::Topic::flexible_topic_of), using(std::proofs::Transfers::starts_with_trans))]
 fn put_topic<P: Wire>(out: &mut Vec<u8>, topic: &Topic<P>) -> Result<(), WriteFault>
-    ensures spelled { Puts (flexible_topic_of P.grammar) topic.now out.old.items result out.new.items }
+    ensures spelled { Puts (flexible_topic_of P.grammar) topic.now out.old.items result
+        out.new.items }
     ensures grown { StartsWith out.new.items out.old.items }
 {
     write_compact_string(out, &topic.name)?;
@@ -44,7 +45,8 @@ fn put_topic<P: Wire>(out: &mut Vec<u8>, topic: &Topic<P>) -> Result<(), WriteFa
 }
 
 fn write_topic<P: Wire>(out: &mut Vec<u8>, topic: &Topic<P>) -> Result<(), WriteFault>
-    ensures spelled { Puts (flexible_topic_of P.grammar) topic.now out.old.items result out.new.items }
+    ensures spelled { Puts (flexible_topic_of P.grammar) topic.now out.old.items result
+        out.new.items }
     ensures err { OnErr result (out.new.items ≡ out.old.items) }
     ensures grown { StartsWith out.new.items out.old.items }
 {
@@ -62,7 +64,7 @@ fn topic_room<P: Wire>(topic: &Topic<P>, room: usize) -> Option<usize>
 {
     let room = compact_string_room(&topic.name, room)?;
     let room = compact_array_room(&topic.partitions, room)?;
-    room_behind(1, room)
+    room_after(1, room)
 }
 
 /// So many topics one after the other.
@@ -71,7 +73,8 @@ fn read_topics<P: Wire>(
     cursor: &mut Cursor<'_>,
     count: u32,
 ) -> Result<Items<Topic<P>>, ReadFault>
-    ensures { Reads (many_at (flexible_topic_of P.grammar).reading count cursor.old) result cursor.new }
+    ensures { Reads (many_at (flexible_topic_of P.grammar).reading count cursor.old) result
+        cursor.new }
 {
     let mut topics = Items::new(alloc);
     for _ in 0..count {
@@ -87,7 +90,8 @@ fn read_counted<P: Wire>(
     cursor: &mut Cursor<'_>,
     count: u32,
 ) -> Result<Items<Topic<P>>, ReadFault>
-    ensures { Reads ((items (flexible_topic_of P.grammar)).reading count cursor.old) result cursor.new }
+    ensures { Reads ((items (flexible_topic_of P.grammar)).reading count cursor.old) result
+        cursor.new }
 {
     if cursor.len() < count as usize {
         return Err(ReadFault::Malformed(Malformed::Short));
@@ -98,7 +102,9 @@ fn read_counted<P: Wire>(
 /// Topics one after the other.
 #[tactic(auto, unfolding(crate::specs::Spelling::many_fit, crate::specs::Spelling::many_written))]
 fn write_topics<P: Wire>(out: &mut Vec<u8>, topics: &[Topic<P>]) -> Result<(), WriteFault>
-    ensures spelled { Writes (many_fit (flexible_topic_of P.grammar).fits topics.now) (out.old.items ++ many_written (flexible_topic_of P.grammar).written topics.now) result out.new.items }
+    ensures spelled { Writes (many_fit (flexible_topic_of P.grammar).fits topics.now)
+        (out.old.items ++ many_written (flexible_topic_of P.grammar).written topics.now) result
+        out.new.items }
     ensures err { OnErr result (out.new.items ≡ out.old.items) }
     ensures grown { StartsWith out.new.items out.old.items }
 {
@@ -127,23 +133,25 @@ fn topics_room<P: Wire>(topics: &[Topic<P>], room: usize) -> Option<usize>
 }
 
 /// A count and one in a number of variable length, and that many topics.
-#[tactic(auto, using(crate::proofs::Announced::many_behind, crate::proofs::Announced::many_refused))]
+#[tactic(auto, using(crate::proofs::Announced::many_after, crate::proofs::Announced::many_refused))]
 pub fn read_flexible_topics<P: Wire>(
     alloc: Global,
     cursor: &mut Cursor<'_>,
 ) -> Result<Items<Topic<P>>, ReadFault>
-    ensures { Reads ((compact_array (flexible_topic_of P.grammar)).reading cursor.old) result cursor.new }
+    ensures { Reads ((compact_array (flexible_topic_of P.grammar)).reading cursor.old) result
+        cursor.new }
 {
     let count = cursor.read_compact_count()?;
     read_topics(alloc, cursor, count)
 }
 
-#[tactic(auto, unfolding(crate::specs::Spelling::behind_fits))]
+#[tactic(auto, unfolding(crate::specs::Spelling::after_count_fits))]
 pub fn write_flexible_topics<P: Wire>(
     out: &mut Vec<u8>,
     topics: &Items<Topic<P>>,
 ) -> Result<(), WriteFault>
-    ensures spelled { Puts (compact_array (flexible_topic_of P.grammar)) topics.now out.old.items result out.new.items }
+    ensures spelled { Puts (compact_array (flexible_topic_of P.grammar)) topics.now out.old.items
+        result out.new.items }
     ensures err { OnErr result (out.new.items ≡ out.old.items) }
     ensures grown { StartsWith out.new.items out.old.items }
 {
@@ -164,12 +172,13 @@ pub fn flexible_topics_room<P: Wire>(topics: &Items<Topic<P>>, room: usize) -> O
 }
 
 /// The same, or nothing for null.
-#[tactic(auto, unfolding(crate::specs::Reading::null_behind_at, crate::specs::Reading::null_or))]
+#[tactic(auto, unfolding(crate::specs::Reading::after_null_count_at, crate::specs::Reading::null_or))]
 pub fn read_nullable_flexible_topics<P: Wire>(
     alloc: Global,
     cursor: &mut Cursor<'_>,
 ) -> Result<Option<Items<Topic<P>>>, ReadFault>
-    ensures { Reads ((compact_nullable_array (flexible_topic_of P.grammar)).reading cursor.old) result cursor.new }
+    ensures { Reads ((compact_nullable_array (flexible_topic_of P.grammar)).reading cursor.old)
+        result cursor.new }
 {
     match cursor.read_compact_null_count()? {
         None => Ok(None),
@@ -177,12 +186,13 @@ pub fn read_nullable_flexible_topics<P: Wire>(
     }
 }
 
-#[tactic(auto, unfolding(crate::specs::Spelling::behind_fits, crate::specs::Spelling::null_behind_fits, crate::specs::Spelling::null_behind_put, crate::specs::Spelling::null_count_fits, crate::specs::Spelling::compact_null_count_fits))]
+#[tactic(auto, unfolding(crate::specs::Spelling::after_count_fits, crate::specs::Spelling::after_null_count_fits, crate::specs::Spelling::after_null_count_put, crate::specs::Spelling::null_count_fits, crate::specs::Spelling::compact_null_count_fits))]
 pub fn write_nullable_flexible_topics<P: Wire>(
     out: &mut Vec<u8>,
     topics: &Option<Items<Topic<P>>>,
 ) -> Result<(), WriteFault>
-    ensures spelled { Puts (compact_nullable_array (flexible_topic_of P.grammar)) topics.now out.old.items result out.new.items }
+    ensures spelled { Puts (compact_nullable_array (flexible_topic_of P.grammar)) topics.now
+        out.old.items result out.new.items }
     ensures err { OnErr result (out.new.items ≡ out.old.items) }
     ensures grown { StartsWith out.new.items out.old.items }
 {
@@ -193,7 +203,7 @@ pub fn write_nullable_flexible_topics<P: Wire>(
     Ok(())
 }
 
-#[tactic(auto, unfolding(crate::specs::Spelling::null_behind_left, crate::specs::Spelling::null_count_fits, crate::specs::Spelling::compact_null_count_fits, crate::specs::Spelling::compact_null_count_written, crate::specs::Spelling::varint_written))]
+#[tactic(auto, unfolding(crate::specs::Spelling::after_null_count_left, crate::specs::Spelling::null_count_fits, crate::specs::Spelling::compact_null_count_fits, crate::specs::Spelling::compact_null_count_written, crate::specs::Spelling::varint_written))]
 pub fn nullable_flexible_topics_room<P: Wire>(
     topics: &Option<Items<Topic<P>>>,
     room: usize,
@@ -201,7 +211,7 @@ pub fn nullable_flexible_topics_room<P: Wire>(
     ensures { result ≡ (compact_nullable_array (flexible_topic_of P.grammar)).left topics.now room }
 {
     match topics {
-        None => room_behind(1, room),
+        None => room_after(1, room),
         Some(topics) => flexible_topics_room(topics, room),
     }
 }

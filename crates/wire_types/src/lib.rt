@@ -7,9 +7,9 @@
 
 mod arrays;
 mod blobs;
+mod boxed;
 mod counts;
 mod cursor;
-mod device;
 mod error_code;
 mod fault;
 mod flexible;
@@ -39,9 +39,9 @@ pub use blobs::{
     write_compact_nullable_bytes, write_nullable_bytes, write_varint_bytes,
     write_varint_nullable_bytes,
 };
+pub use boxed::Boxed;
 pub use counts::{write_compact_count, write_count, write_varint_count};
 pub use cursor::Cursor;
-pub use device::{INPUT_LIMIT, InputFault, read_input, write_whole};
 pub use error_code::ErrorCode;
 pub use fault::{Malformed, ReadFault, WriteFault};
 pub use flexible::{
@@ -52,7 +52,7 @@ pub use items::Items;
 pub use laws::{found_is_spelled, one_value, read_fits, spelled_is_found, written_is_spelled};
 pub use numbers::{write_bool, write_i8, write_i16, write_i32, write_i64, write_u32};
 pub use pieces::{Piece, Pieces, pieces_room, write_pieces};
-pub use room::room_behind;
+pub use room::room_after;
 pub use shared::Shared;
 pub use shared_bytes::Bytes;
 pub use tags::write_no_tags;

@@ -1,16 +1,15 @@
 //! The numbers of a fixed width, big-endian, and truth values: INT8, INT16, INT32, INT64, UINT32, BOOLEAN.
 
 ghost use Rattle.std.specs.Io.{StartsWith};
-ghost use Rattle.std.specs.Prelude.{◌≡◌, ◌+◌, ◌<◌, ◌≤◌, ◌++◌, ◌^◌, length, true, None, Some, OnOk, OnErr, IfOk, IfSome, MatchResult, Ok, Err};
-ghost use Rattle.wire_types.specs.Reading.{Takes, Reads, skipping, nat_at, int_at, bool_at, front_at, utf8_at, varint_at, varint_limit, many_at, all_at};
-ghost use Rattle.wire_types.specs.Writing.{Writes};
-ghost use Rattle.wire_types.specs.Spelling.{room_left, varint_written, many_fit, many_written, many_left};
+ghost use Rattle.std.specs.Prelude.{◌≡◌, ◌+◌, ◌<◌, ◌++◌, ◌^◌, OnOk, OnErr, Ok};
+ghost use Rattle.wire_types.specs.Reading.{Takes, nat_at, int_at, bool_at, front_at};
+ghost use Rattle.wire_types.specs.Spelling.{room_left};
 ghost use Rattle.std.specs.Int.{w8, w16, w32, w64, to_be_bytes};
 ghost use Rattle.wire_types.specs.Schema.{int8, int16, int32, int64, uint32, boolean};
 
 use crate::cursor::Cursor;
 use crate::fault::{Malformed, ReadFault, WriteFault};
-use crate::room::room_behind;
+use crate::room::room_after;
 use crate::wire::Wire;
 use std::alloc::{AllocError, Global};
 
@@ -130,6 +129,6 @@ impl Wire for i32 {
     }
 
     fn room_left(&self, room: usize) -> Option<usize> {
-        room_behind(4, room)
+        room_after(4, room)
     }
 }

@@ -11,7 +11,7 @@ ghost use Rattle.wire_types.specs.Schema.{bytes};
 use crate::counts::{count_room, write_count};
 use crate::cursor::Cursor;
 use crate::fault::{ReadFault, WriteFault};
-use crate::room::room_behind;
+use crate::room::room_after;
 use crate::shared_bytes::Bytes;
 use std::alloc::{AllocError, Global};
 use std::marker::Model;
@@ -35,7 +35,6 @@ impl Model for Piece {
     ghost invariant = { λ p. IsPiece p.own };
 }
 
-/// Written out, so that a proof above has one call where a piece is let go.
 impl Drop for Piece {
     fn drop(self) {
         let Piece {
@@ -163,7 +162,6 @@ impl Model for Pieces {
     ghost invariant = { λ p. p.len ≡ length (concat p.pieces.items) };
 }
 
-/// Written out, so that a proof above has one call where pieces are let go.
 impl Drop for Pieces {
     fn drop(self) {
         let Pieces {
@@ -199,7 +197,8 @@ impl Pieces {
         self.len
     }
 
-    /// Puts a piece after the others. It is refused too where `usize` can't count so many bytes.
+    /// Puts a piece after the others; the first takes memory for itself alone. It is refused too where `usize` can't count so
+    /// many bytes.
     #[tactic(auto, using(crate::proofs::Runs::concat_more, crate::proofs::Runs::length_more))]
     pub fn push(&mut self, piece: Piece) -> Result<(), AllocError>
         ensures ok { OnOk result (self.new ≡ self.old ++ piece) }
@@ -208,6 +207,9 @@ impl Pieces {
         let Some(len) = self.len.checked_add(piece.len()) else {
             return Err(AllocError);
         };
+        if self.pieces.is_empty() {
+            self.pieces.reserve_exact(1)?;
+        }
         self.pieces.push(piece)?;
         self.len = len;
         Ok(())
@@ -338,7 +340,7 @@ impl<'a> Cursor<'a> {
 }
 
 /// BYTES: their number in four bytes, and then they.
-#[tactic(auto, unfolding(crate::specs::Spelling::behind_fits))]
+#[tactic(auto, unfolding(crate::specs::Spelling::after_count_fits))]
 pub fn write_pieces(out: &mut Vec<u8>, value: &Pieces) -> Result<(), WriteFault>
     ensures spelled { Puts bytes value.now out.old.items result out.new.items }
     ensures err { OnErr result (out.new.items ≡ out.old.items) }
@@ -357,5 +359,5 @@ pub fn pieces_room(value: &Pieces, room: usize) -> Option<usize>
     ensures { result ≡ bytes.left value.now room }
 {
     let room = count_room(value.len(), room)?;
-    room_behind(value.len(), room)
+    room_after(value.len(), room)
 }

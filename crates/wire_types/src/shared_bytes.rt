@@ -21,7 +21,6 @@ impl Model for Bytes {
     ghost view = { λ b. b.part };
 }
 
-/// Written out, so that a proof above has one call where bytes are let go.
 impl Drop for Bytes {
     fn drop(self) {
         let Bytes { part: _part } = self;

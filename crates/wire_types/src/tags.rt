@@ -1,10 +1,9 @@
 //! Tagged sections, whose fields are skipped and which are written empty.
 
 ghost use Rattle.std.specs.Io.{StartsWith};
-ghost use Rattle.std.specs.Prelude.{◌≡◌, ◌+◌, ◌<◌, ◌≤◌, ◌++◌, ◌^◌, length, true, None, Some, OnOk, OnErr, IfOk, IfSome, MatchResult, Ok, Err};
-ghost use Rattle.wire_types.specs.Reading.{Takes, Reads, skipping, nat_at, int_at, bool_at, front_at, utf8_at, varint_at, varint_limit, many_at, all_at};
-ghost use Rattle.wire_types.specs.Writing.{Writes};
-ghost use Rattle.wire_types.specs.Spelling.{room_left, varint_written, many_fit, many_written, many_left};
+ghost use Rattle.std.specs.Prelude.{◌≡◌, ◌+◌, ◌<◌, ◌^◌, OnOk, OnErr, Ok, Err};
+ghost use Rattle.wire_types.specs.Reading.{Takes, skipped_if_found, front_at, many_at};
+ghost use Rattle.wire_types.specs.Spelling.{many_written};
 ghost use Rattle.wire_types.specs.Schema.{field, tags};
 
 use crate::cursor::Cursor;
@@ -14,9 +13,9 @@ use std::alloc::AllocError;
 
 impl<'a> Cursor<'a> {
     /// A tag, and what stands under it.
-    #[tactic(auto, unfolding(crate::specs::Reading::behind_at, crate::specs::Reading::front_at))]
+    #[tactic(auto, unfolding(crate::specs::Reading::after_count_at, crate::specs::Reading::front_at))]
     fn skip_field(&mut self) -> Result<(), Malformed>
-        ensures { Takes (skipping (field.reading self.old)) result self.new }
+        ensures { Takes (skipped_if_found (field.reading self.old)) result self.new }
     {
         self.read_uvarint()?;
         let size = self.read_uvarint()?;
@@ -25,7 +24,7 @@ impl<'a> Cursor<'a> {
     }
 
     fn skip_fields(&mut self, count: u32) -> Result<(), Malformed>
-        ensures { Takes (skipping (many_at field.reading count self.old)) result self.new }
+        ensures { Takes (skipped_if_found (many_at field.reading count self.old)) result self.new }
     {
         for _ in 0..count {
             self.skip_field()?;
@@ -34,7 +33,7 @@ impl<'a> Cursor<'a> {
     }
 
     /// A tagged section, which is skipped.
-    #[tactic(auto, unfolding(crate::specs::Reading::behind_at, crate::specs::Reading::items_at))]
+    #[tactic(auto, unfolding(crate::specs::Reading::after_count_at, crate::specs::Reading::items_at))]
     pub fn skip_tags(&mut self) -> Result<(), Malformed>
         ensures { Takes (tags.reading self.old) result self.new }
     {
@@ -47,7 +46,7 @@ impl<'a> Cursor<'a> {
 }
 
 /// An empty tagged section.
-#[tactic(auto, unfolding(crate::specs::Spelling::behind_written, crate::specs::Spelling::many_written))]
+#[tactic(auto, unfolding(crate::specs::Spelling::after_count_written, crate::specs::Spelling::many_written))]
 pub fn write_no_tags(out: &mut Vec<u8>) -> Result<(), AllocError>
     ensures ok { OnOk result (out.new.items ≡ tags.put out.old.items tt) }
     ensures err { OnErr result (out.new.items ≡ out.old.items) }

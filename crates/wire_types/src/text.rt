@@ -21,7 +21,6 @@ impl Model for Text {
     ghost view = { λ t. t.shared };
 }
 
-/// Written out, so that a proof above has one call where a text is let go.
 impl Drop for Text {
     fn drop(self) {
         let Text { shared: _shared } = self;

@@ -1,10 +1,10 @@
 //! Texts of UTF-8: STRING, NULLABLE_STRING, COMPACT_STRING, COMPACT_NULLABLE_STRING.
 
 ghost use Rattle.std.specs.Io.{StartsWith};
-ghost use Rattle.std.specs.Prelude.{◌≡◌, ◌+◌, ◌<◌, ◌≤◌, ◌++◌, ◌^◌, length, true, None, Some, OnOk, OnErr, IfOk, IfSome, MatchResult, Ok, Err};
-ghost use Rattle.wire_types.specs.Reading.{Takes, Reads, skipping, nat_at, int_at, bool_at, front_at, utf8_at, varint_at, varint_limit, many_at, all_at};
-ghost use Rattle.wire_types.specs.Writing.{Writes, Puts};
-ghost use Rattle.wire_types.specs.Spelling.{room_left, varint_written, many_fit, many_written, many_left};
+ghost use Rattle.std.specs.Prelude.{◌≡◌, ◌+◌, ◌<◌, ◌^◌, None, Some, OnErr, Ok, Err};
+ghost use Rattle.wire_types.specs.Reading.{Reads, utf8_at};
+ghost use Rattle.wire_types.specs.Writing.{Puts};
+ghost use Rattle.wire_types.specs.Spelling.{room_left, varint_written};
 ghost use Rattle.wire_types.specs.Schema.{string, nullable_string, compact_string, compact_nullable_string};
 
 use crate::counts::{
@@ -13,7 +13,7 @@ use crate::counts::{
 };
 use crate::cursor::Cursor;
 use crate::fault::{Malformed, ReadFault, WriteFault};
-use crate::room::room_behind;
+use crate::room::room_after;
 use crate::text::Text;
 use crate::wire::Wire;
 use std::alloc::Global;
@@ -31,8 +31,8 @@ impl<'a> Cursor<'a> {
         }
     }
 
-    /// A text behind its length in two bytes.
-    #[tactic(auto, unfolding(crate::specs::Reading::behind_at))]
+    /// A text after its length in two bytes.
+    #[tactic(auto, unfolding(crate::specs::Reading::after_count_at))]
     pub fn read_string(&mut self, alloc: Global) -> Result<Text, ReadFault>
         ensures { Reads (string.reading self.old) result self.new }
     {
@@ -40,8 +40,8 @@ impl<'a> Cursor<'a> {
         self.read_utf8(alloc, len as usize)
     }
 
-    /// A text behind its length in two bytes, or nothing for the length -1.
-    #[tactic(auto, unfolding(crate::specs::Reading::null_behind_at, crate::specs::Reading::null_or))]
+    /// A text after its length in two bytes, or nothing for the length -1.
+    #[tactic(auto, unfolding(crate::specs::Reading::after_null_count_at, crate::specs::Reading::null_or))]
     pub fn read_nullable(&mut self, alloc: Global) -> Result<Option<Text>, ReadFault>
         ensures { Reads (nullable_string.reading self.old) result self.new }
     {
@@ -51,8 +51,8 @@ impl<'a> Cursor<'a> {
         }
     }
 
-    /// A text behind its length and one in a number of variable length.
-    #[tactic(auto, using(crate::proofs::Announced::content_behind, crate::proofs::Announced::utf8_refused))]
+    /// A text after its length and one in a number of variable length.
+    #[tactic(auto, using(crate::proofs::Announced::content_after, crate::proofs::Announced::utf8_refused))]
     pub fn read_compact_string(&mut self, alloc: Global) -> Result<Text, ReadFault>
         ensures { Reads (compact_string.reading self.old) result self.new }
     {
@@ -61,7 +61,7 @@ impl<'a> Cursor<'a> {
     }
 
     /// The same, or nothing for 0.
-    #[tactic(auto, unfolding(crate::specs::Reading::null_behind_at, crate::specs::Reading::null_or))]
+    #[tactic(auto, unfolding(crate::specs::Reading::after_null_count_at, crate::specs::Reading::null_or))]
     pub fn read_compact_nullable(&mut self, alloc: Global) -> Result<Option<Text>, ReadFault>
         ensures { Reads (compact_nullable_string.reading self.old) result self.new }
     {
@@ -73,7 +73,7 @@ impl<'a> Cursor<'a> {
 }
 
 /// A length in two bytes, and the text.
-#[tactic(auto, unfolding(crate::specs::Spelling::behind_fits))]
+#[tactic(auto, unfolding(crate::specs::Spelling::after_count_fits))]
 pub fn write_string(out: &mut Vec<u8>, value: &Text) -> Result<(), WriteFault>
     ensures spelled { Puts string value.now out.old.items result out.new.items }
     ensures err { OnErr result (out.new.items ≡ out.old.items) }
@@ -89,7 +89,7 @@ pub fn write_string(out: &mut Vec<u8>, value: &Text) -> Result<(), WriteFault>
 }
 
 /// A text, or the length -1 for nothing.
-#[tactic(auto, unfolding(crate::specs::Spelling::behind_fits, crate::specs::Spelling::null_behind_fits, crate::specs::Spelling::null_behind_put, crate::specs::Spelling::null_count_fits, crate::specs::Spelling::compact_null_count_fits))]
+#[tactic(auto, unfolding(crate::specs::Spelling::after_count_fits, crate::specs::Spelling::after_null_count_fits, crate::specs::Spelling::after_null_count_put, crate::specs::Spelling::null_count_fits, crate::specs::Spelling::compact_null_count_fits))]
 pub fn write_nullable(out: &mut Vec<u8>, value: &Option<Text>) -> Result<(), WriteFault>
     ensures spelled { Puts nullable_string value.now out.old.items result out.new.items }
     ensures err { OnErr result (out.new.items ≡ out.old.items) }
@@ -103,7 +103,7 @@ pub fn write_nullable(out: &mut Vec<u8>, value: &Option<Text>) -> Result<(), Wri
 }
 
 /// A length and one in a number of variable length, and the text.
-#[tactic(auto, unfolding(crate::specs::Spelling::behind_fits))]
+#[tactic(auto, unfolding(crate::specs::Spelling::after_count_fits))]
 pub fn write_compact_string(out: &mut Vec<u8>, value: &Text) -> Result<(), WriteFault>
     ensures spelled { Puts compact_string value.now out.old.items result out.new.items }
     ensures err { OnErr result (out.new.items ≡ out.old.items) }
@@ -119,7 +119,7 @@ pub fn write_compact_string(out: &mut Vec<u8>, value: &Text) -> Result<(), Write
 }
 
 /// The same, or 0 for nothing.
-#[tactic(auto, unfolding(crate::specs::Spelling::behind_fits, crate::specs::Spelling::null_behind_fits, crate::specs::Spelling::null_behind_put, crate::specs::Spelling::null_count_fits, crate::specs::Spelling::compact_null_count_fits))]
+#[tactic(auto, unfolding(crate::specs::Spelling::after_count_fits, crate::specs::Spelling::after_null_count_fits, crate::specs::Spelling::after_null_count_put, crate::specs::Spelling::null_count_fits, crate::specs::Spelling::compact_null_count_fits))]
 pub fn write_compact_nullable(out: &mut Vec<u8>, value: &Option<Text>) -> Result<(), WriteFault>
     ensures spelled { Puts compact_nullable_string value.now out.old.items result out.new.items }
     ensures err { OnErr result (out.new.items ≡ out.old.items) }
@@ -136,15 +136,15 @@ pub fn string_room(value: &Text, room: usize) -> Option<usize>
     ensures { result ≡ string.left value.now room }
 {
     let room = count16_room(value.len(), room)?;
-    room_behind(value.len(), room)
+    room_after(value.len(), room)
 }
 
-#[tactic(auto, unfolding(crate::specs::Spelling::null_behind_left, crate::specs::Spelling::null_count_fits))]
+#[tactic(auto, unfolding(crate::specs::Spelling::after_null_count_left, crate::specs::Spelling::null_count_fits))]
 pub fn nullable_room(value: &Option<Text>, room: usize) -> Option<usize>
     ensures { result ≡ nullable_string.left value.now room }
 {
     match value {
-        None => room_behind(2, room),
+        None => room_after(2, room),
         Some(value) => string_room(value, room),
     }
 }
@@ -153,15 +153,15 @@ pub fn compact_string_room(value: &Text, room: usize) -> Option<usize>
     ensures { result ≡ compact_string.left value.now room }
 {
     let room = compact_count_room(value.len(), room)?;
-    room_behind(value.len(), room)
+    room_after(value.len(), room)
 }
 
-#[tactic(auto, unfolding(crate::specs::Spelling::null_behind_left, crate::specs::Spelling::null_count_fits, crate::specs::Spelling::compact_null_count_fits, crate::specs::Spelling::compact_null_count_written, crate::specs::Spelling::varint_written))]
+#[tactic(auto, unfolding(crate::specs::Spelling::after_null_count_left, crate::specs::Spelling::null_count_fits, crate::specs::Spelling::compact_null_count_fits, crate::specs::Spelling::compact_null_count_written, crate::specs::Spelling::varint_written))]
 pub fn compact_nullable_room(value: &Option<Text>, room: usize) -> Option<usize>
     ensures { result ≡ compact_nullable_string.left value.now room }
 {
     match value {
-        None => room_behind(1, room),
+        None => room_after(1, room),
         Some(value) => compact_string_room(value, room),
     }
 }

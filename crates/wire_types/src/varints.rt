@@ -1,16 +1,15 @@
 //! Numbers of variable length: UNSIGNED_VARINT, VARINT, VARLONG.
 
 ghost use Rattle.std.specs.Io.{StartsWith};
-ghost use Rattle.std.specs.Prelude.{◌≡◌, ◌+◌, ◌<◌, ◌≤◌, ◌++◌, ◌^◌, length, true, None, Some, OnOk, OnErr, IfOk, IfSome, MatchResult, Ok, Err};
-ghost use Rattle.wire_types.specs.Reading.{Takes, Reads, skipping, nat_at, int_at, bool_at, front_at, utf8_at, varint_at, varint_limit, many_at, all_at};
-ghost use Rattle.wire_types.specs.Writing.{Writes};
-ghost use Rattle.wire_types.specs.Spelling.{room_left, varint_written, many_fit, many_written, many_left};
+ghost use Rattle.std.specs.Prelude.{◌≡◌, ◌+◌, ◌<◌, ◌≤◌, ◌++◌, ◌^◌, length, OnOk, OnErr, IfOk, Ok, Err};
+ghost use Rattle.wire_types.specs.Reading.{Takes, varint_at, varint_limit};
+ghost use Rattle.wire_types.specs.Spelling.{varint_written};
 ghost use Rattle.wire_types.specs.Zigzag.{zigzag};
 ghost use Rattle.wire_types.specs.Schema.{uvarint, uvarlong, varint, varlong};
 
 use crate::cursor::Cursor;
 use crate::fault::Malformed;
-use crate::room::room_behind;
+use crate::room::room_after;
 use std::alloc::AllocError;
 
 impl<'a> Cursor<'a> {
@@ -188,12 +187,12 @@ pub(crate) fn varint_len(more: u32, number: u64) -> usize
 pub fn varint_room(number: i32, room: usize) -> Option<usize>
     ensures { result ≡ varint.left number room }
 {
-    room_behind(varint_len(4, zigzag(number) as u64), room)
+    room_after(varint_len(4, zigzag(number) as u64), room)
 }
 
 /// The same of 64 bits.
 pub fn varlong_room(number: i64, room: usize) -> Option<usize>
     ensures { result ≡ varlong.left number room }
 {
-    room_behind(varint_len(9, long_zigzag(number)), room)
+    room_after(varint_len(9, long_zigzag(number)), room)
 }

@@ -1,9 +1,9 @@
 //! What can be read and written.
 
-ghost use Rattle.std.specs.Prelude.{◌≡◌, ◌+◌, ◌<◌, ◌≤◌, ◌++◌, ◌^◌, length, true, None, Some, OnOk, OnErr, IfOk, IfSome, MatchResult, Ok, Err};
+ghost use Rattle.std.specs.Prelude.{◌≡◌, ◌+◌, ◌<◌, ◌^◌, Some, OnErr};
 ghost use Rattle.std.specs.Io.{StartsWith};
 ghost use Rattle.wire_types.specs.Reading.{Reads};
-ghost use Rattle.wire_types.specs.Writing.{Writes, Puts};
+ghost use Rattle.wire_types.specs.Writing.{Puts};
 ghost use Rattle.wire_types.specs.Grammar.{Grammar};
 ghost use Rattle.wire_types.specs.Laws.{size_of};
 
@@ -39,7 +39,7 @@ pub trait Wire: Drop {
         written
     }
 
-    /// What is left of a room behind that spelling, if it has one and that has place there.
+    /// What is left of a room after that spelling, if it has one and that has place there.
     fn room_left(&self, room: usize) -> Option<usize>
         ensures { result ≡ grammar.left self.now room };
 }

@@ -6,8 +6,8 @@ ghost use Rattle.acl_binding.specs.declared.binding.Numbered.{Numbered as Entry}
 ghost use Rattle.acl_binding.specs.declared.words.Kind.TheVariants.{Topic};
 ghost use Rattle.acl_binding.specs.declared.words.Pattern.TheVariants.{Literal, Prefixed};
 ghost use Rattle.acl_binding.specs.Words.{pattern_number};
-ghost use Rattle.authorizer.specs.AnyTopic.{bars_write, is_star, is_barred, is_barred_by_name, is_unbarred, any_topic};
-ghost use Rattle.authorizer.specs.Index.{held_by};
+ghost use Rattle.authorizer.specs.AnyTopic.{bars_write, is_star, is_overridden_by_deny, is_overridden_by_name, is_unbarred, any_topic};
+ghost use Rattle.authorizer.specs.Index.{bindings_under};
 ghost use Rattle.authorizer.specs.Looking.{is_longer, IsNamed, IsTableOf};
 
 use crate::index::names::{ANY_NAME, Names};
@@ -34,14 +34,19 @@ fn is_star(binding: &Binding) -> bool
 
 /// The binding is literal, and one of the same name is such a DENY.
 fn own_name_bars(names: &Names, binding: &Binding, who: &Text, host: &Text) -> bool
-    ensures { result ≡ ((pattern_number binding.now.pattern == pattern_number Literal) && list_any (λ (e : Entry). bars_write who.now host.now e.binding) (held_by names.now binding.now.name)) }
+    ensures { result
+        ≡ ((pattern_number binding.now.pattern == pattern_number Literal) && list_any
+        (λ (e : Entry). bars_write who.now host.now e.binding)
+        (bindings_under names.now binding.now.name)) }
 {
     binding.pattern == Pattern::Literal && bar_write(names.held(binding.name.as_str()), who, host)
 }
 
 /// A prefixed one whose name begins this one is such a DENY.
-fn beginnings_bar_write(names: &Names, name: &Text, who: &Text, host: &Text) -> bool
-    ensures { (es : List Entry) → AllByRecursion IsNamed es → IsTableOf names.now Topic Prefixed es → result ≡ list_any (λ (e : Entry). bars_write who.now host.now e.binding) (kept (is_longer Topic name.now 0) es) }
+fn prefixes_deny_write(names: &Names, name: &Text, who: &Text, host: &Text) -> bool
+    ensures { (es : List Entry) → AllByRecursion IsNamed es → IsTableOf names.now Topic Prefixed es
+        → result ≡ list_any (λ (e : Entry). bars_write who.now host.now e.binding)
+        (kept (is_longer Topic name.now 0) es) }
 {
     let text = name.as_str();
     let mut end = 0;
@@ -60,8 +65,8 @@ impl IndexedBook {
         ensures { result ≡ any_topic self.now.entries who.now host.now }
     {
         let topics = self.index().of(Kind::Topic);
-        topics.literal.any_unbarred(self, who, host)
-            || topics.prefixed.any_unbarred(self, who, host)
+        topics.literal.any_not_overridden(self, who, host)
+            || topics.prefixed.any_not_overridden(self, who, host)
     }
 
     /// The binding lets the caller write, and no denial stands over it.
@@ -71,25 +76,25 @@ impl IndexedBook {
         let binding = &entry.binding;
         binding.applies(who, host)
             && binding.allows(Operation::Write)
-            && !self.is_barred(binding, who, host)
+            && !self.is_overridden_by_deny(binding, who, host)
     }
 
     /// A denial stands over what the binding allows: one of `*`, or, unless that is the binding's own name, one of its
     /// name or of a beginning.
-    fn is_barred(&self, binding: &Binding, who: &Text, host: &Text) -> bool
-        ensures { result ≡ is_barred self.now.entries who.now host.now binding.now }
+    fn is_overridden_by_deny(&self, binding: &Binding, who: &Text, host: &Text) -> bool
+        ensures { result ≡ is_overridden_by_deny self.now.entries who.now host.now binding.now }
     {
         let topics = self.index().of(Kind::Topic);
         bar_write(topics.literal.held(ANY_NAME), who, host)
-            || !is_star(binding) && self.is_barred_by_name(binding, who, host)
+            || !is_star(binding) && self.is_overridden_by_name(binding, who, host)
     }
 
     /// A denial of the binding's own literal name, or of a beginning of its name.
-    fn is_barred_by_name(&self, binding: &Binding, who: &Text, host: &Text) -> bool
-        ensures { result ≡ is_barred_by_name self.now.entries who.now host.now binding.now }
+    fn is_overridden_by_name(&self, binding: &Binding, who: &Text, host: &Text) -> bool
+        ensures { result ≡ is_overridden_by_name self.now.entries who.now host.now binding.now }
     {
         let topics = self.index().of(Kind::Topic);
         own_name_bars(&topics.literal, binding, who, host)
-            || beginnings_bar_write(&topics.prefixed, &binding.name, who, host)
+            || prefixes_deny_write(&topics.prefixed, &binding.name, who, host)
     }
 }

@@ -1,6 +1,6 @@
 //! How long a table's longest name is.
 
-ghost use Rattle.std.specs.Prelude.{◌≡◌, ◌+◌, ◌^◌, ◌<◌, ◌≤◌, ◌++◌, ◌||◌, [], ◌∷◌, List, ℕ, Bool, cond, true, count_by, nat_lt, nat_le};
+ghost use Rattle.std.specs.Prelude.{◌≡◌, ◌+◌, ◌^◌, ◌<◌, ◌++◌, ◌||◌, [], ◌∷◌, List, ℕ, Bool, cond, true, count_by, nat_lt, nat_le};
 ghost use Rattle.std.specs.HashMap.{keys};
 ghost use Rattle.authorizer.specs.Longest.{lengths, IsLongest};
 
@@ -49,7 +49,9 @@ impl Longest {
 
     /// One name less. Answers whether the longest is still known: it isn't where that was the only one as long.
     pub(crate) fn lose(&mut self, bytes: usize) -> bool
-        ensures left { (ns left : List ℕ) → ((p : ℕ → Bool) → count_by p left + cond (p bytes) 1 0 ≡ count_by p ns) → IsLongest self.old ns → result ≡ true → IsLongest self.new left }
+        ensures left { (ns left : List ℕ)
+            → ((p : ℕ → Bool) → count_by p left + cond (p bytes) 1 0 ≡ count_by p ns)
+            → IsLongest self.old ns → result ≡ true → IsLongest self.new left }
         ensures known { result ≡ (nat_lt bytes self.old.bytes || nat_le 2 self.old.names) }
     {
         if bytes < self.bytes {

@@ -8,7 +8,7 @@ ghost use Rattle.acl_binding.specs.declared.binding.Numbered.{Numbered as Entry}
 ghost use Rattle.acl_binding.specs.declared.words.Kind.{Kind};
 ghost use Rattle.acl_binding.specs.declared.words.Pattern.{Pattern};
 ghost use Rattle.authorizer.specs.AnyTopic.{is_of, is_unbarred};
-ghost use Rattle.authorizer.specs.Index.{held_by, HasMore, HasSame, HasLess, HasLessAt};
+ghost use Rattle.authorizer.specs.Index.{bindings_under, HasMore, HasSame, HasLess, HasLessAt};
 ghost use Rattle.authorizer.specs.Longest.{lengths, longest_name};
 ghost use Rattle.authorizer.specs.Looking.{IsTableOf};
 
@@ -66,7 +66,7 @@ impl Names {
 
     /// The bindings of this name, by a look-up that isn't counted. Verdicts can't make one: they stand outside this module.
     pub(super) fn held(&self, name: &str) -> &[Shared<Numbered>]
-        ensures { result.now ≡ held_by self.now name.now }
+        ensures { result.now ≡ bindings_under self.now name.now }
     {
         if name.len() > self.longest.bytes {
             return &[];
@@ -80,7 +80,7 @@ impl Names {
     /// The bindings of this name, by a look-up that is counted.
     pub(crate) fn look_up(&self, name: &str, looked: &mut u64) -> &[Shared<Numbered>]
         requires { looked.old + 1 < 2 ^ 64 }
-        ensures held { result.now ≡ held_by self.now name.now }
+        ensures held { result.now ≡ bindings_under self.now name.now }
         ensures looked { looked.new ≡ looked.old + 1 }
     {
         *looked += 1;
@@ -88,18 +88,21 @@ impl Names {
     }
 
     /// Some binding lets the caller write, and no denial of the book stands over it.
-    pub(crate) fn any_unbarred(&self, book: &IndexedBook, who: &Text, host: &Text) -> bool
-        ensures { (kind : Kind) (pattern : Pattern) (es : List Entry) → IsTableOf self.now kind pattern es → result ≡ list_any (λ (e : Entry). is_of kind pattern e && is_unbarred book.now.entries who.now host.now e) es }
+    pub(crate) fn any_not_overridden(&self, book: &IndexedBook, who: &Text, host: &Text) -> bool
+        ensures { (kind : Kind) (pattern : Pattern) (es : List Entry)
+            → IsTableOf self.now kind pattern es → result
+            ≡ list_any (λ (e : Entry). is_of kind pattern e && is_unbarred book.now.entries who.now
+            host.now e) es }
     {
         for (_name, bucket) in self.buckets.iter() {
-            if bucket.any_unbarred(book, who, host) {
+            if bucket.any_not_overridden(book, who, host) {
                 return true;
             }
         }
         false
     }
 
-    /// One more binding, the last one of its name.
+    /// Puts a binding after the others of its name: its creation number is the greatest.
     pub(crate) fn add(
         &mut self,
         alloc: Global,
@@ -155,8 +158,13 @@ fn add_name(
     name: &str,
     entry: Shared<Numbered>,
 ) -> Result<(), AllocError>
-    ensures ok { OnOk result ((other : List ℕ) → get_by_text buckets.new other ≡ (if bytes_eq name.now other then Some (entry ∷ []) else get_by_text buckets.old other)) }
-    ensures last { OnOk result (get_by_text buckets.old name.now ≡ None → lengths (keys buckets.new) ≡ lengths (keys buckets.old) ++ length name.now ∷ []) }
+    ensures ok { OnOk result
+        ((other : List ℕ) → get_by_text buckets.new other
+        ≡ (if bytes_eq name.now other then Some (entry ∷ []) else get_by_text buckets.old
+        other)) }
+    ensures last { OnOk result
+        (get_by_text buckets.old name.now ≡ None → lengths (keys buckets.new)
+        ≡ lengths (keys buckets.old) ++ length name.now ∷ []) }
     ensures err { OnErr result (buckets.new.entries ≡ buckets.old.entries) }
 {
     let bucket = Bucket::of(alloc, entry)?;

@@ -5,7 +5,7 @@ use crate::logs::{ONE, RICH};
 use msg_data::Isolation;
 use partition_log::{FetchFault, Log, consumer_view};
 use producer_state::Judgment;
-use record_batch::{Batch, Outcome, crc32c};
+use record_batch::{Batch, TransactionResult, crc32c};
 use std::alloc::{AllocError, Global};
 use std::test::Fail;
 use wire_types::Bytes;
@@ -77,7 +77,7 @@ pub(crate) fn send(alloc: Global, log: &mut Log, bytes: &[u8]) -> Result<bool, A
     let Ok(batch) = Batch::check(bytes, 1000) else {
         return Ok(false);
     };
-    if !log.has_room(&batch) {
+    if !log.has_offsets_for(&batch) {
         return Ok(false);
     }
     match log.judge(&batch) {
@@ -92,7 +92,7 @@ pub(crate) fn send(alloc: Global, log: &mut Log, bytes: &[u8]) -> Result<bool, A
 pub(crate) fn mark(
     alloc: Global,
     log: &mut Log,
-    outcome: Outcome,
+    outcome: TransactionResult,
     producer: u8,
 ) -> Result<bool, AllocError> {
     if log.end() >= 1000 {
@@ -108,8 +108,8 @@ fn append(alloc: Global, small: &mut Small, kind: Kind, producer: u8) -> Result<
     match kind {
         Kind::Transactional => send(alloc, log, &transactional_bytes(producer, sequence)),
         Kind::Plain => send(alloc, log, &plain_bytes(producer, sequence)),
-        Kind::Commit => mark(alloc, log, Outcome::Commit, producer),
-        Kind::Abort => mark(alloc, log, Outcome::Abort, producer),
+        Kind::Commit => mark(alloc, log, TransactionResult::Commit, producer),
+        Kind::Abort => mark(alloc, log, TransactionResult::Abort, producer),
     }
 }
 

@@ -3,7 +3,7 @@
 use crate::logs::small_logs::{mark, send};
 use msg_data::{AbortedTransaction, Isolation};
 use partition_log::{FetchFault, Log, Served, consumer_view};
-use record_batch::{Outcome, RecordAt};
+use record_batch::{RecordAt, TransactionResult};
 use std::alloc::Global;
 use std::test::Fail;
 use wire_types::Items;
@@ -46,7 +46,7 @@ fn append(alloc: Global, log: &mut Log, digits: &str) -> Result<(), Fail> {
 }
 
 /// Appends the marker that ends a producer's transaction.
-fn end(alloc: Global, log: &mut Log, outcome: Outcome, producer: u8) -> Result<(), Fail> {
+fn end(alloc: Global, log: &mut Log, outcome: TransactionResult, producer: u8) -> Result<(), Fail> {
     if mark(alloc, log, outcome, producer)? {
         Ok(())
     } else {
@@ -58,9 +58,9 @@ fn end(alloc: Global, log: &mut Log, outcome: Outcome, producer: u8) -> Result<(
 fn aborted_and_committed(alloc: Global) -> Result<Log, Fail> {
     let mut log = Log::new(alloc);
     append(alloc, &mut log, THREE)?;
-    end(alloc, &mut log, Outcome::Abort, 0)?;
+    end(alloc, &mut log, TransactionResult::Abort, 0)?;
     append(alloc, &mut log, TWO)?;
-    end(alloc, &mut log, Outcome::Commit, 0)?;
+    end(alloc, &mut log, TransactionResult::Commit, 0)?;
     Ok(log)
 }
 
@@ -149,8 +149,8 @@ fn two_aborted_transactions_show_nothing(rt: HostRuntime) -> Result<(), Fail> {
     let mut log = Log::new(rt.alloc());
     append(rt.alloc(), &mut log, OF_FIRST)?;
     append(rt.alloc(), &mut log, OF_SECOND)?;
-    end(rt.alloc(), &mut log, Outcome::Abort, 1)?;
-    end(rt.alloc(), &mut log, Outcome::Abort, 0)?;
+    end(rt.alloc(), &mut log, TransactionResult::Abort, 1)?;
+    end(rt.alloc(), &mut log, TransactionResult::Abort, 0)?;
     let whole = look(rt.alloc(), &log, 0, AMPLE, false)?;
     assert!(rt; whole.serves(4, &[(1, 1), (0, 0)]) && whole.shows(&[]));
     let last = look(rt.alloc(), &log, 3, AMPLE, false)?;

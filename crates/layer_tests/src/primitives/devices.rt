@@ -2,10 +2,10 @@
 
 ghost use Rattle.std.specs.Prelude.{Some};
 
+use byte_streams::{InputFault, read_input, write_whole};
 use std::io;
 use std::io::{ErrorKind, Read, Write};
 use std::test::Fail;
-use wire_types::{InputFault, read_input, write_whole};
 
 /// A reader that is interrupted some times before each piece.
 #[derive(Drop)]

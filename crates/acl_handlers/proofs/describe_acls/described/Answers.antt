@@ -3,7 +3,7 @@ use Rattle.std.specs.Map.{values_of}
 use Rattle.std.proofs.lemmas.List.{take_all, map-id}
 use Rattle.std.proofs.lemmas.Map.Iter.{rest_so_far}
 use Rattle.msg_acl.specs.declared.describe_acls.DescribedResource.{DescribedResource}
-use Rattle.acl_handlers.specs.DescribeAcls.{firsts}
+use Rattle.acl_handlers.specs.DescribeAcls.{first_of_each}
 use Rattle.acl_handlers.specs.Groups.{groups_of}
 use Rattle.acl_handlers.proofs.Groups.{groups_told}
 use Rattle.acl_handlers.proofs.describe_acls.described.Goals as goal
@@ -16,4 +16,4 @@ returns c =
     rest_so_far (λ (r : DescribedResource). r) ran.0 c.into_values.result ran.1.0 ran.1.1 ∙ (λ i. map-id ran.0 i ++ rest.1.0 i) ∙ append-nil ran.0 in
     let groups : c.loop-binding.groups.entries ≡ groups_of c.args.bindings.now =
     c.loop-binding.invariant ∙ ap groups_of (take_all c.loop-binding.binding-index c.args.bindings.now c.loop-binding-test.false) in
-    c.from.ensures ∙ ran.2.0 ∙ sym all ∙ c.into_values.ensures.rest ∙ ap values_of groups ∙ groups_told c.args.bindings.now (firsts [] c.args.bindings.now)
+    c.from.ensures ∙ ran.2.0 ∙ sym all ∙ c.into_values.ensures.rest ∙ ap values_of groups ∙ groups_told c.args.bindings.now (first_of_each [] c.args.bindings.now)

@@ -1,7 +1,7 @@
 use Rattle.std.proofs.Common.{◌≡◌, ◌++◌, [], refl, ap, sym, ◌∙◌, append-nil, append_assoc, rules, arith}
 use Rattle.std.proofs.KnownBytes.{Appends-nil, Appends-trans}
 use Rattle.request_handlers.specs.Core.{CoreValue, events_of}
-use Rattle.script_lines.specs.Lines.{lines_of}
+use Rattle.commands.specs.Lines.{lines_of}
 use Rattle.commands.specs.Replay.{Answer, script_answer}
 use Rattle.commands.proofs.ScriptLemmas.{line_further, line_last, empty_of, script_over, wrote_all, printed_cut, printed_whole}
 use Rattle.commands.proofs.run.run_script.Goals as goal

@@ -1,6 +1,6 @@
 use Rattle.std.proofs.Common.{[], None, rules}
 use Rattle.msg_admin.specs.Versions.{unsupported_response}
-use Rattle.session_pool.specs.declared.respond.Outcome.TheVariants as outcome
+use Rattle.session_pool.specs.declared.respond.SessionAction.TheVariants as outcome
 use Rattle.session_pool.specs.Asks.{Tells, Refuses, Garbles, logs_in}
 use Rattle.session_pool.proofs.Sessions.{said_of, meant_of}
 use Rattle.session_pool.proofs.respond.respond.Goals as goal
@@ -21,7 +21,7 @@ returns-in-Overlong-clause-meant g c =
 
 pub returns-in-Unreadable-clause-meant : goal.returns-in-Unreadable-clause-meant
 returns-in-Unreadable-clause-meant g c =
-    said_of (record { users = c.args.users.now; listed = c.args.listed; host = c.args.host.now; may_stop = g.D.Desk.may_stop }) c.args.state c.args.came.now Garbles c.args.receipts.now.items outcome.Garbled (c.in-Unreadable.ensures (record { users = c.args.users.now; listed = c.args.listed; host = c.args.host.now; may_stop = g.D.Desk.may_stop })) (search rules)
+    said_of (record { users = c.args.users.now; listed = c.args.listed; host = c.args.host.now; may_stop = g.D.Desk.may_stop }) c.args.state c.args.came.now Garbles c.args.receipts.now.items outcome.Malformed (c.in-Unreadable.ensures (record { users = c.args.users.now; listed = c.args.listed; host = c.args.host.now; may_stop = g.D.Desk.may_stop })) (search rules)
 
 pub returns-in-Whole-clause-meant : goal.returns-in-Whole-clause-meant
 returns-in-Whole-clause-meant g c =

@@ -1,11 +1,11 @@
 use Rattle.std.proofs.Common.{◌≡◌, drop}
 use Rattle.settings_text.specs.Rows.{user_of}
 use Rattle.toml.specs.View.{items_view}
-use Rattle.settings_text.specs.Fields.{each}
+use Rattle.settings_text.specs.Fields.{values_of_each}
 use Rattle.settings_text.proofs.Tables.{with_front}
 use Rattle.settings_text.proofs.rows.users.Given as goal
 
 -- what was read so far stands before what the rest gives
 abbrev pub invariant-loop-value : goal.invariant-loop-value
 invariant-loop-value l =
-    each user_of (items_view l.value-items) ≡ with_front l.users (each user_of (items_view (drop l.value-index l.value-items)))
+    values_of_each user_of (items_view l.value-items) ≡ with_front l.users (values_of_each user_of (items_view (drop l.value-index l.value-items)))

@@ -3,10 +3,10 @@ use Rattle.acl_binding.specs.declared.question.Question.{Question}
 use Rattle.authorizer.specs.declared.answer.Refusal.{Refusal}
 use Rattle.authorizer.specs.Asking.{question_refusal}
 use Rattle.authorizer.specs.Settled.{SettledValue}
-use Rattle.authorizer.specs.Tally.{counted}
+use Rattle.authorizer.specs.Tally.{count_after_parts}
 use Rattle.wire_types.specs.declared.topic.Topic.{Topic}
 use Rattle.walk.specs.Walk.{asked_in}
-use Rattle.broker_world.specs.declared.outcome.Outcome.{Outcome as Told}
+use Rattle.broker_world.specs.declared.handler_result.HandlerResult.{HandlerResult as Told}
 use Rattle.walk.specs.Woven.{has_any}
 use Rattle.broker_world.specs.contracts.state.State.{the_view}
 use Rattle.broker_world.specs.World.{World, rules_of}
@@ -84,6 +84,6 @@ returns-clause-spent c =
     let paid = all_parts_paid v caller r whole in
     ap (λ (o : Told). o.spent) c.served_in_parts-2.ensures
     ∙ c.in_ok-reply.ensures.spent
-    ∙ ap (λ (ts : List (Topic ℤ)). counted (rules_of v) 0 (asked_in (cut_rule caller r.transactional_id v.topics) ts)) c.as_slice-named.ensures
-    ∙ sym (ap (counted (rules_of v) 0) paid)
-    ∙ ap (λ (w : World). counted (rules_of w) 0 (added_parts w caller r)) c.state.view_is
+    ∙ ap (λ (ts : List (Topic ℤ)). count_after_parts (rules_of v) 0 (asked_in (cut_rule caller r.transactional_id v.topics) ts)) c.as_slice-named.ensures
+    ∙ sym (ap (count_after_parts (rules_of v) 0) paid)
+    ∙ ap (λ (w : World). count_after_parts (rules_of w) 0 (added_parts w caller r)) c.state.view_is

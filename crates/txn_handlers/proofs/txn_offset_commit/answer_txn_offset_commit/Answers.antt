@@ -1,6 +1,6 @@
 use Rattle.std.proofs.Common.{rules, ap, ◌∙◌}
 use Rattle.broker_world.specs.contracts.state.State.{the_view}
-use Rattle.broker_world.specs.declared.outcome.Outcome.{Outcome as Told}
+use Rattle.broker_world.specs.declared.handler_result.HandlerResult.{HandlerResult as Told}
 use Rattle.broker_world.specs.World.{World}
 use Rattle.txn_handlers.specs.TxnOffsetCommit.{txn_offset_commit_outcome}
 use Rattle.txn_handlers.proofs.StagedParts.{staged_groups, staged_reply}

@@ -4,26 +4,26 @@ use Rattle.std.specs.Str.{chars}
 use Rattle.std.specs.Map.{values_of}
 use Rattle.acl_binding.specs.declared.words.Pattern.TheVariants.{Literal, Prefixed}
 use Rattle.acl_binding.specs.Binding.{star}
-use Rattle.authorizer.specs.Index.{held_by}
+use Rattle.authorizer.specs.Index.{bindings_under}
 use Rattle.authorizer.specs.Longest.{longest_name}
 use Rattle.authorizer.specs.LookUps.{beginnings_within, longest_prefix}
-use Rattle.authorizer.specs.Looking.{finding, joined, kind_index}
+use Rattle.authorizer.specs.Looking.{finding_of, combined_finding, kind_index}
 use Rattle.authorizer.proofs.LongestNames.{same_longest}
 use Rattle.authorizer.proofs.Covering.{kind_indexed, held_rising, found_all}
 use Rattle.authorizer.proofs.indexed.IndexedBook.found.Goals as goal
 
-pub look-own-requires-clause-rising : goal.look-own-requires-clause-rising
-look-own-requires-clause-rising c =
+pub look_up_name-own-requires-clause-rising : goal.look_up_name-own-requires-clause-rising
+look_up_name-own-requires-clause-rising c =
     let k = kind_indexed c.self.inside.index _ c.self.invariant.indexed c.args.question.now.kind in
     rw c.of-names.ensures (held_rising _ _ Literal _ k.literal c.self.invariant.book.rising _)
 
-pub look-any-requires-clause-rising : goal.look-any-requires-clause-rising
-look-any-requires-clause-rising c =
+pub look_up_name-any-requires-clause-rising : goal.look_up_name-any-requires-clause-rising
+look_up_name-any-requires-clause-rising c =
     let k = kind_indexed c.self.inside.index _ c.self.invariant.indexed c.args.question.now.kind in
     rw c.of-names.ensures (held_rising _ _ Literal _ k.literal c.self.invariant.book.rising star)
 
-pub look_prefixes-prefixed-requires-clause-rising : goal.look_prefixes-prefixed-requires-clause-rising
-look_prefixes-prefixed-requires-clause-rising c =
+pub look_up_prefixes-prefixed-requires-clause-rising : goal.look_up_prefixes-prefixed-requires-clause-rising
+look_up_prefixes-prefixed-requires-clause-rising c =
     let k = kind_indexed c.self.inside.index _ c.self.invariant.indexed c.args.question.now.kind in
     rw c.of-names.ensures (held_rising _ _ Prefixed _ k.prefixed c.self.invariant.book.rising)
 
@@ -32,13 +32,13 @@ returns-clause-finding c =
     let index = kind_index c.self.inside.index c.args.question.now.kind in
     let k = kind_indexed c.self.inside.index _ c.self.invariant.indexed c.args.question.now.kind in
     let names : c.of-names.result.now ≡ index = c.of-names.ensures in
-    let own : c.look-own.result ≡ finding (held_by index.literal c.args.question.now.name) c.args.question.now =
-    c.look-own.ensures.finding ∙ ap (λ (n : List ℕ). finding (held_by c.of-names.result.now.literal n) c.args.question.now) c.as_str.ensures ∙ ap (λ (x : KindIndex). finding (held_by x.literal c.args.question.now.name) c.args.question.now) names in
-    let every : c.look-any.result ≡ finding (held_by index.literal star) c.args.question.now = c.look-any.ensures.finding ∙ ap (λ (x : KindIndex). finding (held_by x.literal star) c.args.question.now) names in
-    let longer = c.look_prefixes-prefixed.ensures.finding (values_of c.self.inside.entries.entries) c.self.invariant.named (rw names k.prefixed) in
+    let own : c.look_up_name-own.result ≡ finding_of (bindings_under index.literal c.args.question.now.name) c.args.question.now =
+    c.look_up_name-own.ensures.finding ∙ ap (λ (n : List ℕ). finding_of (bindings_under c.of-names.result.now.literal n) c.args.question.now) c.as_str.ensures ∙ ap (λ (x : KindIndex). finding_of (bindings_under x.literal c.args.question.now.name) c.args.question.now) names in
+    let every : c.look_up_name-any.result ≡ finding_of (bindings_under index.literal star) c.args.question.now = c.look_up_name-any.ensures.finding ∙ ap (λ (x : KindIndex). finding_of (bindings_under x.literal star) c.args.question.now) names in
+    let longer = c.look_up_prefixes-prefixed.ensures.finding (values_of c.self.inside.entries.entries) c.self.invariant.named (rw names k.prefixed) in
     rw (← c.self.view_is) (
-    c.joined-2.ensures ∙ ap (joined c.look-own.result) c.joined.ensures
-    ∙ (λ i. joined (own i) (joined (every i) (longer i)))
+    c.joined-2.ensures ∙ ap (combined_finding c.look_up_name-own.result) c.joined.ensures
+    ∙ (λ i. combined_finding (own i) (combined_finding (every i) (longer i)))
     ∙ found_all index (values_of c.self.inside.entries.entries) c.args.question.now k c.self.invariant.named)
 
 pub returns-clause-looked : goal.returns-clause-looked

@@ -7,7 +7,7 @@ use Rattle.acl_binding.specs.Book.{number_of}
 use Rattle.authorizer.specs.Contents.{says_same}
 use Rattle.authorizer.specs.Kept.{book_of}
 use Rattle.authorizer.specs.Looking.{IsNamed}
-use Rattle.authorizer.specs.Picking.{numbered}
+use Rattle.authorizer.specs.Picking.{under_numbers}
 use Rattle.authorizer.proofs.Keeping.{table_more, book_appended, kept_more, table_undone, kept_undone}
 use Rattle.authorizer.proofs.indexed.IndexedBook.insert.Goals as goal
 
@@ -25,7 +25,7 @@ pub invariant_of-self-2 : goal.invariant_of-self-2
 invariant_of-self-2 c =
     let table = c.self.inside.entries.entries in
     let number : c.args.entry.now.number ≡ c.self.inside.next = rw (← c.self.view_is) at c.requires.number in
-    let more : c.insert.new.self.entries ≡ numbered (values_of table ++ c.args.entry.now ∷ []) =
+    let more : c.insert.new.self.entries ≡ under_numbers (values_of table ++ c.args.entry.now ∷ []) =
     c.in_ok-insert.ensures.entries ∙ ap (insert_entry nat_cmp table c.self.inside.next) (c.in_ok-share.ensures ∙ c.requires.content)
     ∙ table_more table c.self.inside.next c.self.inside.index c.self.inside.contents.entries c.args.entry.now c.self.invariant number in
     let named : IsNamed c.args.entry.now = record { text = c.add.ensures.text; some = c.requires.named } in
@@ -40,7 +40,7 @@ pub returns-clause-ok : goal.returns-clause-ok
 returns-clause-ok c =
     let table = c.self.inside.entries.entries in
     let number : c.args.entry.now.number ≡ c.self.inside.next = rw (← c.self.view_is) at c.requires.number in
-    let more : c.insert.new.self.entries ≡ numbered (values_of table ++ c.args.entry.now ∷ []) =
+    let more : c.insert.new.self.entries ≡ under_numbers (values_of table ++ c.args.entry.now ∷ []) =
     c.in_ok-insert.ensures.entries ∙ ap (insert_entry nat_cmp table c.self.inside.next) (c.in_ok-share.ensures ∙ c.requires.content)
     ∙ table_more table c.self.inside.next c.self.inside.index c.self.inside.contents.entries c.args.entry.now c.self.invariant number in
     rw (← c.self.view_is) (book_appended table c.insert.new.self.entries c.self.inside.next c.args.entry.now number more)

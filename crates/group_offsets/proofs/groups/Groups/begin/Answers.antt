@@ -3,8 +3,8 @@ use Rattle.std.specs.Map.{values_of}
 use Rattle.std.proofs.lemmas.List.{map-append}
 use Rattle.std.specs.declared.string.String.{String}
 use Rattle.std.specs.declared.alloc.Global.{Global}
-use Rattle.offset_tables.specs.declared.group.Group.{Group}
-use Rattle.offset_tables.specs.Groups.{find_group}
+use Rattle.group_offsets.specs.declared.group.Group.{Group}
+use Rattle.group_offsets.specs.Groups.{find_group}
 use Rattle.keyed_tables.proofs.Tables.{entered, keyed_insert}
 use Rattle.group_offsets.specs.Named.{name_of, AreNamed}
 use Rattle.group_offsets.proofs.groups.Groups.begin.Goals as goal

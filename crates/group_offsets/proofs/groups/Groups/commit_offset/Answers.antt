@@ -5,10 +5,10 @@ use Rattle.std.specs.Option.{option_copied_mut}
 use Rattle.std.proofs.lemmas.Int.{to_z-of_z}
 use Rattle.std.proofs.lemmas.Result.{on_ok_weaker, on_err_weaker, IfOk-weaker}
 use Rattle.wire_types.specs.declared.error_code.ErrorCode.{ErrorCode}
-use Rattle.offset_tables.specs.declared.group.Group.{Group}
-use Rattle.offset_tables.specs.Group.{commit_group}
-use Rattle.offset_tables.specs.Groups.{place_of, find_group}
-use Rattle.offset_tables.proofs.Places.{none_at, kept_fresh, answered_fresh}
+use Rattle.group_offsets.specs.declared.group.Group.{Group}
+use Rattle.group_offsets.specs.Group.{commit_group}
+use Rattle.group_offsets.specs.Groups.{place_of, find_group}
+use Rattle.group_offsets.proofs.Places.{none_at, kept_fresh, answered_fresh}
 use Rattle.group_offsets.proofs.Named.{none_in, turned_in, answered_in, unchanged_in, named_in}
 use Rattle.group_offsets.proofs.groups.Groups.commit_offset.Goals as goal
 

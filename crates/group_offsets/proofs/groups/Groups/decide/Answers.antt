@@ -3,12 +3,12 @@ use Rattle.std.specs.Map.{values_of}
 use Rattle.std.specs.Option.{option_copied_mut}
 use Rattle.std.proofs.lemmas.Int.{to_z-of_z}
 use Rattle.std.proofs.lemmas.Result.{on_ok_weaker, on_err_weaker}
-use Rattle.offset_tables.specs.declared.group.Group.{Group}
-use Rattle.offset_tables.specs.Turn.{Puts}
-use Rattle.offset_tables.specs.declared.event.OffsetEvent.TheVariants.{Decide}
-use Rattle.offset_tables.specs.Group.{with_event}
-use Rattle.offset_tables.specs.Groups.{place_of, find_group}
-use Rattle.offset_tables.proofs.Places.{none_at, kept_fresh}
+use Rattle.group_offsets.specs.declared.group.Group.{Group}
+use Rattle.group_offsets.specs.GroupTransition.{Puts}
+use Rattle.group_offsets.specs.declared.event.OffsetEvent.TheVariants.{Decide}
+use Rattle.group_offsets.specs.Group.{with_event}
+use Rattle.group_offsets.specs.Groups.{place_of, find_group}
+use Rattle.group_offsets.proofs.Places.{none_at, kept_fresh}
 use Rattle.group_offsets.proofs.Named.{none_in, turned_in, unchanged_in, named_in}
 use Rattle.group_offsets.proofs.groups.Groups.decide.Goals as goal
 

@@ -1,7 +1,7 @@
 use Rattle.std.proofs.Common.{List, map, sym, subst, ap, ◌∙◌}
 use Rattle.std.specs.Map.{values_of}
-use Rattle.offset_tables.specs.declared.group.Group.{Group}
-use Rattle.offset_tables.specs.Group.{expired}
+use Rattle.group_offsets.specs.declared.group.Group.{Group}
+use Rattle.group_offsets.specs.Group.{without_lapsed}
 use Rattle.group_offsets.specs.Named.{AreNamed}
 use Rattle.keyed_tables.proofs.Tables.{changed_in}
 use Rattle.group_offsets.proofs.Named.{named_expired}
@@ -16,5 +16,5 @@ invariant_of-self c = record {
 pub returns : goal.returns
 returns c =
     ap values_of c.expire_all.ensures
-    ∙ changed_in (expired c.args.moment) c.self.inside.table.entries
-    ∙ ap (λ (gs : List Group). map (expired c.args.moment) gs) c.self.view_is
+    ∙ changed_in (without_lapsed c.args.moment) c.self.inside.table.entries
+    ∙ ap (λ (gs : List Group). map (without_lapsed c.args.moment) gs) c.self.view_is

@@ -4,11 +4,11 @@ use Rattle.std.specs.Map.{values_of}
 use Rattle.std.specs.Option.{option_copied_mut}
 use Rattle.std.proofs.lemmas.Result.{on_ok_weaker, on_err_weaker, IfOk-weaker}
 use Rattle.wire_types.specs.declared.error_code.ErrorCode.{ErrorCode}
-use Rattle.offset_tables.specs.declared.group.Group.{Group}
-use Rattle.offset_tables.specs.declared.member.Joined.{Joined}
-use Rattle.offset_tables.specs.Joining.{join_group}
-use Rattle.offset_tables.specs.Groups.{place_of, find_group, group_of}
-use Rattle.offset_tables.proofs.Places.{none_at, kept_fresh, answered_fresh}
+use Rattle.group_offsets.specs.declared.group.Group.{Group}
+use Rattle.group_offsets.specs.declared.member.Joined.{Joined}
+use Rattle.group_offsets.specs.Joining.{join_group}
+use Rattle.group_offsets.specs.Groups.{place_of, find_group, group_of}
+use Rattle.group_offsets.proofs.Places.{none_at, kept_fresh, answered_fresh}
 use Rattle.group_offsets.proofs.Named.{group_in, none_in, turned_in, answered_in, unchanged_in, named_in}
 use Rattle.group_offsets.proofs.groups.Groups.join_group.Goals as goal
 

@@ -2,9 +2,9 @@ use Rattle.std.proofs.Common.{◌≡◌, ◌<ℤ◌, pos, true, None, sym, subst
 use Rattle.std.specs.Map.{values_of}
 use Rattle.std.specs.Option.{option_copied}
 use Rattle.std.specs.Prelude.{◌↔◌, IsTrue}
-use Rattle.offset_tables.specs.declared.group.Group.{Group}
-use Rattle.offset_tables.specs.Groups.{place_of}
-use Rattle.offset_tables.proofs.Places.{fresh_at}
+use Rattle.group_offsets.specs.declared.group.Group.{Group}
+use Rattle.group_offsets.specs.Groups.{place_of}
+use Rattle.group_offsets.proofs.Places.{fresh_at}
 use Rattle.group_offsets.proofs.Named.{group_in, none_in}
 use Rattle.group_offsets.proofs.groups.Groups.may_begin.Goals as goal
 

@@ -2,10 +2,10 @@ use Rattle.std.proofs.Common.{◌≡◌, None, sym, subst, ap, ◌∙◌}
 use Rattle.std.specs.Map.{values_of}
 use Rattle.std.specs.Option.{option_copied_mut}
 use Rattle.std.proofs.lemmas.Result.{on_ok_weaker, on_err_weaker, IfOk-weaker}
-use Rattle.offset_tables.specs.declared.group.Group.{Group}
-use Rattle.offset_tables.specs.Group.{sync_group}
-use Rattle.offset_tables.specs.Groups.{place_of}
-use Rattle.offset_tables.proofs.Places.{refused_fresh, refusal_fresh, sync_fresh}
+use Rattle.group_offsets.specs.declared.group.Group.{Group}
+use Rattle.group_offsets.specs.Group.{sync_group}
+use Rattle.group_offsets.specs.Groups.{place_of}
+use Rattle.group_offsets.proofs.Places.{refused_fresh, refusal_fresh, sync_fresh}
 use Rattle.group_offsets.specs.Named.{IsKept}
 use Rattle.group_offsets.proofs.Named.{none_in, turned_in, answered_in, unchanged_in, named_in}
 use Rattle.group_offsets.proofs.groups.Groups.sync_group.Goals as goal
@@ -23,7 +23,7 @@ pub returns-in_default-clause-answer : goal.returns-in_default-clause-answer
 returns-in_default-clause-answer c =
     let es = c.self.inside.table.entries in
     let none : place_of (values_of es) c.args.request.now.group ≡ None = none_in es c.as_str.result.now c.args.request.now.group c.as_str.ensures c.self.invariant.named (sym (ap option_copied_mut c.in_default.is) ∙ c.get_mut.ensures.value) in
-    rw (← c.self.view_is, c.nobody.ensures) (refusal_fresh (values_of es) c.args.request.now.group (λ (g : Group). sync_group g c.args.request.now c.args.moment) none (sync_fresh c.args.request.now c.args.moment))
+    rw (← c.self.view_is, c.unknown_group_error.ensures) (refusal_fresh (values_of es) c.args.request.now.group (λ (g : Group). sync_group g c.args.request.now c.args.moment) none (sync_fresh c.args.request.now c.args.moment))
 
 pub invariant_of-self-2 : goal.invariant_of-self-2
 invariant_of-self-2 c =

@@ -1,6 +1,6 @@
 use Rattle.std.proofs.Common.{length, arith}
 use Rattle.std.proofs.lemmas.Grind.{common_steps}
-use Rattle.transactions.proofs.Ranges.{all_can_raise, expired_range}
+use Rattle.txn_coordinator.proofs.Ranges.{all_can_raise, expired_range}
 use Rattle.txn_coordinator.proofs.coordinator.Coordinator.expire.Goals as goal
 
 pub expiry_markers-requires : goal.expiry_markers-requires

@@ -1,6 +1,6 @@
 use Rattle.std.proofs.Common.{◌≡◌, ◌++◌, ◌∷◌, [], ℕ, List, Option, None, length, sym, subst, rules}
-use Rattle.transactions.specs.Bounds.{AreInRange}
-use Rattle.transactions.proofs.Ranges.{given_range}
+use Rattle.txn_coordinator.specs.Bounds.{AreInRange}
+use Rattle.txn_coordinator.proofs.Ranges.{given_range}
 use Rattle.txn_coordinator.proofs.coordinator.Coordinator.fresh.Goals as goal
 
 pub invariant_of-self-2 : goal.invariant_of-self-2

@@ -1,8 +1,8 @@
 use Rattle.std.proofs.Common.{◌≡◌, [], length, subst, rules}
 use Rattle.std.specs.Prelude.{OnOk}
-use Rattle.transactions.specs.Coordinator.{CoordinatorValue, turned}
-use Rattle.transactions.specs.Adding.{add_group}
-use Rattle.transactions.proofs.Ranges.{group_records}
+use Rattle.txn_coordinator.specs.Coordinator.{CoordinatorValue, apply_transition}
+use Rattle.txn_coordinator.specs.Adding.{add_group}
+use Rattle.txn_coordinator.proofs.Ranges.{group_records}
 use Rattle.txn_coordinator.proofs.Calls.{group_added}
 use Rattle.txn_coordinator.proofs.coordinator.Coordinator.take_group.Goals as goal
 
@@ -16,5 +16,5 @@ returns-clause-ok c =
     let before : CoordinatorValue = record { transactions = c.self.inside.records.list; given = c.self.inside.given.items; warrants = c.self.inside.owed } in
     let after : CoordinatorValue = record before { transactions = c.add_group.new.self.list } in
     let some : c.args.id.now ≡ [] → ⊥ = search rules in
-    subst (λ (v : CoordinatorValue). OnOk c.add_group.result (after ≡ turned v (add_group v c.args.id.now c.args.pair c.args.moment c.args.group.now))) c.self.view_is
+    subst (λ (v : CoordinatorValue). OnOk c.add_group.result (after ≡ apply_transition v (add_group v c.args.id.now c.args.pair c.args.moment c.args.group.now))) c.self.view_is
     (group_added c.add_group.result before c.add_group.new.self.list c.args.id.now c.args.pair c.args.moment c.args.group.now some c.add_group.ensures.ok)

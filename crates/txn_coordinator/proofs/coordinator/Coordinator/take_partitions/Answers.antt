@@ -1,5 +1,5 @@
 use Rattle.std.proofs.Common.{length}
-use Rattle.transactions.proofs.Ranges.{partitions_records}
+use Rattle.txn_coordinator.proofs.Ranges.{partitions_records}
 use Rattle.txn_coordinator.proofs.coordinator.Coordinator.take_partitions.Goals as goal
 
 pub invariant_of-self : goal.invariant_of-self

@@ -1,5 +1,5 @@
 use Rattle.std.proofs.Common.{length}
-use Rattle.transactions.proofs.Ranges.{completed_range}
+use Rattle.txn_coordinator.proofs.Ranges.{completed_range}
 use Rattle.txn_coordinator.proofs.coordinator.Coordinator.written.Goals as goal
 
 pub invariant_of-self : goal.invariant_of-self

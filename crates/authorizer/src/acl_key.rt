@@ -1,0 +1,118 @@
+//! Where the bindings stand that a filter with a name picks.
+
+ghost use Rattle.std.specs.Prelude.{◌≡◌, ◌||◌, true, Some, IfOk, OnOk};
+ghost use Rattle.acl_binding.specs.declared.binding.Numbered.{Numbered as Entry};
+ghost use Rattle.authorizer.specs.Looking.{is_at, is_longer, IsNamed};
+ghost use Rattle.authorizer.specs.Picking.{picks, stands_in, stands_under, AreAllAt};
+
+use crate::index::ANY_NAME;
+use acl_binding::{Filter, FilterPattern, Kind, Pattern};
+use std::alloc::{AllocError, Global};
+use wire_types::Items;
+
+/// A kind, a pattern and a name, under which bindings stand.
+#[derive(Clone, Copy)]
+pub struct AclKey<'a> {
+    pub kind: Kind,
+    pub pattern: Pattern,
+    pub name: &'a str,
+}
+
+/// The places at which the bindings stand that the filter picks. A filter without a name has none: what it picks may
+/// stand anywhere.
+pub(crate) fn acl_keys<'a>(
+    alloc: Global,
+    filter: &'a Filter,
+) -> Result<Option<Items<AclKey<'a>>>, AllocError>
+    ensures { IfOk result (λ acl_keys. AreAllAt acl_keys filter.now) }
+{
+    match &filter.name {
+        Some(name) => Ok(Some(keys_under(alloc, name.as_str(), filter)?)),
+        None => Ok(None),
+    }
+}
+
+/// The keys of the bindings under this name.
+fn keys_under<'a>(
+    alloc: Global,
+    name: &'a str,
+    filter: &Filter,
+) -> Result<Items<AclKey<'a>>, AllocError>
+    requires { filter.now.name ≡ Some name.now }
+    ensures { IfOk result
+        (λ acl_keys. (e : Entry) → IsNamed e → picks filter.now e ≡ true → stands_in acl_keys e
+        ≡ true) }
+{
+    let mut acl_keys = Items::new(alloc);
+    if let Some(kind) = filter.kind {
+        add_keys(kind, name, filter.pattern, &mut acl_keys)?;
+        return Ok(acl_keys);
+    }
+    add_keys(Kind::Topic, name, filter.pattern, &mut acl_keys)?;
+    add_keys(Kind::Group, name, filter.pattern, &mut acl_keys)?;
+    add_keys(Kind::Cluster, name, filter.pattern, &mut acl_keys)?;
+    add_keys(Kind::TransactionalId, name, filter.pattern, &mut acl_keys)?;
+    Ok(acl_keys)
+}
+
+/// One more place, the last.
+fn add<'a>(
+    kind: Kind,
+    pattern: Pattern,
+    name: &'a str,
+    acl_keys: &mut Items<AclKey<'a>>,
+) -> Result<(), AllocError>
+    ensures { OnOk result
+        ((e : Entry) → stands_in acl_keys.new e
+        ≡ (stands_in acl_keys.old e || is_at kind pattern name.now e)) }
+{
+    acl_keys.push(AclKey {
+        kind,
+        pattern,
+        name,
+    })
+}
+
+/// Those of one kind.
+fn add_keys<'a>(
+    kind: Kind,
+    name: &'a str,
+    wanted: FilterPattern,
+    acl_keys: &mut Items<AclKey<'a>>,
+) -> Result<(), AllocError>
+    ensures { OnOk result
+        ((e : Entry) → IsNamed e → stands_in acl_keys.new e
+        ≡ (stands_in acl_keys.old e || stands_under wanted kind name.now e)) }
+{
+    match wanted {
+        FilterPattern::Any => {
+            add(kind, Pattern::Literal, name, acl_keys)?;
+            add(kind, Pattern::Prefixed, name, acl_keys)
+        }
+        FilterPattern::Match => {
+            add(kind, Pattern::Literal, name, acl_keys)?;
+            add(kind, Pattern::Literal, ANY_NAME, acl_keys)?;
+            add_beginnings(kind, name, acl_keys)
+        }
+        FilterPattern::Literal => add(kind, Pattern::Literal, name, acl_keys),
+        FilterPattern::Prefixed => add(kind, Pattern::Prefixed, name, acl_keys),
+    }
+}
+
+/// The places of the prefixed bindings whose names begin the name: one for each of its beginnings.
+fn add_beginnings<'a>(
+    kind: Kind,
+    name: &'a str,
+    acl_keys: &mut Items<AclKey<'a>>,
+) -> Result<(), AllocError>
+    ensures { OnOk result
+        ((e : Entry) → IsNamed e → stands_in acl_keys.new e
+        ≡ (stands_in acl_keys.old e || is_longer kind name.now 0 e)) }
+{
+    let mut end = 0;
+    for c in name.chars() {
+        end += c.len_utf8();
+        add(kind, Pattern::Prefixed, &name[..end], acl_keys)?;
+    }
+    Ok(())
+}

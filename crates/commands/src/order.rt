@@ -1,0 +1,191 @@
+//! What a line of a script asks for.
+
+ghost use Rattle.std.specs.Prelude.{◌≡◌, IfOk, option_map};
+ghost use Rattle.std.specs.Result.{result_ok};
+ghost use Rattle.std.specs.Int.{w32};
+ghost use Rattle.wire_types.specs.Reading.{nat_at};
+ghost use Rattle.commands.specs.Order.{bytes_after_size, frame_of, words_of, caller_of, sent_of, number_of, order_in, text_of, order_of};
+
+use acl_binding::Caller;
+use hex::FromHexError;
+use std::alloc::{AllocError, Global};
+use std::str::from_utf8;
+use thiserror::Error;
+use wire_types::{Bytes, Cursor, Text};
+
+/// The bytes of a frame's size field.
+const SIZE_FIELD: usize = 4;
+
+/// A frame without its size field, and who sends it.
+#[derive(Debug, Drop)]
+pub struct Sent {
+    pub caller: Caller,
+    pub frame: Bytes,
+}
+
+/// What a line of a script asks for.
+#[derive(Debug, Drop)]
+pub enum Order {
+    /// A frame is to be answered.
+    Ask(Sent),
+    /// The front of the markers that are pending is to be written.
+    Mark,
+    /// The clock shows a moment, in milliseconds.
+    Tick(u64),
+}
+
+/// Why a line of a script can't be read.
+#[derive(Clone, Copy, Debug, PartialEq, Eq, Error)]
+pub enum Unreadable {
+    /// It is not UTF-8.
+    #[error("the line is not UTF-8")]
+    Text,
+    /// It is not `mark`, nor `req` or `tick` and their words, parted by one blank each.
+    #[error("a line is `req USER HOST HEX`, `mark` or `tick N`, its words parted by one blank each")]
+    Words,
+    /// The frame is not written in pairs of hexadecimal digits.
+    #[error("the frame is not written in pairs of hexadecimal digits")]
+    Digits,
+    /// The frame's size field isn't the number of bytes after it.
+    #[error("the first four bytes of the frame are not the number of bytes behind them")]
+    Size,
+    /// The moment is not written in decimal digits, or is above the greatest number of 64 bits.
+    #[error("the moment is not written in decimal digits, or is above 18,446,744,073,709,551,615")]
+    Moment,
+}
+
+/// The words of `req USER HOST HEX` after the first.
+#[derive(Drop)]
+struct Words<'a> {
+    user: &'a str,
+    host: &'a str,
+    digits: &'a str,
+}
+
+/// The bytes after a size field that counts them.
+#[tactic(auto, unfolding(wire_types::specs::Reading::nat_at))]
+fn after_size(frame: &Bytes) -> Result<Option<Bytes>, AllocError>
+    ensures { IfOk result (λ text. text ≡ bytes_after_size (nat_at w32 frame.now)) }
+{
+    let mut cursor = Cursor::over(frame);
+    match cursor.read_u32() {
+        Ok(size) => {
+            if size as usize != cursor.len() {
+                return Ok(None);
+            }
+        }
+        Err(_) => return Ok(None),
+    }
+    Ok(Some(frame.slice(SIZE_FIELD..frame.len())?))
+}
+
+/// The frame that the digits spell, without its size field.
+fn parse_frame(alloc: Global, digits: &str) -> Result<Result<Bytes, Unreadable>, AllocError>
+    ensures { IfOk result (λ read. result_ok read ≡ frame_of digits.now) }
+{
+    let frame = match hex::decode(alloc, digits) {
+        Ok(frame) => Bytes::from_vec(frame)?,
+        Err(FromHexError::OutOfMemory) => return Err(AllocError),
+        Err(_) => return Ok(Err(Unreadable::Digits)),
+    };
+    match after_size(&frame)? {
+        Some(text) => Ok(Ok(text)),
+        None => Ok(Err(Unreadable::Size)),
+    }
+}
+
+/// The words after `req `.
+fn split_words(text: &str) -> Option<Words<'_>>
+    ensures { option_map (λ w. (w.user.now, w.host.now, w.digits.now)) result ≡ words_of text.now }
+{
+    let (user, rest) = text.split_once(' ')?;
+    let (host, digits) = rest.split_once(' ')?;
+    if user.is_empty() || host.is_empty() {
+        return None;
+    }
+    Some(Words { user, host, digits })
+}
+
+/// The principal of a user, and its host.
+fn caller(alloc: Global, user: &str, host: &str) -> Result<Caller, AllocError>
+    ensures { IfOk result (λ caller. caller ≡ caller_of user.now host.now) }
+{
+    Ok(Caller {
+        who: Text::from_string(format!(in alloc; "User:{user}")?)?,
+        host: Text::of(alloc, host)?,
+    })
+}
+
+/// What is sent by the words after `req `, and by whom.
+fn parse_sent(alloc: Global, text: &str) -> Result<Result<Sent, Unreadable>, AllocError>
+    ensures { IfOk result (λ read. result_ok read ≡ sent_of text.now) }
+{
+    let Some(words) = split_words(text) else {
+        return Ok(Err(Unreadable::Words));
+    };
+    match parse_frame(alloc, words.digits)? {
+        Ok(frame) => Ok(Ok(Sent {
+            caller: caller(alloc, words.user, words.host)?,
+            frame,
+        })),
+        Err(unreadable) => Ok(Err(unreadable)),
+    }
+}
+
+/// The number that decimal digits write, without a sign.
+pub fn parse_number(digits: &str) -> Option<u64>
+    ensures { result ≡ number_of digits.now }
+{
+    if digits.starts_with('+') {
+        return None;
+    }
+    match digits.parse::<u64>() {
+        Ok(number) => Some(number),
+        Err(_) => None,
+    }
+}
+
+/// What a text asks for, or why it can't be read.
+fn parse_text(alloc: Global, text: &str) -> Result<Result<Order, Unreadable>, AllocError>
+    ensures { IfOk result (λ read. result_ok read ≡ order_in text.now) }
+{
+    if text == "mark" {
+        return Ok(Ok(Order::Mark));
+    }
+    let Some((first, rest)) = text.split_once(' ') else {
+        return Ok(Err(Unreadable::Words));
+    };
+    if first == "req" {
+        return match parse_sent(alloc, rest)? {
+            Ok(sent) => Ok(Ok(Order::Ask(sent))),
+            Err(unreadable) => Ok(Err(unreadable)),
+        };
+    }
+    if first != "tick" {
+        return Ok(Err(Unreadable::Words));
+    }
+    match parse_number(rest) {
+        Some(moment) => Ok(Ok(Order::Tick(moment))),
+        None => Ok(Err(Unreadable::Moment)),
+    }
+}
+
+/// The bytes as text, if they are UTF-8.
+fn text_of(bytes: &[u8]) -> Option<&str>
+    ensures { option_map (λ t. t.now) result ≡ text_of bytes.now }
+{
+    match from_utf8(bytes) {
+        Ok(text) => Some(text),
+        Err(_) => None,
+    }
+}
+
+/// What a line without its line feed asks for, or why it can't be read.
+pub fn parse_order(alloc: Global, line: &[u8]) -> Result<Result<Order, Unreadable>, AllocError>
+    ensures { IfOk result (λ read. result_ok read ≡ order_of line.now) }
+{
+    match text_of(line) {
+        Some(text) => parse_text(alloc, text),
+        None => Ok(Err(Unreadable::Text)),
+    }
+}

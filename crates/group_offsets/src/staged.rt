@@ -1,0 +1,47 @@
+//! Of each producer the rows in which it waits.
+
+ghost use Rattle.std.specs.Prelude.{◌≡◌, ℤ, is_some, OnOk, OnErr};
+ghost use Rattle.group_offsets.specs.Kept.{waits, rows_of, has_row, AreOnce, HasMore, HasSame, HasLast};
+
+use crate::row::Row;
+use std::alloc::{AllocError, Global};
+use std::collections::HashMap;
+
+/// Of each producer the places of the rows in which it waits.
+pub(crate) type Staged = HashMap<i64, Vec<usize>>;
+
+/// The producer has the row that stands at this place, which it may have already.
+pub(crate) fn enter(
+    staged: &mut Staged,
+    alloc: Global,
+    producer: i64,
+    row: &Row,
+    at: usize,
+) -> Result<(), AllocError>
+    requires exact { has_row staged.old.entries producer at ≡ is_some (waits row.now producer) }
+    requires once { AreOnce staged.old.entries }
+    ensures ok { OnOk result (HasMore staged.old.entries staged.new.entries producer at) }
+    ensures err { OnErr result (HasSame staged.old.entries staged.new.entries) }
+    ensures once { AreOnce staged.new.entries }
+{
+    if row.waits(producer) {
+        return Ok(());
+    }
+    add(staged, alloc, producer, at)
+}
+
+/// The producer has the row at this place after its others.
+fn add(staged: &mut Staged, alloc: Global, producer: i64, at: usize) -> Result<(), AllocError>
+    ensures ok { OnOk result (HasLast staged.old.entries staged.new.entries producer at) }
+    ensures err { OnErr result
+        ((p : ℤ) → rows_of staged.new.entries p ≡ rows_of staged.old.entries p) }
+{
+    if let Some(places) = staged.get_mut(&producer) {
+        places.push(at)?;
+        return Ok(());
+    }
+    let mut places = Vec::new(alloc);
+    places.push(at)?;
+    staged.insert(producer, places)?;
+    Ok(())
+}

@@ -1,0 +1,147 @@
+//! What is kept of one producer.
+
+ghost use Rattle.std.specs.Prelude.{◌≡◌, ◌&&◌, IfOk, Some};
+ghost use Rattle.std.specs.List.{find};
+ghost use Rattle.std.specs.Ordering.{int_eq};
+ghost use Rattle.record_batch.specs.Batch.{written_at};
+ghost use Rattle.producer_state.specs.Sequences.{is_data, first_judgment};
+ghost use Rattle.producer_state.specs.State.{written_of, has_sequences_of, judgment_by_state, fresh_state, state_in_epoch, state_with_batch_if};
+
+use crate::judgment::Judgment;
+use crate::sequence::{last_sequence, next_sequence};
+use circular_buffer::HeapCircularBuffer;
+use record_batch::Batch;
+use std::alloc::{AllocError, Global};
+use std::marker::Model;
+use wire_types::ErrorCode;
+
+/// A data batch that the log holds.
+#[derive(Clone, Copy, Debug)]
+pub struct BatchMetadata {
+    /// The sequence number of its first record.
+    pub first: i32,
+    /// The sequence number of its last record.
+    pub last: i32,
+    /// The offset of its first record.
+    pub offset: i64,
+}
+
+impl BatchMetadata {
+    /// What is kept of a data batch that stands at this offset.
+    fn of(batch: &Batch, offset: i64) -> BatchMetadata
+        ensures { result ≡ written_of (written_at offset batch.now) }
+    {
+        let first = batch.base_sequence();
+        BatchMetadata {
+            first,
+            last: last_sequence(first, batch.record_count()),
+            offset,
+        }
+    }
+
+    /// Whether a batch has the same first and the same last sequence number.
+    fn has_sequences_of(&self, batch: &Batch) -> bool
+        ensures { result ≡ has_sequences_of batch.now self.now }
+    {
+        let first = batch.base_sequence();
+        self.first == first && self.last == last_sequence(first, batch.record_count())
+    }
+}
+
+/// How many data batches are kept of a producer.
+const KEPT: usize = 5;
+
+/// A producer's epoch, the sequence number that is expected of it, and its last five data batches of that epoch, the
+/// latest first.
+#[derive(Drop)]
+pub struct ProducerEntry {
+    epoch: i16,
+    expected: i32,
+    latest: HeapCircularBuffer<BatchMetadata>,
+}
+
+impl Model for ProducerEntry {
+    ghost use Rattle.std.specs.Prelude.{◌≡◌};
+    ghost use Rattle.producer_state.specs.State.{ProducerEntryValue};
+
+    ghost Value = { ProducerEntryValue };
+
+    ghost view = { λ k. record { epoch = k.epoch; expected = k.expected; latest = k.latest.items } };
+
+    ghost invariant = { λ k. k.latest.capacity ≡ 5 };
+}
+
+impl ProducerEntry {
+    /// A producer that has written nothing in this epoch.
+    pub(crate) fn fresh(alloc: Global, epoch: i16) -> Result<ProducerEntry, AllocError>
+        ensures { IfOk result (λ k. k ≡ fresh_state epoch) }
+    {
+        let latest = HeapCircularBuffer::with_capacity(alloc, KEPT)?;
+        Ok(ProducerEntry {
+            epoch,
+            expected: 0,
+            latest,
+        })
+    }
+
+    /// Once something of the producer tells an epoch, the greatest one counts.
+    pub(crate) fn update_epoch(&mut self, epoch: i16)
+        ensures { self.new ≡ state_in_epoch (Some self.old) epoch }
+    {
+        if self.epoch < epoch {
+            self.epoch = epoch;
+            self.expected = 0;
+            self.latest.clear();
+        }
+    }
+
+    /// Notes a batch or marker of the producer that stands at this offset.
+    pub(crate) fn note(&mut self, batch: &Batch, offset: i64)
+        ensures { self.new ≡ state_with_batch_if
+            (is_data batch.now && int_eq self.old.epoch batch.now.header.producer_epoch)
+            self.old (written_at offset batch.now) }
+    {
+        if batch.marker().is_none() && self.epoch == batch.producer_epoch() {
+            self.expected = next_sequence(batch.base_sequence(), batch.record_count());
+            self.latest.push_front(BatchMetadata::of(batch, offset));
+        }
+    }
+
+    /// How a batch of this producer is judged.
+    pub(crate) fn judge(&self, batch: &Batch) -> Judgment
+        ensures { result ≡ judgment_by_state (Some self.now) batch.now }
+    {
+        if batch.producer_epoch() < self.epoch {
+            return Judgment::Refused(ErrorCode::InvalidProducerEpoch);
+        }
+        if batch.producer_epoch() > self.epoch {
+            return begun(batch);
+        }
+        match find_repeat(&self.latest, batch) {
+            Some(written) => Judgment::Repeat(written.offset),
+            None if batch.base_sequence() == self.expected => Judgment::Next,
+            None => Judgment::Refused(ErrorCode::OutOfOrderSequenceNumber),
+        }
+    }
+}
+
+/// How a producer's first batch of an epoch is judged.
+pub(crate) fn begun(batch: &Batch) -> Judgment
+    ensures { result ≡ first_judgment batch.now }
+{
+    if batch.base_sequence() == 0 {
+        Judgment::Next
+    } else {
+        Judgment::Refused(ErrorCode::OutOfOrderSequenceNumber)
+    }
+}
+
+/// The latest of the batches that has the same sequence numbers.
+fn find_repeat(latest: &HeapCircularBuffer<BatchMetadata>, batch: &Batch) -> Option<BatchMetadata>
+    ensures { result ≡ find (has_sequences_of batch.now) latest.now.items }
+{
+    latest
+        .iter()
+        .copied()
+        .find(|written| written.has_sequences_of(batch))
+}

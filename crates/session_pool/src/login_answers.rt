@@ -1,0 +1,71 @@
+//! What a session answers by itself, before a login.
+
+ghost use Rattle.std.specs.Prelude.{◌≡◌, true, IfOk};
+ghost use Rattle.msg_admin.specs.Response.{response, is_sendable};
+ghost use Rattle.msg_admin.specs.declared.reply.Reply.TheVariants as replies;
+ghost use Rattle.msg_login.specs.SaslHandshake.{handshake_reply};
+ghost use Rattle.msg_login.specs.SaslAuthenticate.{authenticate_reply};
+ghost use Rattle.session_pool.specs.Listed.{versions_listed};
+
+use crate::listed::{ListedVersions, versions_listed};
+use msg_admin::{Reply, write_reply};
+use msg_login::{SaslAuthenticateReply, SaslHandshakeReply};
+use std::alloc::{AllocError, Global};
+use wire_types::{Boxed, Bytes, ErrorCode, WriteFault};
+
+/// The response of a reply that can be sent. Only memory can lack.
+#[tactic(auto, using(crate::proofs::Short::never_long))]
+fn write_own(alloc: Global, correlation: i32, reply: &Reply) -> Result<Bytes, AllocError>
+    requires { is_sendable correlation reply.now ≡ true }
+    ensures { IfOk result (λ bytes. bytes ≡ response correlation reply.now) }
+{
+    match write_reply(alloc, correlation, reply) {
+        Ok(bytes) => Ok(bytes),
+        Err(WriteFault::NoMemory) => Err(AllocError),
+        Err(WriteFault::TooLong) => unreachable!(),
+    }
+}
+
+/// What an ApiVersions is answered.
+#[tactic(auto, using(crate::proofs::Short::versions_short))]
+pub(crate) fn write_versions(
+    alloc: Global,
+    correlation: i32,
+    listed: ListedVersions,
+) -> Result<Bytes, AllocError>
+    ensures { IfOk result
+        (λ bytes. bytes ≡ response correlation (replies.ApiVersions (versions_listed listed))) }
+{
+    let reply = Reply::ApiVersions(versions_listed(alloc, listed)?);
+    write_own(alloc, correlation, &reply)
+}
+
+/// What a SaslHandshake is answered.
+#[tactic(auto, using(crate::proofs::Short::handshake_short))]
+pub(crate) fn write_handshake(
+    alloc: Global,
+    correlation: i32,
+    error: ErrorCode,
+) -> Result<Bytes, AllocError>
+    ensures { IfOk result
+        (λ bytes. bytes ≡ response correlation (replies.SaslHandshake (handshake_reply error))) }
+{
+    let reply = Reply::SaslHandshake(SaslHandshakeReply::telling(alloc, error)?);
+    write_own(alloc, correlation, &reply)
+}
+
+/// What a SaslAuthenticate is answered.
+#[tactic(auto, using(crate::proofs::Short::login_short))]
+pub(crate) fn write_login(
+    alloc: Global,
+    correlation: i32,
+    error: ErrorCode,
+) -> Result<Bytes, AllocError>
+    ensures { IfOk result
+        (λ bytes. bytes ≡ response correlation
+        (replies.SaslAuthenticate (authenticate_reply error))) }
+{
+    let reply = SaslAuthenticateReply::telling(error);
+    let reply = Reply::SaslAuthenticate(Boxed::new(alloc, reply)?);
+    write_own(alloc, correlation, &reply)
+}

@@ -1,0 +1,75 @@
+//! The message of a login (RFC 4616, section 2).
+
+ghost use Rattle.std.specs.Prelude.{◌≡◌, IfOk, option_map};
+ghost use Rattle.std.specs.List.{position};
+ghost use Rattle.session_pool.specs.LoginMessage.{is_nul, parts_at_nul, plain_of, user_of, principal_of};
+
+use crate::users::Users;
+use settings_text::User;
+use std::alloc::{AllocError, Global};
+use wire_types::Text;
+
+/// The place of the first NUL.
+fn find_nul(bytes: &[u8]) -> Option<usize>
+    ensures { result ≡ position is_nul bytes.now }
+{
+    bytes.iter().position(|byte| *byte == 0)
+}
+
+/// What stands before the first NUL and after it.
+fn cut_at_nul(bytes: &[u8]) -> Option<(&[u8], &[u8])>
+    ensures { option_map (λ p. (p.0.now, p.1.now)) result ≡ parts_at_nul bytes.now }
+{
+    let at = find_nul(bytes)?;
+    Some((&bytes[..at], &bytes[at + 1..]))
+}
+
+/// The parts of a PLAIN message.
+#[derive(Drop)]
+struct Plain<'a> {
+    authorization: &'a [u8],
+    authentication: &'a [u8],
+    password: &'a [u8],
+}
+
+fn split_plain(message: &[u8]) -> Option<Plain<'_>>
+    ensures { option_map (λ p. (p.authorization.now, p.authentication.now, p.password.now)) result
+        ≡ plain_of message.now }
+{
+    let (authorization, rest) = cut_at_nul(message)?;
+    let (authentication, password) = cut_at_nul(rest)?;
+    if find_nul(password).is_some() {
+        return None;
+    }
+    Some(Plain {
+        authorization,
+        authentication,
+        password,
+    })
+}
+
+/// The user that a PLAIN message names with the right password.
+pub(crate) fn user_of<'u>(users: &'u Users, message: &[u8]) -> Option<&'u User>
+    ensures { option_map (λ u. u.now) result ≡ user_of users.now message.now }
+{
+    let plain = split_plain(message)?;
+    if !plain.authorization.is_empty() && plain.authorization != plain.authentication {
+        return None;
+    }
+    users.find(plain.authentication, plain.password)
+}
+
+/// The name that a PLAIN message tells, whatever its password: its authentication identity.
+pub fn name_in(message: &[u8]) -> Option<&[u8]>
+    ensures { option_map (λ name. name.now) result ≡ option_map (λ p. p.1) (plain_of message.now) }
+{
+    Some(split_plain(message)?.authentication)
+}
+
+/// The principal as which a user asks.
+pub(crate) fn principal_of(alloc: Global, user: &User) -> Result<Text, AllocError>
+    ensures { IfOk result (λ who. who ≡ principal_of user.now) }
+{
+    let name = user.name.as_str();
+    Text::from_string(format!(in alloc; "User:{name}")?)
+}

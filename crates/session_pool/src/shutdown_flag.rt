@@ -1,0 +1,27 @@
+//! Whether sessions go on to be begun.
+
+use std::sync::atomic::{AtomicU64, Ordering};
+
+/// Whether no more connections are to be taken.
+#[derive(Drop)]
+pub struct ShutdownFlag {
+    flag: AtomicU64,
+}
+
+impl ShutdownFlag {
+    /// At first they are to be taken.
+    pub fn new() -> ShutdownFlag {
+        ShutdownFlag {
+            flag: AtomicU64::new(0),
+        }
+    }
+
+    /// From here on no more are.
+    pub fn close(&self) {
+        self.flag.store(1, Ordering::SeqCst);
+    }
+
+    pub fn is_closed(&self) -> bool {
+        self.flag.load(Ordering::SeqCst) != 0
+    }
+}

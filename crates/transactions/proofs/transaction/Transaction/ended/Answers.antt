@@ -1,6 +1,0 @@
-use Rattle.std.proofs.Common.{sym}
-use Rattle.transactions.proofs.Ranges.{pair_below}
-use Rattle.transactions.proofs.transaction.Transaction.ended.Goals as goal
-
-pub end_own-requires : goal.end_own-requires
-end_own-requires c = pair_below c.other_epoch.result c.args.self.now c.args.pair (sym c.in-None.ensures)

@@ -1,0 +1,100 @@
+//! What a call comes to for a record that is there, before anything is changed.
+
+ghost use Rattle.std.specs.Prelude.{◌≡◌, ◌++◌, Some, OnOk, OnErr, IfOk};
+ghost use Rattle.txn_coordinator.specs.Coordinator.{transition_code, given_for, pending_markers_for, id_and_epoch_answer};
+ghost use Rattle.txn_coordinator.specs.Adding.{record_after};
+ghost use Rattle.txn_coordinator.specs.Changes.{standing_of, with_standing, transition_of};
+
+use crate::marker::PendingMarker;
+use crate::pending_markers::PendingMarkers;
+use crate::producer_id::{ProducerIdAndEpoch, ProducerIdAnswer};
+use crate::transaction::{Transaction, TransactionState};
+use std::alloc::AllocError;
+use wire_types::{ErrorCode, Items, Shared, Text};
+
+/// Where a transactional id stands: what a call changes of its record, beside what is added to its transaction.
+#[derive(Clone, Copy, Debug, PartialEq, Eq)]
+pub struct Standing {
+    pub pair: ProducerIdAndEpoch,
+    pub timeout: u32,
+    pub state: TransactionState,
+    pub kept: Option<ProducerIdAndEpoch>,
+}
+
+/// What a call comes to: a code alone; or a code with where the id stands from then on, the owners of the producer ids
+/// that are given out for it, and the markers that are pending.
+#[derive(Drop)]
+pub enum Change {
+    Stays(ErrorCode),
+    Moves(ErrorCode, Standing, Items<Option<Text>>, Items<Shared<PendingMarker>>),
+}
+
+impl Transaction {
+    /// Where the id stands.
+    pub(crate) fn standing(&self) -> Standing
+        ensures { result ≡ standing_of self.now }
+    {
+        Standing {
+            pair: self.pair,
+            timeout: self.timeout,
+            state: self.state,
+            kept: self.kept,
+        }
+    }
+
+    fn stand(&mut self, standing: Standing)
+        ensures { self.new ≡ with_standing standing self.old }
+    {
+        self.pair = standing.pair;
+        self.timeout = standing.timeout;
+        self.state = standing.state;
+        self.kept = standing.kept;
+    }
+
+    /// What a call with this code is answered.
+    fn answer(&self, code: ErrorCode) -> ProducerIdAnswer
+        ensures { result ≡ id_and_epoch_answer code (Some self.now) }
+    {
+        match code {
+            ErrorCode::None => ProducerIdAnswer {
+                code,
+                pair: self.pair,
+            },
+            _ => ProducerIdAnswer::refused(code),
+        }
+    }
+
+    /// Does what a call comes to. All that needs memory comes first: after an error nothing is changed.
+    pub(crate) fn take(
+        &mut self,
+        given: &mut Vec<Option<Text>>,
+        owed: &mut PendingMarkers,
+        change: Change,
+    ) -> Result<ProducerIdAnswer, AllocError>
+        ensures ok { OnOk result
+            (self.new ≡ record_after (transition_of self.old change) self.old) }
+        ensures given { OnOk result
+            (given.new.items ≡ given.old.items ++ given_for (transition_of self.old change)) }
+        ensures owed { OnOk result
+            (owed.new ≡ owed.old ++ pending_markers_for (transition_of self.old change)) }
+        ensures answer { IfOk result
+            (λ answer. answer
+            ≡ id_and_epoch_answer (transition_code (transition_of self.old change))
+            (Some self.new)) }
+        ensures err { OnErr result (self.new ≡ self.old) }
+        ensures given_err { OnErr result (given.new.items ≡ given.old.items) }
+        ensures owed_err { OnErr result (owed.new ≡ owed.old) }
+    {
+        match change {
+            Change::Stays(code) => Ok(self.answer(code)),
+            Change::Moves(code, standing, more, markers) => {
+                let mut more = Vec::from(more);
+                given.reserve(more.len())?;
+                owed.append(markers)?;
+                given.append(&mut more).unwrap();
+                self.stand(standing);
+                Ok(self.answer(code))
+            }
+        }
+    }
+}

@@ -1,0 +1,95 @@
+//! The markers that a prepared transaction owes.
+
+ghost use Rattle.std.specs.Prelude.{◌≡◌, ◌++◌, IfOk, map};
+ghost use Rattle.txn_coordinator.specs.declared.target.Target.TheVariants.{Partition, Group};
+ghost use Rattle.txn_coordinator.specs.Preparing.{marker_for, markers};
+
+use crate::producer_id::ProducerIdAndEpoch;
+use crate::target::Target;
+use crate::transaction::Transaction;
+use record_batch::TransactionResult;
+use std::alloc::{AllocError, Global};
+use wire_types::{Items, Shared, Text};
+
+/// A marker that a transactional id owes: a control batch to a partition, or the decision over what the producer staged
+/// to a group.
+#[derive(Clone, Debug, Drop)]
+pub struct PendingMarker {
+    /// The transactional id that owes it.
+    pub id: Text,
+    /// The producer id and the epoch that the marker carries. They aren't always the id's own at the time of writing.
+    pub pair: ProducerIdAndEpoch,
+    pub outcome: TransactionResult,
+    pub target: Target,
+}
+
+impl Transaction {
+    /// A marker for each added partition, then for each added group.
+    pub(crate) fn markers(
+        &self,
+        alloc: Global,
+        pair: ProducerIdAndEpoch,
+        outcome: TransactionResult,
+    ) -> Result<Items<Shared<PendingMarker>>, AllocError>
+        ensures { IfOk result (λ owed. owed ≡ markers self.now pair outcome) }
+    {
+        let owed = self.partition_markers(alloc, pair, outcome)?;
+        self.group_markers(alloc, owed, pair, outcome)
+    }
+
+    fn partition_markers(
+        &self,
+        alloc: Global,
+        pair: ProducerIdAndEpoch,
+        outcome: TransactionResult,
+    ) -> Result<Items<Shared<PendingMarker>>, AllocError>
+        ensures { IfOk result (λ owed. owed ≡ map (marker_for self.now.id pair outcome)
+            (map (λ p. Partition p) self.now.partitions)) }
+    {
+        let mut owed = Items::new(alloc);
+        let partitions = self.partitions.as_slice();
+        for partition in partitions {
+            let target = Target::Partition(partition.copied()?);
+            owed.push(self.marker_for(alloc, pair, outcome, target)?)?;
+        }
+        Ok(owed)
+    }
+
+    fn group_markers(
+        &self,
+        alloc: Global,
+        before: Items<Shared<PendingMarker>>,
+        pair: ProducerIdAndEpoch,
+        outcome: TransactionResult,
+    ) -> Result<Items<Shared<PendingMarker>>, AllocError>
+        ensures { IfOk result (λ owed. owed ≡ before ++ map (marker_for self.now.id pair outcome)
+            (map (λ g. Group g) self.now.groups)) }
+    {
+        let mut owed = before;
+        let groups = self.groups.as_slice();
+        for group in groups {
+            let target = Target::Group(group.clone()?);
+            owed.push(self.marker_for(alloc, pair, outcome, target)?)?;
+        }
+        Ok(owed)
+    }
+
+    fn marker_for(
+        &self,
+        alloc: Global,
+        pair: ProducerIdAndEpoch,
+        outcome: TransactionResult,
+        target: Target,
+    ) -> Result<Shared<PendingMarker>, AllocError>
+        ensures { IfOk result (λ owed. owed ≡ marker_for self.now.id pair outcome target) }
+    {
+        let id = self.id.clone()?;
+        let marker = PendingMarker {
+            id,
+            pair,
+            outcome,
+            target,
+        };
+        Ok(Shared::new(alloc, marker)?)
+    }
+}

@@ -1,0 +1,89 @@
+//! The markers that are pending.
+
+ghost use Rattle.std.specs.Prelude.{◌≡◌, ◌<◌, [], ◌∷◌, ◌++◌, OnOk, OnErr, length, slice_get};
+ghost use Rattle.std.specs.Option.{option_copied};
+ghost use Rattle.txn_coordinator.specs.Warrants.{has_pending_marker};
+
+use crate::counts::{Counts, enter_all, lower, owes_any, raise_all};
+use crate::marker::PendingMarker;
+use std::alloc::{AllocError, Global};
+use std::collections::{HashMap, VecDeque};
+use std::hash::RandomState;
+use std::marker::Model;
+use wire_types::{Items, Shared, Text};
+
+/// The markers that are pending, the front one first, and how many each transactional id owes; seen as the list of markers.
+#[derive(Drop)]
+pub struct PendingMarkers {
+    queue: VecDeque<Shared<PendingMarker>>,
+    counts: Counts,
+}
+
+impl Model for PendingMarkers {
+    ghost use Rattle.std.specs.Prelude.{List};
+    ghost use Rattle.txn_coordinator.specs.declared.marker.PendingMarker.{PendingMarker as Marker};
+    ghost use Rattle.txn_coordinator.specs.Kept.{AreCounts};
+
+    ghost Value = { List Marker };
+
+    ghost view = { λ o. o.queue.items };
+
+    ghost invariant = { λ o. AreCounts o.counts o.queue.items };
+}
+
+impl PendingMarkers {
+    /// Nothing is owed. Ids are hashed by `hasher`; no answer depends on it. It takes no memory.
+    pub fn new(alloc: Global, hasher: RandomState) -> PendingMarkers
+        ensures { result ≡ [] }
+    {
+        PendingMarkers {
+            queue: VecDeque::new(alloc),
+            counts: HashMap::with_hasher(alloc, hasher),
+        }
+    }
+
+    /// How many they are.
+    pub fn len(&self) -> usize
+        ensures { result ≡ length self.now }
+    {
+        self.queue.len()
+    }
+
+    /// The front marker.
+    pub fn front(&self) -> Option<&Shared<PendingMarker>>
+        ensures { option_copied result ≡ slice_get self.now 0 }
+    {
+        self.queue.front()
+    }
+
+    /// Whether the id owes a marker. It takes no memory.
+    pub fn owes(&self, id: &Text) -> bool
+        ensures { result ≡ has_pending_marker self.now id.now }
+    {
+        owes_any(&self.counts, id)
+    }
+
+    /// These are owed too, after the others. All that needs memory comes first.
+    pub fn append(&mut self, more: Items<Shared<PendingMarker>>) -> Result<(), AllocError>
+        ensures ok { OnOk result (self.new ≡ self.old ++ more) }
+        ensures err { OnErr result (self.new ≡ self.old) }
+    {
+        self.queue.reserve(more.len())?;
+        let alloc = *self.queue.allocator();
+        enter_all(&mut self.counts, alloc, more.as_slice())?;
+        raise_all(&mut self.counts, more.as_slice());
+        let mut more = VecDeque::from_vec(Vec::from(more));
+        self.queue.append(&mut more).unwrap();
+        Ok(())
+    }
+
+    /// Takes the front marker off. It takes no memory.
+    pub fn pop(&mut self) -> Shared<PendingMarker>
+        requires { 0 < length self.old }
+        ensures { self.old ≡ result ∷ self.new }
+    {
+        let front = self.queue.pop_front().unwrap();
+        lower(&mut self.counts, &front.value().id);
+        front
+    }
+}

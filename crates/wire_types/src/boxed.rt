@@ -1,0 +1,76 @@
+//! A value in a block of its own, which contracts see as the value.
+
+ghost use Rattle.std.specs.Prelude.{◌≡◌, IfOk};
+
+use crate::cursor::Cursor;
+use crate::fault::{ReadFault, WriteFault};
+use crate::wire::Wire;
+use std::alloc::{AllocError, Global};
+use std::marker::Model;
+
+/// A value after a `Box`, seen as the value: whoever holds it takes room for a pointer alone.
+pub struct Boxed<T> {
+    boxed: Box<T>,
+}
+
+impl<T> Model for Boxed<T> {
+    ghost Value = { T };
+
+    ghost view = { λ b. b.boxed.value };
+}
+
+impl<T: Drop> Drop for Boxed<T> {
+    fn drop(self) {
+        let Boxed { boxed: _boxed } = self;
+    }
+}
+
+impl<T> Boxed<T> {
+    /// Puts a value into a block. Where memory is refused, the value is dropped.
+    pub fn new(alloc: Global, value: T) -> Result<Boxed<T>, AllocError>
+    where
+        T: Drop,
+        ensures { IfOk result (λ b. b ≡ value) }
+    {
+        Ok(Boxed {
+            boxed: Box::new(alloc, value)?,
+        })
+    }
+
+    pub fn value(&self) -> &T
+        ensures { result.now ≡ self.now }
+    {
+        &*self.boxed
+    }
+}
+
+impl<T: PartialEq> PartialEq for Boxed<T> {
+    ghost eq = { T.eq };
+
+    ghost laws = { T.laws };
+
+    fn eq(&self, other: &Boxed<T>) -> bool {
+        self.value() == other.value()
+    }
+}
+
+impl<T: Eq> Eq for Boxed<T> {
+    ghost laws = { T.Eq.laws };
+}
+
+impl<T: Wire> Wire for Boxed<T> {
+    ghost grammar = { T.grammar };
+
+    fn read(alloc: Global, cursor: &mut Cursor<'_>) -> Result<Boxed<T>, ReadFault> {
+        let value: T = Wire::read(alloc, cursor)?;
+        Ok(Boxed::new(alloc, value)?)
+    }
+
+    fn put(&self, out: &mut Vec<u8>) -> Result<(), WriteFault> {
+        self.value().put(out)
+    }
+
+    fn room_left(&self, room: usize) -> Option<usize> {
+        self.value().room_left(room)
+    }
+}
