@@ -14,7 +14,7 @@ PROGRAM = ROOT / "crates" / NAME / "out" / NAME
 PARTS = ("src", "specs", "proofs")
 NOT_BUILT = 3
 # How long `make prove` takes where nothing is built.
-PROVING_TIME = "60 to 90 minutes on 4 processors"
+PROVING_TIME = "60 to 100 minutes on 4 processors"
 
 
 def crates_list():
