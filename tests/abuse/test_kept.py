@@ -26,7 +26,7 @@ EVENTS = {
 LIMITS = {
     "a tick": 120,
     "a marker step": 120,
-    "a Metadata of one topic": 500,
+    "a Metadata of one topic": 480,
     "a Fetch of one record": 720,
     "a Produce of one record": 790,
 }

@@ -1,11 +1,10 @@
 //! CreateAcls: bindings are added to the book.
 
-ghost use Rattle.std.specs.Prelude.{◌≡◌, ◌+◌, ◌<◌, ◌≤◌, ◌^◌, length, map, IfOk, OnOk};
+ghost use Rattle.std.specs.Prelude.{[], ◌≡◌, ◌+◌, ◌<◌, ◌≤◌, ◌^◌, length, map, IfOk, OnOk};
 ghost use Rattle.acl_binding.specs.Entries.{binding_of};
 ghost use Rattle.msg_acl.specs.declared.entries.BindingEntry.{BindingEntry as Entry};
 ghost use Rattle.walk.specs.Codes.{refusal_code};
-ghost use Rattle.authorizer.specs.Asking.{part_paid};
-ghost use Rattle.broker_world.specs.World.{rules_of};
+ghost use Rattle.broker_world.specs.HandlerResult.{HandlerMeets};
 ghost use Rattle.acl_handlers.specs.CreateAcls.{alter_questions, book_with, book_created, creation_result_with, creation_result, create_acls_reply, create_acls_outcome};
 
 use acl_binding::{BadEntry, Binding, Caller, Operation};
@@ -103,15 +102,9 @@ pub fn answer_create_acls(
     request: &CreateAclsRequest,
 ) -> Result<HandlerResult, AllocError>
     requires { state.old.book.next + length request.now.creations < 2 ^ 63 }
-    ensures world { OnOk result
-        (state.new ≡ (create_acls_outcome state.old caller.now request.now).world) }
-    ensures reply { IfOk result
-        (λ o. o.reply ≡ (create_acls_outcome state.old caller.now request.now).reply) }
-    ensures refusals { IfOk result
-        (λ o. o.refusals ≡ (create_acls_outcome state.old caller.now request.now).refusals) }
-    ensures paid { IfOk result
-        (λ o. o.paid ≡ part_paid (rules_of state.old) (alter_questions caller.now)) }
-    ensures spent { IfOk result (λ o. o.spent ≡ 0) }
+    ensures { HandlerMeets state.old state.new
+        (create_acls_outcome state.old caller.now request.now)
+        (alter_questions caller.now) [] result }
 {
     let question = asks_cluster(alloc, caller, Operation::Alter)?;
     let creations = request.creations.as_slice();

@@ -1,12 +1,11 @@
 //! DeleteAcls: what filters pick is taken out of the book.
 
-ghost use Rattle.std.specs.Prelude.{◌≡◌, ◌+◌, ◌<◌, ◌^◌, map, IfOk, OnOk};
+ghost use Rattle.std.specs.Prelude.{[], ◌≡◌, ◌<◌, ◌^◌, map, IfOk, OnOk};
 ghost use Rattle.acl_binding.specs.Entries.{filter_of};
 ghost use Rattle.msg_acl.specs.declared.entries.FilterEntry.{FilterEntry as Entry};
 ghost use Rattle.walk.specs.Codes.{refusal_code};
-ghost use Rattle.authorizer.specs.Asking.{part_paid};
 ghost use Rattle.acl_handlers.specs.CreateAcls.{alter_questions};
-ghost use Rattle.broker_world.specs.World.{rules_of};
+ghost use Rattle.broker_world.specs.HandlerResult.{HandlerMeets};
 ghost use Rattle.acl_handlers.specs.DeleteAcls.{book_without, book_deleted, deleted_acl, deletion_error, deletion_result, deletion_results, delete_acls_reply, delete_acls_outcome};
 
 use crate::filters::filter_in;
@@ -140,15 +139,9 @@ pub fn answer_delete_acls(
     request: &DeleteAclsRequest,
 ) -> Result<HandlerResult, AllocError>
     requires { state.old.book.next < 2 ^ 63 }
-    ensures world { OnOk result
-        (state.new ≡ (delete_acls_outcome state.old caller.now request.now).world) }
-    ensures reply { IfOk result
-        (λ o. o.reply ≡ (delete_acls_outcome state.old caller.now request.now).reply) }
-    ensures refusals { IfOk result
-        (λ o. o.refusals ≡ (delete_acls_outcome state.old caller.now request.now).refusals) }
-    ensures paid { IfOk result
-        (λ o. o.paid ≡ part_paid (rules_of state.old) (alter_questions caller.now)) }
-    ensures spent { IfOk result (λ o. o.spent ≡ 0) }
+    ensures { HandlerMeets state.old state.new
+        (delete_acls_outcome state.old caller.now request.now)
+        (alter_questions caller.now) [] result }
 {
     let question = asks_cluster(alloc, caller, Operation::Alter)?;
     let filters = request.filters.as_slice();

@@ -3,8 +3,7 @@
 ghost use Rattle.std.specs.Prelude.{◌≡◌, List, [], ◌∷◌, ◌++◌, IfOk, OnOk};
 ghost use Rattle.acl_binding.specs.declared.binding.Binding.{Binding as AnyBinding};
 ghost use Rattle.acl_binding.specs.Entries.{filter_of};
-ghost use Rattle.authorizer.specs.Asking.{part_paid};
-ghost use Rattle.broker_world.specs.World.{rules_of};
+ghost use Rattle.broker_world.specs.HandlerResult.{HandlerMeets};
 ghost use Rattle.acl_handlers.specs.DescribeAcls.{describe_acls_questions, described_acl, described_resources, describe_acls_error, describe_acls_reply, describe_acls_outcome};
 ghost use Rattle.acl_handlers.specs.Groups.{resource_with, groups_of};
 
@@ -102,13 +101,9 @@ pub fn answer_describe_acls(
     caller: &Caller,
     request: &DescribeAclsRequest,
 ) -> Result<HandlerResult, AllocError>
-    ensures reply { IfOk result
-        (λ o. o.reply ≡ (describe_acls_outcome state.now caller.now request.now).reply) }
-    ensures refusals { IfOk result
-        (λ o. o.refusals ≡ (describe_acls_outcome state.now caller.now request.now).refusals) }
-    ensures paid { IfOk result
-        (λ o. o.paid ≡ part_paid (rules_of state.now) (describe_acls_questions caller.now)) }
-    ensures spent { IfOk result (λ o. o.spent ≡ 0) }
+    ensures { HandlerMeets state.now state.now
+        (describe_acls_outcome state.now caller.now request.now)
+        (describe_acls_questions caller.now) [] result }
 {
     let question = asks_cluster(alloc, caller, Operation::Describe)?;
     let policy = state.policy();

@@ -1,5 +1,6 @@
--- A request that is one part: what is told where it was refused, and what a request that only reads leaves.
-use Rattle.std.proofs.Common.{◌≡◌, ℤ, true, false, List, [], ◌∷◌, Option, Some, None, Result, Ok, Err, OnOk, OnErr, refl, sym, ap, ◌∙◌}
+-- What a request that only reads leaves, and what is promised of equal requests.
+use Rattle.std.proofs.Common.{◌≡◌, ℤ, true, false, List, [], ◌∷◌, Option, Some, None, Result, Ok, Err, OnErr, refl, sym, subst}
+use Rattle.std.specs.declared.alloc.AllocError.{AllocError}
 use Rattle.acl_binding.specs.declared.question.Caller.{Caller}
 use Rattle.authorizer.specs.declared.answer.Refusal.{Refusal}
 use Rattle.authorizer.specs.Asking.{part_refusal}
@@ -10,6 +11,8 @@ use Rattle.msg_admin.specs.declared.request.Request.{Request}
 use Rattle.msg_admin.specs.declared.request.Request.TheVariants.{Produce, Fetch, ListOffsets, Metadata, OffsetCommit, OffsetFetch, FindCoordinator, JoinGroup, Heartbeat, LeaveGroup, SyncGroup, SaslHandshake, ApiVersions, InitProducerId, AddPartitionsToTxn, AddOffsetsToTxn, EndTxn, TxnOffsetCommit, DescribeAcls, CreateAcls, DeleteAcls, SaslAuthenticate}
 use Rattle.audit_trail.specs.declared.event.Event.{Event}
 use Rattle.audit_trail.specs.declared.event.Event.TheVariants.{Ask, Mark, Tick}
+use Rattle.broker_world.specs.declared.handler_result.HandlerResult.{HandlerResult as Told}
+use Rattle.broker_world.specs.HandlerResult.{HandlerMeets}
 use Rattle.broker_world.specs.World.{World, rules_of}
 use Rattle.broker_world.specs.Whole.{whole_outcome_by}
 use Rattle.acl_handlers.specs.DescribeAcls.{describe_acls_questions, describe_acls_outcome}
@@ -18,11 +21,8 @@ use Rattle.msg_group.specs.declared.offset_fetch.OffsetFetchRequest.{OffsetFetch
 use Rattle.msg_txn.specs.declared.find_coordinator.FindCoordinatorRequest.{FindCoordinatorRequest}
 use Rattle.group_handlers.specs.FindCoordinator.{kind_of, find_questions, find_coordinator_outcome}
 use Rattle.group_handlers.specs.OffsetFetch.{group_question, offsets_of, fetched_outcome, offset_fetch_by, offset_fetch_outcome}
+use Rattle.api_dispatch.specs.Questions.{asks_itself, parts_walked}
 use Rattle.api_dispatch.specs.Step.{request_outcome, outcome, is_reading}
-
-pub on_ok : {T E P : Type 0} (r : Result T E) → P → OnOk r P
-on_ok (Ok x) p = p
-on_ok (Err e) p = tt
 
 pub on_err : {T E P : Type 0} (r : Result T E) → P → OnErr r P
 on_err (Ok x) p = tt
@@ -37,9 +37,6 @@ whole_keeps (Some r) w refused reply = refl
 pub describe_keeps : (w : World) (caller : Caller) (r : DescribeAclsRequest) → (describe_acls_outcome w caller r).world ≡ w
 describe_keeps w caller r = whole_keeps (part_refusal (rules_of w) (describe_acls_questions caller)) w _ _
 
-pub described_world : (w : World) (caller : Caller) (q : Request) (r : DescribeAclsRequest) → q ≡ DescribeAcls r → w ≡ (request_outcome w caller q).world
-described_world w caller q r is = sym (ap (λ (x : Request). (request_outcome w caller x).world) is ∙ describe_keeps w caller r)
-
 pub find_keeps : (w : World) (caller : Caller) (r : FindCoordinatorRequest) → (find_coordinator_outcome w caller r).world ≡ w
 find_keeps w caller r = whole_keeps (part_refusal (rules_of w) (find_questions caller (kind_of r.key_type) r.key)) w _ _
 
@@ -52,12 +49,6 @@ offsets_keep w caller r = by_refusal (part_refusal (rules_of w) (group_question 
   by_refusal : (o : Option Refusal) → (offset_fetch_by o w caller r).world ≡ w
   by_refusal None = by_topics r.topics
   by_refusal (Some refusal) = refl
-
-pub found_world : (w : World) (caller : Caller) (q : Request) (r : FindCoordinatorRequest) → q ≡ FindCoordinator r → w ≡ (request_outcome w caller q).world
-found_world w caller q r is = sym (ap (λ (x : Request). (request_outcome w caller x).world) is ∙ find_keeps w caller r)
-
-pub fetched_world : (w : World) (caller : Caller) (q : Request) (r : OffsetFetchRequest) → q ≡ OffsetFetch r → w ≡ (request_outcome w caller q).world
-fetched_world w caller q r is = sym (ap (λ (x : Request). (request_outcome w caller x).world) is ∙ offsets_keep w caller r)
 
 pub reading_keeps : (w : World) (e : Event) → is_reading e ≡ true → (outcome w e).world ≡ w
 reading_keeps w (Ask caller client (Produce r)) reads = absurd (let clash : false ≡ true = reads in cc)
@@ -84,3 +75,11 @@ reading_keeps w (Ask caller client (CreateAcls r)) reads = absurd (let clash : f
 reading_keeps w (Ask caller client (DeleteAcls r)) reads = absurd (let clash : false ≡ true = reads in cc)
 reading_keeps w Mark reads = absurd (let clash : false ≡ true = reads in cc)
 reading_keeps w (Tick told) reads = absurd (let clash : false ≡ true = reads in cc)
+
+-- ---- what is promised of a request is promised of an equal one
+
+pub request_met : (old new : World) (caller : Caller) (result : Result Told AllocError) (q r : Request) → q ≡ r
+    → HandlerMeets old new (request_outcome old caller r) (asks_itself (rules_of old) caller r) (parts_walked old caller r) result
+    → HandlerMeets old new (request_outcome old caller q) (asks_itself (rules_of old) caller q) (parts_walked old caller q) result
+request_met old new caller result q r is met =
+    subst (λ (x : Request). HandlerMeets old new (request_outcome old caller x) (asks_itself (rules_of old) caller x) (parts_walked old caller x) result) (sym is) met

@@ -2,6 +2,7 @@
 
 ghost use Rattle.std.specs.Prelude.{◌≡◌, ◌+◌, ◌<◌, ◌^◌, ◌≤◌, true, IfOk, OnOk, OnErr};
 ghost use Rattle.msg_admin.specs.Request.{Fits};
+ghost use Rattle.broker_world.specs.HandlerResult.{HandlerMeets};
 ghost use Rattle.broker_world.specs.Logs.{offsets_left};
 ghost use Rattle.authorizer.specs.Asking.{part_paid};
 ghost use Rattle.broker_world.specs.World.{rules_of};
@@ -65,18 +66,10 @@ fn answer(
     requires room { most_parts ≤ offsets_left state.old.topics }
     requires numbers { state.old.book.next + most_parts < 2 ^ 63 }
     requires generations { GenerationsWithin most_events state.old.groups }
-    ensures world { OnOk result
-        (state.new ≡ (request_outcome state.old caller.now request.now).world) }
-    ensures reply { IfOk result
-        (λ o. o.reply ≡ (request_outcome state.old caller.now request.now).reply) }
-    ensures refusals { IfOk result
-        (λ o. o.refusals ≡ (request_outcome state.old caller.now request.now).refusals) }
-    ensures paid { IfOk result
-        (λ o. o.paid ≡ part_paid (rules_of state.old)
-        (asks_itself (rules_of state.old) caller.now request.now)) }
-    ensures spent { IfOk result
-        (λ o. o.spent ≡ tallied (rules_of state.old) 0
-        (parts_walked state.old caller.now request.now)) }
+    ensures meets { HandlerMeets state.old state.new
+        (request_outcome state.old caller.now request.now)
+        (asks_itself (rules_of state.old) caller.now request.now)
+        (parts_walked state.old caller.now request.now) result }
     ensures reading { OnErr result (is_reading_request request.now ≡ true → state.new ≡ state.old) }
 {
     match request {

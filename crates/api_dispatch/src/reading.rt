@@ -6,6 +6,7 @@ ghost use Rattle.api_dispatch.specs.Step.{is_reading, is_reading_request};
 use audit_trail::Event;
 use msg_admin::Request;
 
+/// Whether a request only reads: after an allocation failure the core is as it was.
 fn is_reading_request(request: &Request) -> bool
     ensures { result ≡ is_reading_request request.now }
 {

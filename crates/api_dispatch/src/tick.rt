@@ -1,7 +1,8 @@
 //! A tick of the clock: the moment goes on, members that were not heard of are removed, and transactions whose time is
 //! over are aborted.
 
-ghost use Rattle.std.specs.Prelude.{◌≡◌, [], IfOk, OnOk};
+ghost use Rattle.std.specs.Prelude.{[]};
+ghost use Rattle.broker_world.specs.HandlerResult.{HandlerMeets};
 ghost use Rattle.api_dispatch.specs.Ticks.{tick_outcome};
 
 use authorizer::Paid;
@@ -15,11 +16,7 @@ pub(crate) fn answer_tick(
     state: &mut State,
     told: u64,
 ) -> Result<HandlerResult, AllocError>
-    ensures world { OnOk result (state.new ≡ (tick_outcome state.old told).world) }
-    ensures reply { IfOk result (λ o. o.reply ≡ (tick_outcome state.old told).reply) }
-    ensures refusals { IfOk result (λ o. o.refusals ≡ (tick_outcome state.old told).refusals) }
-    ensures paid { IfOk result (λ o. o.paid ≡ []) }
-    ensures spent { IfOk result (λ o. o.spent ≡ 0) }
+    ensures { HandlerMeets state.old state.new (tick_outcome state.old told) [] [] result }
 {
     state.moment.go_on(told);
     let moment = state.moment.milliseconds();

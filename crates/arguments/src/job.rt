@@ -14,7 +14,8 @@ use crate::help::{
     VERSION,
 };
 use crate::misused::Misused;
-use crate::serving::{Serving, option, serving_by, with_options};
+use crate::serve_options::{option, with_options};
+use crate::serving::{Serving, serving_by};
 use clap::error::ErrorKind;
 use clap::{Arg, Command, Error};
 use std::alloc::{AllocError, Global};

@@ -5,6 +5,7 @@ mod address;
 mod help;
 mod job;
 mod misused;
+mod serve_options;
 mod serving;
 
 pub use help::VERSION;

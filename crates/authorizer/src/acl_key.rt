@@ -10,7 +10,7 @@ use acl_binding::{Filter, FilterPattern, Kind, Pattern};
 use std::alloc::{AllocError, Global};
 use wire_types::Items;
 
-/// A kind, a pattern and a name, under which bindings stand.
+/// Under what a binding is found in the tables of the policy: the kind of its resource, its pattern, and its name.
 #[derive(Clone, Copy)]
 pub struct AclKey<'a> {
     pub kind: Kind,
@@ -18,8 +18,8 @@ pub struct AclKey<'a> {
     pub name: &'a str,
 }
 
-/// The places at which the bindings stand that the filter picks. A filter without a name has none: what it picks may
-/// stand anywhere.
+/// The keys under which all bindings are found that the filter picks (KIP-290, on MATCH and ANY). None where the filter has no name:
+/// then each binding has to be looked at.
 pub(crate) fn acl_keys<'a>(
     alloc: Global,
     filter: &'a Filter,
@@ -55,7 +55,7 @@ fn keys_under<'a>(
     Ok(acl_keys)
 }
 
-/// One more place, the last.
+/// Adds a key.
 fn add<'a>(
     kind: Kind,
     pattern: Pattern,

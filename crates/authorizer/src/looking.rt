@@ -16,14 +16,17 @@ use crate::index::Names;
 use acl_binding::{Numbered, Question, Verdict, any_grant, first_denial};
 use wire_types::Shared;
 
-/// The first binding that denies, and whether one allows.
+/// What some of the bindings say to a question.
 #[derive(Clone, Copy)]
 pub struct Finding {
+    /// The creation number of the first binding that denies, if one does.
     pub denied: Option<u64>,
+    /// Whether a binding allows.
     pub allowed: bool,
 }
 
 impl Finding {
+    /// Where there is no binding: nothing denies or allows.
     fn none() -> Finding
         ensures { result ≡ record { denied = None; allowed = false } }
     {
@@ -33,6 +36,7 @@ impl Finding {
         }
     }
 
+    /// What these bindings say to the question. They stand in the order of their creation.
     fn of(entries: &[Shared<Numbered>], question: &Question) -> Finding
         requires { IsRising 1 entries.now }
         ensures { result ≡ finding_of entries.now question.now }
@@ -43,6 +47,7 @@ impl Finding {
         }
     }
 
+    /// What the bindings of both say together.
     pub(crate) fn joined(self, other: Finding) -> Finding
         ensures { result ≡ combined_finding self other }
     {
@@ -52,7 +57,7 @@ impl Finding {
         }
     }
 
-    /// Deny before allow.
+    /// The answer to the question: a denial goes before what is allowed.
     pub(crate) fn verdict(self) -> Verdict
         ensures { result ≡ verdict_by self.denied self.allowed }
     {
@@ -64,6 +69,7 @@ impl Finding {
     }
 }
 
+/// The lesser of the numbers that are there, if one is.
 fn min_some(a: Option<u64>, b: Option<u64>) -> Option<u64>
     ensures { result ≡ min_some a b }
 {

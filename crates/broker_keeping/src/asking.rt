@@ -130,6 +130,7 @@ impl<'d, 'r, L: DeskLedger, R: Wait + time::Clock, I: BufRead, O: Write> Asking<
         }
     }
 
+    /// Answers the line `state`.
     pub(crate) fn tell_state(&mut self) {
         let alloc = self.alloc;
         let lines = match self.desk.look(|core| state_report_of(alloc, core)) {
@@ -139,6 +140,7 @@ impl<'d, 'r, L: DeskLedger, R: Wait + time::Clock, I: BufRead, O: Write> Asking<
         self.answer_or_stop(lines);
     }
 
+    /// Answers the line `audit`.
     pub(crate) fn tell_refusals(&mut self) {
         let (alloc, told) = (self.alloc, self.told);
         let lines = match self.desk.look(|core| refused_since(alloc, core, told)) {

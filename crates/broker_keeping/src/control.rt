@@ -137,6 +137,7 @@ impl<'d, 'r, L: DeskLedger, R: Wait + time::Clock, I: BufRead, O: Write> Control
         Effect::Answered
     }
 
+    /// Does what a line says, and tells what it leads to.
     fn obey(&mut self, command: ControlCommand) -> Effect {
         match command {
             ControlCommand::Tick(moment) => return Effect::Steps(

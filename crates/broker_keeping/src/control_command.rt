@@ -23,6 +23,7 @@ pub(crate) enum ControlCommand {
     End,
 }
 
+/// The command that a line is, if it is one.
 fn parse_text(text: &str) -> Option<ControlCommand>
     ensures { result ≡ command_in text.now }
 {

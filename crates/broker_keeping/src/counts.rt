@@ -1,6 +1,6 @@
 //! How many requests, ticks and marks a broker has answered.
 
-ghost use Rattle.std.specs.Prelude.{◌≡◌, ◌+◌, ◌∷◌, [], IfSome, length};
+ghost use Rattle.std.specs.Prelude.{◌≡◌, ◌+◌, ◌<◌, ◌^◌, ◌∷◌, [], length};
 ghost use Rattle.audit_trail.specs.Trail.{refusal_count};
 ghost use Rattle.broker_keeping.specs.Counts.{entries_of, is_of};
 
@@ -27,7 +27,7 @@ impl EventKind {
     {
         match event {
             Event::Ask { request, .. } => match self {
-                EventKind::Request(key) => request.api().key() == key,
+                EventKind::Request(key) => request.api().key().number() == key,
                 EventKind::Mark | EventKind::Tick => false,
             },
             Event::Mark => match self {
@@ -69,25 +69,27 @@ impl Counted {
         }
     }
 
-    /// All of both. None where 64 bits don't count them.
-    fn plus(self, more: Counted) -> Option<Counted>
-        ensures events { IfSome result (λ sum. sum.events ≡ self.events + more.events) }
-        ensures refusals { IfSome result (λ sum. sum.refusals ≡ self.refusals + more.refusals) }
+    /// All of both.
+    fn plus(self, more: Counted) -> Counted
+        requires events { self.events + more.events < 2 ^ 64 }
+        requires refusals { self.refusals + more.refusals < 2 ^ 64 }
+        ensures events { result.events ≡ self.events + more.events }
+        ensures refusals { result.refusals ≡ self.refusals + more.refusals }
     {
-        Some(Counted {
-            events: self.events.checked_add(more.events)?,
-            refusals: self.refusals.checked_add(more.refusals)?,
-        })
+        Counted {
+            events: self.events + more.events,
+            refusals: self.refusals + more.refusals,
+        }
     }
 }
 
-/// The events of a kind in a trail. None where 64 bits don't count them.
-pub(crate) fn count_of(trail: &Trail, kind: EventKind) -> Option<Counted>
-    ensures events { IfSome result
-        (λ counted. counted.events ≡ length (entries_of kind trail.now)) }
-    ensures refusals { IfSome result
-        (λ counted. counted.refusals ≡ refusal_count (entries_of kind trail.now)) }
+/// The events of a kind in a trail.
+pub(crate) fn count_of(trail: &Trail, kind: EventKind) -> Counted
+    ensures events { result.events ≡ length (entries_of kind trail.now) }
+    ensures refusals { result.refusals ≡ refusal_count (entries_of kind trail.now) }
 {
+    // Those of a kind are no more than all, which 64 bits count.
+    let _all = trail.refusals();
     let mut counted = Counted {
         events: 0,
         refusals: 0,
@@ -96,9 +98,9 @@ pub(crate) fn count_of(trail: &Trail, kind: EventKind) -> Option<Counted>
         let Some(entry) = trail.entry(place) else {
             unreachable!()
         };
-        counted = counted.plus(Counted::of(kind, entry))?;
+        counted = counted.plus(Counted::of(kind, entry));
     }
-    Some(counted)
+    counted
 }
 
 /// The requests to an api.
@@ -122,15 +124,15 @@ pub(crate) fn counts_of(alloc: Global, trail: &Trail) -> Option<Counts> {
     let mut apis = Vec::new(alloc);
     let served = versions_reply(alloc).ok()?;
     for api in served.apis.iter() {
-        let counted = count_of(trail, EventKind::Request(api.key))?;
+        let counted = count_of(trail, EventKind::Request(api.key));
         if counted.events > 0 {
             let name = api_name(alloc, api.key)?;
             apis.push(ApiCount { name, counted }).ok()?;
         }
     }
     Some(Counts {
-        ticks: count_of(trail, EventKind::Tick)?.events,
-        marks: count_of(trail, EventKind::Mark)?.events,
+        ticks: count_of(trail, EventKind::Tick).events,
+        marks: count_of(trail, EventKind::Mark).events,
         apis,
     })
 }

@@ -19,6 +19,7 @@ pub struct Timekeeper<'d, 'r, L: DeskLedger, R: Wait + time::Clock> {
 }
 
 impl<'d, 'r, L: DeskLedger, R: Wait + time::Clock> Timekeeper<'d, 'r, L, R> {
+    /// Keeps time by this clock, while this watch looks.
     pub fn new(clock: Ticks<'d, 'r, L, R>, watch: Watch<'d, 'r, L, R>) -> Timekeeper<'d, 'r, L, R> {
         Timekeeper {
             clock: Clocked::new(clock),

@@ -60,6 +60,7 @@ pub(crate) struct TickReport {
     pub(crate) aborted: Vec<Text>,
 }
 
+/// What is told of a topic.
 fn topic_of(alloc: Global, slot: &Slot) -> Result<TopicReport, AllocError> {
     let mut partitions = Vec::new(alloc);
     for index in 0..slot.partitions.len() {
@@ -76,6 +77,7 @@ fn topic_of(alloc: Global, slot: &Slot) -> Result<TopicReport, AllocError> {
     })
 }
 
+/// Appends what a group has committed for the partitions of a topic.
 fn push_committed(
     committed: &mut Vec<CommittedOffset>,
     group: &Group,
@@ -94,6 +96,7 @@ fn push_committed(
     Ok(())
 }
 
+/// What is told of a group.
 fn group_of(alloc: Global, group: &Group, slots: &[Slot]) -> Result<GroupReport, AllocError> {
     let mut committed = Vec::new(alloc);
     for slot in slots {
@@ -111,6 +114,7 @@ fn group_of(alloc: Global, group: &Group, slots: &[Slot]) -> Result<GroupReport,
     })
 }
 
+/// What is told of each topic, in their order.
 fn topics_of(alloc: Global, slots: &[Slot]) -> Result<Vec<TopicReport>, AllocError> {
     let mut topics = Vec::new(alloc);
     for slot in slots {
@@ -127,6 +131,7 @@ fn is_shown(state: TransactionState) -> bool {
     )
 }
 
+/// Copies of the transactions that are told.
 fn shown_of(alloc: Global, all: &[Transaction]) -> Result<Vec<Transaction>, AllocError> {
     let mut shown = Vec::new(alloc);
     for transaction in all {
@@ -137,6 +142,7 @@ fn shown_of(alloc: Global, all: &[Transaction]) -> Result<Vec<Transaction>, Allo
     Ok(shown)
 }
 
+/// What is told of each group, in the order of their beginning.
 fn groups_of(alloc: Global, world: &State) -> Result<Vec<GroupReport>, AllocError> {
     let slots = world.topics.slots();
     let mut groups = Vec::new(alloc);

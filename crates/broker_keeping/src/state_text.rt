@@ -6,6 +6,7 @@ use record_batch::TransactionResult;
 use std::alloc::{AllocError, Global};
 use txn_coordinator::{PendingMarker, Target, TopicPartition, Transaction, TransactionState};
 
+/// Appends the line of a partition.
 fn push_partition(
     alloc: Global,
     text: &mut String,
@@ -128,6 +129,7 @@ pub(crate) fn state_text(alloc: Global, report: &StateReport) -> Result<String, 
     Ok(text)
 }
 
+/// A transaction's outcome, as it is told.
 fn outcome_name(outcome: TransactionResult) -> &'static str {
     match outcome {
         TransactionResult::Commit => "commit",

@@ -5,4 +5,4 @@
 mod lines;
 mod server;
 
-pub use server::{ServeOptions, serve};
+pub use server::{ServeOptions, Server, serve};

@@ -16,7 +16,7 @@ use byte_streams::write_whole;
 use request_handlers::{Core, MOST_SEATS, Receipt, Seat};
 use session_pool::{DeskLedger, LockedDesk, SessionEnd, ShutdownFlag, Users};
 use session_workers::{
-    ConnectionOptions, Ended, PoolFault, SettleFault, Settled, serve_connections, settle,
+    ConnectionOptions, Ended, PoolFault, Service, SettleFault, Settled, serve_connections, settle,
 };
 use std::alloc::{AllocError, Global};
 use std::io::{BufRead, Write};
@@ -46,6 +46,15 @@ pub struct ServeOptions {
     pub audit: bool,
     /// Whether each line of the log for an operator begins with its time and its level.
     pub log_times: bool,
+}
+
+/// What a broker serves, to whom and how, and who steers it, if lines do.
+#[derive(Drop)]
+pub struct Server<'x, I, O> {
+    pub listener: &'x TcpListener,
+    pub users: &'x Shared<Users>,
+    pub options: ServeOptions,
+    pub steering: Option<Steering<'x, I, O>>,
 }
 
 /// The receipts of each end.
@@ -102,34 +111,18 @@ fn serve_clocked<
     rt: &'r R,
     alloc: Global,
     desk: &'x LockedDesk<L, &'r R>,
-    users: &'x Shared<Users>,
-    listener: &'x TcpListener,
-    options: ServeOptions,
+    service: Service<'x>,
+    audit: bool,
     closing: Option<&'x ShutdownFlag>,
     log: &'x OperatorLog<'r, R>,
 ) -> Result<Ended<L>, PoolFault>
     ensures { IfOk result (λ ended. (owed : Option ℕ) × AreEnds owed ended.ends.items) }
 {
-    let ServeOptions {
-        connections,
-        audit,
-        ..
-    } = options;
     let here: &'x R = rt;
     let watch = Watch::new(alloc, desk, log, audit);
     let ticks = Ticks::new(rt, desk);
     let keeper = Timekeeper::new(ticks, watch);
-    serve_connections(
-        here,
-        alloc,
-        desk,
-        users,
-        listener,
-        connections,
-        closing,
-        keeper,
-        log,
-    )
+    serve_connections(here, alloc, desk, service, closing, keeper, log)
 }
 
 /// The same, while an attendant in a thread of its own reads lines; where none can be made for it, nothing is served. Once all is
@@ -145,15 +138,19 @@ fn serve_attended<
     rt: &'r R,
     alloc: Global,
     desk: &'x LockedDesk<L, &'r R>,
-    users: &'x Shared<Users>,
-    listener: &'x TcpListener,
-    options: ServeOptions,
+    service: Service<'x>,
+    audit: bool,
     steering: Steering<'x, I, O>,
     log: &'x OperatorLog<'r, R>,
 ) -> Result<Ended<L>, PoolFault>
     ensures { IfOk result (λ ended. (owed : Option ℕ) × AreEnds owed ended.ends.items) }
 {
     let here: &'x R = rt;
+    let Service {
+        listener,
+        users,
+        options,
+    } = service;
     let closing = steering.closing;
     let attendant = Attendant::new(rt, alloc, desk, log, steering);
     thread::scope(
@@ -166,16 +163,12 @@ fn serve_attended<
             if attending.is_err() {
                 return Err(PoolFault::NoThread);
             }
-            let ended = serve_clocked(
-                rt,
-                alloc,
-                desk,
-                users,
+            let service = Service {
                 listener,
+                users,
                 options,
-                Some(closing),
-                log,
-            );
+            };
+            let ended = serve_clocked(rt, alloc, desk, service, audit, Some(closing), log);
             closing.close();
             ended
         },
@@ -195,34 +188,33 @@ fn serve_steps<
     rt: &'r R,
     alloc: Global,
     desk: &'x LockedDesk<L, &'r R>,
-    users: &'x Shared<Users>,
-    listener: &'x TcpListener,
-    options: ServeOptions,
-    steering: Option<Steering<'x, I, O>>,
+    server: Server<'x, I, O>,
     log: &'x OperatorLog<'r, R>,
 ) -> Result<Ended<L>, PoolFault>
     ensures { IfOk result (λ ended. (owed : Option ℕ) × AreEnds owed ended.ends.items) }
 {
+    let Server {
+        listener,
+        users,
+        options,
+        steering,
+    } = server;
+    let audit = options.audit;
+    let service = Service {
+        listener,
+        users,
+        options: options.connections,
+    };
     let Some(steering) = steering else {
-        return serve_clocked(rt, alloc, desk, users, listener, options, None, log);
+        return serve_clocked(rt, alloc, desk, service, audit, None, log);
     };
     if !steering.without_clock {
-        return serve_attended(rt, alloc, desk, users, listener, options, steering, log);
+        return serve_attended(rt, alloc, desk, service, audit, steering, log);
     }
     let here: &'x R = rt;
     let closing = Some(steering.closing);
     let keeper = Control::new(rt, alloc, desk, log, steering);
-    serve_connections(
-        here,
-        alloc,
-        desk,
-        users,
-        listener,
-        options.connections,
-        closing,
-        keeper,
-        log,
-    )
+    serve_connections(here, alloc, desk, service, closing, keeper, log)
 }
 
 /// The same, while a thread of its own writes the log for an operator; where none can be made for it, nothing is served. It returns
@@ -239,10 +231,7 @@ fn serve_kept<
     rt: &'r R,
     alloc: Global,
     desk: &'x LockedDesk<L, &'r R>,
-    users: &'x Shared<Users>,
-    listener: &'x TcpListener,
-    options: ServeOptions,
-    steering: Option<Steering<'x, I, O>>,
+    server: Server<'x, I, O>,
     log: &'x OperatorLog<'r, R>,
     log_writer: LogWriter<E>,
 ) -> Result<Ended<L>, PoolFault>
@@ -259,7 +248,7 @@ fn serve_kept<
             if telling.is_err() {
                 return Err(PoolFault::NoThread);
             }
-            let ended = serve_steps(rt, alloc, desk, users, listener, options, steering, log);
+            let ended = serve_steps(rt, alloc, desk, server, log);
             log.tell_counts(desk);
             log.end();
             ended
@@ -280,10 +269,7 @@ fn serve_at<
     alloc: Global,
     blank: Blank,
     core: Core,
-    users: &Shared<Users>,
-    listener: &TcpListener,
-    options: ServeOptions,
-    steering: Option<Steering<'_, I, O>>,
+    server: Server<'_, I, O>,
     log: &OperatorLog<'r, R>,
     log_writer: LogWriter<E>,
 ) -> Result<(u64, Settled), Failure>
@@ -294,9 +280,7 @@ fn serve_at<
     ensures { IfOk result (λ told. IsCounted L.settings told.0 told.1) }
 {
     let desk: LockedDesk<L, &'r R> = LockedDesk::new(core, blank, rt);
-    match serve_kept(
-        rt, alloc, &desk, users, listener, options, steering, log, log_writer,
-    ) {
+    match serve_kept(rt, alloc, &desk, server, log, log_writer) {
         Ok(ended) => settle_ends(alloc, desk, ended),
         Err(fault) => Err(Failure::Pool(fault)),
     }
@@ -313,28 +297,15 @@ fn serve_booked<
     rt: &'r R,
     alloc: Global,
     core: Core,
-    users: &Shared<Users>,
-    listener: &TcpListener,
-    options: ServeOptions,
-    steering: Option<Steering<'_, I, O>>,
+    server: Server<'_, I, O>,
     log: &OperatorLog<'r, R>,
     log_writer: LogWriter<E>,
 ) -> Result<(u64, Settled), Failure>
     requires { core.trail ≡ [] }
     ensures { IfOk result (λ told. IsCounted core.settings told.0 told.1) }
 {
-    serve_at::<Brand, R, E, I, O>(
-        rt,
-        alloc,
-        Blank::new(MOST_SEATS + 1),
-        core,
-        users,
-        listener,
-        options,
-        steering,
-        log,
-        log_writer,
-    )
+    let blank = Blank::new(MOST_SEATS + 1);
+    serve_at::<Brand, R, E, I, O>(rt, alloc, blank, core, server, log, log_writer)
 }
 
 /// Whether a broker that is steered so keeps its own time.
@@ -355,15 +326,13 @@ fn serve_told<
     rt: &R,
     alloc: Global,
     core: Core,
-    users: &Shared<Users>,
-    listener: &TcpListener,
-    options: ServeOptions,
-    steering: Option<Steering<'_, I, O>>,
+    server: Server<'_, I, O>,
     errors: E,
 ) -> Result<(u64, Settled), Failure>
     requires { core.trail ≡ [] }
     ensures { IfOk result (λ told. IsCounted core.settings told.0 told.1) }
 {
+    let options = server.options;
     let Ok((log, log_writer)) = OperatorLog::new(rt, alloc, errors, options.log_times) else {
         return Err(Failure::Pool(PoolFault::NoMemory));
     };
@@ -372,17 +341,15 @@ fn serve_told<
         Started {
             version: options.version,
             bindings: options.bindings,
-            users: users.value().len(),
+            users: server.users.value().len(),
             workers: options.connections.workers,
-            has_clock: keeps_time(&steering),
+            has_clock: keeps_time(&server.steering),
         },
     );
-    if let Ok(address) = listener.local_addr() {
+    if let Ok(address) = server.listener.local_addr() {
         log.warn_of_port(&core, address.port());
     }
-    serve_booked(
-        rt, alloc, core, users, listener, options, steering, &log, log_writer,
-    )
+    serve_booked(rt, alloc, core, server, &log, log_writer)
 }
 
 /// The first line, of where a listener listens.
@@ -438,21 +405,11 @@ pub fn serve<
     E: Write + Drop + Send,
     I: BufRead + Drop + Send,
     O: Write + Drop + Send,
->(
-    rt: &R,
-    alloc: Global,
-    core: Core,
-    users: &Shared<Users>,
-    listener: &TcpListener,
-    options: ServeOptions,
-    steering: Option<Steering<'_, I, O>>,
-    writer: &mut W,
-    errors: E,
-) -> u8
+>(rt: &R, alloc: Global, core: Core, server: Server<'_, I, O>, writer: &mut W, errors: E) -> u8
     requires { core.trail ≡ [] }
     ensures { Serves core.settings (W.contents writer.old) (W.contents writer.new) result }
 {
-    let first = match first_line(alloc, listener) {
+    let first = match first_line(alloc, server.listener) {
         Ok(first) => first,
         Err(unbegun) => {
             let _ = write_whole(writer, unbegun.line().as_bytes());
@@ -466,7 +423,7 @@ pub fn serve<
             return FAILED;
         }
     }
-    let outcome = serve_told(rt, alloc, core, users, listener, options, steering, errors);
+    let outcome = serve_told(rt, alloc, core, server, errors);
     let Some((last, status)) = last_line(alloc, outcome) else {
         return FAILED;
     };

@@ -1,23 +1,23 @@
 //! The cluster: the one node, and what clients are told of it.
 
-ghost use Rattle.std.specs.Prelude.{◌≡◌, IfOk};
+ghost use Rattle.std.specs.Prelude.{◌≡◌, [], IfOk};
 ghost use Rattle.broker_world.specs.Brokers.{broker_info, brokers_of};
 
 use crate::node::Node;
-use msg_data::{BrokerInfo, SharedItems};
+use msg_data::{BrokerInfo, PartitionInfo, SharedItems};
 use std::alloc::{AllocError, Global};
 use std::marker::Model;
 use wire_types::Items;
 
-/// The one node, with the list of brokers that each Metadata tells: it is made once, and all replies share it. Seen as the
-/// node.
+/// The one node, with the lists that a Metadata tells of it: they are made once, and all replies share them. Seen as the node.
 pub struct Cluster {
     node: Node,
     brokers: SharedItems<BrokerInfo>,
+    no_partitions: SharedItems<PartitionInfo>,
 }
 
 impl Model for Cluster {
-    ghost use Rattle.std.specs.Prelude.{◌≡◌};
+    ghost use Rattle.std.specs.Prelude.{◌≡◌, []};
     ghost use Rattle.broker_world.specs.Brokers.{brokers_of};
     ghost use Rattle.broker_world.specs.declared.node.Node.{Node};
 
@@ -25,7 +25,7 @@ impl Model for Cluster {
 
     ghost view = { λ c. c.node };
 
-    ghost invariant = { λ c. c.brokers ≡ brokers_of c.node };
+    ghost invariant = { λ c. (c.brokers ≡ brokers_of c.node) × (c.no_partitions ≡ []) };
 }
 
 impl Drop for Cluster {
@@ -33,6 +33,7 @@ impl Drop for Cluster {
         let Cluster {
             node: _node,
             brokers: _brokers,
+            no_partitions: _no_partitions,
         } = self;
     }
 }
@@ -45,7 +46,12 @@ impl Cluster {
         let mut brokers = Items::new(alloc);
         brokers.push(broker_info(&node)?)?;
         let brokers = SharedItems::of(alloc, brokers)?;
-        Ok(Cluster { node, brokers })
+        let no_partitions = SharedItems::of(alloc, Items::new(alloc))?;
+        Ok(Cluster {
+            node,
+            brokers,
+            no_partitions,
+        })
     }
 
     /// The one node.
@@ -60,6 +66,14 @@ impl Cluster {
         ensures { IfOk result (λ brokers. brokers ≡ brokers_of self.now) }
     {
         self.brokers.share()
+    }
+
+    /// One more owner of the list of no partitions, which a topic has that is told with an error. It is refused only where the
+    /// count of owners is full.
+    pub fn no_partitions(&self) -> Result<SharedItems<PartitionInfo>, AllocError>
+        ensures { IfOk result (λ partitions. partitions ≡ []) }
+    {
+        self.no_partitions.share()
     }
 }
 

@@ -1,11 +1,10 @@
 -- Settings that were read whole are those of the input.
-use Rattle.std.proofs.Common.{◌≡◌, ◌≤◌, ℕ, Bool, true, false, List, [], length, Option, Some, None, Result, Ok, Err, IfSome, ap, arith, subst, sym, ◌∙◌, if◌then◌else◌, nat_lt}
+use Rattle.std.proofs.Common.{◌≡◌, ◌≤◌, ℕ, Bool, false, List, [], length, Option, Some, None, Result, Ok, IfSome, ap, arith, subst, sym, ◌∙◌, if◌then◌else◌, nat_lt}
 use Rattle.std.proofs.lemmas.Bool.Decides.{nat_tests}
 use Rattle.byte_streams.specs.declared.device.TheConstants.{INPUT_LIMIT}
 use Rattle.settings.specs.declared.settings.Settings.{Settings}
 use Rattle.settings_text.specs.Document.{document_of_text}
 use Rattle.settings_text.specs.declared.document.User.{User}
-use Rattle.settings_text.specs.declared.fault.SettingsFault.{SettingsFault}
 use Rattle.commands.specs.declared.open.Opened.{Opened}
 use Rattle.commands.specs.declared.open.Unopened.{Unopened}
 use Rattle.commands.specs.Replay.{Answer, within_limit}
@@ -24,11 +23,6 @@ opens_whole (Some input) u v slice bytes r same is small opens =
     let here : Opens u v bytes (settings_answer bytes) r = subst (λ (t : List ℕ). Opens u v t (settings_answer t) r) same opens in
     let limited : Opens u v bytes (check_answer bytes) r = subst (λ (a : Answer). Opens u v bytes a r) (sym (within_is bytes (settings_answer bytes) small)) here in
     subst (λ (t : List ℕ). Opens u v t (check_answer t) r) (sym is) limited
-
--- users that were let in are those that were given
-pub admitted : (b : Bool) (users let_in : List User) (fault : SettingsFault) → (if b then Ok users else Err fault) ≡ Ok let_in → let_in ≡ users
-admitted true users let_in fault is = cc
-admitted false users let_in fault is = absurd cc
 
 -- a core with the settings of a text, and its users
 pub is_of : (old new : Option (List ℕ)) (text : List ℕ) (answer : Answer) (users : List User) (settings : Settings) (o : Opened) → document_of_text text ≡ Ok (record { users = users; settings = settings })

@@ -3,15 +3,15 @@ use Rattle.std.specs.Prelude.{◌≡◌, ℕ, ℤ, pos, false, ◌+◌, nat_lt, 
 use Rattle.std.specs.Io.BufRead.{strip_last}
 use Rattle.hex.specs.Hex.{encode_lower}
 use Rattle.byte_streams.specs.declared.device.TheConstants.{INPUT_LIMIT}
-use Rattle.wire_types.specs.declared.fault.Malformed.{Malformed}
+use Rattle.acl_binding.specs.declared.question.Caller.{Caller}
 use Rattle.authorizer.specs.declared.answer.Refusal.{Refusal}
 use Rattle.msg_admin.specs.declared.request.TheConstants.{FRAME_LIMIT}
-use Rattle.msg_admin.specs.declared.header.Header.{Header}
+use Rattle.msg_admin.specs.declared.decode.Frame.{Frame}
+use Rattle.msg_admin.specs.declared.decode.Frame.TheVariants as frames
 use Rattle.msg_admin.specs.declared.reply.Reply.{Reply}
-use Rattle.msg_admin.specs.declared.request.Request.{Request}
-use Rattle.msg_admin.specs.Request.{request_at}
+use Rattle.msg_admin.specs.Decode.{frame_at}
 use Rattle.msg_admin.specs.Response.{response, is_sendable}
-use Rattle.msg_admin.specs.Versions.{unsupported_at, unsupported_response}
+use Rattle.msg_admin.specs.Versions.{unsupported_response}
 use Rattle.audit_trail.specs.declared.event.Event.{Event}
 use Rattle.audit_trail.specs.declared.event.Event.TheVariants as events
 use Rattle.audit_trail.specs.declared.trail.Entry.{Entry}
@@ -86,19 +86,16 @@ pub data Transition : Type 0 where
 abbrev pub step_transition : Settings → List Event → ℤ → Event → Transition
 step_transition s before correlation e = if nat_lt (length before) (trail_limit s) then goes (before ++ e ∷ []) (event_text correlation (reference_step (state_after s before) e)) else ends (stop_line TrailFull)
 
--- A frame that is no request closes, but for one that asks ApiVersions in a version that is not served: it is told which is.
-abbrev pub no_request : Option ℤ → List ℕ
-no_request None = closed_line
-no_request (Some correlation) = frame_line (unsupported_response correlation)
-
--- what is no request is no event
-abbrev pub request_transition : Settings → List Event → Sent → Result (Header × Request) Malformed → Transition
-request_transition s before sent (Err fault) = goes before (no_request (unsupported_at sent.frame))
-request_transition s before sent (Ok x) = step_transition s before x.0.correlation (events.Ask sent.caller x.0.client x.1)
+-- What a frame does: a request is an event. Whoever asks ApiVersions in a version that is not served is told which is. Any other
+-- frame closes.
+abbrev pub request_transition : Settings → List Event → Caller → Frame → Transition
+request_transition s before caller (frames.Request h r) = step_transition s before h.correlation (events.Ask caller h.client r)
+request_transition s before caller (frames.OtherApiVersions correlation) = goes before (frame_line (unsupported_response correlation))
+request_transition s before caller (frames.Malformed fault) = goes before closed_line
 
 -- a frame above the limit closes before it is read
 abbrev pub frame_transition : Settings → List Event → Sent → Transition
-frame_transition s before sent = if nat_lt FRAME_LIMIT (length sent.frame) then goes before closed_line else request_transition s before sent (request_at sent.frame)
+frame_transition s before sent = if nat_lt FRAME_LIMIT (length sent.frame) then goes before closed_line else request_transition s before sent.caller (frame_at sent.frame)
 
 -- the step of an event that no one asked for: what it is answered is not sent, so no correlation id stands in it
 abbrev pub unasked_transition : Settings → List Event → Event → Transition

@@ -11,11 +11,11 @@ use crate::run::{Place, end_early, explain, refuse};
 use byte_streams::{InputFault, read_input};
 use request_handlers::Core;
 use session_pool::Users;
-use settings_text::{Document, SettingsFault, User, document_of_text, warnings};
+use settings_text::{Document, SettingsFault, document_of_text, warnings};
 use std::alloc::Global;
 use std::hash::RandomState;
 use std::io::{Read, Write};
-use wire_types::{Items, Shared};
+use wire_types::Shared;
 
 /// What a server is started with: a core that has answered nothing, and who may log in.
 #[derive(Drop)]
@@ -44,15 +44,6 @@ impl From<Early> for Unopened {
     fn from(early: Early) -> Unopened {
         Unopened::Early(early)
     }
-}
-
-/// These users, for all sessions; none where memory was refused, or they have a fault.
-#[tactic(auto, using(crate::proofs::OpenLemmas::admitted))]
-fn share_users(alloc: Global, users: Items<User>) -> Option<Shared<Users>>
-    ensures { IfSome result (λ shared. shared ≡ users) }
-{
-    let users = Users::new(alloc, users).ok()?;
-    Shared::new(alloc, users).ok()
 }
 
 /// Says what the settings of a server are unlikely to mean. If that fails, nothing else does.
@@ -91,12 +82,11 @@ fn open_settings<W: Write, E: Write>(
     };
     warn(alloc, &document, errors);
     let Document { users, settings } = document;
-    let bindings = settings.acls.len();
-    // The settings have no fault, so only memory can be refused.
-    let Some(users) = share_users(alloc, users) else {
+    let bindings = settings.settings().acls.len();
+    let Ok(users) = Shared::new(alloc, Users::of_checked(users)) else {
         return Err(Unopened::Early(Early::Settings));
     };
-    match Core::with_hasher(alloc, settings, hasher) {
+    match Core::checked_with_hasher(alloc, settings, hasher) {
         Ok(core) => Ok(Opened {
             core,
             users,

@@ -162,8 +162,7 @@ fn answer_input<W: Write, E: Write>(
         Err(SettingsFault::NoMemory) => return Err(Early::Settings),
         Err(fault) => return refuse(alloc, text, fault, writer, errors),
     };
-    // The settings have no fault, so only memory can be refused.
-    match Core::open(alloc, settings) {
+    match Core::open_checked(alloc, settings) {
         Ok(core) => {
             if text.len() == input.len() {
                 explain(alloc, errors, Place::Run, NO_SCRIPT);

@@ -1,7 +1,8 @@
 //! What a line of a script does.
 
 ghost use Rattle.std.specs.Prelude.{◌≡◌, ◌≤◌, ◌++◌, false, length, IfOk, string_bytes};
-ghost use Rattle.msg_admin.specs.Request.{request_at, Fits};
+ghost use Rattle.msg_admin.specs.Decode.{frame_at};
+ghost use Rattle.msg_admin.specs.Request.{Fits};
 ghost use Rattle.audit_trail.specs.declared.event.Event.TheVariants as events;
 ghost use Rattle.api_dispatch.specs.Bounds.{EventFits};
 ghost use Rattle.request_handlers.specs.Core.{events_of};
@@ -11,14 +12,13 @@ ghost use Rattle.commands.specs.Replay.{refusals_at, reply_line, IsTransition, s
 use crate::cause::Cause;
 use crate::lines::content;
 use crate::order::{Order, Sent, parse_order};
-use crate::text::{closed_text, no_request_text, reply_text, unreadable_text};
+use crate::text::{closed_text, reply_text, served_versions_text, unreadable_text};
 use acl_binding::Caller;
 use audit_trail::{Event, push_audit_lines};
 use authorizer::Refusal;
-use msg_admin::{FRAME_LIMIT, Header, Request, read_request};
+use msg_admin::{FRAME_LIMIT, Frame, Header, Request, decode_frame};
 use request_handlers::{Core, Receipt, Stop};
 use std::alloc::{AllocError, Global};
-use wire_types::ReadFault;
 
 /// What a line of a script does.
 #[derive(Debug, Drop)]
@@ -96,14 +96,16 @@ fn request_turn(alloc: Global, core: &mut Core, sent: Sent) -> Result<Turn, Allo
     requires up { core.old.down ≡ false }
     requires fits { length sent.frame ≤ FRAME_LIMIT }
     ensures { IfOk result
-        (IsTransition (request_transition core.old.settings (events_of core.old.trail) sent
-        (request_at sent.frame)) core.old.settings core.new) }
+        (IsTransition (request_transition core.old.settings (events_of core.old.trail) sent.caller
+        (frame_at sent.frame)) core.old.settings core.new) }
 {
     let Sent { caller, frame } = sent;
-    match read_request(alloc, &frame) {
-        Ok((header, request)) => ask(alloc, core, caller, header, request),
-        Err(ReadFault::Malformed(_)) => Ok(Turn::Goes(no_request_text(alloc, &frame)?)),
-        Err(ReadFault::NoMemory) => Err(AllocError),
+    match decode_frame(alloc, &frame)? {
+        Frame::Request(header, request) => ask(alloc, core, caller, header, request),
+        Frame::OtherApiVersions(correlation) => {
+            Ok(Turn::Goes(served_versions_text(alloc, correlation)?))
+        }
+        Frame::Malformed(_) => Ok(Turn::Goes(closed_text(alloc)?)),
     }
 }
 

@@ -2,9 +2,8 @@
 
 ghost use Rattle.std.specs.Prelude.{◌≡◌, [], IfOk};
 ghost use Rattle.std.specs.Option.{option_copied};
-ghost use Rattle.authorizer.specs.Tally.{count_after_parts};
 ghost use Rattle.walk.specs.Walk.{asked_in};
-ghost use Rattle.broker_world.specs.World.{rules_of};
+ghost use Rattle.broker_world.specs.HandlerResult.{HandlerMeets};
 ghost use Rattle.data_handlers.specs.Fetch.{fetch_rule, budget_for, room_after_batches, served_by, served_at, fetched_error, batch_bytes, aborted_list, fetched_partition, room_after, whole_budget, fetch_outcome};
 
 use crate::fetch_budget::FetchBudget;
@@ -199,15 +198,10 @@ pub fn answer_fetch(
     caller: &Caller,
     request: &FetchRequest,
 ) -> Result<HandlerResult, AllocError>
-    ensures reply { IfOk result
-        (λ o. o.reply ≡ (fetch_outcome state.now caller.now request.now).reply) }
-    ensures refusals { IfOk result
-        (λ o. o.refusals ≡ (fetch_outcome state.now caller.now request.now).refusals) }
-    ensures paid { IfOk result (λ o. o.paid ≡ []) }
-    ensures spent { IfOk result
-        (λ o. o.spent ≡ count_after_parts (rules_of state.now) 0
-        (asked_in (fetch_rule caller.now request.now.isolation state.now.topics)
-        request.now.topics)) }
+    ensures { HandlerMeets state.now state.now
+        (fetch_outcome state.now caller.now request.now) []
+        (asked_in (fetch_rule caller.now request.now.isolation state.now.topics) request.now.topics)
+        result }
 {
     let api = FetchHandler {
         caller,

@@ -1,10 +1,9 @@
 //! ListOffsets: where logs begin and end.
 
-ghost use Rattle.std.specs.Prelude.{◌≡◌, [], IfOk};
+ghost use Rattle.std.specs.Prelude.{◌≡◌, []};
 ghost use Rattle.std.specs.Option.{option_copied};
-ghost use Rattle.authorizer.specs.Tally.{count_after_parts};
 ghost use Rattle.walk.specs.Walk.{asked_in};
-ghost use Rattle.broker_world.specs.World.{rules_of};
+ghost use Rattle.broker_world.specs.HandlerResult.{HandlerMeets};
 ghost use Rattle.data_handlers.specs.ListOffsets.{list_rule, listed_error, listed_at, listed_offset_by, listed_offset, list_offsets_outcome};
 
 use acl_binding::{Caller, Kind, Operation};
@@ -112,15 +111,10 @@ pub fn answer_list_offsets(
     caller: &Caller,
     request: &ListOffsetsRequest,
 ) -> Result<HandlerResult, AllocError>
-    ensures reply { IfOk result
-        (λ o. o.reply ≡ (list_offsets_outcome state.now caller.now request.now).reply) }
-    ensures refusals { IfOk result
-        (λ o. o.refusals ≡ (list_offsets_outcome state.now caller.now request.now).refusals) }
-    ensures paid { IfOk result (λ o. o.paid ≡ []) }
-    ensures spent { IfOk result
-        (λ o. o.spent ≡ count_after_parts (rules_of state.now) 0
-        (asked_in (list_rule caller.now request.now.isolation state.now.topics)
-        request.now.topics)) }
+    ensures { HandlerMeets state.now state.now
+        (list_offsets_outcome state.now caller.now request.now) []
+        (asked_in (list_rule caller.now request.now.isolation state.now.topics) request.now.topics)
+        result }
 {
     let api = ListOffsetsHandler {
         caller,

@@ -3,6 +3,7 @@
 ghost use Rattle.std.specs.Prelude.{◌≡◌, [], false, IfOk, Some, None};
 ghost use Rattle.authorizer.specs.Asking.{part_paid};
 ghost use Rattle.authorizer.specs.Tally.{count_after_parts};
+ghost use Rattle.broker_world.specs.HandlerResult.{HandlerMeets};
 ghost use Rattle.broker_world.specs.World.{rules_of};
 ghost use Rattle.data_handlers.specs.Metadata.{topic_error, plain_topic, topic_refusals, topic_answer, described_topic, metadata_topics, metadata_parts, metadata_outcome};
 ghost use Rattle.broker_world.specs.Brokers.{brokers_of};
@@ -13,7 +14,7 @@ use acl_binding::{Caller, Kind, Operation};
 use authorizer::{Paid, Refusal, Tally, ask_one};
 use broker_world::{Cluster, HandlerResult, State, served_in_parts};
 use msg_admin::Reply;
-use msg_data::{MetadataReply, MetadataRequest, SharedItems, TopicInfo};
+use msg_data::{MetadataReply, MetadataRequest, TopicInfo};
 use std::alloc::{AllocError, Global};
 use walk::Part;
 use wire_types::{Boxed, ErrorCode, Items, Text};
@@ -76,14 +77,9 @@ pub fn answer_metadata(
     caller: &Caller,
     request: &MetadataRequest,
 ) -> Result<HandlerResult, AllocError>
-    ensures reply { IfOk result
-        (λ o. o.reply ≡ (metadata_outcome state.now caller.now request.now).reply) }
-    ensures refusals { IfOk result
-        (λ o. o.refusals ≡ (metadata_outcome state.now caller.now request.now).refusals) }
-    ensures paid { IfOk result (λ o. o.paid ≡ []) }
-    ensures spent { IfOk result
-        (λ o. o.spent ≡ count_after_parts (rules_of state.now) 0
-        (metadata_parts state.now caller.now request.now.topics)) }
+    ensures { HandlerMeets state.now state.now
+        (metadata_outcome state.now caller.now request.now)
+        [] (metadata_parts state.now caller.now request.now.topics) result }
 {
     let answered = wanted_topics(alloc, state, caller, &request.topics)?;
     let reply = metadata_reply(alloc, &state.cluster, answered.topics)?;
@@ -147,7 +143,7 @@ fn named_topic(
             Ok(Part::served(plain_topic(alloc, state, name)?, paid))
         }
         Err(refusal) => {
-            let answer = topic_error(ErrorCode::TopicAuthorizationFailed, name)?;
+            let answer = topic_error(&state.cluster, ErrorCode::TopicAuthorizationFailed, name)?;
             Ok(Part::refused(answer, refusal))
         }
     }
@@ -216,17 +212,18 @@ fn plain_topic(alloc: Global, state: &State, name: &Text) -> Result<TopicInfo, A
             internal: false,
             partitions,
         }),
-        None => topic_error(ErrorCode::UnknownTopicOrPartition, name),
+        None => topic_error(&state.cluster, ErrorCode::UnknownTopicOrPartition, name),
     }
 }
 
-fn topic_error(error: ErrorCode, name: &Text) -> Result<TopicInfo, AllocError>
+/// A topic that is told with an error, and so without partitions.
+fn topic_error(cluster: &Cluster, error: ErrorCode, name: &Text) -> Result<TopicInfo, AllocError>
     ensures { IfOk result (λ t. t ≡ topic_error error name.now) }
 {
     Ok(TopicInfo {
         error,
         name: name.clone()?,
         internal: false,
-        partitions: SharedItems::empty(),
+        partitions: cluster.no_partitions()?,
     })
 }

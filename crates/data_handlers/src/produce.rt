@@ -3,8 +3,7 @@
 ghost use Rattle.std.specs.Prelude.{◌≡◌, ◌≤◌, ◌+◌, [], length, IfOk, OnOk};
 ghost use Rattle.std.specs.Option.{option_copied};
 ghost use Rattle.walk.specs.Walk.{asked_in, topics_weight};
-ghost use Rattle.authorizer.specs.Tally.{count_after_parts};
-ghost use Rattle.broker_world.specs.World.{rules_of};
+ghost use Rattle.broker_world.specs.HandlerResult.{HandlerMeets};
 ghost use Rattle.broker_world.specs.Logs.{MayWrite, offsets_left, most_end};
 ghost use Rattle.data_handlers.specs.Sent.{batch_or_fault};
 ghost use Rattle.data_handlers.specs.Judged.{partition_at, id_and_epoch_of, held_code, are_acks, given_code, producer_code, batch_or_error, batch_in, batch_to_append, topics_produced, records_size};
@@ -328,16 +327,9 @@ pub fn answer_produce(
 ) -> Result<HandlerResult, AllocError>
     requires { topics_weight (producing_rule state.old caller.now request.now) request.now.topics
         ≤ offsets_left state.old.topics }
-    ensures world { OnOk result
-        (state.new ≡ (produce_outcome state.old caller.now request.now).world) }
-    ensures reply { IfOk result
-        (λ o. o.reply ≡ (produce_outcome state.old caller.now request.now).reply) }
-    ensures refusals { IfOk result
-        (λ o. o.refusals ≡ (produce_outcome state.old caller.now request.now).refusals) }
-    ensures paid { IfOk result (λ o. o.paid ≡ []) }
-    ensures spent { IfOk result
-        (λ o. o.spent ≡ count_after_parts (rules_of state.old) 0
-        (asked_in (producing_rule state.old caller.now request.now) request.now.topics)) }
+    ensures { HandlerMeets state.old state.new
+        (produce_outcome state.old caller.now request.now)
+        [] (asked_in (producing_rule state.old caller.now request.now) request.now.topics) result }
 {
     let id = &request.transactional_id;
     let asks = caller.asks_given(Operation::Write, Kind::TransactionalId, id)?;

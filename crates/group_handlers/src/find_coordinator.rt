@@ -1,8 +1,7 @@
 //! FindCoordinator: the one node coordinates everything.
 
-ghost use Rattle.std.specs.Prelude.{◌≡◌, IfOk};
-ghost use Rattle.authorizer.specs.Asking.{part_paid};
-ghost use Rattle.broker_world.specs.World.{rules_of};
+ghost use Rattle.std.specs.Prelude.{[], ◌≡◌, IfOk};
+ghost use Rattle.broker_world.specs.HandlerResult.{HandlerMeets};
 ghost use Rattle.group_handlers.specs.FindCoordinator.{kind_of, find_questions, found_node, find_error, find_coordinator_outcome};
 
 use acl_binding::{Caller, Kind, Operation};
@@ -60,14 +59,9 @@ pub fn answer_find_coordinator(
     caller: &Caller,
     request: &FindCoordinatorRequest,
 ) -> Result<HandlerResult, AllocError>
-    ensures reply { IfOk result
-        (λ o. o.reply ≡ (find_coordinator_outcome state.now caller.now request.now).reply) }
-    ensures refusals { IfOk result
-        (λ o. o.refusals ≡ (find_coordinator_outcome state.now caller.now request.now).refusals) }
-    ensures paid { IfOk result
-        (λ o. o.paid ≡ part_paid (rules_of state.now)
-        (find_questions caller.now (kind_of request.now.key_type) request.now.key)) }
-    ensures spent { IfOk result (λ o. o.spent ≡ 0) }
+    ensures { HandlerMeets state.now state.now
+        (find_coordinator_outcome state.now caller.now request.now)
+        (find_questions caller.now (kind_of request.now.key_type) request.now.key) [] result }
 {
     let Some(kind) = kind_of(request.key_type) else {
         let reply = find_error(alloc, ErrorCode::InvalidRequest)?;

@@ -1,15 +1,16 @@
 //! JoinGroup, SyncGroup, Heartbeat and LeaveGroup: the member of a group.
 
-ghost use Rattle.std.specs.Prelude.{◌≡◌, ◌<ℤ◌, ◌∷◌, [], pos, IfOk, OnOk};
-ghost use Rattle.authorizer.specs.Asking.{part_paid};
+ghost use Rattle.std.specs.Prelude.{◌≡◌, ◌<ℤ◌, ◌∷◌, [], pos, IfOk, IfErr, OnOk};
+ghost use Rattle.authorizer.specs.Asking.{AreYes, IsRefusalOf};
+ghost use Rattle.authorizer.specs.Policy.{IsGranted};
 ghost use Rattle.group_offsets.specs.Groups.{group_of};
-ghost use Rattle.broker_world.specs.World.{rules_of};
+ghost use Rattle.broker_world.specs.HandlerResult.{HandlerMeets};
 ghost use Rattle.broker_world.specs.Questions.{read_question};
 ghost use Rattle.broker_world.specs.Codes.{code_in};
 ghost use Rattle.group_handlers.specs.Members.{join_welcome, join_error, join_reply, join_group_outcome, sync_reply, sync_group_outcome, beat_reply, heartbeat_outcome, leave_reply, leave_group_outcome};
 
-use acl_binding::{Caller, Kind, Operation, Question};
-use authorizer::{Paid, ask_one};
+use acl_binding::Caller;
+use authorizer::{Paid, Permit, Policy, Refusal, ask_one};
 use broker_world::{HandlerResult, State, code_in, read_question, refused_whole, served_whole};
 use group_offsets::Joined;
 use msg_admin::Reply;
@@ -110,6 +111,24 @@ fn leave_reply(error: ErrorCode) -> Reply
     Reply::LeaveGroup(LeaveGroupReply { throttle: 0, error })
 }
 
+/// The permit to read a group, or the refusal.
+fn ask_to_read(
+    policy: &Policy,
+    caller: &Caller,
+    group: &Text,
+) -> Result<Result<Permit, Refusal>, AllocError>
+    ensures granted { IfOk result
+        (λ asked. IfOk asked (IsGranted policy.now (read_question caller.now group.now))) }
+    ensures yes { IfOk result
+        (λ asked. OnOk asked (AreYes policy.now (read_question caller.now group.now ∷ []))) }
+    ensures refused { IfOk result
+        (λ asked. IfErr asked
+        (IsRefusalOf policy.now (read_question caller.now group.now ∷ []))) }
+{
+    let question = read_question(caller, group)?;
+    Ok(ask_one(policy, question))
+}
+
 /// What a JoinGroup does and is answered.
 pub fn answer_join_group(
     alloc: Global,
@@ -118,19 +137,11 @@ pub fn answer_join_group(
     request: &JoinGroupRequest,
 ) -> Result<HandlerResult, AllocError>
     requires { (group_of state.old.groups request.now.group).generation <ℤ pos 2147483647 }
-    ensures world { OnOk result
-        (state.new ≡ (join_group_outcome state.old caller.now request.now).world) }
-    ensures reply { IfOk result
-        (λ o. o.reply ≡ (join_group_outcome state.old caller.now request.now).reply) }
-    ensures refusals { IfOk result
-        (λ o. o.refusals ≡ (join_group_outcome state.old caller.now request.now).refusals) }
-    ensures paid { IfOk result
-        (λ o. o.paid ≡ part_paid (rules_of state.old)
-        (read_question caller.now request.now.group ∷ [])) }
-    ensures spent { IfOk result (λ o. o.spent ≡ 0) }
+    ensures { HandlerMeets state.old state.new
+        (join_group_outcome state.old caller.now request.now)
+        (read_question caller.now request.now.group ∷ []) [] result }
 {
-    let question = read_question(caller, &request.group)?;
-    match ask_one(&state.policy, question) {
+    match ask_to_read(&state.policy, caller, &request.group)? {
         Ok(permit) => {
             let (place, moment) = (state.events, state.moment.milliseconds());
             let (groups, policy) = (&mut state.groups, &state.policy);
@@ -152,19 +163,11 @@ pub fn answer_sync_group(
     caller: &Caller,
     request: &SyncGroupRequest,
 ) -> Result<HandlerResult, AllocError>
-    ensures world { OnOk result
-        (state.new ≡ (sync_group_outcome state.old caller.now request.now).world) }
-    ensures reply { IfOk result
-        (λ o. o.reply ≡ (sync_group_outcome state.old caller.now request.now).reply) }
-    ensures refusals { IfOk result
-        (λ o. o.refusals ≡ (sync_group_outcome state.old caller.now request.now).refusals) }
-    ensures paid { IfOk result
-        (λ o. o.paid ≡ part_paid (rules_of state.old)
-        (read_question caller.now request.now.group ∷ [])) }
-    ensures spent { IfOk result (λ o. o.spent ≡ 0) }
+    ensures { HandlerMeets state.old state.new
+        (sync_group_outcome state.old caller.now request.now)
+        (read_question caller.now request.now.group ∷ []) [] result }
 {
-    let question = read_question(caller, &request.group)?;
-    match ask_one(&state.policy, question) {
+    match ask_to_read(&state.policy, caller, &request.group)? {
         Ok(permit) => {
             let moment = state.moment.milliseconds();
             let (groups, policy) = (&mut state.groups, &state.policy);
@@ -186,19 +189,11 @@ pub fn answer_heartbeat(
     caller: &Caller,
     request: &HeartbeatRequest,
 ) -> Result<HandlerResult, AllocError>
-    ensures world { OnOk result
-        (state.new ≡ (heartbeat_outcome state.old caller.now request.now).world) }
-    ensures reply { IfOk result
-        (λ o. o.reply ≡ (heartbeat_outcome state.old caller.now request.now).reply) }
-    ensures refusals { IfOk result
-        (λ o. o.refusals ≡ (heartbeat_outcome state.old caller.now request.now).refusals) }
-    ensures paid { IfOk result
-        (λ o. o.paid ≡ part_paid (rules_of state.old)
-        (read_question caller.now request.now.group ∷ [])) }
-    ensures spent { IfOk result (λ o. o.spent ≡ 0) }
+    ensures { HandlerMeets state.old state.new
+        (heartbeat_outcome state.old caller.now request.now)
+        (read_question caller.now request.now.group ∷ []) [] result }
 {
-    let question = read_question(caller, &request.group)?;
-    match ask_one(&state.policy, question) {
+    match ask_to_read(&state.policy, caller, &request.group)? {
         Ok(permit) => {
             let moment = state.moment.milliseconds();
             let (groups, policy) = (&mut state.groups, &state.policy);
@@ -219,19 +214,11 @@ pub fn answer_leave_group(
     caller: &Caller,
     request: &LeaveGroupRequest,
 ) -> Result<HandlerResult, AllocError>
-    ensures world { OnOk result
-        (state.new ≡ (leave_group_outcome state.old caller.now request.now).world) }
-    ensures reply { IfOk result
-        (λ o. o.reply ≡ (leave_group_outcome state.old caller.now request.now).reply) }
-    ensures refusals { IfOk result
-        (λ o. o.refusals ≡ (leave_group_outcome state.old caller.now request.now).refusals) }
-    ensures paid { IfOk result
-        (λ o. o.paid ≡ part_paid (rules_of state.old)
-        (read_question caller.now request.now.group ∷ [])) }
-    ensures spent { IfOk result (λ o. o.spent ≡ 0) }
+    ensures { HandlerMeets state.old state.new
+        (leave_group_outcome state.old caller.now request.now)
+        (read_question caller.now request.now.group ∷ []) [] result }
 {
-    let question = read_question(caller, &request.group)?;
-    match ask_one(&state.policy, question) {
+    match ask_to_read(&state.policy, caller, &request.group)? {
         Ok(permit) => {
             let (spent, left) = state.groups.leave(&state.policy, permit, request);
             Ok(served_whole(alloc, leave_reply(code_in(left)), Paid::one(spent)))

@@ -4,9 +4,8 @@ ghost use Rattle.std.specs.Prelude.{◌≡◌, [], IfOk, OnOk};
 ghost use Rattle.std.specs.Option.{option_copied};
 ghost use Rattle.acl_binding.specs.declared.words.Operation.TheVariants as operations;
 ghost use Rattle.group_offsets.specs.Permission.{MayUse};
-ghost use Rattle.authorizer.specs.Tally.{count_after_parts};
 ghost use Rattle.walk.specs.Walk.{asked_in};
-ghost use Rattle.broker_world.specs.World.{rules_of};
+ghost use Rattle.broker_world.specs.HandlerResult.{HandlerMeets};
 ghost use Rattle.group_handlers.specs.OffsetCommit.{committing_rule, offset_of, committed_code, code_by, groups_by, offset_commit_outcome};
 
 use acl_binding::{Caller, Kind, Operation};
@@ -142,16 +141,9 @@ pub fn answer_offset_commit(
     caller: &Caller,
     request: &OffsetCommitRequest,
 ) -> Result<HandlerResult, AllocError>
-    ensures world { OnOk result
-        (state.new ≡ (offset_commit_outcome state.old caller.now request.now).world) }
-    ensures reply { IfOk result
-        (λ o. o.reply ≡ (offset_commit_outcome state.old caller.now request.now).reply) }
-    ensures refusals { IfOk result
-        (λ o. o.refusals ≡ (offset_commit_outcome state.old caller.now request.now).refusals) }
-    ensures paid { IfOk result (λ o. o.paid ≡ []) }
-    ensures spent { IfOk result
-        (λ o. o.spent ≡ count_after_parts (rules_of state.old) 0
-        (asked_in (committing_rule state.old caller.now request.now) request.now.topics)) }
+    ensures { HandlerMeets state.old state.new
+        (offset_commit_outcome state.old caller.now request.now)
+        [] (asked_in (committing_rule state.old caller.now request.now) request.now.topics) result }
 {
     let asked = state.policy.settle(read_question(caller, &request.group)?);
     let api = OffsetCommitHandler {

@@ -4,6 +4,7 @@ ghost use Rattle.std.specs.Prelude.{◌≡◌, ◌≤◌, ◌<◌, ◌^◌, ◌�
 ghost use Rattle.authorizer.specs.Asking.{policy_rules, part_paid};
 ghost use Rattle.authorizer.specs.Tally.{count_after_parts};
 ghost use Rattle.walk.specs.Steps.{ending_by, spent_in};
+ghost use Rattle.broker_world.specs.HandlerResult.{HandlerMeets};
 ghost use Rattle.broker_world.specs.World.{TopicValue};
 ghost use Rattle.broker_world.specs.World.{rules_of};
 ghost use Rattle.broker_world.specs.Questions.{topic_part, topic_refusal};
@@ -242,16 +243,10 @@ pub fn answer_offset_fetch(
     caller: &Caller,
     request: &OffsetFetchRequest,
 ) -> Result<HandlerResult, AllocError>
-    ensures reply { IfOk result
-        (λ o. o.reply ≡ (offset_fetch_outcome state.now caller.now request.now).reply) }
-    ensures refusals { IfOk result
-        (λ o. o.refusals ≡ (offset_fetch_outcome state.now caller.now request.now).refusals) }
-    ensures paid { IfOk result
-        (λ o. o.paid ≡ part_paid (rules_of state.now)
-        (group_question caller.now request.now.group ∷ [])) }
-    ensures spent { IfOk result
-        (λ o. o.spent ≡ count_after_parts (rules_of state.now) 0
-        (fetch_parts state.now caller.now request.now)) }
+    ensures { HandlerMeets state.now state.now
+        (offset_fetch_outcome state.now caller.now request.now)
+        (group_question caller.now request.now.group ∷ [])
+        (fetch_parts state.now caller.now request.now) result }
 {
     let question = group_question(caller, &request.group)?;
     let policy = state.policy();

@@ -4,7 +4,7 @@ ghost use Rattle.std.specs.Prelude.{◌≡◌, ◌↔◌, IsTrue, ◌<ℤ◌, po
 ghost use Rattle.acl_binding.specs.declared.words.Operation.TheVariants as operations;
 ghost use Rattle.group_offsets.specs.GroupTransition.{answer_of};
 ghost use Rattle.group_offsets.specs.Group.{without_lapsed};
-ghost use Rattle.group_offsets.specs.Groups.{group_of, find_group, groups_after, join, sync, beat, leave, commit, stage, decide, unknown_group_error};
+ghost use Rattle.group_offsets.specs.Groups.{group_of, place_of, find_group, groups_after, join, sync, beat, leave, commit, stage, decide, unknown_group_error};
 ghost use Rattle.group_offsets.specs.Named.{all_expired};
 ghost use Rattle.group_offsets.specs.Permission.{MayUse};
 
@@ -97,29 +97,28 @@ impl Groups {
             (λ answer. answer ≡ answer_of (join self.old request.now place moment)) }
         ensures err { OnErr result.1 (self.new ≡ self.old) }
     {
-        (
-            permit.spend(policy),
-            self.join_group(alloc, request, place, moment),
-        )
+        let spent = permit.spend(policy);
+        if let Some(group) = self.table.get_mut(request.group.as_str()) {
+            return (spent, group.join(alloc, request, place, moment));
+        }
+        (spent, self.join_first(alloc, request, place, moment))
     }
 
-    fn join_group(
+    /// A group begins with its first member.
+    fn join_first(
         &mut self,
         alloc: Global,
         request: &JoinGroupRequest,
         place: u64,
         moment: u64,
     ) -> Result<Result<Joined, ErrorCode>, AllocError>
-        requires generation { (group_of self.old request.now.group).generation <ℤ pos 2147483647 }
+        requires { place_of self.old request.now.group ≡ None }
         ensures groups { OnOk result
             (self.new ≡ groups_after self.old (join self.old request.now place moment)) }
         ensures answer { IfOk result
             (λ answer. answer ≡ answer_of (join self.old request.now place moment)) }
         ensures err { OnErr result (self.new ≡ self.old) }
     {
-        if let Some(group) = self.table.get_mut(request.group.as_str()) {
-            return group.join(alloc, request, place, moment);
-        }
         let mut group = Group::fresh(alloc, &request.group)?;
         let answer = group.join(alloc, request, place, moment)?;
         self.keep(group, &answer)?;
@@ -142,24 +141,11 @@ impl Groups {
             (λ answer. answer ≡ answer_of (sync self.old request.now moment)) }
         ensures err { OnErr result.1 (self.new ≡ self.old) }
     {
-        (permit.spend(policy), self.sync_group(request, moment))
-    }
-
-    fn sync_group(
-        &mut self,
-        request: &SyncGroupRequest,
-        moment: u64,
-    ) -> Result<Result<Bytes, ErrorCode>, AllocError>
-        ensures groups { OnOk result
-            (self.new ≡ groups_after self.old (sync self.old request.now moment)) }
-        ensures answer { IfOk result
-            (λ answer. answer ≡ answer_of (sync self.old request.now moment)) }
-        ensures err { OnErr result (self.new ≡ self.old) }
-    {
+        let spent = permit.spend(policy);
         let Some(group) = self.table.get_mut(request.group.as_str()) else {
-            return Ok(Err(unknown_group_error(&request.group)));
+            return (spent, Ok(Err(unknown_group_error(&request.group))));
         };
-        group.sync(request, moment)
+        (spent, group.sync(request, moment))
     }
 
     /// The member tells that it is there. It needs a permit of READ.
@@ -175,17 +161,11 @@ impl Groups {
         ensures groups { self.new ≡ groups_after self.old (beat self.old request.now moment) }
         ensures answer { result.1 ≡ answer_of (beat self.old request.now moment) }
     {
-        (permit.spend(policy), self.beat_group(request, moment))
-    }
-
-    fn beat_group(&mut self, request: &HeartbeatRequest, moment: u64) -> Result<(), ErrorCode>
-        ensures groups { self.new ≡ groups_after self.old (beat self.old request.now moment) }
-        ensures answer { result ≡ answer_of (beat self.old request.now moment) }
-    {
+        let spent = permit.spend(policy);
         let Some(group) = self.table.get_mut(request.group.as_str()) else {
-            return Err(unknown_group_error(&request.group));
+            return (spent, Err(unknown_group_error(&request.group)));
         };
-        group.beat(request, moment)
+        (spent, group.beat(request, moment))
     }
 
     /// The member leaves. It needs a permit of READ.
@@ -200,17 +180,11 @@ impl Groups {
         ensures groups { self.new ≡ groups_after self.old (leave self.old request.now) }
         ensures answer { result.1 ≡ answer_of (leave self.old request.now) }
     {
-        (permit.spend(policy), self.leave_group(request))
-    }
-
-    fn leave_group(&mut self, request: &LeaveGroupRequest) -> Result<(), ErrorCode>
-        ensures groups { self.new ≡ groups_after self.old (leave self.old request.now) }
-        ensures answer { result ≡ answer_of (leave self.old request.now) }
-    {
+        let spent = permit.spend(policy);
         let Some(group) = self.table.get_mut(request.group.as_str()) else {
-            return Err(unknown_group_error(&request.group));
+            return (spent, Err(unknown_group_error(&request.group)));
         };
-        group.leave(request)
+        (spent, group.leave(request))
     }
 
     /// An offset is committed for a group. It needs a permit of READ.
@@ -233,14 +207,18 @@ impl Groups {
             (λ answer. answer ≡ answer_of (commit self.old name.now generation member.now offset)) }
         ensures err { OnErr result.1 (self.new ≡ self.old) }
     {
-        let spent = permit.spend(policy);
+        let spent: Spent = permit.spend(policy);
+        if let Some(group) = self.table.get_mut(name.as_str()) {
+            return (spent, group.commit(generation, member, offset));
+        }
         (
             spent,
-            self.commit_offset(alloc, name, generation, member, offset),
+            self.commit_first(alloc, name, generation, member, offset),
         )
     }
 
-    fn commit_offset(
+    /// A group begins with its first offset.
+    fn commit_first(
         &mut self,
         alloc: Global,
         name: &Text,
@@ -248,6 +226,7 @@ impl Groups {
         member: &Text,
         offset: PartitionOffset,
     ) -> Result<Result<(), ErrorCode>, AllocError>
+        requires { place_of self.old name.now ≡ None }
         ensures groups { OnOk result
             (self.new ≡ groups_after self.old
             (commit self.old name.now generation member.now offset)) }
@@ -255,9 +234,6 @@ impl Groups {
             (λ answer. answer ≡ answer_of (commit self.old name.now generation member.now offset)) }
         ensures err { OnErr result (self.new ≡ self.old) }
     {
-        if let Some(group) = self.table.get_mut(name.as_str()) {
-            return group.commit(generation, member, offset);
-        }
         let mut group = Group::fresh(alloc, name)?;
         let answer = group.commit(generation, member, offset)?;
         self.keep(group, &answer)?;
@@ -286,13 +262,18 @@ impl Groups {
             ≡ answer_of (stage self.old name.now producer generation member.now offset)) }
         ensures err { OnErr result.1 (self.new ≡ self.old) }
     {
+        let spent = permit.spend(policy);
+        if let Some(group) = self.table.get_mut(name.as_str()) {
+            return (spent, group.stage(producer, generation, member, offset));
+        }
         (
-            permit.spend(policy),
-            self.stage_offset(alloc, name, producer, generation, member, offset),
+            spent,
+            self.stage_first(alloc, name, producer, generation, member, offset),
         )
     }
 
-    fn stage_offset(
+    /// A group begins with the first offset that is staged for it.
+    fn stage_first(
         &mut self,
         alloc: Global,
         name: &Text,
@@ -301,6 +282,7 @@ impl Groups {
         member: &Text,
         offset: PartitionOffset,
     ) -> Result<Result<(), ErrorCode>, AllocError>
+        requires { place_of self.old name.now ≡ None }
         ensures groups { OnOk result
             (self.new ≡ groups_after self.old
             (stage self.old name.now producer generation member.now offset)) }
@@ -309,9 +291,6 @@ impl Groups {
             ≡ answer_of (stage self.old name.now producer generation member.now offset)) }
         ensures err { OnErr result (self.new ≡ self.old) }
     {
-        if let Some(group) = self.table.get_mut(name.as_str()) {
-            return group.stage(producer, generation, member, offset);
-        }
         let mut group = Group::fresh(alloc, name)?;
         let answer = group.stage(producer, generation, member, offset)?;
         self.keep(group, &answer)?;

@@ -7,7 +7,7 @@ use crate::awaited::Awaited;
 use admission::Rate;
 use arguments::{Job, Serving, Showing, ShutdownOptions, VERSION, arguments};
 use broker_keeping::Steering;
-use broker_server::{ServeOptions, serve};
+use broker_server::{ServeOptions, Server, serve};
 use commands::{Opened, check_and_explain, open_and_explain, replay_and_explain};
 use session_pool::{ListedVersions, ShutdownFlag};
 use session_workers::{ConnectionOptions, SessionOptions};
@@ -291,9 +291,13 @@ fn serve_connections<
         bindings,
         serving.log_times || !errors.is_terminal(),
     );
-    serve(
-        rt, alloc, core, &users, &listener, options, steering, writer, errors,
-    )
+    let server = Server {
+        listener: &listener,
+        users: &users,
+        options,
+        steering,
+    };
+    serve(rt, alloc, core, server, writer, errors)
 }
 
 /// Serves connections by the settings in the file that is named, or else in standard input.
@@ -337,6 +341,7 @@ where
     serve_connections(rt, alloc, serving, file, steering, writer, errors)
 }
 
+/// Does what the command line asks for, and ends with its status.
 fn main(rt: HostRuntime) -> io::Result<ExitCode> {
     let alloc = rt.alloc();
     let mut errors = rt.stderr();

@@ -1,6 +1,6 @@
 //! Whole frames, as they travel.
 
-use msg_admin::{Api, Header, Reply, read_request, write_reply, write_request};
+use msg_admin::{Api, ApiKey, Header, Reply, read_request, write_reply, write_request};
 use msg_data::ProduceReply;
 use std::alloc::Global;
 use std::test::Fail;
@@ -25,7 +25,7 @@ fn comes_back(alloc: Global, frame: &[u8]) -> Option<(Header, bool)> {
 
 #[test]
 fn a_header(rt: HostRuntime) {
-    let header = Header::new(Api::Metadata, 1, None);
+    let header = Header::new(Api::in_last_version(ApiKey::Metadata), 1, None);
     assert!(rt; comes_back(rt.alloc(), ALL_TOPICS) == Some((header, true)));
 }
 
@@ -51,23 +51,29 @@ fn silent_replies(rt: HostRuntime) {
 
 #[test]
 fn apis(rt: HostRuntime) {
-    for (key, version, api) in [
-        (3, 1, Some(Api::Metadata)),
+    for (number, version, key) in [
+        (3, 1, Some(ApiKey::Metadata)),
         (3, 0, None),
         (1, 3, None),
-        (1, 4, Some(Api::Fetch)),
-        (25, 0, Some(Api::AddOffsetsToTxn)),
+        (1, 4, Some(ApiKey::Fetch)),
+        (25, 0, Some(ApiKey::AddOffsetsToTxn)),
         (25, 1, None),
+        (26, -1, None),
+        (26, 0, Some(ApiKey::EndTxn)),
+        (26, 5, Some(ApiKey::EndTxn)),
+        (26, 6, None),
         (27, 0, None),
-        (18, 0, Some(Api::ApiVersions)),
+        (18, 0, Some(ApiKey::ApiVersions)),
         (18, 3, None),
         (28, 2, None),
-        (28, 3, Some(Api::TxnOffsetCommit)),
+        (28, 3, Some(ApiKey::TxnOffsetCommit)),
     ] {
-        assert_eq!(rt; Api::of(key, version), api, "{key} {version}");
+        let found = Api::of(number, version);
+        assert_eq!(rt; found.map(|api| api.key()), key, "{number} {version}");
+        assert_eq!(rt; found, key.and_then(|key| Api::in_version(key, version)));
     }
-    assert_eq!(rt; Api::Metadata.key(), 3);
-    assert_eq!(rt; Api::Metadata.version(), 1);
+    assert_eq!(rt; ApiKey::Metadata.number(), 3);
+    assert_eq!(rt; Api::in_last_version(ApiKey::Metadata).version(), 1);
 }
 
 /// The fault of a frame without its size field, in hexadecimal digits.

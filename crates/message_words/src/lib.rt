@@ -27,6 +27,6 @@ pub use reading::read_reply;
 pub use reply::push_reply;
 pub use request::push_request;
 pub use response::{
-    push_closed, push_no_answer, push_response, push_sent_reply, push_silence, push_unread_answer,
+    push_closed, push_no_answer, push_response, push_sent_reply, push_served_versions, push_silence,
 };
 pub use sheet::Sheet;

@@ -1,41 +1,44 @@
 //! The names that the protocol guide gives to apis and to error codes.
 
-use msg_admin::Api;
+use msg_admin::{Api, ApiKey};
 use wire_types::ErrorCode;
 
-/// The api's name, whatever its version.
-pub fn api_name(api: Api) -> &'static str {
-    match api {
-        Api::Produce => "Produce",
-        Api::Fetch => "Fetch",
-        Api::ListOffsets => "ListOffsets",
-        Api::Metadata => "Metadata",
-        Api::OffsetCommit => "OffsetCommit",
-        Api::OffsetFetch => "OffsetFetch",
-        Api::FindCoordinator => "FindCoordinator",
-        Api::JoinGroup => "JoinGroup",
-        Api::Heartbeat => "Heartbeat",
-        Api::LeaveGroup => "LeaveGroup",
-        Api::SyncGroup => "SyncGroup",
-        Api::SaslHandshake => "SaslHandshake",
-        Api::ApiVersions => "ApiVersions",
-        Api::InitProducerId => "InitProducerId",
-        Api::AddPartitionsToTxn => "AddPartitionsToTxn",
-        Api::AddOffsetsToTxn => "AddOffsetsToTxn",
-        Api::EndTxn0 | Api::EndTxn1 | Api::EndTxn2 => "EndTxn",
-        Api::EndTxn3 | Api::EndTxn4 | Api::EndTxn5 => "EndTxn",
-        Api::TxnOffsetCommit => "TxnOffsetCommit",
-        Api::DescribeAcls => "DescribeAcls",
-        Api::CreateAcls => "CreateAcls",
-        Api::DeleteAcls => "DeleteAcls",
-        Api::SaslAuthenticate => "SaslAuthenticate",
+/// The api's name.
+fn name_of(key: ApiKey) -> &'static str {
+    match key {
+        ApiKey::Produce => "Produce",
+        ApiKey::Fetch => "Fetch",
+        ApiKey::ListOffsets => "ListOffsets",
+        ApiKey::Metadata => "Metadata",
+        ApiKey::OffsetCommit => "OffsetCommit",
+        ApiKey::OffsetFetch => "OffsetFetch",
+        ApiKey::FindCoordinator => "FindCoordinator",
+        ApiKey::JoinGroup => "JoinGroup",
+        ApiKey::Heartbeat => "Heartbeat",
+        ApiKey::LeaveGroup => "LeaveGroup",
+        ApiKey::SyncGroup => "SyncGroup",
+        ApiKey::SaslHandshake => "SaslHandshake",
+        ApiKey::ApiVersions => "ApiVersions",
+        ApiKey::InitProducerId => "InitProducerId",
+        ApiKey::AddPartitionsToTxn => "AddPartitionsToTxn",
+        ApiKey::AddOffsetsToTxn => "AddOffsetsToTxn",
+        ApiKey::EndTxn => "EndTxn",
+        ApiKey::TxnOffsetCommit => "TxnOffsetCommit",
+        ApiKey::DescribeAcls => "DescribeAcls",
+        ApiKey::CreateAcls => "CreateAcls",
+        ApiKey::DeleteAcls => "DeleteAcls",
+        ApiKey::SaslAuthenticate => "SaslAuthenticate",
     }
 }
 
-/// The name of the api that a key stands for, if it is served in some version.
-pub fn key_name(key: i16) -> Option<&'static str> {
-    let api = Api::ALL.iter().copied().find(|api| api.key() == key)?;
-    Some(api_name(api))
+/// The api's name, whatever its version.
+pub fn api_name(api: Api) -> &'static str {
+    name_of(api.key())
+}
+
+/// The name of the api that a number stands for, if it is served in some version.
+pub fn key_name(number: i16) -> Option<&'static str> {
+    Some(name_of(ApiKey::of(number)?))
 }
 
 /// The error code's name.

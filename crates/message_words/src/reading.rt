@@ -5,12 +5,12 @@ ghost use Rattle.wire_types.specs.Schema.{int32};
 ghost use Rattle.wire_types.specs.Reading.{Reads};
 ghost use Rattle.msg_admin.specs.declared.reply.Reply.{Reply as AnyReply};
 ghost use Rattle.msg_admin.specs.Header.{with_header_tags};
-ghost use Rattle.msg_admin.specs.Bodies.{reply_body};
+ghost use Rattle.msg_admin.specs.Bodies.{reply_form, reply_body};
 ghost use Rattle.msg_admin.specs.Request.{Answers};
 ghost use Rattle.msg_admin.specs.Response.{IsResponse};
 ghost use Rattle.message_words.specs.Reading.{response_at};
 
-use msg_admin::{Api, Reply};
+use msg_admin::{Api, ApiKey, Reply};
 use msg_txn::EndTxnReply;
 use std::alloc::Global;
 use wire_types::{Bytes, Cursor, Malformed, ReadFault, Wire};
@@ -26,40 +26,47 @@ fn read_correlation(flexible: bool, cursor: &mut Cursor<'_>) -> Result<i32, Read
     Ok(correlation)
 }
 
+/// The answer of an api, in the form of a version.
+fn read_form(
+    alloc: Global,
+    key: ApiKey,
+    version: i16,
+    cursor: &mut Cursor<'_>,
+) -> Result<Reply, ReadFault>
+    ensures { Reads ((reply_form key version).reading cursor.old) result cursor.new }
+{
+    Ok(match key {
+        ApiKey::Produce => Reply::Produce(Wire::read(alloc, cursor)?),
+        ApiKey::Fetch => Reply::Fetch(Wire::read(alloc, cursor)?),
+        ApiKey::ListOffsets => Reply::ListOffsets(Wire::read(alloc, cursor)?),
+        ApiKey::Metadata => Reply::Metadata(Wire::read(alloc, cursor)?),
+        ApiKey::OffsetCommit => Reply::OffsetCommit(Wire::read(alloc, cursor)?),
+        ApiKey::OffsetFetch => Reply::OffsetFetch(Wire::read(alloc, cursor)?),
+        ApiKey::FindCoordinator => Reply::FindCoordinator(Wire::read(alloc, cursor)?),
+        ApiKey::JoinGroup => Reply::JoinGroup(Wire::read(alloc, cursor)?),
+        ApiKey::Heartbeat => Reply::Heartbeat(Wire::read(alloc, cursor)?),
+        ApiKey::LeaveGroup => Reply::LeaveGroup(Wire::read(alloc, cursor)?),
+        ApiKey::SyncGroup => Reply::SyncGroup(Wire::read(alloc, cursor)?),
+        ApiKey::SaslHandshake => Reply::SaslHandshake(Wire::read(alloc, cursor)?),
+        ApiKey::ApiVersions => Reply::ApiVersions(Wire::read(alloc, cursor)?),
+        ApiKey::InitProducerId => Reply::InitProducerId(Wire::read(alloc, cursor)?),
+        ApiKey::AddPartitionsToTxn => Reply::AddPartitionsToTxn(Wire::read(alloc, cursor)?),
+        ApiKey::AddOffsetsToTxn => Reply::AddOffsetsToTxn(Wire::read(alloc, cursor)?),
+        ApiKey::EndTxn => Reply::EndTxn(EndTxnReply::read(alloc, version, cursor)?),
+        ApiKey::TxnOffsetCommit => Reply::TxnOffsetCommit(Wire::read(alloc, cursor)?),
+        ApiKey::DescribeAcls => Reply::DescribeAcls(Wire::read(alloc, cursor)?),
+        ApiKey::CreateAcls => Reply::CreateAcls(Wire::read(alloc, cursor)?),
+        ApiKey::DeleteAcls => Reply::DeleteAcls(Wire::read(alloc, cursor)?),
+        ApiKey::SaslAuthenticate => Reply::SaslAuthenticate(Wire::read(alloc, cursor)?),
+    })
+}
+
 /// The answer of an api.
 #[tactic(auto, unfolding(msg_admin::specs::Bodies::reply_body))]
 fn read_body(alloc: Global, api: Api, cursor: &mut Cursor<'_>) -> Result<Reply, ReadFault>
     ensures { Reads ((reply_body api).reading cursor.old) result cursor.new }
 {
-    Ok(match api {
-        Api::Produce => Reply::Produce(Wire::read(alloc, cursor)?),
-        Api::Fetch => Reply::Fetch(Wire::read(alloc, cursor)?),
-        Api::ListOffsets => Reply::ListOffsets(Wire::read(alloc, cursor)?),
-        Api::Metadata => Reply::Metadata(Wire::read(alloc, cursor)?),
-        Api::OffsetCommit => Reply::OffsetCommit(Wire::read(alloc, cursor)?),
-        Api::OffsetFetch => Reply::OffsetFetch(Wire::read(alloc, cursor)?),
-        Api::FindCoordinator => Reply::FindCoordinator(Wire::read(alloc, cursor)?),
-        Api::JoinGroup => Reply::JoinGroup(Wire::read(alloc, cursor)?),
-        Api::Heartbeat => Reply::Heartbeat(Wire::read(alloc, cursor)?),
-        Api::LeaveGroup => Reply::LeaveGroup(Wire::read(alloc, cursor)?),
-        Api::SyncGroup => Reply::SyncGroup(Wire::read(alloc, cursor)?),
-        Api::SaslHandshake => Reply::SaslHandshake(Wire::read(alloc, cursor)?),
-        Api::ApiVersions => Reply::ApiVersions(Wire::read(alloc, cursor)?),
-        Api::InitProducerId => Reply::InitProducerId(Wire::read(alloc, cursor)?),
-        Api::AddPartitionsToTxn => Reply::AddPartitionsToTxn(Wire::read(alloc, cursor)?),
-        Api::AddOffsetsToTxn => Reply::AddOffsetsToTxn(Wire::read(alloc, cursor)?),
-        Api::EndTxn0 => Reply::EndTxn(EndTxnReply::Version0(Wire::read(alloc, cursor)?)),
-        Api::EndTxn1 => Reply::EndTxn(EndTxnReply::Version1(Wire::read(alloc, cursor)?)),
-        Api::EndTxn2 => Reply::EndTxn(EndTxnReply::Version2(Wire::read(alloc, cursor)?)),
-        Api::EndTxn3 => Reply::EndTxn(EndTxnReply::Version3(Wire::read(alloc, cursor)?)),
-        Api::EndTxn4 => Reply::EndTxn(EndTxnReply::Version4(Wire::read(alloc, cursor)?)),
-        Api::EndTxn5 => Reply::EndTxn(EndTxnReply::Version5(Wire::read(alloc, cursor)?)),
-        Api::TxnOffsetCommit => Reply::TxnOffsetCommit(Wire::read(alloc, cursor)?),
-        Api::DescribeAcls => Reply::DescribeAcls(Wire::read(alloc, cursor)?),
-        Api::CreateAcls => Reply::CreateAcls(Wire::read(alloc, cursor)?),
-        Api::DeleteAcls => Reply::DeleteAcls(Wire::read(alloc, cursor)?),
-        Api::SaslAuthenticate => Reply::SaslAuthenticate(Wire::read(alloc, cursor)?),
-    })
+    read_form(alloc, api.key(), api.version(), cursor)
 }
 
 #[tactic(auto, unfolding(crate::specs::Reading::response_at))]

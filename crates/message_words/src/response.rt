@@ -4,7 +4,7 @@ use crate::names::api_name;
 use crate::reading::read_reply;
 use crate::reply::push_reply;
 use crate::sheet::Sheet;
-use msg_admin::{Api, Reply, unsupported_versions, write_unsupported_versions};
+use msg_admin::{Api, ApiKey, Reply, unsupported_versions, write_unsupported_versions};
 use std::alloc::{AllocError, Global};
 use wire_types::{Bytes, Cursor, Malformed, ReadFault};
 
@@ -45,7 +45,7 @@ pub fn push_sent_reply(
 /// What is looked at of a frame to read its answer: the api, and the correlation id.
 fn asked_of(frame: &Bytes) -> Option<(Api, i32)> {
     if let Some(correlation) = unsupported_versions(frame) {
-        return Some((Api::ApiVersions, correlation));
+        return Some((Api::in_last_version(ApiKey::ApiVersions), correlation));
     }
     let mut cursor = Cursor::over(frame);
     let key = cursor.read_i16().ok()?;
@@ -102,13 +102,12 @@ pub fn push_response(sheet: &mut Sheet, frame: &Bytes, response: &Bytes) -> Resu
     }
 }
 
-/// Appends what a frame is answered that is no request.
-pub fn push_unread_answer(sheet: &mut Sheet, frame: &Bytes) -> Result<(), AllocError> {
-    match unsupported_versions(frame) {
-        Some(correlation) => {
-            let response = write_unsupported_versions(sheet.alloc(), correlation)?;
-            push_response(sheet, frame, &response)
-        }
-        None => push_closed(sheet),
-    }
+/// Appends what a frame is answered that asks ApiVersions in a version that isn't served, under this correlation id.
+pub fn push_served_versions(
+    sheet: &mut Sheet,
+    frame: &Bytes,
+    correlation: i32,
+) -> Result<(), AllocError> {
+    let response = write_unsupported_versions(sheet.alloc(), correlation)?;
+    push_response(sheet, frame, &response)
 }

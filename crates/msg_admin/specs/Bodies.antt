@@ -1,5 +1,5 @@
 -- The grammars of the bodies: what each api is asked, and what it answers.
-use Rattle.std.specs.Prelude.{◌≡◌, ℕ, List, [], Bool, true, false, Option, Some, None, refl}
+use Rattle.std.specs.Prelude.{◌≡◌, ℕ, ℤ, List, [], Bool, true, false, Option, Some, None, refl}
 use Rattle.wire_types.specs.Grammar.{Grammar, Body}
 use Rattle.wire_types.specs.Combinators.{variant, body_of, empty_body}
 use Rattle.msg_data.specs.declared.produce.ProduceRequest.{ProduceRequest}
@@ -48,16 +48,9 @@ use Rattle.msg_txn.specs.AddPartitions.{add_partitions_to_txn_request, add_parti
 use Rattle.msg_txn.specs.declared.add_offsets.AddOffsetsToTxnRequest.{AddOffsetsToTxnRequest}
 use Rattle.msg_txn.specs.declared.add_offsets.AddOffsetsToTxnReply.{AddOffsetsToTxnReply}
 use Rattle.msg_txn.specs.AddOffsets.{add_offsets_to_txn_request, add_offsets_to_txn_reply}
-use Rattle.msg_txn.specs.declared.end_txn.EndTxn.{EndTxn}
-use Rattle.msg_txn.specs.declared.end_txn.FlexibleEndTxn.{FlexibleEndTxn}
 use Rattle.msg_txn.specs.declared.end_txn.EndTxnRequest.{EndTxnRequest}
-use Rattle.msg_txn.specs.declared.end_txn.EndTxnRequest.TheVariants as endings
-use Rattle.msg_txn.specs.declared.end_txn.Ended.{Ended}
-use Rattle.msg_txn.specs.declared.end_txn.FlexibleEnded.{FlexibleEnded}
-use Rattle.msg_txn.specs.declared.end_txn.EndedWithPair.{EndedWithPair}
 use Rattle.msg_txn.specs.declared.end_txn.EndTxnReply.{EndTxnReply}
-use Rattle.msg_txn.specs.declared.end_txn.EndTxnReply.TheVariants as ended_as
-use Rattle.msg_txn.specs.EndTxn.{end_txn, flexible_end_txn, end_txn_answer, flexible_end_txn_answer, end_txn_answer_with_producer}
+use Rattle.msg_txn.specs.EndTxn.{version_asked, version_answered, end_txn_request, end_txn_reply}
 use Rattle.msg_txn.specs.declared.txn_offset_commit.TxnOffsetCommitRequest.{TxnOffsetCommitRequest}
 use Rattle.msg_txn.specs.declared.txn_offset_commit.TxnOffsetCommitReply.{TxnOffsetCommitReply}
 use Rattle.msg_txn.specs.TxnOffsetCommit.{txn_offset_commit_request, txn_offset_commit_reply}
@@ -75,80 +68,65 @@ use Rattle.msg_login.specs.ApiVersions.{api_versions_reply}
 use Rattle.msg_login.specs.declared.sasl_authenticate.SaslAuthenticateRequest.{SaslAuthenticateRequest}
 use Rattle.msg_login.specs.declared.sasl_authenticate.SaslAuthenticateReply.{SaslAuthenticateReply}
 use Rattle.msg_login.specs.SaslAuthenticate.{sasl_authenticate_request, sasl_authenticate_reply, sasl_authenticate_strings}
+use Rattle.msg_admin.specs.declared.api_key.ApiKey.{ApiKey}
+use Rattle.msg_admin.specs.declared.api_key.ApiKey.TheVariants as keys
 use Rattle.msg_admin.specs.declared.api.Api.{Api}
-use Rattle.msg_admin.specs.declared.api.Api.TheVariants as apis
 use Rattle.msg_admin.specs.declared.request.Request.{Request}
 use Rattle.msg_admin.specs.declared.request.Request.TheVariants as requests
 use Rattle.msg_admin.specs.declared.reply.Reply.{Reply}
 use Rattle.msg_admin.specs.declared.reply.Reply.TheVariants as replies
+use Rattle.msg_admin.specs.Api.{api_in, in_last_version}
 
--- an EndTxn is asked in its version, and answered in that of its answer
-abbrev pub ending_api : EndTxnRequest → Api
-ending_api (endings.Version0 r) = apis.EndTxn0
-ending_api (endings.Version1 r) = apis.EndTxn1
-ending_api (endings.Version2 r) = apis.EndTxn2
-ending_api (endings.Version3 r) = apis.EndTxn3
-ending_api (endings.Version4 r) = apis.EndTxn4
-ending_api (endings.Version5 r) = apis.EndTxn5
-
-abbrev pub ended_api : EndTxnReply → Api
-ended_api (ended_as.Version0 r) = apis.EndTxn0
-ended_api (ended_as.Version1 r) = apis.EndTxn1
-ended_api (ended_as.Version2 r) = apis.EndTxn2
-ended_api (ended_as.Version3 r) = apis.EndTxn3
-ended_api (ended_as.Version4 r) = apis.EndTxn4
-ended_api (ended_as.Version5 r) = apis.EndTxn5
-
--- the api that a request asks
+-- the api that a request asks: an EndTxn in its version, and each other api in the last, which is the only one
 abbrev pub api_of : Request → Api
-api_of (requests.Produce r) = apis.Produce
-api_of (requests.Fetch r) = apis.Fetch
-api_of (requests.ListOffsets r) = apis.ListOffsets
-api_of (requests.Metadata r) = apis.Metadata
-api_of (requests.OffsetCommit r) = apis.OffsetCommit
-api_of (requests.OffsetFetch r) = apis.OffsetFetch
-api_of (requests.FindCoordinator r) = apis.FindCoordinator
-api_of (requests.JoinGroup r) = apis.JoinGroup
-api_of (requests.Heartbeat r) = apis.Heartbeat
-api_of (requests.LeaveGroup r) = apis.LeaveGroup
-api_of (requests.SyncGroup r) = apis.SyncGroup
-api_of (requests.SaslHandshake r) = apis.SaslHandshake
-api_of requests.ApiVersions = apis.ApiVersions
-api_of (requests.InitProducerId r) = apis.InitProducerId
-api_of (requests.AddPartitionsToTxn r) = apis.AddPartitionsToTxn
-api_of (requests.AddOffsetsToTxn r) = apis.AddOffsetsToTxn
-api_of (requests.EndTxn r) = ending_api r
-api_of (requests.TxnOffsetCommit r) = apis.TxnOffsetCommit
-api_of (requests.DescribeAcls r) = apis.DescribeAcls
-api_of (requests.CreateAcls r) = apis.CreateAcls
-api_of (requests.DeleteAcls r) = apis.DeleteAcls
-api_of (requests.SaslAuthenticate r) = apis.SaslAuthenticate
+api_of (requests.Produce r) = in_last_version keys.Produce
+api_of (requests.Fetch r) = in_last_version keys.Fetch
+api_of (requests.ListOffsets r) = in_last_version keys.ListOffsets
+api_of (requests.Metadata r) = in_last_version keys.Metadata
+api_of (requests.OffsetCommit r) = in_last_version keys.OffsetCommit
+api_of (requests.OffsetFetch r) = in_last_version keys.OffsetFetch
+api_of (requests.FindCoordinator r) = in_last_version keys.FindCoordinator
+api_of (requests.JoinGroup r) = in_last_version keys.JoinGroup
+api_of (requests.Heartbeat r) = in_last_version keys.Heartbeat
+api_of (requests.LeaveGroup r) = in_last_version keys.LeaveGroup
+api_of (requests.SyncGroup r) = in_last_version keys.SyncGroup
+api_of (requests.SaslHandshake r) = in_last_version keys.SaslHandshake
+api_of requests.ApiVersions = in_last_version keys.ApiVersions
+api_of (requests.InitProducerId r) = in_last_version keys.InitProducerId
+api_of (requests.AddPartitionsToTxn r) = in_last_version keys.AddPartitionsToTxn
+api_of (requests.AddOffsetsToTxn r) = in_last_version keys.AddOffsetsToTxn
+api_of (requests.EndTxn r) = api_in keys.EndTxn (version_asked r)
+api_of (requests.TxnOffsetCommit r) = in_last_version keys.TxnOffsetCommit
+api_of (requests.DescribeAcls r) = in_last_version keys.DescribeAcls
+api_of (requests.CreateAcls r) = in_last_version keys.CreateAcls
+api_of (requests.DeleteAcls r) = in_last_version keys.DeleteAcls
+api_of (requests.SaslAuthenticate r) = in_last_version keys.SaslAuthenticate
 
--- the api whose answer a reply is sent as, if it is sent; what is no answer to a request is not
+-- the api whose answer a reply is sent as, in its version, if it is sent; what is no answer to a request is not
 abbrev pub sent_as : Reply → Option Api
-sent_as (replies.Produce r) = Some apis.Produce
+sent_as (replies.Produce r) = Some (in_last_version keys.Produce)
 sent_as (replies.SilentProduce r) = None
-sent_as (replies.Fetch r) = Some apis.Fetch
-sent_as (replies.ListOffsets r) = Some apis.ListOffsets
-sent_as (replies.Metadata r) = Some apis.Metadata
-sent_as (replies.OffsetCommit r) = Some apis.OffsetCommit
-sent_as (replies.OffsetFetch r) = Some apis.OffsetFetch
-sent_as (replies.FindCoordinator r) = Some apis.FindCoordinator
-sent_as (replies.JoinGroup r) = Some apis.JoinGroup
-sent_as (replies.Heartbeat r) = Some apis.Heartbeat
-sent_as (replies.LeaveGroup r) = Some apis.LeaveGroup
-sent_as (replies.SyncGroup r) = Some apis.SyncGroup
-sent_as (replies.SaslHandshake r) = Some apis.SaslHandshake
-sent_as (replies.ApiVersions r) = Some apis.ApiVersions
-sent_as (replies.InitProducerId r) = Some apis.InitProducerId
-sent_as (replies.AddPartitionsToTxn r) = Some apis.AddPartitionsToTxn
-sent_as (replies.AddOffsetsToTxn r) = Some apis.AddOffsetsToTxn
-sent_as (replies.EndTxn r) = Some (ended_api r)
-sent_as (replies.TxnOffsetCommit r) = Some apis.TxnOffsetCommit
-sent_as (replies.DescribeAcls r) = Some apis.DescribeAcls
-sent_as (replies.CreateAcls r) = Some apis.CreateAcls
-sent_as (replies.DeleteAcls r) = Some apis.DeleteAcls
-sent_as (replies.SaslAuthenticate r) = Some apis.SaslAuthenticate
+sent_as (replies.Fetch r) = Some (in_last_version keys.Fetch)
+sent_as (replies.ListOffsets r) = Some (in_last_version keys.ListOffsets)
+sent_as (replies.Metadata r) = Some (in_last_version keys.Metadata)
+sent_as (replies.OffsetCommit r) = Some (in_last_version keys.OffsetCommit)
+sent_as (replies.OffsetFetch r) = Some (in_last_version keys.OffsetFetch)
+sent_as (replies.FindCoordinator r) = Some (in_last_version keys.FindCoordinator)
+sent_as (replies.JoinGroup r) = Some (in_last_version keys.JoinGroup)
+sent_as (replies.Heartbeat r) = Some (in_last_version keys.Heartbeat)
+sent_as (replies.LeaveGroup r) = Some (in_last_version keys.LeaveGroup)
+sent_as (replies.SyncGroup r) = Some (in_last_version keys.SyncGroup)
+sent_as (replies.SaslHandshake r) = Some (in_last_version keys.SaslHandshake)
+sent_as (replies.ApiVersions r) = Some (in_last_version keys.ApiVersions)
+sent_as (replies.InitProducerId r) = Some (in_last_version keys.InitProducerId)
+sent_as (replies.AddPartitionsToTxn r) = Some (in_last_version keys.AddPartitionsToTxn)
+sent_as (replies.AddOffsetsToTxn r) = Some (in_last_version keys.AddOffsetsToTxn)
+sent_as (replies.EndTxn r) = Some (api_in keys.EndTxn (version_answered r))
+sent_as (replies.TxnOffsetCommit r) = Some (in_last_version keys.TxnOffsetCommit)
+sent_as (replies.DescribeAcls r) = Some (in_last_version keys.DescribeAcls)
+sent_as (replies.CreateAcls r) = Some (in_last_version keys.CreateAcls)
+sent_as (replies.DeleteAcls r) = Some (in_last_version keys.DeleteAcls)
+sent_as (replies.SaslAuthenticate r) = Some (in_last_version keys.SaslAuthenticate)
 sent_as (replies.Marked left) = None
 sent_as replies.Idle = None
 sent_as (replies.Ticked left) = None
@@ -470,103 +448,23 @@ pub add_offsets_to_txn-answered : (r : Reply) (x : AddOffsetsToTxnReply) → ans
 add_offsets_to_txn-answered (replies.AddOffsetsToTxn y) x e = cc
 add_offsets_to_txn-answered _ x e = absurd cc
 
--- ---- EndTxn, by version
+-- ---- EndTxn
 
-abbrev pub asked_end_txn_0 : Request → Option EndTxn
-asked_end_txn_0 (requests.EndTxn (endings.Version0 r)) = Some r
-asked_end_txn_0 _ = None
+abbrev pub asked_end_txn : Request → Option EndTxnRequest
+asked_end_txn (requests.EndTxn r) = Some r
+asked_end_txn _ = None
 
-pub end_txn_0-asked : (r : Request) (x : EndTxn) → asked_end_txn_0 r ≡ Some x → requests.EndTxn (endings.Version0 x) ≡ r
-end_txn_0-asked (requests.EndTxn (endings.Version0 y)) x e = cc
-end_txn_0-asked _ x e = absurd cc
+pub end_txn-asked : (r : Request) (x : EndTxnRequest) → asked_end_txn r ≡ Some x → requests.EndTxn x ≡ r
+end_txn-asked (requests.EndTxn y) x e = cc
+end_txn-asked _ x e = absurd cc
 
-abbrev pub answered_end_txn_0 : Reply → Option Ended
-answered_end_txn_0 (replies.EndTxn (ended_as.Version0 r)) = Some r
-answered_end_txn_0 _ = None
+abbrev pub answered_end_txn : Reply → Option EndTxnReply
+answered_end_txn (replies.EndTxn r) = Some r
+answered_end_txn _ = None
 
-pub end_txn_0-answered : (r : Reply) (x : Ended) → answered_end_txn_0 r ≡ Some x → replies.EndTxn (ended_as.Version0 x) ≡ r
-end_txn_0-answered (replies.EndTxn (ended_as.Version0 y)) x e = cc
-end_txn_0-answered _ x e = absurd cc
-
-abbrev pub asked_end_txn_1 : Request → Option EndTxn
-asked_end_txn_1 (requests.EndTxn (endings.Version1 r)) = Some r
-asked_end_txn_1 _ = None
-
-pub end_txn_1-asked : (r : Request) (x : EndTxn) → asked_end_txn_1 r ≡ Some x → requests.EndTxn (endings.Version1 x) ≡ r
-end_txn_1-asked (requests.EndTxn (endings.Version1 y)) x e = cc
-end_txn_1-asked _ x e = absurd cc
-
-abbrev pub answered_end_txn_1 : Reply → Option Ended
-answered_end_txn_1 (replies.EndTxn (ended_as.Version1 r)) = Some r
-answered_end_txn_1 _ = None
-
-pub end_txn_1-answered : (r : Reply) (x : Ended) → answered_end_txn_1 r ≡ Some x → replies.EndTxn (ended_as.Version1 x) ≡ r
-end_txn_1-answered (replies.EndTxn (ended_as.Version1 y)) x e = cc
-end_txn_1-answered _ x e = absurd cc
-
-abbrev pub asked_end_txn_2 : Request → Option EndTxn
-asked_end_txn_2 (requests.EndTxn (endings.Version2 r)) = Some r
-asked_end_txn_2 _ = None
-
-pub end_txn_2-asked : (r : Request) (x : EndTxn) → asked_end_txn_2 r ≡ Some x → requests.EndTxn (endings.Version2 x) ≡ r
-end_txn_2-asked (requests.EndTxn (endings.Version2 y)) x e = cc
-end_txn_2-asked _ x e = absurd cc
-
-abbrev pub answered_end_txn_2 : Reply → Option Ended
-answered_end_txn_2 (replies.EndTxn (ended_as.Version2 r)) = Some r
-answered_end_txn_2 _ = None
-
-pub end_txn_2-answered : (r : Reply) (x : Ended) → answered_end_txn_2 r ≡ Some x → replies.EndTxn (ended_as.Version2 x) ≡ r
-end_txn_2-answered (replies.EndTxn (ended_as.Version2 y)) x e = cc
-end_txn_2-answered _ x e = absurd cc
-
-abbrev pub asked_end_txn_3 : Request → Option FlexibleEndTxn
-asked_end_txn_3 (requests.EndTxn (endings.Version3 r)) = Some r
-asked_end_txn_3 _ = None
-
-pub end_txn_3-asked : (r : Request) (x : FlexibleEndTxn) → asked_end_txn_3 r ≡ Some x → requests.EndTxn (endings.Version3 x) ≡ r
-end_txn_3-asked (requests.EndTxn (endings.Version3 y)) x e = cc
-end_txn_3-asked _ x e = absurd cc
-
-abbrev pub answered_end_txn_3 : Reply → Option FlexibleEnded
-answered_end_txn_3 (replies.EndTxn (ended_as.Version3 r)) = Some r
-answered_end_txn_3 _ = None
-
-pub end_txn_3-answered : (r : Reply) (x : FlexibleEnded) → answered_end_txn_3 r ≡ Some x → replies.EndTxn (ended_as.Version3 x) ≡ r
-end_txn_3-answered (replies.EndTxn (ended_as.Version3 y)) x e = cc
-end_txn_3-answered _ x e = absurd cc
-
-abbrev pub asked_end_txn_4 : Request → Option FlexibleEndTxn
-asked_end_txn_4 (requests.EndTxn (endings.Version4 r)) = Some r
-asked_end_txn_4 _ = None
-
-pub end_txn_4-asked : (r : Request) (x : FlexibleEndTxn) → asked_end_txn_4 r ≡ Some x → requests.EndTxn (endings.Version4 x) ≡ r
-end_txn_4-asked (requests.EndTxn (endings.Version4 y)) x e = cc
-end_txn_4-asked _ x e = absurd cc
-
-abbrev pub answered_end_txn_4 : Reply → Option FlexibleEnded
-answered_end_txn_4 (replies.EndTxn (ended_as.Version4 r)) = Some r
-answered_end_txn_4 _ = None
-
-pub end_txn_4-answered : (r : Reply) (x : FlexibleEnded) → answered_end_txn_4 r ≡ Some x → replies.EndTxn (ended_as.Version4 x) ≡ r
-end_txn_4-answered (replies.EndTxn (ended_as.Version4 y)) x e = cc
-end_txn_4-answered _ x e = absurd cc
-
-abbrev pub asked_end_txn_5 : Request → Option FlexibleEndTxn
-asked_end_txn_5 (requests.EndTxn (endings.Version5 r)) = Some r
-asked_end_txn_5 _ = None
-
-pub end_txn_5-asked : (r : Request) (x : FlexibleEndTxn) → asked_end_txn_5 r ≡ Some x → requests.EndTxn (endings.Version5 x) ≡ r
-end_txn_5-asked (requests.EndTxn (endings.Version5 y)) x e = cc
-end_txn_5-asked _ x e = absurd cc
-
-abbrev pub answered_end_txn_5 : Reply → Option EndedWithPair
-answered_end_txn_5 (replies.EndTxn (ended_as.Version5 r)) = Some r
-answered_end_txn_5 _ = None
-
-pub end_txn_5-answered : (r : Reply) (x : EndedWithPair) → answered_end_txn_5 r ≡ Some x → replies.EndTxn (ended_as.Version5 x) ≡ r
-end_txn_5-answered (replies.EndTxn (ended_as.Version5 y)) x e = cc
-end_txn_5-answered _ x e = absurd cc
+pub end_txn-answered : (r : Reply) (x : EndTxnReply) → answered_end_txn r ≡ Some x → replies.EndTxn x ≡ r
+end_txn-answered (replies.EndTxn y) x e = cc
+end_txn-answered _ x e = absurd cc
 
 -- ---- TxnOffsetCommit
 
@@ -660,60 +558,57 @@ sasl_authenticate-answered _ x e = absurd cc
 
 -- ---- by api
 
+-- in the form of a version
+abbrev pub request_form : ApiKey → ℤ → Body Request
+request_form keys.Produce version = body_of (variant requests.Produce asked_produce (λ x. refl) produce-asked produce_request)
+request_form keys.Fetch version = body_of (variant requests.Fetch asked_fetch (λ x. refl) fetch-asked fetch_request)
+request_form keys.ListOffsets version = body_of (variant requests.ListOffsets asked_list_offsets (λ x. refl) list_offsets-asked list_offsets_request)
+request_form keys.Metadata version = body_of (variant requests.Metadata asked_metadata (λ x. refl) metadata-asked metadata_request)
+request_form keys.OffsetCommit version = body_of (variant requests.OffsetCommit asked_offset_commit (λ x. refl) offset_commit-asked offset_commit_request)
+request_form keys.OffsetFetch version = body_of (variant requests.OffsetFetch asked_offset_fetch (λ x. refl) offset_fetch-asked offset_fetch_request)
+request_form keys.FindCoordinator version = body_of (variant requests.FindCoordinator asked_find_coordinator (λ x. refl) find_coordinator-asked find_coordinator_request)
+request_form keys.JoinGroup version = body_of (variant requests.JoinGroup asked_join_group (λ x. refl) join_group-asked join_group_request)
+request_form keys.Heartbeat version = body_of (variant requests.Heartbeat asked_heartbeat (λ x. refl) heartbeat-asked heartbeat_request)
+request_form keys.LeaveGroup version = body_of (variant requests.LeaveGroup asked_leave_group (λ x. refl) leave_group-asked leave_group_request)
+request_form keys.SyncGroup version = body_of (variant requests.SyncGroup asked_sync_group (λ x. refl) sync_group-asked sync_group_request)
+request_form keys.SaslHandshake version = body_of (variant requests.SaslHandshake asked_sasl_handshake (λ x. refl) sasl_handshake-asked sasl_handshake_request)
+request_form keys.ApiVersions version = empty_body requests.ApiVersions is_api_versions refl api_versions-only
+request_form keys.InitProducerId version = body_of (variant requests.InitProducerId asked_init_producer_id (λ x. refl) init_producer_id-asked init_producer_id_request)
+request_form keys.AddPartitionsToTxn version = body_of (variant requests.AddPartitionsToTxn asked_add_partitions_to_txn (λ x. refl) add_partitions_to_txn-asked add_partitions_to_txn_request)
+request_form keys.AddOffsetsToTxn version = body_of (variant requests.AddOffsetsToTxn asked_add_offsets_to_txn (λ x. refl) add_offsets_to_txn-asked add_offsets_to_txn_request)
+request_form keys.EndTxn version = body_of (variant requests.EndTxn asked_end_txn (λ x. refl) end_txn-asked (end_txn_request version))
+request_form keys.TxnOffsetCommit version = body_of (variant requests.TxnOffsetCommit asked_txn_offset_commit (λ x. refl) txn_offset_commit-asked txn_offset_commit_request)
+request_form keys.DescribeAcls version = body_of (variant requests.DescribeAcls asked_describe_acls (λ x. refl) describe_acls-asked describe_acls_request)
+request_form keys.CreateAcls version = body_of (variant requests.CreateAcls asked_create_acls (λ x. refl) create_acls-asked create_acls_request)
+request_form keys.DeleteAcls version = body_of (variant requests.DeleteAcls asked_delete_acls (λ x. refl) delete_acls-asked delete_acls_request)
+request_form keys.SaslAuthenticate version = body_of (variant requests.SaslAuthenticate asked_sasl_authenticate (λ x. refl) sasl_authenticate-asked sasl_authenticate_request)
+
 unfoldable pub request_body : Api → Body Request
-request_body apis.Produce = body_of (variant requests.Produce asked_produce (λ x. refl) produce-asked produce_request)
-request_body apis.Fetch = body_of (variant requests.Fetch asked_fetch (λ x. refl) fetch-asked fetch_request)
-request_body apis.ListOffsets = body_of (variant requests.ListOffsets asked_list_offsets (λ x. refl) list_offsets-asked list_offsets_request)
-request_body apis.Metadata = body_of (variant requests.Metadata asked_metadata (λ x. refl) metadata-asked metadata_request)
-request_body apis.OffsetCommit = body_of (variant requests.OffsetCommit asked_offset_commit (λ x. refl) offset_commit-asked offset_commit_request)
-request_body apis.OffsetFetch = body_of (variant requests.OffsetFetch asked_offset_fetch (λ x. refl) offset_fetch-asked offset_fetch_request)
-request_body apis.FindCoordinator = body_of (variant requests.FindCoordinator asked_find_coordinator (λ x. refl) find_coordinator-asked find_coordinator_request)
-request_body apis.JoinGroup = body_of (variant requests.JoinGroup asked_join_group (λ x. refl) join_group-asked join_group_request)
-request_body apis.Heartbeat = body_of (variant requests.Heartbeat asked_heartbeat (λ x. refl) heartbeat-asked heartbeat_request)
-request_body apis.LeaveGroup = body_of (variant requests.LeaveGroup asked_leave_group (λ x. refl) leave_group-asked leave_group_request)
-request_body apis.SyncGroup = body_of (variant requests.SyncGroup asked_sync_group (λ x. refl) sync_group-asked sync_group_request)
-request_body apis.SaslHandshake = body_of (variant requests.SaslHandshake asked_sasl_handshake (λ x. refl) sasl_handshake-asked sasl_handshake_request)
-request_body apis.ApiVersions = empty_body requests.ApiVersions is_api_versions refl api_versions-only
-request_body apis.InitProducerId = body_of (variant requests.InitProducerId asked_init_producer_id (λ x. refl) init_producer_id-asked init_producer_id_request)
-request_body apis.AddPartitionsToTxn = body_of (variant requests.AddPartitionsToTxn asked_add_partitions_to_txn (λ x. refl) add_partitions_to_txn-asked add_partitions_to_txn_request)
-request_body apis.AddOffsetsToTxn = body_of (variant requests.AddOffsetsToTxn asked_add_offsets_to_txn (λ x. refl) add_offsets_to_txn-asked add_offsets_to_txn_request)
-request_body apis.EndTxn0 = body_of (variant (λ x. requests.EndTxn (endings.Version0 x)) asked_end_txn_0 (λ x. refl) end_txn_0-asked end_txn)
-request_body apis.EndTxn1 = body_of (variant (λ x. requests.EndTxn (endings.Version1 x)) asked_end_txn_1 (λ x. refl) end_txn_1-asked end_txn)
-request_body apis.EndTxn2 = body_of (variant (λ x. requests.EndTxn (endings.Version2 x)) asked_end_txn_2 (λ x. refl) end_txn_2-asked end_txn)
-request_body apis.EndTxn3 = body_of (variant (λ x. requests.EndTxn (endings.Version3 x)) asked_end_txn_3 (λ x. refl) end_txn_3-asked flexible_end_txn)
-request_body apis.EndTxn4 = body_of (variant (λ x. requests.EndTxn (endings.Version4 x)) asked_end_txn_4 (λ x. refl) end_txn_4-asked flexible_end_txn)
-request_body apis.EndTxn5 = body_of (variant (λ x. requests.EndTxn (endings.Version5 x)) asked_end_txn_5 (λ x. refl) end_txn_5-asked flexible_end_txn)
-request_body apis.TxnOffsetCommit = body_of (variant requests.TxnOffsetCommit asked_txn_offset_commit (λ x. refl) txn_offset_commit-asked txn_offset_commit_request)
-request_body apis.DescribeAcls = body_of (variant requests.DescribeAcls asked_describe_acls (λ x. refl) describe_acls-asked describe_acls_request)
-request_body apis.CreateAcls = body_of (variant requests.CreateAcls asked_create_acls (λ x. refl) create_acls-asked create_acls_request)
-request_body apis.DeleteAcls = body_of (variant requests.DeleteAcls asked_delete_acls (λ x. refl) delete_acls-asked delete_acls_request)
-request_body apis.SaslAuthenticate = body_of (variant requests.SaslAuthenticate asked_sasl_authenticate (λ x. refl) sasl_authenticate-asked sasl_authenticate_request)
+request_body api = request_form api.key api.version
+
+abbrev pub reply_form : ApiKey → ℤ → Grammar Reply
+reply_form keys.Produce version = variant replies.Produce answered_produce (λ x. refl) produce-answered produce_reply
+reply_form keys.Fetch version = variant replies.Fetch answered_fetch (λ x. refl) fetch-answered fetch_reply
+reply_form keys.ListOffsets version = variant replies.ListOffsets answered_list_offsets (λ x. refl) list_offsets-answered list_offsets_reply
+reply_form keys.Metadata version = variant replies.Metadata answered_metadata (λ x. refl) metadata-answered metadata_reply
+reply_form keys.OffsetCommit version = variant replies.OffsetCommit answered_offset_commit (λ x. refl) offset_commit-answered offset_commit_reply
+reply_form keys.OffsetFetch version = variant replies.OffsetFetch answered_offset_fetch (λ x. refl) offset_fetch-answered offset_fetch_reply
+reply_form keys.FindCoordinator version = variant replies.FindCoordinator answered_find_coordinator (λ x. refl) find_coordinator-answered find_coordinator_reply
+reply_form keys.JoinGroup version = variant replies.JoinGroup answered_join_group (λ x. refl) join_group-answered join_group_reply
+reply_form keys.Heartbeat version = variant replies.Heartbeat answered_heartbeat (λ x. refl) heartbeat-answered heartbeat_reply
+reply_form keys.LeaveGroup version = variant replies.LeaveGroup answered_leave_group (λ x. refl) leave_group-answered leave_group_reply
+reply_form keys.SyncGroup version = variant replies.SyncGroup answered_sync_group (λ x. refl) sync_group-answered sync_group_reply
+reply_form keys.SaslHandshake version = variant replies.SaslHandshake answered_sasl_handshake (λ x. refl) sasl_handshake-answered sasl_handshake_reply
+reply_form keys.ApiVersions version = variant replies.ApiVersions answered_api_versions (λ x. refl) api_versions-answered api_versions_reply
+reply_form keys.InitProducerId version = variant replies.InitProducerId answered_init_producer_id (λ x. refl) init_producer_id-answered init_producer_id_reply
+reply_form keys.AddPartitionsToTxn version = variant replies.AddPartitionsToTxn answered_add_partitions_to_txn (λ x. refl) add_partitions_to_txn-answered add_partitions_to_txn_reply
+reply_form keys.AddOffsetsToTxn version = variant replies.AddOffsetsToTxn answered_add_offsets_to_txn (λ x. refl) add_offsets_to_txn-answered add_offsets_to_txn_reply
+reply_form keys.EndTxn version = variant replies.EndTxn answered_end_txn (λ x. refl) end_txn-answered (end_txn_reply version)
+reply_form keys.TxnOffsetCommit version = variant replies.TxnOffsetCommit answered_txn_offset_commit (λ x. refl) txn_offset_commit-answered txn_offset_commit_reply
+reply_form keys.DescribeAcls version = variant replies.DescribeAcls answered_describe_acls (λ x. refl) describe_acls-answered describe_acls_reply
+reply_form keys.CreateAcls version = variant replies.CreateAcls answered_create_acls (λ x. refl) create_acls-answered create_acls_reply
+reply_form keys.DeleteAcls version = variant replies.DeleteAcls answered_delete_acls (λ x. refl) delete_acls-answered delete_acls_reply
+reply_form keys.SaslAuthenticate version = variant replies.SaslAuthenticate answered_sasl_authenticate (λ x. refl) sasl_authenticate-answered sasl_authenticate_reply
 
 unfoldable pub reply_body : Api → Grammar Reply
-reply_body apis.Produce = variant replies.Produce answered_produce (λ x. refl) produce-answered produce_reply
-reply_body apis.Fetch = variant replies.Fetch answered_fetch (λ x. refl) fetch-answered fetch_reply
-reply_body apis.ListOffsets = variant replies.ListOffsets answered_list_offsets (λ x. refl) list_offsets-answered list_offsets_reply
-reply_body apis.Metadata = variant replies.Metadata answered_metadata (λ x. refl) metadata-answered metadata_reply
-reply_body apis.OffsetCommit = variant replies.OffsetCommit answered_offset_commit (λ x. refl) offset_commit-answered offset_commit_reply
-reply_body apis.OffsetFetch = variant replies.OffsetFetch answered_offset_fetch (λ x. refl) offset_fetch-answered offset_fetch_reply
-reply_body apis.FindCoordinator = variant replies.FindCoordinator answered_find_coordinator (λ x. refl) find_coordinator-answered find_coordinator_reply
-reply_body apis.JoinGroup = variant replies.JoinGroup answered_join_group (λ x. refl) join_group-answered join_group_reply
-reply_body apis.Heartbeat = variant replies.Heartbeat answered_heartbeat (λ x. refl) heartbeat-answered heartbeat_reply
-reply_body apis.LeaveGroup = variant replies.LeaveGroup answered_leave_group (λ x. refl) leave_group-answered leave_group_reply
-reply_body apis.SyncGroup = variant replies.SyncGroup answered_sync_group (λ x. refl) sync_group-answered sync_group_reply
-reply_body apis.SaslHandshake = variant replies.SaslHandshake answered_sasl_handshake (λ x. refl) sasl_handshake-answered sasl_handshake_reply
-reply_body apis.ApiVersions = variant replies.ApiVersions answered_api_versions (λ x. refl) api_versions-answered api_versions_reply
-reply_body apis.InitProducerId = variant replies.InitProducerId answered_init_producer_id (λ x. refl) init_producer_id-answered init_producer_id_reply
-reply_body apis.AddPartitionsToTxn = variant replies.AddPartitionsToTxn answered_add_partitions_to_txn (λ x. refl) add_partitions_to_txn-answered add_partitions_to_txn_reply
-reply_body apis.AddOffsetsToTxn = variant replies.AddOffsetsToTxn answered_add_offsets_to_txn (λ x. refl) add_offsets_to_txn-answered add_offsets_to_txn_reply
-reply_body apis.EndTxn0 = variant (λ x. replies.EndTxn (ended_as.Version0 x)) answered_end_txn_0 (λ x. refl) end_txn_0-answered end_txn_answer
-reply_body apis.EndTxn1 = variant (λ x. replies.EndTxn (ended_as.Version1 x)) answered_end_txn_1 (λ x. refl) end_txn_1-answered end_txn_answer
-reply_body apis.EndTxn2 = variant (λ x. replies.EndTxn (ended_as.Version2 x)) answered_end_txn_2 (λ x. refl) end_txn_2-answered end_txn_answer
-reply_body apis.EndTxn3 = variant (λ x. replies.EndTxn (ended_as.Version3 x)) answered_end_txn_3 (λ x. refl) end_txn_3-answered flexible_end_txn_answer
-reply_body apis.EndTxn4 = variant (λ x. replies.EndTxn (ended_as.Version4 x)) answered_end_txn_4 (λ x. refl) end_txn_4-answered flexible_end_txn_answer
-reply_body apis.EndTxn5 = variant (λ x. replies.EndTxn (ended_as.Version5 x)) answered_end_txn_5 (λ x. refl) end_txn_5-answered end_txn_answer_with_producer
-reply_body apis.TxnOffsetCommit = variant replies.TxnOffsetCommit answered_txn_offset_commit (λ x. refl) txn_offset_commit-answered txn_offset_commit_reply
-reply_body apis.DescribeAcls = variant replies.DescribeAcls answered_describe_acls (λ x. refl) describe_acls-answered describe_acls_reply
-reply_body apis.CreateAcls = variant replies.CreateAcls answered_create_acls (λ x. refl) create_acls-answered create_acls_reply
-reply_body apis.DeleteAcls = variant replies.DeleteAcls answered_delete_acls (λ x. refl) delete_acls-answered delete_acls_reply
-reply_body apis.SaslAuthenticate = variant replies.SaslAuthenticate answered_sasl_authenticate (λ x. refl) sasl_authenticate-answered sasl_authenticate_reply
+reply_body api = reply_form api.key api.version

@@ -1,3 +1,4 @@
+pub mod ApiKey
 pub mod Api
 pub mod Header
 pub mod Frame
@@ -5,4 +6,5 @@ pub mod Bodies
 pub mod Request
 pub mod Response
 pub mod Versions
+pub mod Decode
 pub mod Laws

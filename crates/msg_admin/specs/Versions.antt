@@ -1,6 +1,6 @@
 -- What ApiVersions is answered (Kafka protocol guide, "Retrieving Supported API versions"). It is answered in a version that
 -- is not served too: a client asks it before it knows the versions (KIP-511).
-use Rattle.std.specs.Prelude.{◌≡◌, ℕ, ℤ, pos, List, [], ◌∷◌, ◌++◌, map, filter, Bool, not, ◌&&◌, Option, Some, None, if◌then◌else◌, refl}
+use Rattle.std.specs.Prelude.{◌≡◌, ℕ, ℤ, pos, List, [], ◌∷◌, ◌++◌, map, Bool, not, ◌&&◌, Option, Some, None, if◌then◌else◌, refl}
 use Rattle.std.specs.List.{find}
 use Rattle.std.specs.Option.{option_and_then}
 use Rattle.std.specs.Ordering.{int_eq}
@@ -12,73 +12,45 @@ use Rattle.wire_types.specs.Schema.{int32}
 use Rattle.msg_login.specs.declared.api_versions.ServedVersions.{ServedVersions}
 use Rattle.msg_login.specs.declared.api_versions.ApiVersionsReply.{ApiVersionsReply}
 use Rattle.msg_login.specs.ApiVersions.{api_versions_reply}
-use Rattle.msg_admin.specs.declared.api.Api.{Api}
-use Rattle.msg_admin.specs.declared.api.Api.TheVariants as apis
-use Rattle.msg_admin.specs.Api.{key_of, version_of, all_apis}
+use Rattle.msg_admin.specs.declared.api_key.ApiKey.{ApiKey}
+use Rattle.msg_admin.specs.declared.api_key.ApiKey.TheVariants as keys
+use Rattle.msg_admin.specs.ApiKey.{served_api, number_of, is_served, all_keys}
 use Rattle.msg_admin.specs.Header.{names}
 use Rattle.msg_admin.specs.Frame.{frame_bytes}
 
--- the first version in which an api is served, and the last: one, but of EndTxn 0 to 5
-abbrev pub first_version : Api → ℤ
-first_version apis.EndTxn0 = pos 0
-first_version apis.EndTxn1 = pos 0
-first_version apis.EndTxn2 = pos 0
-first_version apis.EndTxn3 = pos 0
-first_version apis.EndTxn4 = pos 0
-first_version apis.EndTxn5 = pos 0
-first_version api = version_of api
-
-abbrev pub last_version : Api → ℤ
-last_version apis.EndTxn0 = pos 5
-last_version apis.EndTxn1 = pos 5
-last_version apis.EndTxn2 = pos 5
-last_version apis.EndTxn3 = pos 5
-last_version apis.EndTxn4 = pos 5
-last_version apis.EndTxn5 = pos 5
-last_version api = version_of api
-
 -- an api with the versions in which it is served
-abbrev pub served_in : Api → ServedVersions
-served_in api = record { key = key_of api; min = first_version api; max = last_version api }
-
--- each api once, by its first version
-abbrev pub is_first : Api → Bool
-is_first api = int_eq (version_of api) (first_version api)
+abbrev pub served_in : ApiKey → ServedVersions
+served_in key = record { key = number_of key; min = (served_api key).first; max = (served_api key).last }
 
 -- every api that is served
 abbrev pub versions_reply : ApiVersionsReply
-versions_reply = record { error = codes.None; apis = map served_in (filter is_first all_apis) }
+versions_reply = record { error = codes.None; apis = map served_in all_keys }
 
--- each api stands in it under its key
-pub served_in-listed : (api : Api) → find (λ v. int_eq v.key (key_of api)) versions_reply.apis ≡ Some (served_in api)
-unfolding all_apis key_of version_of
-served_in-listed apis.Produce = refl
-served_in-listed apis.Fetch = refl
-served_in-listed apis.ListOffsets = refl
-served_in-listed apis.Metadata = refl
-served_in-listed apis.OffsetCommit = refl
-served_in-listed apis.OffsetFetch = refl
-served_in-listed apis.FindCoordinator = refl
-served_in-listed apis.JoinGroup = refl
-served_in-listed apis.Heartbeat = refl
-served_in-listed apis.LeaveGroup = refl
-served_in-listed apis.SyncGroup = refl
-served_in-listed apis.SaslHandshake = refl
-served_in-listed apis.ApiVersions = refl
-served_in-listed apis.InitProducerId = refl
-served_in-listed apis.AddPartitionsToTxn = refl
-served_in-listed apis.AddOffsetsToTxn = refl
-served_in-listed apis.EndTxn0 = refl
-served_in-listed apis.EndTxn1 = refl
-served_in-listed apis.EndTxn2 = refl
-served_in-listed apis.EndTxn3 = refl
-served_in-listed apis.EndTxn4 = refl
-served_in-listed apis.EndTxn5 = refl
-served_in-listed apis.TxnOffsetCommit = refl
-served_in-listed apis.DescribeAcls = refl
-served_in-listed apis.CreateAcls = refl
-served_in-listed apis.DeleteAcls = refl
-served_in-listed apis.SaslAuthenticate = refl
+-- each api stands in it under its number
+pub served_in-listed : (key : ApiKey) → find (λ v. int_eq v.key (number_of key)) versions_reply.apis ≡ Some (served_in key)
+unfolding all_keys
+served_in-listed keys.Produce = refl
+served_in-listed keys.Fetch = refl
+served_in-listed keys.ListOffsets = refl
+served_in-listed keys.Metadata = refl
+served_in-listed keys.OffsetCommit = refl
+served_in-listed keys.OffsetFetch = refl
+served_in-listed keys.FindCoordinator = refl
+served_in-listed keys.JoinGroup = refl
+served_in-listed keys.Heartbeat = refl
+served_in-listed keys.LeaveGroup = refl
+served_in-listed keys.SyncGroup = refl
+served_in-listed keys.SaslHandshake = refl
+served_in-listed keys.ApiVersions = refl
+served_in-listed keys.InitProducerId = refl
+served_in-listed keys.AddPartitionsToTxn = refl
+served_in-listed keys.AddOffsetsToTxn = refl
+served_in-listed keys.EndTxn = refl
+served_in-listed keys.TxnOffsetCommit = refl
+served_in-listed keys.DescribeAcls = refl
+served_in-listed keys.CreateAcls = refl
+served_in-listed keys.DeleteAcls = refl
+served_in-listed keys.SaslAuthenticate = refl
 
 -- ---- asked in a version that is not served
 
@@ -94,7 +66,7 @@ AsksUnsupported bytes correlation = (front rest : List ℕ) × (version : ℤ) �
 -- ---- the same as it is read
 
 abbrev pub asked_unsupported : (ℤ × ℤ) × ℤ → Option ℤ
-asked_unsupported ((key, version), correlation) = if int_eq key (pos 18) && not (int_eq version (pos 0)) then Some correlation else None
+asked_unsupported ((key, version), correlation) = if int_eq key (pos 18) && not (is_served keys.ApiVersions version) then Some correlation else None
 
 -- the correlation id of such a request
 unfoldable pub unsupported_at : List ℕ → Option ℤ
@@ -104,7 +76,7 @@ unsupported_at bytes = option_and_then (λ x. asked_unsupported x.0) (result_ok 
 
 -- the error, and ApiVersions alone with the version that is served
 abbrev pub unsupported_reply : ApiVersionsReply
-unsupported_reply = record { error = codes.UnsupportedVersion; apis = served_in apis.ApiVersions ∷ [] }
+unsupported_reply = record { error = codes.UnsupportedVersion; apis = served_in keys.ApiVersions ∷ [] }
 
 -- the whole response, in version 0, which each client can read
 abbrev pub unsupported_response : ℤ → List ℕ

@@ -22,20 +22,21 @@ pub struct Header {
 }
 
 impl Header {
-    ghost use Rattle.msg_admin.specs.Api.{key_of, version_of, api_at};
+    ghost use Rattle.msg_admin.specs.ApiKey.{number_of};
+    ghost use Rattle.msg_admin.specs.Api.{api_at};
 
     /// The header of a request to an api.
     pub fn new(api: Api, correlation: i32, client: Option<Text>) -> Header
         ensures fields { result ≡ record {
-          key = key_of api;
-          version = version_of api;
+          key = number_of api.key;
+          version = api.version;
           correlation = correlation;
           client = client;
         } }
         ensures served { api_at result.key result.version ≡ Some api }
     {
         Header {
-            key: api.key(),
+            key: api.key().number(),
             version: api.version(),
             correlation,
             client,

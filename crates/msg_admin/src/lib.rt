@@ -1,12 +1,15 @@
 //! Requests and replies as the frames that travel: headers, the apis that are served, and what stands after each.
 //!
 //! `read_request` and `write_reply` are a broker's side, `write_request` a client's. A new api is a variant of
-//! `Api`, `Request` and `Reply`, a line where each of them is dispatched, and its grammar in `specs/Bodies.antt`.
-//! `Api::is_flexible` tells the form of its headers, and `versions_reply` lists each api that `Api::ALL` has.
-//! `unsupported_versions` is for what `read_request` doesn't read.
+//! `ApiKey`, `Request` and `Reply`, a row of the table `ApiKey::served`, a line where each of them is dispatched, and its
+//! grammar in `specs/Bodies.antt`. An `Api` is a key in a version that is served: `Api::is_flexible` tells the form of its
+//! headers. `versions_reply` lists each key that `ApiKey::ALL` has, with its versions.
+//! `decode_frame` says what a frame is: a request, ApiVersions in another version (`unsupported_versions`), or neither.
 #![tactic(auto)]
 
 mod api;
+mod api_key;
+mod decode;
 mod frame;
 mod header;
 mod laws;
@@ -15,6 +18,8 @@ mod request;
 mod versions;
 
 pub use api::Api;
+pub use api_key::{ApiKey, ServedApi};
+pub use decode::{Frame, decode_frame};
 pub use header::Header;
 pub use laws::{
     fits_is_writable, found_is_request, one_reply, one_request, one_response, read_fits,

@@ -2,9 +2,16 @@
 
 ghost use Rattle.std.specs.Prelude.{◌≡◌, IfOk, OnOk, Err};
 ghost use Rattle.wire_types.specs.declared.fault.WriteFault.TheVariants as faults;
+ghost use Rattle.wire_types.specs.Combinators.{◌⨟◌};
+ghost use Rattle.wire_types.specs.Schema.{int32};
+ghost use Rattle.msg_txn.specs.EndTxn.{version_answered};
+ghost use Rattle.msg_admin.specs.Api.{api_in, in_last_version, is_flexible};
+ghost use Rattle.msg_admin.specs.Header.{with_header_tags};
+ghost use Rattle.msg_admin.specs.Frame.{GivesFrame};
 ghost use Rattle.msg_admin.specs.Response.{response, IsTooLong, GivesReply};
 
 use crate::api::Api;
+use crate::api_key::ApiKey;
 use crate::frame::write_frame;
 use msg_acl::{CreateAclsReply, DeleteAclsReply, DescribeAclsReply};
 use msg_data::{FetchReply, ListOffsetsReply, MetadataReply, ProduceReply};
@@ -18,7 +25,7 @@ use msg_txn::{
     InitProducerIdReply, TxnOffsetCommitReply,
 };
 use std::alloc::Global;
-use wire_types::{Boxed, Bytes, WriteFault};
+use wire_types::{Boxed, Bytes, Wire, WriteFault};
 
 /// What an event is answered. Only an answer to a request is sent. The larger bodies stand in blocks of their own, so that a
 /// reply is small where it is kept.
@@ -98,128 +105,75 @@ pub fn write_reply(alloc: Global, correlation: i32, reply: &Reply) -> Result<Byt
     write_response(alloc, correlation, reply)
 }
 
+/// The whole response of an api, but of EndTxn, whose answers tell their version.
+fn write_as<B: Wire>(
+    alloc: Global,
+    key: ApiKey,
+    correlation: &i32,
+    answer: &B,
+) -> Result<Bytes, WriteFault>
+    ensures { GivesFrame (with_header_tags (is_flexible (in_last_version key)) int32 ⨟ B.grammar)
+        (correlation.now, answer.now) result }
+{
+    let flexible = Api::in_last_version(key).is_flexible();
+    write_frame(alloc, flexible, correlation, answer)
+}
+
+/// EndTxn in the version of an answer.
+fn ended_api(answer: &EndTxnReply) -> Api
+    ensures { result ≡ api_in ApiKey.EndTxn (version_answered answer.now) }
+{
+    Api {
+        key: ApiKey::EndTxn,
+        version: answer.version(),
+    }
+}
+
+/// The whole response of EndTxn, in the version of the answer.
+#[tactic(auto, unfolding(crate::specs::Response::is_sendable, crate::specs::Bodies::reply_body, crate::specs::Frame::frame_fits))]
+fn write_ended(alloc: Global, correlation: i32, answer: &EndTxnReply) -> Result<Bytes, WriteFault>
+    ensures { GivesReply correlation (Reply.EndTxn answer.now) result }
+{
+    let flexible = ended_api(answer).is_flexible();
+    match answer {
+        EndTxnReply::Version0(body) => write_frame(alloc, flexible, &correlation, body),
+        EndTxnReply::Version1(body) => write_frame(alloc, flexible, &correlation, body),
+        EndTxnReply::Version2(body) => write_frame(alloc, flexible, &correlation, body),
+        EndTxnReply::Version3(body) => write_frame(alloc, flexible, &correlation, body),
+        EndTxnReply::Version4(body) => write_frame(alloc, flexible, &correlation, body),
+        EndTxnReply::Version5(body) => write_frame(alloc, flexible, &correlation, body),
+    }
+}
+
 #[tactic(auto, unfolding(crate::specs::Response::is_sendable, crate::specs::Bodies::reply_body, crate::specs::Frame::frame_fits))]
 fn write_response(alloc: Global, correlation: i32, reply: &Reply) -> Result<Bytes, WriteFault>
     ensures { GivesReply correlation reply.now result }
 {
+    let to = &correlation;
     match reply {
-        Reply::Produce(answer) => {
-            write_frame(alloc, Api::Produce.is_flexible(), &correlation, answer)
-        }
         Reply::SilentProduce(_) => Ok(Bytes::new()),
         Reply::Marked { .. } | Reply::Idle | Reply::Ticked { .. } => Ok(Bytes::new()),
-        Reply::Fetch(answer) => {
-            write_frame(alloc, Api::Fetch.is_flexible(), &correlation, answer)
-        }
-        Reply::ListOffsets(answer) => {
-            write_frame(alloc, Api::ListOffsets.is_flexible(), &correlation, answer)
-        }
-        Reply::Metadata(answer) => {
-            write_frame(alloc, Api::Metadata.is_flexible(), &correlation, answer)
-        }
-        Reply::OffsetCommit(answer) => {
-            write_frame(alloc, Api::OffsetCommit.is_flexible(), &correlation, answer)
-        }
-        Reply::OffsetFetch(answer) => {
-            write_frame(alloc, Api::OffsetFetch.is_flexible(), &correlation, answer)
-        }
-        Reply::FindCoordinator(answer) => {
-            write_frame(
-                alloc,
-                Api::FindCoordinator.is_flexible(),
-                &correlation,
-                answer,
-            )
-        }
-        Reply::JoinGroup(answer) => {
-            write_frame(alloc, Api::JoinGroup.is_flexible(), &correlation, answer)
-        }
-        Reply::Heartbeat(answer) => {
-            write_frame(alloc, Api::Heartbeat.is_flexible(), &correlation, answer)
-        }
-        Reply::LeaveGroup(answer) => {
-            write_frame(alloc, Api::LeaveGroup.is_flexible(), &correlation, answer)
-        }
-        Reply::SyncGroup(answer) => {
-            write_frame(alloc, Api::SyncGroup.is_flexible(), &correlation, answer)
-        }
-        Reply::SaslHandshake(answer) => {
-            write_frame(
-                alloc,
-                Api::SaslHandshake.is_flexible(),
-                &correlation,
-                answer,
-            )
-        }
-        Reply::ApiVersions(answer) => {
-            write_frame(alloc, Api::ApiVersions.is_flexible(), &correlation, answer)
-        }
-        Reply::InitProducerId(answer) => {
-            write_frame(
-                alloc,
-                Api::InitProducerId.is_flexible(),
-                &correlation,
-                answer,
-            )
-        }
-        Reply::AddPartitionsToTxn(answer) => {
-            write_frame(
-                alloc,
-                Api::AddPartitionsToTxn.is_flexible(),
-                &correlation,
-                answer,
-            )
-        }
-        Reply::AddOffsetsToTxn(answer) => {
-            write_frame(
-                alloc,
-                Api::AddOffsetsToTxn.is_flexible(),
-                &correlation,
-                answer,
-            )
-        }
-        Reply::EndTxn(EndTxnReply::Version0(answer)) => {
-            write_frame(alloc, Api::EndTxn0.is_flexible(), &correlation, answer)
-        }
-        Reply::EndTxn(EndTxnReply::Version1(answer)) => {
-            write_frame(alloc, Api::EndTxn1.is_flexible(), &correlation, answer)
-        }
-        Reply::EndTxn(EndTxnReply::Version2(answer)) => {
-            write_frame(alloc, Api::EndTxn2.is_flexible(), &correlation, answer)
-        }
-        Reply::EndTxn(EndTxnReply::Version3(answer)) => {
-            write_frame(alloc, Api::EndTxn3.is_flexible(), &correlation, answer)
-        }
-        Reply::EndTxn(EndTxnReply::Version4(answer)) => {
-            write_frame(alloc, Api::EndTxn4.is_flexible(), &correlation, answer)
-        }
-        Reply::EndTxn(EndTxnReply::Version5(answer)) => {
-            write_frame(alloc, Api::EndTxn5.is_flexible(), &correlation, answer)
-        }
-        Reply::TxnOffsetCommit(answer) => {
-            write_frame(
-                alloc,
-                Api::TxnOffsetCommit.is_flexible(),
-                &correlation,
-                answer,
-            )
-        }
-        Reply::DescribeAcls(answer) => {
-            write_frame(alloc, Api::DescribeAcls.is_flexible(), &correlation, answer)
-        }
-        Reply::CreateAcls(answer) => {
-            write_frame(alloc, Api::CreateAcls.is_flexible(), &correlation, answer)
-        }
-        Reply::DeleteAcls(answer) => {
-            write_frame(alloc, Api::DeleteAcls.is_flexible(), &correlation, answer)
-        }
-        Reply::SaslAuthenticate(answer) => {
-            write_frame(
-                alloc,
-                Api::SaslAuthenticate.is_flexible(),
-                &correlation,
-                answer,
-            )
-        }
+        Reply::Produce(body) => write_as(alloc, ApiKey::Produce, to, body),
+        Reply::Fetch(body) => write_as(alloc, ApiKey::Fetch, to, body),
+        Reply::ListOffsets(body) => write_as(alloc, ApiKey::ListOffsets, to, body),
+        Reply::Metadata(body) => write_as(alloc, ApiKey::Metadata, to, body),
+        Reply::OffsetCommit(body) => write_as(alloc, ApiKey::OffsetCommit, to, body),
+        Reply::OffsetFetch(body) => write_as(alloc, ApiKey::OffsetFetch, to, body),
+        Reply::FindCoordinator(body) => write_as(alloc, ApiKey::FindCoordinator, to, body),
+        Reply::JoinGroup(body) => write_as(alloc, ApiKey::JoinGroup, to, body),
+        Reply::Heartbeat(body) => write_as(alloc, ApiKey::Heartbeat, to, body),
+        Reply::LeaveGroup(body) => write_as(alloc, ApiKey::LeaveGroup, to, body),
+        Reply::SyncGroup(body) => write_as(alloc, ApiKey::SyncGroup, to, body),
+        Reply::SaslHandshake(body) => write_as(alloc, ApiKey::SaslHandshake, to, body),
+        Reply::ApiVersions(body) => write_as(alloc, ApiKey::ApiVersions, to, body),
+        Reply::InitProducerId(body) => write_as(alloc, ApiKey::InitProducerId, to, body),
+        Reply::AddPartitionsToTxn(body) => write_as(alloc, ApiKey::AddPartitionsToTxn, to, body),
+        Reply::AddOffsetsToTxn(body) => write_as(alloc, ApiKey::AddOffsetsToTxn, to, body),
+        Reply::EndTxn(body) => write_ended(alloc, correlation, body),
+        Reply::TxnOffsetCommit(body) => write_as(alloc, ApiKey::TxnOffsetCommit, to, body),
+        Reply::DescribeAcls(body) => write_as(alloc, ApiKey::DescribeAcls, to, body),
+        Reply::CreateAcls(body) => write_as(alloc, ApiKey::CreateAcls, to, body),
+        Reply::DeleteAcls(body) => write_as(alloc, ApiKey::DeleteAcls, to, body),
+        Reply::SaslAuthenticate(body) => write_as(alloc, ApiKey::SaslAuthenticate, to, body),
     }
 }

@@ -2,14 +2,15 @@
 
 ghost use Rattle.std.specs.Prelude.{◌≡◌, ◌≤◌, ◌↔◌, length, IfOk, IsTrue, Ok, Some};
 ghost use Rattle.wire_types.specs.Reading.{Reads};
-ghost use Rattle.msg_admin.specs.Api.{api_at};
-ghost use Rattle.msg_admin.specs.Bodies.{request_body};
+ghost use Rattle.msg_txn.specs.EndTxn.{version_asked};
+ghost use Rattle.msg_admin.specs.Api.{api_in, api_at};
+ghost use Rattle.msg_admin.specs.Bodies.{api_of, request_form, request_body};
 ghost use Rattle.msg_admin.specs.Request.{IsRequest, Answers, request_at, GivesRequest, Fits};
-ghost use Rattle.msg_admin.specs.Bodies.{ending_api, api_of};
 ghost use Rattle.msg_admin.specs.declared.header.Header.{Header};
 ghost use Rattle.msg_admin.specs.declared.request.Request.{Request};
 
 use crate::api::Api;
+use crate::api_key::ApiKey;
 use crate::frame::{write_frame, write_header_frame};
 use crate::header::{Header, least_header, read_sender};
 use crate::laws::read_fits;
@@ -21,8 +22,8 @@ use msg_group::{
 };
 use msg_login::{SaslAuthenticateRequest, SaslHandshakeRequest};
 use msg_txn::{
-    AddOffsetsToTxnRequest, AddPartitionsToTxnRequest, EndTxn, EndTxnRequest,
-    FindCoordinatorRequest, FlexibleEndTxn, InitProducerIdRequest, TxnOffsetCommitRequest,
+    AddOffsetsToTxnRequest, AddPartitionsToTxnRequest, EndTxnRequest, FindCoordinatorRequest,
+    InitProducerIdRequest, TxnOffsetCommitRequest,
 };
 use std::alloc::Global;
 use wire_types::{Boxed, Bytes, Cursor, Malformed, ReadFault, Wire, WriteFault, room_after};
@@ -87,25 +88,21 @@ impl Drop for Request {
     }
 }
 
-/// An EndTxn in its version.
+/// EndTxn in the version of a request.
 fn ending_api(request: &EndTxnRequest) -> Api
-    ensures { result ≡ ending_api request.now }
+    ensures { result ≡ api_in ApiKey.EndTxn (version_asked request.now) }
 {
-    match request {
-        EndTxnRequest::Version0(_) => Api::EndTxn0,
-        EndTxnRequest::Version1(_) => Api::EndTxn1,
-        EndTxnRequest::Version2(_) => Api::EndTxn2,
-        EndTxnRequest::Version3(_) => Api::EndTxn3,
-        EndTxnRequest::Version4(_) => Api::EndTxn4,
-        EndTxnRequest::Version5(_) => Api::EndTxn5,
+    Api {
+        key: ApiKey::EndTxn,
+        version: request.version(),
     }
 }
 
 /// What an EndTxn's body leaves of a room.
 #[tactic(auto, unfolding(crate::specs::Bodies::request_body))]
 fn ending_room(request: &EndTxnRequest, room: usize) -> Option<usize>
-    ensures { result ≡ (request_body (ending_api request.now)).left (Request.EndTxn request.now)
-        room }
+    ensures { result ≡ (request_body (api_of (Request.EndTxn request.now))).left
+        (Request.EndTxn request.now) room }
 {
     match request {
         EndTxnRequest::Version0(body) => body.room_left(room),
@@ -123,28 +120,28 @@ impl Request {
         ensures { result ≡ api_of self.now }
     {
         match self {
-            Request::Produce(_) => Api::Produce,
-            Request::Fetch(_) => Api::Fetch,
-            Request::ListOffsets(_) => Api::ListOffsets,
-            Request::Metadata(_) => Api::Metadata,
-            Request::OffsetCommit(_) => Api::OffsetCommit,
-            Request::OffsetFetch(_) => Api::OffsetFetch,
-            Request::FindCoordinator(_) => Api::FindCoordinator,
-            Request::JoinGroup(_) => Api::JoinGroup,
-            Request::Heartbeat(_) => Api::Heartbeat,
-            Request::LeaveGroup(_) => Api::LeaveGroup,
-            Request::SyncGroup(_) => Api::SyncGroup,
-            Request::SaslHandshake(_) => Api::SaslHandshake,
-            Request::ApiVersions => Api::ApiVersions,
-            Request::InitProducerId(_) => Api::InitProducerId,
-            Request::AddPartitionsToTxn(_) => Api::AddPartitionsToTxn,
-            Request::AddOffsetsToTxn(_) => Api::AddOffsetsToTxn,
             Request::EndTxn(body) => ending_api(body.value()),
-            Request::TxnOffsetCommit(_) => Api::TxnOffsetCommit,
-            Request::DescribeAcls(_) => Api::DescribeAcls,
-            Request::CreateAcls(_) => Api::CreateAcls,
-            Request::DeleteAcls(_) => Api::DeleteAcls,
-            Request::SaslAuthenticate(_) => Api::SaslAuthenticate,
+            Request::Produce(_) => Api::in_last_version(ApiKey::Produce),
+            Request::Fetch(_) => Api::in_last_version(ApiKey::Fetch),
+            Request::ListOffsets(_) => Api::in_last_version(ApiKey::ListOffsets),
+            Request::Metadata(_) => Api::in_last_version(ApiKey::Metadata),
+            Request::OffsetCommit(_) => Api::in_last_version(ApiKey::OffsetCommit),
+            Request::OffsetFetch(_) => Api::in_last_version(ApiKey::OffsetFetch),
+            Request::FindCoordinator(_) => Api::in_last_version(ApiKey::FindCoordinator),
+            Request::JoinGroup(_) => Api::in_last_version(ApiKey::JoinGroup),
+            Request::Heartbeat(_) => Api::in_last_version(ApiKey::Heartbeat),
+            Request::LeaveGroup(_) => Api::in_last_version(ApiKey::LeaveGroup),
+            Request::SyncGroup(_) => Api::in_last_version(ApiKey::SyncGroup),
+            Request::SaslHandshake(_) => Api::in_last_version(ApiKey::SaslHandshake),
+            Request::ApiVersions => Api::in_last_version(ApiKey::ApiVersions),
+            Request::InitProducerId(_) => Api::in_last_version(ApiKey::InitProducerId),
+            Request::AddPartitionsToTxn(_) => Api::in_last_version(ApiKey::AddPartitionsToTxn),
+            Request::AddOffsetsToTxn(_) => Api::in_last_version(ApiKey::AddOffsetsToTxn),
+            Request::TxnOffsetCommit(_) => Api::in_last_version(ApiKey::TxnOffsetCommit),
+            Request::DescribeAcls(_) => Api::in_last_version(ApiKey::DescribeAcls),
+            Request::CreateAcls(_) => Api::in_last_version(ApiKey::CreateAcls),
+            Request::DeleteAcls(_) => Api::in_last_version(ApiKey::DeleteAcls),
+            Request::SaslAuthenticate(_) => Api::in_last_version(ApiKey::SaslAuthenticate),
         }
     }
 
@@ -189,58 +186,50 @@ impl Request {
     }
 }
 
+/// The body of a request to an api, in the form of a version.
+fn read_form(
+    alloc: Global,
+    key: ApiKey,
+    version: i16,
+    cursor: &mut Cursor<'_>,
+) -> Result<Request, ReadFault>
+    ensures { Reads ((request_form key version).reading cursor.old) result cursor.new }
+{
+    Ok(match key {
+        ApiKey::Produce => Request::Produce(Wire::read(alloc, cursor)?),
+        ApiKey::Fetch => Request::Fetch(Wire::read(alloc, cursor)?),
+        ApiKey::ListOffsets => Request::ListOffsets(Wire::read(alloc, cursor)?),
+        ApiKey::Metadata => Request::Metadata(Wire::read(alloc, cursor)?),
+        ApiKey::OffsetCommit => Request::OffsetCommit(Wire::read(alloc, cursor)?),
+        ApiKey::OffsetFetch => Request::OffsetFetch(Wire::read(alloc, cursor)?),
+        ApiKey::FindCoordinator => Request::FindCoordinator(Wire::read(alloc, cursor)?),
+        ApiKey::JoinGroup => Request::JoinGroup(Wire::read(alloc, cursor)?),
+        ApiKey::Heartbeat => Request::Heartbeat(Wire::read(alloc, cursor)?),
+        ApiKey::LeaveGroup => Request::LeaveGroup(Wire::read(alloc, cursor)?),
+        ApiKey::SyncGroup => Request::SyncGroup(Wire::read(alloc, cursor)?),
+        ApiKey::SaslHandshake => Request::SaslHandshake(Wire::read(alloc, cursor)?),
+        ApiKey::ApiVersions => Request::ApiVersions,
+        ApiKey::InitProducerId => Request::InitProducerId(Wire::read(alloc, cursor)?),
+        ApiKey::AddPartitionsToTxn => Request::AddPartitionsToTxn(Wire::read(alloc, cursor)?),
+        ApiKey::AddOffsetsToTxn => Request::AddOffsetsToTxn(Wire::read(alloc, cursor)?),
+        ApiKey::EndTxn => {
+            let body = EndTxnRequest::read(alloc, version, cursor)?;
+            Request::EndTxn(Boxed::new(alloc, body)?)
+        }
+        ApiKey::TxnOffsetCommit => Request::TxnOffsetCommit(Wire::read(alloc, cursor)?),
+        ApiKey::DescribeAcls => Request::DescribeAcls(Wire::read(alloc, cursor)?),
+        ApiKey::CreateAcls => Request::CreateAcls(Wire::read(alloc, cursor)?),
+        ApiKey::DeleteAcls => Request::DeleteAcls(Wire::read(alloc, cursor)?),
+        ApiKey::SaslAuthenticate => Request::SaslAuthenticate(Wire::read(alloc, cursor)?),
+    })
+}
+
 /// The body of a request to an api.
 #[tactic(auto, unfolding(crate::specs::Bodies::request_body))]
 fn read_body(alloc: Global, api: Api, cursor: &mut Cursor<'_>) -> Result<Request, ReadFault>
     ensures { Reads ((request_body api).reading cursor.old) result cursor.new }
 {
-    match api {
-        Api::Produce => Ok(Request::Produce(Wire::read(alloc, cursor)?)),
-        Api::Fetch => Ok(Request::Fetch(Wire::read(alloc, cursor)?)),
-        Api::ListOffsets => Ok(Request::ListOffsets(Wire::read(alloc, cursor)?)),
-        Api::Metadata => Ok(Request::Metadata(Wire::read(alloc, cursor)?)),
-        Api::OffsetCommit => Ok(Request::OffsetCommit(Wire::read(alloc, cursor)?)),
-        Api::OffsetFetch => Ok(Request::OffsetFetch(Wire::read(alloc, cursor)?)),
-        Api::FindCoordinator => Ok(Request::FindCoordinator(Wire::read(alloc, cursor)?)),
-        Api::JoinGroup => Ok(Request::JoinGroup(Wire::read(alloc, cursor)?)),
-        Api::Heartbeat => Ok(Request::Heartbeat(Wire::read(alloc, cursor)?)),
-        Api::LeaveGroup => Ok(Request::LeaveGroup(Wire::read(alloc, cursor)?)),
-        Api::SyncGroup => Ok(Request::SyncGroup(Wire::read(alloc, cursor)?)),
-        Api::SaslHandshake => Ok(Request::SaslHandshake(Wire::read(alloc, cursor)?)),
-        Api::ApiVersions => Ok(Request::ApiVersions),
-        Api::InitProducerId => Ok(Request::InitProducerId(Wire::read(alloc, cursor)?)),
-        Api::AddPartitionsToTxn => Ok(Request::AddPartitionsToTxn(Wire::read(alloc, cursor)?)),
-        Api::AddOffsetsToTxn => Ok(Request::AddOffsetsToTxn(Wire::read(alloc, cursor)?)),
-        Api::EndTxn0 => {
-            let body = EndTxnRequest::Version0(EndTxn::read(alloc, cursor)?);
-            Ok(Request::EndTxn(Boxed::new(alloc, body)?))
-        }
-        Api::EndTxn1 => {
-            let body = EndTxnRequest::Version1(EndTxn::read(alloc, cursor)?);
-            Ok(Request::EndTxn(Boxed::new(alloc, body)?))
-        }
-        Api::EndTxn2 => {
-            let body = EndTxnRequest::Version2(EndTxn::read(alloc, cursor)?);
-            Ok(Request::EndTxn(Boxed::new(alloc, body)?))
-        }
-        Api::EndTxn3 => {
-            let body = EndTxnRequest::Version3(FlexibleEndTxn::read(alloc, cursor)?);
-            Ok(Request::EndTxn(Boxed::new(alloc, body)?))
-        }
-        Api::EndTxn4 => {
-            let body = EndTxnRequest::Version4(FlexibleEndTxn::read(alloc, cursor)?);
-            Ok(Request::EndTxn(Boxed::new(alloc, body)?))
-        }
-        Api::EndTxn5 => {
-            let body = EndTxnRequest::Version5(FlexibleEndTxn::read(alloc, cursor)?);
-            Ok(Request::EndTxn(Boxed::new(alloc, body)?))
-        }
-        Api::TxnOffsetCommit => Ok(Request::TxnOffsetCommit(Wire::read(alloc, cursor)?)),
-        Api::DescribeAcls => Ok(Request::DescribeAcls(Wire::read(alloc, cursor)?)),
-        Api::CreateAcls => Ok(Request::CreateAcls(Wire::read(alloc, cursor)?)),
-        Api::DeleteAcls => Ok(Request::DeleteAcls(Wire::read(alloc, cursor)?)),
-        Api::SaslAuthenticate => Ok(Request::SaslAuthenticate(Wire::read(alloc, cursor)?)),
-    }
+    read_form(alloc, api.key(), api.version(), cursor)
 }
 
 #[tactic(auto, unfolding(crate::specs::Request::request_at))]
@@ -296,7 +285,8 @@ fn write_ending(
     header: &Header,
     request: &EndTxnRequest,
 ) -> Result<Bytes, WriteFault>
-    requires { api_at header.now.key header.now.version ≡ Some (ending_api request.now) }
+    requires { api_at header.now.key header.now.version
+        ≡ Some (api_of (Request.EndTxn request.now)) }
     ensures { GivesRequest header.now (Request.EndTxn request.now) result }
 {
     let flexible = ending_api(request).is_flexible();

@@ -3,50 +3,49 @@
 //! A client asks for the versions before it knows them, and so in any version. Of a request in another than the one that
 //! is served only that is read which each header starts with, and the answer has the form of version 0.
 
-ghost use Rattle.std.specs.Prelude.{◌≡◌, ℤ, map, filter, IfOk, IfSome, OnSome, Some, Err};
+ghost use Rattle.std.specs.Prelude.{◌≡◌, ℤ, map, IfOk, IfSome, OnSome, Some, Err};
 ghost use Rattle.wire_types.specs.declared.fault.Malformed.TheVariants.{Unknown};
 ghost use Rattle.wire_types.specs.Reading.{Takes};
 ghost use Rattle.msg_admin.specs.Request.{request_at};
-ghost use Rattle.msg_admin.specs.Versions.{header_start, served_in, is_first, versions_reply, AsksUnsupported, unsupported_at, unsupported_reply, unsupported_response};
+ghost use Rattle.msg_admin.specs.Versions.{header_start, served_in, versions_reply, AsksUnsupported, unsupported_at, unsupported_reply, unsupported_response};
 
-use crate::api::Api;
+use crate::api_key::ApiKey;
 use crate::frame::write_frame;
 use msg_login::{ApiVersionsReply, ServedVersions};
 use std::alloc::{AllocError, Global};
 use wire_types::{Bytes, Cursor, ErrorCode, Items, Malformed, WriteFault};
 
 /// An api with the versions in which it is served.
-fn served_in(api: Api) -> ServedVersions
-    ensures { result ≡ served_in api }
+fn served_in(key: ApiKey) -> ServedVersions
+    ensures { result ≡ served_in key }
 {
+    let served = key.served();
     ServedVersions {
-        key: api.key(),
-        min: api.first_version(),
-        max: api.last_version(),
+        key: served.number,
+        min: served.first,
+        max: served.last,
     }
 }
 
-/// Each api once.
-fn all_served(alloc: Global, apis: &[Api]) -> Result<Items<ServedVersions>, AllocError>
-    ensures { IfOk result (λ served. served ≡ map served_in (filter is_first apis.now)) }
+/// Each api with its versions.
+fn all_served(alloc: Global, keys: &[ApiKey]) -> Result<Items<ServedVersions>, AllocError>
+    ensures { IfOk result (λ served. served ≡ map served_in keys.now) }
 {
     let mut served = Items::new(alloc);
-    for api in apis {
-        if api.is_first() {
-            served.push(served_in(*api))?;
-        }
+    for key in keys {
+        served.push(served_in(*key))?;
     }
     Ok(served)
 }
 
 /// What ApiVersions is answered in version 0: each api with its versions, in rising order of keys.
-#[tactic(auto, unfolding(crate::specs::Api::all_apis))]
+#[tactic(auto, unfolding(crate::specs::ApiKey::all_keys))]
 pub fn versions_reply(alloc: Global) -> Result<ApiVersionsReply, AllocError>
     ensures { IfOk result (λ answer. answer ≡ versions_reply) }
 {
     Ok(ApiVersionsReply {
         error: ErrorCode::None,
-        apis: all_served(alloc, &Api::ALL)?,
+        apis: all_served(alloc, &ApiKey::ALL)?,
     })
 }
 
@@ -60,13 +59,13 @@ fn read_start(cursor: &mut Cursor<'_>) -> Result<((i16, i16), i32), Malformed>
     Ok(((key, version), correlation))
 }
 
-#[tactic(auto, unfolding(crate::specs::Versions::unsupported_at, crate::specs::Api::key_of, crate::specs::Api::version_of))]
+#[tactic(auto, unfolding(crate::specs::Versions::unsupported_at))]
 fn asked_in_another(frame: &Bytes) -> Option<i32>
     ensures { result ≡ unsupported_at frame.now }
 {
     let mut cursor = Cursor::over(frame);
     let ((key, version), correlation) = read_start(&mut cursor).ok()?;
-    if key == Api::ApiVersions.key() && version != Api::ApiVersions.version() {
+    if key == ApiKey::ApiVersions.number() && !ApiKey::ApiVersions.serves(version) {
         Some(correlation)
     } else {
         None
@@ -90,7 +89,7 @@ pub fn unsupported_versions(frame: &Bytes) -> Option<i32>
 fn unsupported_reply(alloc: Global) -> Result<ApiVersionsReply, AllocError>
     ensures { IfOk result (λ answer. answer ≡ unsupported_reply) }
 {
-    let served = served_in(Api::ApiVersions);
+    let served = served_in(ApiKey::ApiVersions);
     Ok(ApiVersionsReply {
         error: ErrorCode::UnsupportedVersion,
         apis: Items::from(vec![in alloc; served]?),

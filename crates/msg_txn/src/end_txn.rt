@@ -2,7 +2,8 @@
 //! version 5 answers the pair that the transactional id has from then on (KIP-890).
 
 ghost use Rattle.std.specs.Prelude.{◌≡◌};
-ghost use Rattle.msg_txn.specs.EndTxn.{end_txn_of, error_of};
+ghost use Rattle.wire_types.specs.Reading.{Reads};
+ghost use Rattle.msg_txn.specs.EndTxn.{end_txn_of, error_of, version_asked, version_answered, end_txn_request, end_txn_reply};
 
 use std::alloc::Global;
 use wire_types::{
@@ -72,6 +73,38 @@ pub enum EndTxnReply {
 }
 
 impl EndTxnRequest {
+    /// The body of a request in a version from 0 to 5.
+    pub fn read(
+        alloc: Global,
+        version: i16,
+        cursor: &mut Cursor<'_>,
+    ) -> Result<EndTxnRequest, ReadFault>
+        ensures { Reads ((end_txn_request version).reading cursor.old) result cursor.new }
+    {
+        Ok(match version {
+            0 => EndTxnRequest::Version0(Wire::read(alloc, cursor)?),
+            1 => EndTxnRequest::Version1(Wire::read(alloc, cursor)?),
+            2 => EndTxnRequest::Version2(Wire::read(alloc, cursor)?),
+            3 => EndTxnRequest::Version3(Wire::read(alloc, cursor)?),
+            4 => EndTxnRequest::Version4(Wire::read(alloc, cursor)?),
+            _ => EndTxnRequest::Version5(Wire::read(alloc, cursor)?),
+        })
+    }
+
+    /// The version in which it is asked.
+    pub fn version(&self) -> i16
+        ensures { result ≡ version_asked self.now }
+    {
+        match self {
+            EndTxnRequest::Version0(_) => 0,
+            EndTxnRequest::Version1(_) => 1,
+            EndTxnRequest::Version2(_) => 2,
+            EndTxnRequest::Version3(_) => 3,
+            EndTxnRequest::Version4(_) => 4,
+            EndTxnRequest::Version5(_) => 5,
+        }
+    }
+
     /// What is asked, whatever the version.
     pub fn asked(&self) -> &EndTxn
         ensures { result.now ≡ end_txn_of self.now }
@@ -88,6 +121,38 @@ impl EndTxnRequest {
 }
 
 impl EndTxnReply {
+    /// The body of an answer in a version from 0 to 5.
+    pub fn read(
+        alloc: Global,
+        version: i16,
+        cursor: &mut Cursor<'_>,
+    ) -> Result<EndTxnReply, ReadFault>
+        ensures { Reads ((end_txn_reply version).reading cursor.old) result cursor.new }
+    {
+        Ok(match version {
+            0 => EndTxnReply::Version0(Wire::read(alloc, cursor)?),
+            1 => EndTxnReply::Version1(Wire::read(alloc, cursor)?),
+            2 => EndTxnReply::Version2(Wire::read(alloc, cursor)?),
+            3 => EndTxnReply::Version3(Wire::read(alloc, cursor)?),
+            4 => EndTxnReply::Version4(Wire::read(alloc, cursor)?),
+            _ => EndTxnReply::Version5(Wire::read(alloc, cursor)?),
+        })
+    }
+
+    /// The version in which it is answered.
+    pub fn version(&self) -> i16
+        ensures { result ≡ version_answered self.now }
+    {
+        match self {
+            EndTxnReply::Version0(_) => 0,
+            EndTxnReply::Version1(_) => 1,
+            EndTxnReply::Version2(_) => 2,
+            EndTxnReply::Version3(_) => 3,
+            EndTxnReply::Version4(_) => 4,
+            EndTxnReply::Version5(_) => 5,
+        }
+    }
+
     /// The error code, whatever the version.
     pub fn error(&self) -> ErrorCode
         ensures { result ≡ error_of self.now }

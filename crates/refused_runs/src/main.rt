@@ -191,7 +191,7 @@ fn tell<W: Write>(
 /// A core of the settings.
 fn open(alloc: Global, settings: &str) -> Option<Core> {
     let document = document_of_text(alloc, settings.as_bytes()).ok()?;
-    Core::open(alloc, document.settings).ok()
+    Core::open_checked(alloc, document.settings).ok()
 }
 
 /// Hands the events of a script to a core, all at once or one by one.

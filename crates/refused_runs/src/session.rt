@@ -54,11 +54,11 @@ impl Script {
     {
         let Document { users, settings } = document_of_text(alloc, settings.as_bytes()).ok()?;
         Some(Script {
-            users: Users::new(alloc, users).ok()?,
+            users: Users::of_checked(users),
             host: Text::of(alloc, "10.0.0.5").ok()?,
             input: bytes_of(alloc, frames)?,
             output: Vec::with_capacity(alloc, ROOM).ok()?,
-            core: Core::open(alloc, settings).ok()?,
+            core: Core::open_checked(alloc, settings).ok()?,
         })
     }
 }

@@ -103,6 +103,7 @@ impl<L: Ledger> Booked<L> {
         })
     }
 
+    /// The core.
     pub fn core(&self) -> &Core
         ensures { result.now ≡ self.now.core }
     {

@@ -103,8 +103,8 @@ pub(crate) fn serve_gated<R: Wait + Drop, Rd: Read + Drop, Wr: Write, G: Gate>(
     let Document { users, settings } = document_of_text(alloc, SETTINGS.as_bytes())
         .ok()
         .ok_or("settings")?;
-    let users = Users::new(alloc, users).ok().ok_or("users")?;
-    let core = Core::open(alloc, settings).ok().ok_or("core")?;
+    let users = Users::of_checked(users);
+    let core = Core::open_checked(alloc, settings)?;
     let host = Text::of(alloc, host)?;
     serve_on::<Brand, R, Rd, Wr, G>(
         rt,

@@ -168,7 +168,7 @@ fn markers_owed_by_a_denied_owner(rt: HostRuntime) -> Result<(), Fail> {
 fn core_by(alloc: Global, seed: u8) -> Option<Core> {
     let document = document_of_text(alloc, SETTINGS.as_bytes()).ok()?;
     let hasher = RandomState::new(&FixedSeed(seed)).ok()?;
-    Core::with_hasher(alloc, document.settings, hasher).ok()
+    Core::checked_with_hasher(alloc, document.settings, hasher).ok()
 }
 
 /// By whatever keys names are hashed, the answers are the same, and what is listed stands in the same order.

@@ -110,7 +110,7 @@ fn given_on<L: DeskLedger, R: Wait + Drop>(
 fn given<R: Wait + Drop>(rt: R, alloc: Global, asked: u64) -> Result<u64, Fail> {
     let text = b"node_id = 1\nhost = \"h\"\nport = 1\n".as_slice();
     let Document { settings, .. } = document_of_text(alloc, text).ok().ok_or("settings")?;
-    let core = Core::open(alloc, settings).ok().ok_or("core")?;
+    let core = Core::open_checked(alloc, settings)?;
     given_on::<Brand, R>(rt, core, Blank::new(MOST_SEATS + 1), asked)
 }
 

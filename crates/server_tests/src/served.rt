@@ -9,7 +9,7 @@ use crate::talk::{HANDSHAKE, LOGIN, METADATA, core, event_of, users};
 use admission::Rate;
 use arguments::VERSION;
 use broker_keeping::Steering;
-use broker_server::{ServeOptions, serve};
+use broker_server::{ServeOptions, Server, serve};
 use request_handlers::{Core, MOST_SEATS};
 use session_pool::{Desk, DeskLedger, ListedVersions, LockedDesk, Users};
 use session_workers::{ConnectionOptions, SessionOptions};
@@ -49,14 +49,15 @@ impl Write for Gone {
 
 /// Serves two connections, both at once, and gives the exit status and what was printed.
 fn serve_two<
+    'x,
     R: Net<Listener = TcpListener, Stream = TcpStream> + Threads + Wait + time::Clock + Sync,
     E: Write + Drop + Send,
 >(
     rt: &R,
     alloc: Global,
     core: Core,
-    users: &Shared<Users>,
-    listener: &TcpListener,
+    users: &'x Shared<Users>,
+    listener: &'x TcpListener,
     errors: E,
 ) -> (u8, Vec<u8>)
     requires { core.trail ≡ [] }
@@ -86,17 +87,13 @@ fn serve_two<
     };
     let steering: Option<Steering<'_, Cursor<Vec<u8>>, Vec<u8>>> = None;
     let mut printed = Vec::new(alloc);
-    let status = serve(
-        rt,
-        alloc,
-        core,
-        users,
+    let server = Server {
         listener,
+        users,
         options,
         steering,
-        &mut printed,
-        errors,
-    );
+    };
+    let status = serve(rt, alloc, core, server, &mut printed, errors);
     (status, printed)
 }
 
@@ -243,7 +240,7 @@ fn is_woken<R: Wait + time::Clock + Copy>(
     let Document { settings, .. } = document_of_text(alloc, OF_ANN.as_bytes())
         .ok()
         .ok_or("settings")?;
-    let core = Core::open(alloc, settings).ok().ok_or("core")?;
+    let core = Core::open_checked(alloc, settings)?;
     is_woken_on::<Brand, R>(rt, alloc, core, Blank::new(MOST_SEATS + 1), frames)
 }
 

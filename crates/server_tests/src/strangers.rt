@@ -10,7 +10,7 @@ use crate::together::Ticks;
 use admission::{Doorman, Rate};
 use request_handlers::{Core, MOST_SEATS};
 use session_pool::{Clocked, DeskLedger, Gate, ListedVersions, LockedDesk, ShutdownFlag, Users};
-use session_workers::{ConnectionOptions, SessionOptions, serve_connections};
+use session_workers::{ConnectionOptions, Service, SessionOptions, serve_connections};
 use std::alloc::Global;
 use std::io::{Read, Write};
 use std::marker::Brand;
@@ -136,18 +136,12 @@ fn serve_at<
     };
     let steps = Clocked::new(Ticks { rt: *rt, moment: 0 });
     let closing = Some(&site.closing);
-    let ended = serve_connections(
-        rt,
-        alloc,
-        &desk,
-        &site.users,
-        &site.listener,
+    let service = Service {
+        listener: &site.listener,
+        users: &site.users,
         options,
-        closing,
-        steps,
-        &told,
-    )
-    .ok()?;
+    };
+    let ended = serve_connections(rt, alloc, &desk, service, closing, steps, &told).ok()?;
     Some(Left {
         ends: ended.ends.len(),
         others: ended.others,

@@ -62,7 +62,7 @@ pub(crate) fn core_of(alloc: Global, settings: &str) -> Option<Core>
     ensures { IfSome result (λ core. core.trail ≡ []) }
 {
     let Document { settings, .. } = document_of_text(alloc, settings.as_bytes()).ok()?;
-    Core::open(alloc, settings).ok()
+    Core::open_checked(alloc, settings).ok()
 }
 
 pub(crate) fn core(alloc: Global) -> Option<Core>
@@ -81,7 +81,7 @@ pub(crate) fn users(alloc: Global) -> Result<Users, Fail> {
     let Document { users, .. } = document_of_text(alloc, SETTINGS.as_bytes())
         .ok()
         .ok_or("settings")?;
-    Ok(Users::new(alloc, users).ok().ok_or("users")?)
+    Ok(Users::of_checked(users))
 }
 
 /// The event that ann's frame is, which is given with its size field in hexadecimal digits.

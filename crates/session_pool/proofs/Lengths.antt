@@ -11,17 +11,18 @@ use Rattle.msg_login.specs.declared.sasl_authenticate.SaslAuthenticateRequest.{S
 use Rattle.msg_login.specs.SaslHandshake.{sasl_handshake_request}
 use Rattle.msg_login.specs.SaslAuthenticate.{sasl_authenticate_request}
 use Rattle.std.specs.Prelude.{IsSomeAnd}
-use Rattle.std.specs.Ordering.{int_eq}
 use Rattle.std.specs.Option.{option_and_then, option_map}
 use Rattle.std.specs.Result.{result_ok}
+use Rattle.msg_admin.specs.declared.api_key.ApiKey.{ApiKey}
+use Rattle.msg_admin.specs.declared.api_key.ApiKey.TheVariants as keys
 use Rattle.msg_admin.specs.declared.api.Api.{Api}
-use Rattle.msg_admin.specs.declared.api.Api.TheVariants as apis
 use Rattle.msg_admin.specs.declared.header.Header.{Header}
 use Rattle.msg_admin.specs.declared.request.Request.{Request}
 use Rattle.msg_admin.specs.declared.request.Request.TheVariants as requests
-use Rattle.msg_admin.specs.Api.{api_at, all_apis, key_of, version_of, is_flexible}
+use Rattle.msg_admin.specs.ApiKey.{served_api, key_at, all_keys}
+use Rattle.msg_admin.specs.Api.{api_if_served, api_at, is_from, is_flexible}
 use Rattle.msg_admin.specs.Header.{names, sender, with_header_tags, header}
-use Rattle.msg_admin.specs.Bodies.{request_body, asked_sasl_handshake}
+use Rattle.msg_admin.specs.Bodies.{request_form, request_body, asked_sasl_handshake}
 use Rattle.msg_admin.specs.Request.{IsRequest, request_at}
 use Rattle.msg_admin.specs.Versions.{header_start, asked_unsupported, unsupported_at}
 use Rattle.msg_admin.proofs.Headers.{parted}
@@ -130,80 +131,78 @@ names_are frame x rest h r read i =
 
 -- ---- the apis of a login
 
-pub at_18 : (version : ℤ) → api_at (pos 18) version ≡ cond (int_eq (pos 0) version) (Some apis.ApiVersions) None
-unfolding api_at all_apis key_of version_of
+pub at_18 : (version : ℤ) → api_at (pos 18) version ≡ api_if_served keys.ApiVersions version
+unfolding api_at key_at all_keys
 at_18 version = refl
 
-pub at_17 : (version : ℤ) → api_at (pos 17) version ≡ cond (int_eq (pos 1) version) (Some apis.SaslHandshake) None
-unfolding api_at all_apis key_of version_of
+pub at_17 : (version : ℤ) → api_at (pos 17) version ≡ api_if_served keys.SaslHandshake version
+unfolding api_at key_at all_keys
 at_17 version = refl
 
-pub at_36 : (version : ℤ) → api_at (pos 36) version ≡ cond (int_eq (pos 0) version) (Some apis.SaslAuthenticate) None
-unfolding api_at all_apis key_of version_of
+pub at_36 : (version : ℤ) → api_at (pos 36) version ≡ api_if_served keys.SaslAuthenticate version
+unfolding api_at key_at all_keys
 at_36 version = refl
 
 pub this_api : (b : Bool) (one api : Api) → cond b (Some one) None ≡ Some api → (b ≡ true) × (api ≡ one)
 this_api true one api is = (refl, cc)
 this_api false one api is = absurd (let clash : None ≡ Some api = is in cc)
 
-served_plain : (api : Api) → (api ≡ apis.ApiVersions) ⊎ (api ≡ apis.SaslHandshake) → is_flexible api ≡ false
+served_plain : (api : Api) → (api.key ≡ keys.ApiVersions) ⊎ (api.key ≡ keys.SaslHandshake) → is_flexible api ≡ false
 unfolding is_flexible
-served_plain api (inl is) = ap is_flexible is
-served_plain api (inr is) = ap is_flexible is
+served_plain api (inl is) = ap (λ (k : ApiKey). is_from (served_api k).flexible_from api.version) is
+served_plain api (inr is) = ap (λ (k : ApiKey). is_from (served_api k).flexible_from api.version) is
 
 some_short : (text : List ℕ) (o : Option SaslHandshakeRequest) → IsSomeAnd o (sasl_handshake_request.Spells text) → length text ≤ 32769
 some_short text None h = absurd h
 some_short text (Some m) h = handshake_short text m h
 
-versions_short : (text : List ℕ) (r : Request) → (request_body apis.ApiVersions).Spells text r → length text ≤ 32769
-unfolding request_body
-versions_short text r h = omega (arith, ap length h.0)
+versions_short : (version : ℤ) (text : List ℕ) (r : Request) → (request_form keys.ApiVersions version).Spells text r → length text ≤ 32769
+versions_short version text r h = omega (arith, ap length h.0)
 
-mechanism_short : (text : List ℕ) (r : Request) → (request_body apis.SaslHandshake).Spells text r → length text ≤ 32769
-unfolding request_body
-mechanism_short text r h = some_short text (asked_sasl_handshake r) h
+mechanism_short : (version : ℤ) (text : List ℕ) (r : Request) → (request_form keys.SaslHandshake version).Spells text r → length text ≤ 32769
+mechanism_short version text r h = some_short text (asked_sasl_handshake r) h
 
-body_short : (api : Api) (text : List ℕ) (r : Request) → (api ≡ apis.ApiVersions) ⊎ (api ≡ apis.SaslHandshake) → (request_body api).Spells text r → length text ≤ 32769
-body_short api text r (inl is) h = versions_short text r (subst (λ (a : Api). (request_body a).Spells text r) is h)
-body_short api text r (inr is) h = mechanism_short text r (subst (λ (a : Api). (request_body a).Spells text r) is h)
+body_short : (api : Api) (text : List ℕ) (r : Request) → (api.key ≡ keys.ApiVersions) ⊎ (api.key ≡ keys.SaslHandshake) → (request_body api).Spells text r → length text ≤ 32769
+unfolding request_body
+body_short api text r (inl is) h = versions_short api.version text r (subst (λ (k : ApiKey). (request_form k api.version).Spells text r) is h)
+body_short api text r (inr is) h = mechanism_short api.version text r (subst (λ (k : ApiKey). (request_form k api.version).Spells text r) is h)
 
 -- ApiVersions and SaslHandshake are no longer than this
-pub request_short : (frame : List ℕ) (h : Header) (r : Request) (i : IsRequest frame h r) → (i.2 ≡ apis.ApiVersions) ⊎ (i.2 ≡ apis.SaslHandshake) → length frame ≤ 65546
+pub request_short : (frame : List ℕ) (h : Header) (r : Request) (i : IsRequest frame h r) → (i.2.key ≡ keys.ApiVersions) ⊎ (i.2.key ≡ keys.SaslHandshake) → length frame ≤ 65546
 request_short frame h r i api =
     let head : length i.0 ≤ 32777 = plain_header (is_flexible i.2) i.0 h (served_plain i.2 api) i.4 in
     let body : length i.1 ≤ 32769 = body_short i.2 i.1 r api i.6 in
     omega (arith, ap length i.3, length-append i.0 i.1, head, body)
 
 -- only the body of SaslAuthenticate is a login
+login_form : (key : ApiKey) (version : ℤ) (text : List ℕ) (m : SaslAuthenticateRequest) → (request_form key version).Spells text (requests.SaslAuthenticate m)
+    → (is_from (served_api key).flexible_from version ≡ false) × (length text ≡ 4 + length m.auth)
+login_form keys.Produce version text m h = absurd h
+login_form keys.Fetch version text m h = absurd h
+login_form keys.ListOffsets version text m h = absurd h
+login_form keys.Metadata version text m h = absurd h
+login_form keys.OffsetCommit version text m h = absurd h
+login_form keys.OffsetFetch version text m h = absurd h
+login_form keys.FindCoordinator version text m h = absurd h
+login_form keys.JoinGroup version text m h = absurd h
+login_form keys.Heartbeat version text m h = absurd h
+login_form keys.LeaveGroup version text m h = absurd h
+login_form keys.SyncGroup version text m h = absurd h
+login_form keys.SaslHandshake version text m h = absurd h
+login_form keys.ApiVersions version text m h = absurd (let clash : requests.SaslAuthenticate m ≡ requests.ApiVersions = h.1 in cc)
+login_form keys.InitProducerId version text m h = absurd h
+login_form keys.AddPartitionsToTxn version text m h = absurd h
+login_form keys.AddOffsetsToTxn version text m h = absurd h
+login_form keys.EndTxn version text m h = absurd h
+login_form keys.TxnOffsetCommit version text m h = absurd h
+login_form keys.DescribeAcls version text m h = absurd h
+login_form keys.CreateAcls version text m h = absurd h
+login_form keys.DeleteAcls version text m h = absurd h
+login_form keys.SaslAuthenticate version text m h = (refl, login_long text m h)
+
 login_body : (api : Api) (text : List ℕ) (m : SaslAuthenticateRequest) → (request_body api).Spells text (requests.SaslAuthenticate m) → (is_flexible api ≡ false) × (length text ≡ 4 + length m.auth)
 unfolding request_body is_flexible
-login_body apis.Produce text m h = absurd h
-login_body apis.Fetch text m h = absurd h
-login_body apis.ListOffsets text m h = absurd h
-login_body apis.Metadata text m h = absurd h
-login_body apis.OffsetCommit text m h = absurd h
-login_body apis.OffsetFetch text m h = absurd h
-login_body apis.FindCoordinator text m h = absurd h
-login_body apis.JoinGroup text m h = absurd h
-login_body apis.Heartbeat text m h = absurd h
-login_body apis.LeaveGroup text m h = absurd h
-login_body apis.SyncGroup text m h = absurd h
-login_body apis.SaslHandshake text m h = absurd h
-login_body apis.ApiVersions text m h = absurd (let clash : requests.SaslAuthenticate m ≡ requests.ApiVersions = h.1 in cc)
-login_body apis.InitProducerId text m h = absurd h
-login_body apis.AddPartitionsToTxn text m h = absurd h
-login_body apis.AddOffsetsToTxn text m h = absurd h
-login_body apis.EndTxn0 text m h = absurd h
-login_body apis.EndTxn1 text m h = absurd h
-login_body apis.EndTxn2 text m h = absurd h
-login_body apis.EndTxn3 text m h = absurd h
-login_body apis.EndTxn4 text m h = absurd h
-login_body apis.EndTxn5 text m h = absurd h
-login_body apis.TxnOffsetCommit text m h = absurd h
-login_body apis.DescribeAcls text m h = absurd h
-login_body apis.CreateAcls text m h = absurd h
-login_body apis.DeleteAcls text m h = absurd h
-login_body apis.SaslAuthenticate text m h = (refl, login_long text m h)
+login_body api text m h = login_form api.key api.version text m h
 
 -- a login is longer than its message by a header and four bytes
 pub login_length : (frame : List ℕ) (h : Header) (m : SaslAuthenticateRequest) → request_at frame ≡ Ok (h, requests.SaslAuthenticate m) → length frame ≤ 32781 + length m.auth

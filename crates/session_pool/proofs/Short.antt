@@ -8,7 +8,8 @@ use Rattle.msg_login.specs.SaslHandshake.{handshake_reply}
 use Rattle.msg_login.specs.SaslAuthenticate.{authenticate_reply}
 use Rattle.msg_admin.specs.declared.reply.Reply.{Reply}
 use Rattle.msg_admin.specs.declared.reply.Reply.TheVariants as replies
-use Rattle.msg_admin.specs.Api.{all_apis, key_of, version_of, is_flexible}
+use Rattle.msg_admin.specs.ApiKey.{all_keys}
+use Rattle.msg_admin.specs.Api.{is_flexible}
 use Rattle.msg_admin.specs.Bodies.{reply_body}
 use Rattle.msg_admin.specs.Response.{is_sendable, GivesReply}
 use Rattle.session_pool.specs.declared.listed.ListedVersions.{ListedVersions}
@@ -16,7 +17,7 @@ use Rattle.session_pool.specs.declared.listed.ListedVersions.TheVariants.{AsServ
 use Rattle.session_pool.specs.Listed.{versions_listed}
 
 pub versions_short : (listed : ListedVersions) (c : ℤ) → is_sendable c (replies.ApiVersions (versions_listed listed)) ≡ true
-unfolding is_sendable is_flexible reply_body int_written after_count_written after_count_fits many_written many_fit null_count_fits all_apis key_of version_of
+unfolding is_sendable is_flexible reply_body int_written after_count_written after_count_fits many_written many_fit null_count_fits all_keys
 versions_short AsServed c = refl
 versions_short ForLibrdkafka c = refl
 

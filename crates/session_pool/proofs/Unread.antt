@@ -4,11 +4,13 @@ use Rattle.std.specs.Ordering.{int_eq}
 use Rattle.std.proofs.lemmas.Bool.{ltb-true, ltb-false, lt-ltb, le-ltb}
 use Rattle.std.proofs.lemmas.Bool.Decides.{Decides-int_eq}
 use Rattle.wire_types.specs.declared.fault.Malformed.{Malformed}
+use Rattle.msg_admin.specs.declared.api_key.ApiKey.TheVariants as keys
 use Rattle.msg_admin.specs.declared.api.Api.{Api}
-use Rattle.msg_admin.specs.declared.api.Api.TheVariants as apis
 use Rattle.msg_admin.specs.declared.header.Header.{Header}
 use Rattle.msg_admin.specs.declared.request.Request.{Request}
-use Rattle.msg_admin.specs.Api.{api_at}
+use Rattle.msg_admin.specs.ApiKey.{is_served as is_served_in}
+use Rattle.msg_admin.proofs.Served.{one_version}
+use Rattle.msg_admin.specs.Api.{api_in, api_at}
 use Rattle.msg_admin.specs.Request.{IsRequest, request_at}
 use Rattle.msg_admin.specs.Versions.{header_start, unsupported_at, unsupported_response}
 use Rattle.msg_admin.proofs.MessageLaws.{found_is_request}
@@ -130,30 +132,30 @@ either true b e = inl refl
 either false b e = inr e
 
 -- ApiVersions and SaslHandshake alone are served before a login, but for a login
-short_api : (s : SessionState) (x : (ℤ × ℤ) × ℤ) (api : Api) → is_known s ≡ false → is_served s x.0.0 ≡ true → is_login s x.0 ≡ false → api_at x.0.0 x.0.1 ≡ Some api → (api ≡ apis.ApiVersions) ⊎ (api ≡ apis.SaslHandshake)
+short_api : (s : SessionState) (x : (ℤ × ℤ) × ℤ) (api : Api) → is_known s ≡ false → is_served s x.0.0 ≡ true → is_login s x.0 ≡ false → api_at x.0.0 x.0.1 ≡ Some api → (api.key ≡ keys.ApiVersions) ⊎ (api.key ≡ keys.SaslHandshake)
 short_api s x api before served login at = by_state s before served login where
-  versions : int_eq x.0.0 (pos 18) ≡ true → (api ≡ apis.ApiVersions) ⊎ (api ≡ apis.SaslHandshake)
-  versions e = inl (this_api (int_eq (pos 0) x.0.1) apis.ApiVersions api (sym (at_18 x.0.1) ∙ ap (λ (k : ℤ). api_at k x.0.1) (sym (is_key x.0.0 18 e)) ∙ at)).1
+  versions : int_eq x.0.0 (pos 18) ≡ true → (api.key ≡ keys.ApiVersions) ⊎ (api.key ≡ keys.SaslHandshake)
+  versions e = inl (ap (λ (a : Api). a.key) (this_api (is_served_in keys.ApiVersions x.0.1) (api_in keys.ApiVersions x.0.1) api (sym (at_18 x.0.1) ∙ ap (λ (k : ℤ). api_at k x.0.1) (sym (is_key x.0.0 18 e)) ∙ at)).1)
 
-  handshake : int_eq x.0.0 (pos 17) ≡ true → (api ≡ apis.ApiVersions) ⊎ (api ≡ apis.SaslHandshake)
-  handshake e = inr (this_api (int_eq (pos 1) x.0.1) apis.SaslHandshake api (sym (at_17 x.0.1) ∙ ap (λ (k : ℤ). api_at k x.0.1) (sym (is_key x.0.0 17 e)) ∙ at)).1
+  handshake : int_eq x.0.0 (pos 17) ≡ true → (api.key ≡ keys.ApiVersions) ⊎ (api.key ≡ keys.SaslHandshake)
+  handshake e = inr (ap (λ (a : Api). a.key) (this_api (is_served_in keys.SaslHandshake x.0.1) (api_in keys.SaslHandshake x.0.1) api (sym (at_17 x.0.1) ∙ ap (λ (k : ℤ). api_at k x.0.1) (sym (is_key x.0.0 17 e)) ∙ at)).1)
 
-  no_login : int_eq x.0.0 (pos 36) ≡ true → (int_eq x.0.0 (pos 36) && int_eq x.0.1 (pos 0)) ≡ false → (api ≡ apis.ApiVersions) ⊎ (api ≡ apis.SaslHandshake)
+  no_login : int_eq x.0.0 (pos 36) ≡ true → (int_eq x.0.0 (pos 36) && int_eq x.0.1 (pos 0)) ≡ false → (api.key ≡ keys.ApiVersions) ⊎ (api.key ≡ keys.SaslHandshake)
   no_login e other =
-      let zero_is = (this_api (int_eq (pos 0) x.0.1) apis.SaslAuthenticate api (sym (at_36 x.0.1) ∙ ap (λ (k : ℤ). api_at k x.0.1) (sym (is_key x.0.0 36 e)) ∙ at)).0 in
-      let same : int_eq x.0.1 (pos 0) ≡ true = (Decides-int_eq x.0.1 (pos 0)).1 (sym ((Decides-int_eq (pos 0) x.0.1).0 zero_is)) in
+      let served_so = (this_api (is_served_in keys.SaslAuthenticate x.0.1) (api_in keys.SaslAuthenticate x.0.1) api (sym (at_36 x.0.1) ∙ ap (λ (k : ℤ). api_at k x.0.1) (sym (is_key x.0.0 36 e)) ∙ at)).0 in
+      let same : int_eq x.0.1 (pos 0) ≡ true = (Decides-int_eq x.0.1 (pos 0)).1 (sym (one_version (pos 0) x.0.1 served_so)) in
       let both : (int_eq x.0.0 (pos 36) && int_eq x.0.1 (pos 0)) ≡ true = ap (λ (a : Bool). a && int_eq x.0.1 (pos 0)) e ∙ same in
       absurd (let clash : true ≡ false = sym both ∙ other in cc)
 
-  in_fresh : (int_eq x.0.0 (pos 18) ≡ true) ⊎ (int_eq x.0.0 (pos 17) ≡ true) → (api ≡ apis.ApiVersions) ⊎ (api ≡ apis.SaslHandshake)
+  in_fresh : (int_eq x.0.0 (pos 18) ≡ true) ⊎ (int_eq x.0.0 (pos 17) ≡ true) → (api.key ≡ keys.ApiVersions) ⊎ (api.key ≡ keys.SaslHandshake)
   in_fresh (inl e) = versions e
   in_fresh (inr e) = handshake e
 
-  in_offered : (int_eq x.0.0 (pos 18) ≡ true) ⊎ (int_eq x.0.0 (pos 36) ≡ true) → (int_eq x.0.0 (pos 36) && int_eq x.0.1 (pos 0)) ≡ false → (api ≡ apis.ApiVersions) ⊎ (api ≡ apis.SaslHandshake)
+  in_offered : (int_eq x.0.0 (pos 18) ≡ true) ⊎ (int_eq x.0.0 (pos 36) ≡ true) → (int_eq x.0.0 (pos 36) && int_eq x.0.1 (pos 0)) ≡ false → (api.key ≡ keys.ApiVersions) ⊎ (api.key ≡ keys.SaslHandshake)
   in_offered (inl e) other = versions e
   in_offered (inr e) other = no_login e other
 
-  by_state : (s : SessionState) → is_known s ≡ false → is_served s x.0.0 ≡ true → is_login s x.0 ≡ false → (api ≡ apis.ApiVersions) ⊎ (api ≡ apis.SaslHandshake)
+  by_state : (s : SessionState) → is_known s ≡ false → is_served s x.0.0 ≡ true → is_login s x.0 ≡ false → (api.key ≡ keys.ApiVersions) ⊎ (api.key ≡ keys.SaslHandshake)
   by_state (Fresh f) before served login = in_fresh (either (int_eq x.0.0 (pos 18)) (int_eq x.0.0 (pos 17)) served)
   by_state (Offered o) before served login = in_offered (either (int_eq x.0.0 (pos 18)) (int_eq x.0.0 (pos 36)) served) login
   by_state (Known k) before served login = absurd (let clash : true ≡ false = before in cc)

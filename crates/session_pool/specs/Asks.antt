@@ -18,6 +18,7 @@ use Rattle.audit_trail.specs.declared.event.Event.TheVariants.{Ask}
 use Rattle.request_handlers.specs.declared.stop.Stop.{Stop}
 use Rattle.request_handlers.specs.Receipt.{ReceiptValue}
 use Rattle.settings_text.specs.declared.document.User.{User}
+use Rattle.session_pool.specs.declared.context.LoginContext.{LoginContext}
 use Rattle.session_pool.specs.declared.login.SessionState.{SessionState}
 use Rattle.session_pool.specs.declared.login.SessionState.TheVariants.{Fresh, Offered, Known}
 use Rattle.session_pool.specs.declared.end_reason.EndReason.{EndReason}
@@ -34,6 +35,10 @@ pub record Setting : Type 0 where
   pub listed : ListedVersions
   pub host : List ℕ
   pub may_stop : Event → Stop → Bool
+
+-- the setting of a login at a desk
+abbrev pub setting_of : LoginContext → (Event → Stop → Bool) → Setting
+setting_of login may_stop = record { users = login.users.now; listed = login.listed; host = login.host.now; may_stop = may_stop }
 
 -- ---- one frame (Kafka protocol guide, "SASL Authentication Sequence")
 

@@ -15,4 +15,3 @@ pub mod Steps
 pub mod Streaming
 pub mod Turns
 pub mod Unread
-pub mod Users

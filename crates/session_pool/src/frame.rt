@@ -255,30 +255,46 @@ fn read_sized<R: Read>(
     }
 }
 
-/// What comes of the next frame, without its size field: the whole of it, or of a frame above so many bytes the first eight,
-/// and its length. What was read and kept isn't copied. The length of the session's longest frame counts what was kept alone,
-/// never what a size field announced.
-#[tactic(auto, using(crate::proofs::Fronts::no_room))]
-pub(crate) fn read_frame<R: Read>(
-    alloc: Global,
-    reader: &mut R,
-    longest: &mut usize,
-    most: u32,
-    limit: u32,
-) -> Result<Came, EndReason>
-    ensures within { IfOk result (λ came. (length came.kept ≤ came.size) × (came.size ≤ limit)) }
-    ensures ok { IfOk result
-        (λ came. Took (R.remaining reader.old) (R.remaining reader.new) (Arrives limit most came)) }
-    ensures err { IfErr result
-        (λ why. Took (R.remaining reader.old) (R.remaining reader.new) (Lacks limit why)) }
-    ensures longest { IfOk result (λ came. longest.new ≡ max longest.old (length came.kept)) }
-    ensures same { OnErr result (longest.new ≡ longest.old) }
-{
-    let (body, size) = read_sized(alloc, reader, *longest, most, limit)?;
-    let kept = body.len();
-    let Ok(bytes) = Bytes::from_vec(body) else {
-        return Err(EndReason::NoMemory);
-    };
-    *longest = (*longest).max(kept);
-    Ok(Came { kept: bytes, size })
+/// Reads a session's frames.
+pub(crate) struct FrameReader<R> {
+    pub(crate) reader: R,
+    /// How many bytes of the longest frame so far were kept, never what a size field announced.
+    pub(crate) longest: usize,
+}
+
+impl<R: Drop> Drop for FrameReader<R> {
+    fn drop(self) {
+        let FrameReader {
+            reader: _reader,
+            longest: _longest,
+        } = self;
+    }
+}
+
+impl<R: Read> FrameReader<R> {
+    /// What comes of the next frame, without its size field: the whole of it, or of a frame above so many bytes the first eight,
+    /// and its length. What was read and kept isn't copied.
+    #[tactic(auto, using(crate::proofs::Fronts::no_room))]
+    pub(crate) fn read(&mut self, alloc: Global, most: u32, limit: u32) -> Result<Came, EndReason>
+        ensures within { IfOk result
+            (λ came. (length came.kept ≤ came.size) × (came.size ≤ limit)) }
+        ensures ok { IfOk result
+            (λ came. Took (R.remaining self.old.reader) (R.remaining self.new.reader)
+            (Arrives limit most came)) }
+        ensures err { IfErr result
+            (λ why. Took (R.remaining self.old.reader) (R.remaining self.new.reader)
+            (Lacks limit why)) }
+        ensures longest { IfOk result
+            (λ came. self.new.longest ≡ max self.old.longest (length came.kept)) }
+        ensures same { OnErr result (self.new.longest ≡ self.old.longest) }
+    {
+        let longest = self.longest;
+        let (body, size) = read_sized(alloc, &mut self.reader, longest, most, limit)?;
+        let kept = body.len();
+        let Ok(bytes) = Bytes::from_vec(body) else {
+            return Err(EndReason::NoMemory);
+        };
+        self.longest = longest.max(kept);
+        Ok(Came { kept: bytes, size })
+    }
 }

@@ -10,6 +10,7 @@
 
 mod begin;
 mod compare;
+mod context;
 mod desk;
 mod end_reason;
 mod frame;
@@ -30,6 +31,7 @@ mod steps;
 mod streamed;
 mod users;
 
+pub use context::{LoginContext, SessionContext};
 pub use desk::{Desk, DeskLedger};
 pub use end_reason::EndReason;
 pub use gate::Gate;
@@ -39,7 +41,7 @@ pub use locked::{LockedDesk, Quiet};
 pub use login::{Closed, Fresh, Known, LoginFault, Offered};
 pub use login_laws::{login_is_exact, no_login_is_longer, versions_are_listed};
 pub use login_message::name_in;
-pub use session::{Limits, SessionEnd, serve_session, serve_session_listing};
+pub use session::{Limits, SessionEnd, serve_session, serve_session_in};
 pub use shutdown_flag::ShutdownFlag;
 pub use steps::{Clock, Clocked, Step, Steps};
 pub use users::Users;

@@ -45,6 +45,7 @@ fn from_zero(served: &ServedVersions) -> ServedVersions
     }
 }
 
+/// The same apis, each listed from version 0 on.
 fn all_from_zero(
     alloc: Global,
     apis: &[ServedVersions],

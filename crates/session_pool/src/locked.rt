@@ -129,6 +129,7 @@ impl<L: Ledger> Model for Quiet<L> {
 }
 
 impl<L: Ledger> Quiet<L> {
+    /// The core.
     pub fn core(&self) -> &Core
         ensures { result.now ≡ self.now }
     {

@@ -121,6 +121,7 @@ impl SessionState {
 }
 
 impl Fresh {
+    /// Where each session begins.
     pub fn new() -> Fresh {
         Fresh(())
     }

@@ -13,7 +13,7 @@ use msg_login::{SaslAuthenticateReply, SaslHandshakeReply};
 use std::alloc::{AllocError, Global};
 use wire_types::{Boxed, Bytes, ErrorCode, WriteFault};
 
-/// The response of a reply that can be sent. Only memory can lack.
+/// The response of a reply of the session's own. It is never too long, so only memory can be refused for it.
 #[tactic(auto, using(crate::proofs::Short::never_long))]
 fn write_own(alloc: Global, correlation: i32, reply: &Reply) -> Result<Bytes, AllocError>
     requires { is_sendable correlation reply.now ≡ true }

@@ -32,6 +32,7 @@ struct Plain<'a> {
     password: &'a [u8],
 }
 
+/// The three parts of a PLAIN message, which stand between its two NULs (RFC 4616, section 2). None where it has more or fewer.
 fn split_plain(message: &[u8]) -> Option<Plain<'_>>
     ensures { option_map (λ p. (p.authorization.now, p.authentication.now, p.password.now)) result
         ≡ plain_of message.now }

@@ -7,21 +7,22 @@ ghost use Rattle.msg_admin.specs.Versions.{unsupported_response};
 ghost use Rattle.api_dispatch.specs.Bounds.{EventFits};
 ghost use Rattle.session_pool.specs.declared.login.SessionState.TheVariants as state;
 ghost use Rattle.session_pool.specs.declared.respond.SessionAction.TheVariants as outcome;
-ghost use Rattle.session_pool.specs.Asks.{Tells, Submits, Refuses, step_of, step_if_readable, request_step, fresh_step, offered_step, known_step, mechanism_step, logs_in};
+ghost use Rattle.session_pool.specs.Asks.{Tells, Submits, Refuses, setting_of, step_of, step_if_readable, request_step, fresh_step, offered_step, known_step, mechanism_step, logs_in};
 ghost use Rattle.session_pool.specs.LoginMessage.{login_of};
 ghost use Rattle.session_pool.specs.Turns.{CameOf, Says, Meant};
 
 use crate::begin::{Begun, begin};
+use crate::context::LoginContext;
 use crate::desk::Desk;
 use crate::frame::Came;
 use crate::listed::ListedVersions;
 use crate::login::{Closed, Fresh, Known, LoginFault, Offered, SessionState};
 use crate::login_answers::{write_handshake, write_login, write_versions};
 use crate::response::Response;
-use crate::users::Users;
+use crate::session::Progress;
 use audit_trail::Event;
 use msg_admin::{FRAME_LIMIT, Header, Request, read_request, write_unsupported_versions};
-use request_handlers::{Receipt, Stop};
+use request_handlers::Stop;
 use std::alloc::{AllocError, Global};
 use wire_types::{Bytes, ErrorCode, ReadFault, Text, WriteFault};
 
@@ -73,6 +74,7 @@ fn close() -> SessionAction
     SessionAction::Refuses(Bytes::new())
 }
 
+/// Agrees on the mechanism, or refuses it by code 33.
 fn offer(alloc: Global, correlation: i32, fresh: Fresh, mechanism: &[u8]) -> SessionAction
     ensures { Says (mechanism_step correlation mechanism.now) result }
 {
@@ -85,17 +87,17 @@ fn offer(alloc: Global, correlation: i32, fresh: Fresh, mechanism: &[u8]) -> Ses
     }
 }
 
+/// Logs the user in whom the message names, or refuses it by code 58.
 fn log_in(
     alloc: Global,
-    host: &Text,
-    users: &Users,
+    login: &LoginContext<'_>,
     correlation: i32,
     offered: Offered,
     message: &[u8],
 ) -> SessionAction
-    ensures { Says (logs_in correlation (login_of users.now message.now)) result }
+    ensures { Says (logs_in correlation (login_of login.now.users.now message.now)) result }
 {
-    match offered.login(alloc, users, host, message) {
+    match offered.login(alloc, login.users, login.host, message) {
         Ok(known) => {
             let answer = write_login(alloc, correlation, ErrorCode::None);
             tell(answer, SessionState::Known(known))
@@ -135,88 +137,80 @@ fn on_fresh(
 /// Before a password was told.
 fn on_offered(
     alloc: Global,
-    host: &Text,
-    listed: ListedVersions,
-    users: &Users,
+    login: &LoginContext<'_>,
     correlation: i32,
     offered: Offered,
     request: &Request,
 ) -> SessionAction
-    ensures { Says (offered_step listed users.now correlation request.now) result }
+    ensures { Says (offered_step login.now.listed login.now.users.now correlation request.now) result }
 {
     match request {
         Request::ApiVersions => {
-            let answer = write_versions(alloc, correlation, listed);
+            let answer = write_versions(alloc, correlation, login.listed);
             tell(answer, SessionState::Offered(offered))
         }
         Request::SaslAuthenticate(message) => {
-            log_in(
-                alloc,
-                host,
-                users,
-                correlation,
-                offered,
-                message.value().auth.as_slice(),
-            )
+            let message = message.value().auth.as_slice();
+            log_in(alloc, login, correlation, offered, message)
         }
         _ => close(),
     }
 }
 
-/// Hands an event to the desk, and keeps its receipt. Room for it is made first.
+/// Hands an event to the desk, and keeps its receipt. Memory for it is taken first.
 fn submit<S, D: Desk<S>>(
     alloc: Global,
     desk: &D,
-    seat: S,
     correlation: i32,
     event: Event,
     known: Known,
-    receipts: &mut Vec<Receipt>,
-) -> (S, SessionAction)
+    progress: Progress<S>,
+) -> (Progress<S>, SessionAction)
     requires { EventFits event }
-    ensures risen { (D.view result.0).count + vec_len receipts.old ≡ (D.view seat).count
-        + vec_len receipts.new }
+    ensures risen { (D.view result.0.seat).count + vec_len progress.receipts
+        ≡ (D.view progress.seat).count + vec_len result.0.receipts }
     ensures meant { Meant D.may_stop (Submits correlation event (state.Known known))
-        receipts.old.items receipts.new.items result.1 }
+        progress.receipts.items result.0.receipts.items result.1 }
 {
+    let Progress { seat, mut receipts } = progress;
     if receipts.reserve(1).is_err() {
-        return (seat, SessionAction::NoMemory);
+        return (Progress { seat, receipts }, SessionAction::NoMemory);
     }
     let (seat, answer) = desk.submit(seat, event);
     match answer {
         Ok(receipt) => {
             let answer = Response::of(alloc, correlation, &receipt);
             receipts.push_reserved(receipt);
+            let progress = Progress { seat, receipts };
             match answer {
-                Ok(response) => (seat, SessionAction::Answers(response, known)),
-                Err(fault) => (seat, SessionAction::Unsent(fault)),
+                Ok(response) => (progress, SessionAction::Answers(response, known)),
+                Err(fault) => (progress, SessionAction::Unsent(fault)),
             }
         }
-        Err(stop) => (seat, SessionAction::Stopped(stop)),
+        Err(stop) => (Progress { seat, receipts }, SessionAction::Stopped(stop)),
     }
 }
 
 /// Once a user is known, who alone may ask.
-fn ask<S, D: Desk<S>>(
+fn on_known<S, D: Desk<S>>(
     alloc: Global,
     host: &Text,
     desk: &D,
     known: Known,
     header: Header,
     request: Request,
-    seat: S,
-    receipts: &mut Vec<Receipt>,
-) -> (S, SessionAction)
+    progress: Progress<S>,
+) -> (Progress<S>, SessionAction)
     requires { Fits request }
-    ensures risen { (D.view result.0).count + vec_len receipts.old ≡ (D.view seat).count
-        + vec_len receipts.new }
+    ensures risen { (D.view result.0.seat).count + vec_len progress.receipts
+        ≡ (D.view progress.seat).count + vec_len result.0.receipts }
     ensures meant { Meant D.may_stop (known_step known.who host.now header request)
-        receipts.old.items receipts.new.items result.1 }
+        progress.receipts.items result.0.receipts.items result.1 }
 {
     let correlation = header.correlation;
     match known.ask(alloc, host, header, request) {
-        Ok(event) => submit(alloc, desk, seat, correlation, event, known, receipts),
-        Err(_) => (seat, SessionAction::NoMemory),
+        Ok(event) => submit(alloc, desk, correlation, event, known, progress),
+        Err(_) => (progress, SessionAction::NoMemory),
     }
 }
 
@@ -224,48 +218,33 @@ fn ask<S, D: Desk<S>>(
 #[tactic(auto, using(crate::proofs::Sessions::said))]
 fn on_request<S, D: Desk<S>>(
     alloc: Global,
-    host: &Text,
-    users: &Users,
-    listed: ListedVersions,
+    login: &LoginContext<'_>,
     desk: &D,
     state: SessionState,
     header: Header,
     request: Request,
-    seat: S,
-    receipts: &mut Vec<Receipt>,
-) -> (S, SessionAction)
+    progress: Progress<S>,
+) -> (Progress<S>, SessionAction)
     requires { Fits request }
-    ensures risen { (D.view result.0).count + vec_len receipts.old ≡ (D.view seat).count
-        + vec_len receipts.new }
+    ensures risen { (D.view result.0.seat).count + vec_len progress.receipts
+        ≡ (D.view progress.seat).count + vec_len result.0.receipts }
     ensures meant { Meant D.may_stop
-        (request_step (record {
-          users = users.now;
-          listed = listed;
-          host = host.now;
-          may_stop = D.may_stop;
-        }) state header request) receipts.old.items
-        receipts.new.items result.1 }
+        (request_step (setting_of login.now D.may_stop) state header request)
+        progress.receipts.items result.0.receipts.items result.1 }
 {
+    let correlation = header.correlation;
     match state {
         SessionState::Fresh(fresh) => {
-            let outcome = on_fresh(alloc, listed, header.correlation, fresh, &request);
-            (seat, outcome)
+            let outcome = on_fresh(alloc, login.listed, correlation, fresh, &request);
+            (progress, outcome)
         }
         SessionState::Offered(offered) => {
-            let outcome = on_offered(
-                alloc,
-                host,
-                listed,
-                users,
-                header.correlation,
-                offered,
-                &request,
-            );
-            (seat, outcome)
+            let outcome = on_offered(alloc, login, correlation, offered, &request);
+            (progress, outcome)
         }
-        SessionState::Known(known) => ask(
-            alloc, host, desk, known, header, request, seat, receipts,
-        ),
+        SessionState::Known(known) => {
+            on_known(alloc, login.host, desk, known, header, request, progress)
+        }
     }
 }
 
@@ -287,62 +266,50 @@ fn refuse_login(alloc: Global, correlation: i32) -> SessionAction
 #[tactic(auto, using(crate::proofs::Sessions::said))]
 fn read<S, D: Desk<S>>(
     alloc: Global,
-    host: &Text,
-    users: &Users,
-    listed: ListedVersions,
+    login: &LoginContext<'_>,
     desk: &D,
     state: SessionState,
     frame: &Bytes,
-    seat: S,
-    receipts: &mut Vec<Receipt>,
-) -> (S, SessionAction)
+    progress: Progress<S>,
+) -> (Progress<S>, SessionAction)
     requires { length frame.now ≤ LIMIT }
-    ensures risen { (D.view result.0).count + vec_len receipts.old ≡ (D.view seat).count
-        + vec_len receipts.new }
+    ensures risen { (D.view result.0.seat).count + vec_len progress.receipts
+        ≡ (D.view progress.seat).count + vec_len result.0.receipts }
     ensures meant { Meant D.may_stop
-        (step_if_readable
-        (record { users = users.now; listed = listed; host = host.now; may_stop = D.may_stop })
-        state (request_at frame.now)) receipts.old.items receipts.new.items result.1 }
+        (step_if_readable (setting_of login.now D.may_stop) state (request_at frame.now))
+        progress.receipts.items result.0.receipts.items result.1 }
 {
     match read_request(alloc, frame) {
         Ok((header, request)) => {
-            on_request(
-                alloc, host, users, listed, desk, state, header, request, seat, receipts,
-            )
+            on_request(alloc, login, desk, state, header, request, progress)
         }
-        Err(ReadFault::Malformed(_)) => (seat, SessionAction::Malformed),
-        Err(ReadFault::NoMemory) => (seat, SessionAction::NoMemory),
+        Err(ReadFault::Malformed(_)) => (progress, SessionAction::Malformed),
+        Err(ReadFault::NoMemory) => (progress, SessionAction::NoMemory),
     }
 }
 
 /// What a frame leads to, of which this came. Its body is read only where its first bytes don't say it.
 pub(crate) fn respond<S, D: Desk<S>>(
     alloc: Global,
-    host: &Text,
-    users: &Users,
-    listed: ListedVersions,
+    login: &LoginContext<'_>,
     desk: &D,
     state: SessionState,
     came: &Came,
-    seat: S,
-    receipts: &mut Vec<Receipt>,
-) -> (S, SessionAction)
+    progress: Progress<S>,
+) -> (Progress<S>, SessionAction)
     requires { (length came.now.kept ≤ came.now.size) × (came.now.size ≤ LIMIT) }
-    ensures risen { (D.view result.0).count + vec_len receipts.old ≡ (D.view seat).count
-        + vec_len receipts.new }
-    ensures meant { (limit : ℕ) (frame : List ℕ) → CameOf (record { users = users.now; listed = listed; host = host.now; may_stop = D.may_stop }) limit state came.now frame
-        → Meant D.may_stop (step_of (record { users = users.now; listed = listed; host = host.now; may_stop = D.may_stop }) state frame) receipts.old.items receipts.new.items result.1 }
+    ensures risen { (D.view result.0.seat).count + vec_len progress.receipts
+        ≡ (D.view progress.seat).count + vec_len result.0.receipts }
+    ensures meant { (limit : ℕ) (frame : List ℕ)
+        → CameOf (setting_of login.now D.may_stop) limit state came.now frame
+        → Meant D.may_stop (step_of (setting_of login.now D.may_stop) state frame)
+        progress.receipts.items result.0.receipts.items result.1 }
 {
     match begin(&state, came) {
-        Begun::OtherVersion(correlation) => (seat, tell_served(alloc, correlation, state)),
-        Begun::Unserved => (seat, close()),
-        Begun::Overlong(correlation) => (seat, refuse_login(alloc, correlation)),
-        Begun::Unreadable => (seat, SessionAction::Malformed),
-        Begun::Whole => {
-            let frame = &came.kept;
-            read(
-                alloc, host, users, listed, desk, state, frame, seat, receipts,
-            )
-        }
+        Begun::OtherVersion(correlation) => (progress, tell_served(alloc, correlation, state)),
+        Begun::Unserved => (progress, close()),
+        Begun::Overlong(correlation) => (progress, refuse_login(alloc, correlation)),
+        Begun::Unreadable => (progress, SessionAction::Malformed),
+        Begun::Whole => read(alloc, login, desk, state, &came.kept, progress),
     }
 }

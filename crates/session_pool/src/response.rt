@@ -91,6 +91,7 @@ fn send_topics<W: Write>(alloc: Global, writer: &mut W, reply: &Reply) -> Result
     spill(&mut gathered, writer)
 }
 
+/// Writes the topics of a long answer one after the other.
 fn stream_topics<W: Write>(
     gathered: &mut Vec<u8>,
     writer: &mut W,
@@ -129,6 +130,7 @@ fn long_size<B: Wire>(answer: &B) -> Option<i32>
     }
 }
 
+/// What a Metadata's response begins with, up to its topics.
 fn metadata_front(
     alloc: Global,
     correlation: i32,
@@ -147,6 +149,7 @@ fn metadata_front(
     }
 }
 
+/// Appends what a Metadata's response begins with, up to its topics.
 fn put_metadata_front(
     out: &mut Vec<u8>,
     size: i32,
@@ -163,6 +166,7 @@ fn put_metadata_front(
     write_count(out, answer.topics.len())
 }
 
+/// What a Fetch's response begins with, up to its topics.
 fn fetch_front(
     alloc: Global,
     correlation: i32,
@@ -180,6 +184,7 @@ fn fetch_front(
     }
 }
 
+/// Appends what a Fetch's response begins with, up to its topics.
 fn put_fetch_front(
     out: &mut Vec<u8>,
     size: i32,

@@ -2,14 +2,16 @@
 
 ghost use Rattle.std.specs.Prelude.{◌≡◌, ◌+◌, ◌≤◌, vec_len};
 ghost use Rattle.msg_admin.specs.declared.request.TheConstants.{FRAME_LIMIT as LIMIT};
+ghost use Rattle.session_pool.specs.Asks.{setting_of};
 ghost use Rattle.session_pool.specs.declared.listed.ListedVersions.TheVariants.{AsServed};
 ghost use Rattle.session_pool.specs.Reads.{Took, TookLast};
 ghost use Rattle.session_pool.specs.Sessions.{TurnsOn, SessionOf};
 ghost use Rattle.session_pool.specs.Turns.{most_kept, Sends, SendsParts, Finishes, why_of};
 
+use crate::context::{LoginContext, SessionContext};
 use crate::desk::Desk;
 use crate::end_reason::EndReason;
-use crate::frame::{Came, read_frame};
+use crate::frame::{Came, FrameReader};
 use crate::gate::Gate;
 use crate::listed::ListedVersions;
 use crate::login::{Fresh, SessionState};
@@ -30,6 +32,13 @@ pub struct SessionEnd<S> {
     pub receipts: Vec<Receipt>,
     pub seat: S,
     pub why: EndReason,
+}
+
+/// How far a session has come at its desk: its seat, and a receipt for each event that was answered, in order.
+#[derive(Drop)]
+pub(crate) struct Progress<S> {
+    pub(crate) seat: S,
+    pub(crate) receipts: Vec<Receipt>,
 }
 
 /// How many bytes a frame may have after its size field, at most 104,857,600, and how many frames are served.
@@ -162,101 +171,65 @@ fn tell_login<G: Gate>(
 #[tactic(auto, using(crate::proofs::Sessions::turned_off))]
 fn turn<S, Rd: Read, Wr: Write, D: Desk<S>, G: Gate>(
     alloc: Global,
-    session: u64,
-    reader: &mut Rd,
-    longest: &mut usize,
+    context: &SessionContext<'_, D, G>,
+    reader: &mut FrameReader<Rd>,
     writer: &mut Wr,
-    host: &Text,
-    users: &Users,
-    listed: ListedVersions,
-    desk: &D,
-    gate: &G,
-    limit: u32,
     state: SessionState,
-    seat: S,
-    receipts: &mut Vec<Receipt>,
-) -> (S, Result<SessionState, EndReason>)
-    requires { limit ≤ LIMIT }
-    ensures risen { (D.view result.0).count + vec_len receipts.old ≡ (D.view seat).count
-        + vec_len receipts.new }
-    ensures turns { Took (Rd.remaining reader.old) (Rd.remaining reader.new)
-        (TurnsOn (record {
-          users = users.now;
-          listed = listed;
-          host = host.now;
-          may_stop = D.may_stop;
-        }) limit state (Wr.contents writer.old)
-        (Wr.contents writer.new) receipts.old.items receipts.new.items result.1) }
+    progress: Progress<S>,
+) -> (Progress<S>, Result<SessionState, EndReason>)
+    requires { context.now.limits.frame ≤ LIMIT }
+    ensures risen { (D.view result.0.seat).count + vec_len progress.receipts
+        ≡ (D.view progress.seat).count + vec_len result.0.receipts }
+    ensures turns { Took (Rd.remaining reader.old.reader) (Rd.remaining reader.new.reader)
+        (TurnsOn (setting_of context.now.login D.may_stop) context.now.limits.frame state
+        (Wr.contents writer.old) (Wr.contents writer.new) progress.receipts.items
+        result.0.receipts.items result.1) }
 {
-    let most = most_kept(users, &state, limit);
-    let came = match read_frame(alloc, reader, longest, most, limit) {
+    let (login, limit, gate) = (&context.login, context.limits.frame, context.gate);
+    let most = most_kept(login.users, &state, limit);
+    let came = match reader.read(alloc, most, limit) {
         Ok(came) => came,
-        Err(why) => return (seat, Err(why)),
+        Err(why) => return (progress, Err(why)),
     };
     let was_known = state.is_known();
-    let place = receipts.len();
-    let (seat, outcome) = respond(
-        alloc, host, users, listed, desk, state, &came, seat, receipts,
-    );
-    tell_receipt(gate, receipts.as_slice(), place);
-    tell_unserved(gate, session, &outcome, &came);
+    let place = progress.receipts.len();
+    let (progress, outcome) = respond(alloc, login, context.desk, state, &came, progress);
+    tell_receipt(gate, progress.receipts.as_slice(), place);
+    tell_unserved(gate, context.session, &outcome, &came);
     let next = finish(alloc, writer, outcome);
-    tell_login(gate, session, was_known, &next);
-    (seat, next)
+    tell_login(gate, context.session, was_known, &next);
+    (progress, next)
 }
 
 /// Reads and answers frames until the session ends.
 fn serve<S, Rd: Read, Wr: Write, D: Desk<S>, G: Gate>(
     alloc: Global,
-    session: u64,
-    reader: &mut Rd,
+    context: &SessionContext<'_, D, G>,
+    reader: &mut FrameReader<Rd>,
     writer: &mut Wr,
-    host: &Text,
-    users: &Users,
-    listed: ListedVersions,
-    desk: &D,
     seat: S,
-    limits: Limits,
-    gate: &G,
 ) -> SessionEnd<S>
-    requires { limits.frame ≤ LIMIT }
+    requires { context.now.limits.frame ≤ LIMIT }
     ensures risen { (D.view result.seat).count ≡ (D.view seat).count + vec_len result.receipts }
-    ensures session { Took (Rd.remaining reader.old) (Rd.remaining reader.new)
-        (SessionOf (record {
-          users = users.now;
-          listed = listed;
-          host = host.now;
-          may_stop = D.may_stop;
-        }) limits.frames limits.frame (Wr.contents writer.old)
-        (Wr.contents writer.new) result.receipts.items result.why) }
+    ensures session { Took (Rd.remaining reader.old.reader) (Rd.remaining reader.new.reader)
+        (SessionOf (setting_of context.now.login D.may_stop) context.now.limits.frames
+        context.now.limits.frame (Wr.contents writer.old) (Wr.contents writer.new)
+        result.receipts.items result.why) }
 {
-    let mut seat = seat;
-    let mut longest = 0;
-    let mut receipts = Vec::new(alloc);
+    let mut progress = Progress {
+        seat,
+        receipts: Vec::new(alloc),
+    };
     let mut state = SessionState::Fresh(Fresh::new());
-    for frame in 0..limits.frames {
-        gate.before(session, frame);
-        let (back, outcome) = turn(
-            alloc,
-            session,
-            reader,
-            &mut longest,
-            writer,
-            host,
-            users,
-            listed,
-            desk,
-            gate,
-            limits.frame,
-            state,
-            seat,
-            &mut receipts,
-        );
-        gate.after(session, frame);
-        seat = back;
+    for frame in 0..context.limits.frames {
+        context.gate.before(context.session, frame);
+        let (come, outcome) = turn(alloc, context, reader, writer, state, progress);
+        context.gate.after(context.session, frame);
+        progress = come;
         match outcome {
             Ok(next) => state = next,
             Err(why) => {
+                let Progress { seat, receipts } = progress;
                 return SessionEnd {
                     receipts,
                     seat,
@@ -265,6 +238,7 @@ fn serve<S, Rd: Read, Wr: Write, D: Desk<S>, G: Gate>(
             }
         }
     }
+    let Progress { seat, receipts } = progress;
     SessionEnd {
         receipts,
         seat,
@@ -273,7 +247,37 @@ fn serve<S, Rd: Read, Wr: Write, D: Desk<S>, G: Gate>(
 }
 
 /// Serves a session until its input ends, it is closed, or so many frames were served. The reader is read through a buffer of
-/// 8,192 bytes and given up with it; each answer of up to 65,536 bytes is one write, where the writer takes it. The session's number is the gate's.
+/// 8,192 bytes and given up with it; each answer of up to 65,536 bytes is one write, where the writer takes it.
+#[tactic(auto, using(crate::proofs::Sessions::nothing_done))]
+pub fn serve_session_in<S, Rd: Read + Drop, Wr: Write, D: Desk<S>, G: Gate>(
+    alloc: Global,
+    context: &SessionContext<'_, D, G>,
+    reader: Rd,
+    writer: &mut Wr,
+    seat: S,
+) -> SessionEnd<S>
+    requires { context.now.limits.frame ≤ LIMIT }
+    ensures risen { (D.view result.seat).count ≡ (D.view seat).count + vec_len result.receipts }
+    ensures session { TookLast (Rd.remaining reader)
+        (SessionOf (setting_of context.now.login D.may_stop) context.now.limits.frames
+        context.now.limits.frame (Wr.contents writer.old) (Wr.contents writer.new)
+        result.receipts.items result.why) }
+{
+    match BufReader::new(alloc, reader) {
+        Ok(reader) => {
+            let mut reader = FrameReader { reader, longest: 0 };
+            serve(alloc, context, &mut reader, writer, seat)
+        }
+        Err(_) => SessionEnd {
+            receipts: Vec::new(alloc),
+            seat,
+            why: EndReason::NoMemory,
+        },
+    }
+}
+
+/// Serves a session as `serve_session_in` does, and lists each api before the login with the versions in which it is served. The
+/// session's number is the gate's.
 pub fn serve_session<S, Rd: Read + Drop, Wr: Write, D: Desk<S>, G: Gate>(
     alloc: Global,
     session: u64,
@@ -298,57 +302,16 @@ pub fn serve_session<S, Rd: Read + Drop, Wr: Write, D: Desk<S>, G: Gate>(
         (Wr.contents writer.new) result.receipts.items result.why) }
 {
     let listed = ListedVersions::AsServed;
-    serve_session_listing(
-        alloc, session, reader, writer, host, users, listed, desk, seat, limits, gate,
-    )
-}
-
-/// Serves a session as `serve_session` does, and lists versions in this way before its login.
-#[tactic(auto, using(crate::proofs::Sessions::nothing_done))]
-pub fn serve_session_listing<S, Rd: Read + Drop, Wr: Write, D: Desk<S>, G: Gate>(
-    alloc: Global,
-    session: u64,
-    reader: Rd,
-    writer: &mut Wr,
-    host: &Text,
-    users: &Users,
-    listed: ListedVersions,
-    desk: &D,
-    seat: S,
-    limits: Limits,
-    gate: &G,
-) -> SessionEnd<S>
-    requires { limits.frame ≤ LIMIT }
-    ensures risen { (D.view result.seat).count ≡ (D.view seat).count + vec_len result.receipts }
-    ensures session { TookLast (Rd.remaining reader)
-        (SessionOf (record {
-          users = users.now;
-          listed = listed;
-          host = host.now;
-          may_stop = D.may_stop;
-        }) limits.frames limits.frame (Wr.contents writer.old)
-        (Wr.contents writer.new) result.receipts.items result.why) }
-{
-    match BufReader::new(alloc, reader) {
-        Ok(mut reader) => {
-            serve(
-                alloc,
-                session,
-                &mut reader,
-                writer,
-                host,
-                users,
-                listed,
-                desk,
-                seat,
-                limits,
-                gate,
-            )
-        }
-        Err(_) => SessionEnd {
-            receipts: Vec::new(alloc),
-            seat,
-            why: EndReason::NoMemory,
+    let context = SessionContext {
+        session,
+        login: LoginContext {
+            host,
+            users,
+            listed,
         },
-    }
+        limits,
+        desk,
+        gate,
+    };
+    serve_session_in(alloc, &context, reader, writer, seat)
 }

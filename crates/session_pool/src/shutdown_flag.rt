@@ -21,6 +21,7 @@ impl ShutdownFlag {
         self.flag.store(1, Ordering::SeqCst);
     }
 
+    /// Whether no more connections are to be taken.
     pub fn is_closed(&self) -> bool {
         self.flag.load(Ordering::SeqCst) != 0
     }

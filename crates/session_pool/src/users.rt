@@ -3,12 +3,11 @@
 ghost use Rattle.std.specs.Prelude.{◌≡◌, ◌-◌, ◌^◌, length, Ok, Err, if◌then◌else◌, min, option_map};
 ghost use Rattle.std.specs.List.{find};
 ghost use Rattle.settings_text.specs.declared.fault.SettingsFault.TheVariants as faults;
-ghost use Rattle.settings_text.specs.Users.{are_users};
+ghost use Rattle.settings_text.specs.Users.{are_users, Admits};
 ghost use Rattle.session_pool.specs.LoginMessage.{is_user, length_of_login, longest_login};
-ghost use Rattle.session_pool.specs.Users.{Admits};
 
 use crate::compare::are_same;
-use settings_text::{SettingsFault, User, are_users};
+use settings_text::{CheckedUsers, SettingsFault, User};
 use std::alloc::Global;
 use std::marker::Model;
 use wire_types::Items;
@@ -42,10 +41,18 @@ impl Users {
     pub fn new(alloc: Global, users: Items<User>) -> Result<Users, SettingsFault>
         ensures { Admits (if are_users users then Ok users else Err faults.User) result }
     {
-        match are_users(alloc, users.as_slice()) {
-            Ok(true) => Ok(Users { users }),
-            Ok(false) => Err(SettingsFault::User),
-            Err(_) => Err(SettingsFault::NoMemory),
+        match CheckedUsers::of(alloc, users) {
+            Ok(users) => Ok(Users::of_checked(users)),
+            Err(fault) => Err(fault),
+        }
+    }
+
+    /// As `new`, of users that were checked, which can't fail.
+    pub fn of_checked(users: CheckedUsers) -> Users
+        ensures { result ≡ users }
+    {
+        Users {
+            users: users.into_users(),
         }
     }
 

@@ -63,6 +63,7 @@ impl<'x> Term<'x> {
     }
 }
 
+/// Waits a moment before looking again.
 fn rest<R: time::Clock>(rt: &R) {
     thread::sleep(rt, Duration::from_millis(TURN));
 }

@@ -7,7 +7,7 @@ use crate::accept::Door;
 use crate::guest::OpenConnections;
 use crate::patience::Patient;
 use crate::sessions::Ended;
-use crate::workers::{PoolFault, SessionOptions, serve_all_stepped};
+use crate::workers::{PoolFault, ServerContext, SessionOptions, serve_all_stepped};
 use admission::{Doorman, Hosts};
 use session_pool::{DeskLedger, Gate, LockedDesk, ShutdownFlag, Steps, Users};
 use std::alloc::Global;
@@ -46,6 +46,14 @@ pub struct ConnectionOptions {
     pub patience: Option<Duration>,
 }
 
+/// The connections of a listener, who may log in, and how they are served.
+#[derive(Clone, Copy)]
+pub struct Service<'x> {
+    pub listener: &'x TcpListener,
+    pub users: &'x Shared<Users>,
+    pub options: ConnectionOptions,
+}
+
 /// How many connections wait for a worker in the channel, where one more waits for its turn. Each has a descriptor, of which a
 /// process mostly has 1,024.
 const WAITING: usize = 256;
@@ -82,18 +90,14 @@ fn serve_lent<
                 return Err(PoolFault::NoThread);
             }
             let patient = Patient::new(rt, gate, options.patience);
-            let ended = serve_all_stepped(
-                rt,
-                alloc,
-                options.sessions,
+            let server = ServerContext {
+                options: options.sessions,
                 desk,
-                from,
-                options.workers,
+                gate: &patient,
+                doorman: gate,
                 reading,
-                steps,
-                &patient,
-                gate,
-            );
+            };
+            let ended = serve_all_stepped(rt, alloc, &server, from, options.workers, steps);
             // Without workers nobody reads the lines' end.
             if let Some(closing) = closing {
                 closing.close();
@@ -117,15 +121,18 @@ pub fn serve_connections<
     rt: &'x R,
     alloc: Global,
     desk: &'x LockedDesk<L, &'r R>,
-    users: &'x Shared<Users>,
-    listener: &'x TcpListener,
-    options: ConnectionOptions,
+    service: Service<'x>,
     closing: Option<&'x ShutdownFlag>,
     steps: K,
     gate: &'x G,
 ) -> Result<Ended<L>, PoolFault>
     ensures { IfOk result (λ ended. AreEnds (K.owed steps) ended.ends.items) }
 {
+    let Service {
+        listener,
+        users,
+        options,
+    } = service;
     let hosts = Mutex::new(Hosts::new(alloc, options.per_host.unwrap_or(0)));
     let open = OpenConnections::new(alloc);
     let reading = ShutdownFlag::new();

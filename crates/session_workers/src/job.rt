@@ -5,10 +5,11 @@ ghost use Rattle.msg_admin.specs.declared.request.TheConstants.{FRAME_LIMIT as L
 
 use crate::pacing::Pacing;
 use crate::sessions::{Done, Unused};
-use crate::times::{Noting, tell_end};
+use crate::times::Noting;
 use deadlines::{Notes, Timed, TimedWriter, Times};
 use session_pool::{
-    DeskLedger, Gate, Limits, ListedVersions, LockedDesk, Users, serve_session_listing,
+    DeskLedger, Gate, Limits, ListedVersions, LockedDesk, LoginContext, SessionContext, Users,
+    serve_session_in,
 };
 use std::alloc::Global;
 use std::io::{Read, Write};
@@ -42,54 +43,62 @@ pub(crate) fn waited<T: time::Clock>(rt: &T, taken: Option<Instant>) -> Duration
     taken.elapsed(rt).unwrap_or(Duration::ZERO)
 }
 
-/// Serves a job with a seat that no session has used.
-pub(crate) fn serve_job<
-    L: DeskLedger,
-    R: Wait,
-    Rd: Read + OpenStream + Drop,
-    Wr: Write + OpenStream + Drop,
-    G: Gate,
-    T: Wait + time::Clock,
->(
-    rt: &T,
-    alloc: Global,
-    listed: ListedVersions,
-    desk: &LockedDesk<L, R>,
-    seat: Unused<L>,
-    job: Job<Rd, Wr>,
-    gate: &G,
-    pacing: &Pacing<'_, T>,
-) -> Done<L> {
-    let Unused { seat } = seat;
-    let Job {
-        session,
-        reader,
-        writer,
-        host,
-        users,
-        limits,
-        times,
-        taken,
-    } = job;
-    let times = times.after(waited(rt, taken));
-    let notes = Notes::new();
-    let reader = Timed::new(rt, reader, times, &notes);
-    let mut writer = TimedWriter::new(rt, writer, times, &notes);
-    let noting = Noting::new(gate, &notes, pacing);
-    let end = serve_session_listing(
-        alloc,
-        session,
-        reader,
-        &mut writer,
-        &host,
-        users.value(),
-        listed,
-        desk,
-        seat,
-        limits,
-        &noting,
-    );
-    let who = noting.who();
-    tell_end(alloc, gate, session, &host, who, &end, times, &notes);
-    Done { end }
+/// What all workers share: how versions are listed before a login, the desk, the gate and the doorman, and who has users wait.
+#[derive(Drop)]
+pub(crate) struct WorkerContext<'x, 'r, L: DeskLedger, R: Wait, G, D, T> {
+    pub(crate) rt: &'x T,
+    pub(crate) alloc: Global,
+    pub(crate) listed: ListedVersions,
+    pub(crate) desk: &'x LockedDesk<L, R>,
+    pub(crate) gate: &'x G,
+    pub(crate) doorman: &'x D,
+    pub(crate) pacing: &'x Pacing<'r, T>,
+}
+
+impl<'x, 'r, L: DeskLedger, R: Wait, G: Gate, D, T: Wait + time::Clock> WorkerContext<
+    'x,
+    'r,
+    L,
+    R,
+    G,
+    D,
+    T,
+> {
+    /// Serves a job with a seat that no session has used.
+    pub(crate) fn serve<Rd: Read + OpenStream + Drop, Wr: Write + OpenStream + Drop>(
+        &self,
+        seat: Unused<L>,
+        job: Job<Rd, Wr>,
+    ) -> Done<L> {
+        let Unused { seat } = seat;
+        let Job {
+            session,
+            reader,
+            writer,
+            host,
+            users,
+            limits,
+            times,
+            taken,
+        } = job;
+        let times = times.after(waited(self.rt, taken));
+        let notes = Notes::new();
+        let reader = Timed::new(self.rt, reader, times, &notes);
+        let mut writer = TimedWriter::new(self.rt, writer, times, &notes);
+        let noting = Noting::new(self.gate, &notes, self.pacing);
+        let context = SessionContext {
+            session,
+            login: LoginContext {
+                host: &host,
+                users: users.value(),
+                listed: self.listed,
+            },
+            limits,
+            desk: self.desk,
+            gate: &noting,
+        };
+        let end = serve_session_in(self.alloc, &context, reader, &mut writer, seat);
+        noting.tell_end(self.alloc, session, &host, times, &end);
+        Done { end }
+    }
 }

@@ -21,8 +21,8 @@ mod settlement;
 mod times;
 mod workers;
 
-pub use connections::{ConnectionOptions, serve_connections};
+pub use connections::{ConnectionOptions, Service, serve_connections};
 pub use job::Job;
 pub use sessions::Ended;
 pub use settlement::{SettleFault, Settled, settle};
-pub use workers::{PoolFault, SessionOptions, serve_all, serve_all_stepped};
+pub use workers::{PoolFault, ServerContext, SessionOptions, serve_all, serve_all_stepped};

@@ -43,6 +43,26 @@ impl<'x, 'r, G, R> Noting<'x, 'r, G, R> {
     }
 }
 
+impl<'x, 'r, G: Gate, R> Noting<'x, 'r, G, R> {
+    /// Tells the gate that the session has ended, and why.
+    pub(crate) fn tell_end<S>(
+        &self,
+        alloc: Global,
+        session: u64,
+        host: &Text,
+        times: Times,
+        end: &SessionEnd<S>,
+    ) {
+        let who = self.who();
+        match words_of_end(alloc, end.why, times, self.notes) {
+            Some(words) => self
+                .gate
+                .ended_as(session, host, who, end.why, words.as_str()),
+            None => self.gate.ended(session, host, who, end.why),
+        }
+    }
+}
+
 impl<'x, 'r, G: Gate, R: Wait + time::Clock> Gate for Noting<'x, 'r, G, R> {
     fn before(&self, session: u64, frame: u64) {
         self.gate.before(session, frame);
@@ -127,22 +147,5 @@ fn words_of_end(alloc: Global, why: EndReason, times: Times, notes: &Notes) -> O
         EndReason::ReadFault | EndReason::WriteFault => overdue(alloc, times, notes.over()),
         EndReason::BadFrame => String::from_str(alloc, foreign(notes.front()?)?).ok(),
         _ => None,
-    }
-}
-
-/// Tells the gate that a session has ended, and why.
-pub(crate) fn tell_end<S, G: Gate>(
-    alloc: Global,
-    gate: &G,
-    session: u64,
-    host: &Text,
-    who: Option<&Text>,
-    end: &SessionEnd<S>,
-    times: Times,
-    notes: &Notes,
-) {
-    match words_of_end(alloc, end.why, times, notes) {
-        Some(words) => gate.ended_as(session, host, who, end.why, words.as_str()),
-        None => gate.ended(session, host, who, end.why),
     }
 }

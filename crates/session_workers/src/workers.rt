@@ -5,7 +5,7 @@ ghost use Rattle.request_handlers.specs.Seats.{fresh_seat};
 ghost use Rattle.session_workers.specs.Ends.{AreEnds};
 ghost use Rattle.session_workers.specs.Faults.{fault_name};
 
-use crate::job::{Job, serve_job, waited};
+use crate::job::{Job, WorkerContext, waited};
 use crate::keeper::keep;
 use crate::pacing::Pacing;
 use crate::sessions::{Ended, Sessions, Unused};
@@ -85,25 +85,20 @@ fn work<
     D: Doorman,
     T: Wait + time::Clock,
 >(
-    rt: &T,
-    alloc: Global,
-    listed: ListedVersions,
-    desk: &LockedDesk<L, R>,
+    context: &WorkerContext<'_, '_, L, R, G, D, T>,
     jobs: &Receiver<Job<Rd, Wr>>,
-    gate: &G,
-    doorman: &D,
-    pacing: &Pacing<'_, T>,
 ) -> Result<Sessions<L>, AllocError> {
-    let mut sessions = Sessions::new(alloc);
+    let (rt, doorman) = (context.rt, context.doorman);
+    let mut sessions = Sessions::new(context.alloc);
     let mut back = None;
     for _ in rt.forever() {
         let Ok(job) = jobs.recv(rt) else {
             break;
         };
         doorman.begun(&job.host, waited(rt, job.taken));
-        match seat_of(desk, back) {
+        match seat_of(context.desk, back) {
             Some(seat) => {
-                let done = serve_job(rt, alloc, listed, desk, seat, job, gate, pacing);
+                let done = context.serve(seat, job);
                 (sessions, back) = sessions.add(done)?;
             }
             None => {
@@ -167,27 +162,22 @@ fn serve_lent<
     D: Doorman + Sync,
     T: Threads + Wait + time::Clock + Sync,
 >(
-    rt: &'x T,
-    alloc: Global,
-    listed: ListedVersions,
-    desk: &'x LockedDesk<L, R>,
+    context: &'x WorkerContext<'x, 'r, L, R, G, D, T>,
     jobs: &'x Receiver<Job<Rd, Wr>>,
     running: &'x AtomicU64,
     workers: usize,
     steps: K,
-    gate: &'x G,
-    doorman: &'x D,
-    pacing: &'x Pacing<'r, T>,
 ) -> Result<Ended<L>, PoolFault>
     ensures { IfOk result (λ ended. AreEnds (K.owed steps) ended.ends.items) }
 {
+    let (rt, alloc) = (context.rt, context.alloc);
     thread::scope(
         thread::scope_env(),
         rt,
         move |scope| -> Result<Ended<L>, PoolFault>
             ensures { IfOk result (λ ended. AreEnds (K.owed steps) ended.ends.items) }
         {
-            let Some(seat) = desk.seat() else {
+            let Some(seat) = context.desk.seat() else {
                 return Err(PoolFault::NoSeat);
             };
             let mut handles: Vec<Worker<L>> = Vec::with_capacity(alloc, workers).map_err(
@@ -196,7 +186,7 @@ fn serve_lent<
             for _ in 0..workers {
                 running.fetch_add(1, Ordering::SeqCst);
                 let worker = scope.spawn(move || {
-                    let sessions = work(rt, alloc, listed, desk, jobs, gate, doorman, pacing);
+                    let sessions = work(context, jobs);
                     running.fetch_sub(1, Ordering::SeqCst);
                     sessions
                 });
@@ -212,17 +202,26 @@ fn serve_lent<
                 return Err(PoolFault::NoThread);
             }
             if handles.len() < workers {
-                doorman.fewer_workers(handles.len(), workers);
+                context.doorman.fewer_workers(handles.len(), workers);
             }
-            keep_and_join(rt, alloc, desk, seat, steps, running, handles)
+            keep_and_join(rt, alloc, context.desk, seat, steps, running, handles)
         },
     )
 }
 
+/// How the sessions of a server are served, and who is told of them.
+#[derive(Drop)]
+pub struct ServerContext<'x, L: DeskLedger, R: Wait, G, D> {
+    pub options: SessionOptions,
+    pub desk: &'x LockedDesk<L, R>,
+    pub gate: &'x G,
+    pub doorman: &'x D,
+    /// Is closed once no further request is read. Who has a user wait that asks too fast looks now and then whether it is.
+    pub reading: &'x ShutdownFlag,
+}
+
 /// Serves the jobs of the channel by so many worker threads, until the channel is closed and all of them are served, while the
-/// keeper does the steps that it is told on the calling thread. Whoever has a user wait that asks too fast looks now and then
-/// whether further requests are read, which ends once that is closed. The keeper's end is the last. After a fault the ends are given
-/// up.
+/// keeper does the steps that it is told on the calling thread. The keeper's end is the last. After a fault the ends are given up.
 pub fn serve_all_stepped<
     L: DeskLedger + Send + Sync,
     R: Wait + Sync,
@@ -235,23 +234,26 @@ pub fn serve_all_stepped<
 >(
     rt: &T,
     alloc: Global,
-    options: SessionOptions,
-    desk: &LockedDesk<L, R>,
+    server: &ServerContext<'_, L, R, G, D>,
     jobs: Receiver<Job<Rd, Wr>>,
     workers: usize,
-    reading: &ShutdownFlag,
     steps: K,
-    gate: &G,
-    doorman: &D,
 ) -> Result<Ended<L>, PoolFault>
     ensures { IfOk result (λ ended. AreEnds (K.owed steps) ended.ends.items) }
 {
-    let SessionOptions { listed, rate } = options;
+    let SessionOptions { listed, rate } = server.options;
     let running = AtomicU64::new(0);
-    let pacing = Pacing::new(rt, alloc, rate, reading);
-    serve_lent(
-        rt, alloc, listed, desk, &jobs, &running, workers, steps, gate, doorman, &pacing,
-    )
+    let pacing = Pacing::new(rt, alloc, rate, server.reading);
+    let context = WorkerContext {
+        rt,
+        alloc,
+        listed,
+        desk: server.desk,
+        gate: server.gate,
+        doorman: server.doorman,
+        pacing: &pacing,
+    };
+    serve_lent(&context, &jobs, &running, workers, steps)
 }
 
 /// The same by a clock: the keeper tells the core each of its moments, and after each has markers written as long as some are
@@ -275,22 +277,16 @@ pub fn serve_all<
 ) -> Result<Ended<L>, PoolFault>
     ensures { IfOk result (λ ended. AreEnds (Some 0) ended.ends.items) }
 {
-    let options = SessionOptions {
-        listed: ListedVersions::AsServed,
-        rate: Rate::ANY,
-    };
-    let steps = Clocked::new(clock);
     let reading = ShutdownFlag::new();
-    serve_all_stepped(
-        rt,
-        alloc,
-        options,
+    let server = ServerContext {
+        options: SessionOptions {
+            listed: ListedVersions::AsServed,
+            rate: Rate::ANY,
+        },
         desk,
-        jobs,
-        workers,
-        &reading,
-        steps,
         gate,
-        &(),
-    )
+        doorman: &(),
+        reading: &reading,
+    };
+    serve_all_stepped(rt, alloc, &server, jobs, workers, Clocked::new(clock))
 }

@@ -1,8 +1,10 @@
 -- Users who may log in (RFC 4616: neither the name nor the password holds a NUL).
-use Rattle.std.specs.Prelude.{ℕ, Bool, true, not, ◌&&◌, ◌==◌, List, [], ◌∷◌, length}
+use Rattle.std.specs.Prelude.{◌≡◌, ◌≢◌, ℕ, Bool, true, not, ◌&&◌, ◌==◌, List, [], ◌∷◌, length, Result, Ok, Err}
 use Rattle.std.specs.List.{list_all, list_any}
 use Rattle.std.specs.Str.{bytes_eq}
 use Rattle.settings_text.specs.declared.document.User.{User}
+use Rattle.settings_text.specs.declared.fault.SettingsFault.{SettingsFault}
+use Rattle.settings_text.specs.declared.fault.SettingsFault.TheVariants as faults
 
 -- not empty and without NUL
 abbrev pub is_word : List ℕ → Bool
@@ -19,3 +21,8 @@ are_distinct (u ∷ us) = not (list_any (λ (v : User). bytes_eq u.name v.name) 
 -- each name and password is good, and no name stands twice
 abbrev pub are_users : List User → Bool
 are_users users = list_all is_user users && are_distinct users
+
+-- The call answered so, unless memory was refused.
+abbrev pub Admits : Result (List User) SettingsFault → Result (List User) SettingsFault → Type 0
+Admits due (Ok users) = due ≡ Ok users
+Admits due (Err fault) = fault ≢ faults.NoMemory → due ≡ Err fault

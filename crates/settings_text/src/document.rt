@@ -8,10 +8,11 @@ ghost use Rattle.settings_text.specs.Document.{Settles, checked_document, keyed_
 use crate::fault::{SettingsFault, text_fault};
 use crate::fields::FieldFault;
 use crate::rows::document;
-use crate::users::are_users;
-use settings::{Settings, first_fault};
+use crate::users::CheckedUsers;
+use settings::{CheckedSettings, Settings};
 use std::alloc::Global;
 use std::fmt;
+use std::marker::Model;
 use std::str::from_utf8;
 use toml::Table;
 use wire_types::{Items, Text};
@@ -33,22 +34,37 @@ impl fmt::Debug for User {
 /// What a settings text sets: the users, and the settings of the core.
 #[derive(Debug, Drop)]
 pub struct Document {
-    pub users: Items<User>,
-    pub settings: Settings,
+    pub users: CheckedUsers,
+    pub settings: CheckedSettings,
+}
+
+/// What a settings text says, before its users and settings are checked. Seen as a document.
+#[derive(Drop)]
+pub(crate) struct UncheckedDocument {
+    pub(crate) users: Items<User>,
+    pub(crate) settings: Settings,
+}
+
+impl Model for UncheckedDocument {
+    ghost use Rattle.settings_text.specs.declared.document.Document.{Document};
+
+    ghost Value = { Document };
+
+    ghost view = { λ u. record { users = u.users; settings = u.settings } };
 }
 
 /// The document, if its users and settings have no fault.
-fn settle(alloc: Global, document: Document) -> Result<Document, SettingsFault>
+fn settle(alloc: Global, document: UncheckedDocument) -> Result<Document, SettingsFault>
     ensures { Settles (checked_document document) result }
 {
-    match are_users(alloc, document.users.as_slice()) {
-        Ok(true) => {}
-        Ok(false) => return Err(SettingsFault::User),
-        Err(_) => return Err(SettingsFault::NoMemory),
-    }
-    match first_fault(&document.settings) {
-        Some(fault) => Err(text_fault(fault)),
-        None => Ok(document),
+    let UncheckedDocument { users, settings } = document;
+    let users = match CheckedUsers::of(alloc, users) {
+        Ok(users) => users,
+        Err(fault) => return Err(fault),
+    };
+    match CheckedSettings::of(settings) {
+        Ok(settings) => Ok(Document { users, settings }),
+        Err(fault) => Err(text_fault(fault)),
     }
 }
 

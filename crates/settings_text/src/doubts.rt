@@ -33,7 +33,8 @@ fn is_known(users: &[User], principal: &str) -> bool {
 /// The first binding of a principal that is no user.
 fn unknown_principal(alloc: Global, document: &Document) -> Result<Option<String>, AllocError> {
     let users = document.users.as_slice();
-    for (place, binding) in document.settings.acls.as_slice().iter().enumerate() {
+    let acls = document.settings.settings().acls.as_slice();
+    for (place, binding) in acls.iter().enumerate() {
         let principal = binding.principal.as_str();
         if !is_known(users, principal) {
             let entry = Entry { list: "acl", place };
@@ -68,7 +69,8 @@ pub fn warnings(alloc: Global, document: &Document) -> Result<Vec<String>, Alloc
     if let Some(sentence) = unknown_principal(alloc, document)? {
         sentences.push(sentence)?;
     }
-    if let Some(sentence) = meaningless(alloc, document.settings.acls.as_slice())? {
+    let settings = document.settings.settings();
+    if let Some(sentence) = meaningless(alloc, settings.acls.as_slice())? {
         sentences.push(sentence)?;
     }
     Ok(sentences)

@@ -6,7 +6,7 @@ ghost use Rattle.toml.specs.View.{view, table_view};
 ghost use Rattle.settings_text.specs.Fields.{Reads, texts, list_field};
 ghost use Rattle.settings_text.specs.Rows.{row_of, user_of, topic_of, kind_field, pattern_field, operation_field, permission_field, binding_of, settings_of, document_of};
 
-use crate::document::{Document, User};
+use crate::document::{UncheckedDocument, User};
 use crate::fields::{FieldFault, has_only, items, number, number_or_default, text, text_of};
 use acl_binding::{Binding, Kind, Operation, Pattern, Permission};
 use settings::{Settings, TopicSetting};
@@ -186,7 +186,7 @@ fn settings(alloc: Global, table: &Table) -> Result<Settings, FieldFault>
 }
 
 /// What a document says, if its keys are right.
-pub(crate) fn document(alloc: Global, table: &Table) -> Result<Document, FieldFault>
+pub(crate) fn document(alloc: Global, table: &Table) -> Result<UncheckedDocument, FieldFault>
     ensures { Reads (λ x. x) (document_of (table_view table.now)) result }
 {
     if !has_only(table, &TOP_KEYS) {
@@ -194,5 +194,5 @@ pub(crate) fn document(alloc: Global, table: &Table) -> Result<Document, FieldFa
     }
     let users = users(alloc, table)?;
     let settings = settings(alloc, table)?;
-    Ok(Document { users, settings })
+    Ok(UncheckedDocument { users, settings })
 }

@@ -1,7 +1,7 @@
 //! Where a settings text has a fault, in words for a reader. No contract speaks of them. A name is told with its
 //! escapes, so that each sentence is one line, but for those of TOML.
 
-use crate::document::{Document, User};
+use crate::document::{UncheckedDocument, User};
 use crate::fault::SettingsFault;
 use crate::fields::{find, is_among};
 use crate::rows::{ACL_KEYS, TOP_KEYS, TOPIC_KEYS, USER_KEYS, document};
@@ -309,7 +309,7 @@ fn user_fault(alloc: Global, users: &[User]) -> Result<Option<String>, AllocErro
 /// What is wrong with a document whose keys are right.
 fn document_fault(
     alloc: Global,
-    document: &Document,
+    document: &UncheckedDocument,
     fault: SettingsFault,
 ) -> Result<String, AllocError> {
     if let Some(sentence) = user_fault(alloc, document.users.as_slice())? {

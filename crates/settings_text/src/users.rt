@@ -1,13 +1,70 @@
 //! Who may log in.
 
-ghost use Rattle.std.specs.Prelude.{◌≡◌, ◌==◌, not, IfOk};
+ghost use Rattle.std.specs.Prelude.{◌≡◌, ◌==◌, true, not, Ok, Err, if◌then◌else◌, IfOk};
 ghost use Rattle.std.specs.List.{list_all};
-ghost use Rattle.settings_text.specs.Users.{is_word, is_user, are_distinct, are_users};
+ghost use Rattle.settings_text.specs.declared.fault.SettingsFault.TheVariants as faults;
+ghost use Rattle.settings_text.specs.Users.{is_word, is_user, are_distinct, are_users, Admits};
 
 use crate::document::User;
+use crate::fault::SettingsFault;
 use std::alloc::{AllocError, Global};
 use std::collections::BTreeSet;
-use wire_types::Text;
+use std::marker::Model;
+use wire_types::{Items, Text};
+
+/// Users of whom each may log in, and no name stands twice. Seen as the list of them.
+#[derive(Debug)]
+pub struct CheckedUsers {
+    users: Items<User>,
+}
+
+impl Model for CheckedUsers {
+    ghost use Rattle.std.specs.Prelude.{◌≡◌, true, List};
+    ghost use Rattle.settings_text.specs.declared.document.User.{User};
+    ghost use Rattle.settings_text.specs.Users.{are_users};
+
+    ghost Value = { List User };
+
+    ghost view = { λ c. c.users };
+
+    ghost invariant = { λ c. are_users c.users ≡ true };
+}
+
+impl Drop for CheckedUsers {
+    fn drop(self) {
+        let CheckedUsers { users: _users } = self;
+    }
+}
+
+impl CheckedUsers {
+    /// The users, if names and passwords aren't empty and hold no NUL, and no name stands twice; else the fault is `User`.
+    pub fn of(alloc: Global, users: Items<User>) -> Result<CheckedUsers, SettingsFault>
+        ensures { Admits (if are_users users then Ok users else Err faults.User) result }
+    {
+        match are_users(alloc, users.as_slice()) {
+            Ok(true) => Ok(CheckedUsers { users }),
+            Ok(false) => Err(SettingsFault::User),
+            Err(_) => Err(SettingsFault::NoMemory),
+        }
+    }
+
+    /// The users.
+    pub fn as_slice(&self) -> &[User]
+        ensures value { result.now ≡ self.now }
+        ensures users { are_users result.now ≡ true }
+    {
+        self.users.as_slice()
+    }
+
+    /// The users alone.
+    pub fn into_users(self) -> Items<User>
+        ensures value { result ≡ self }
+        ensures users { are_users result ≡ true }
+    {
+        let CheckedUsers { users } = self;
+        users
+    }
+}
 
 /// Whether no byte is a NUL.
 fn has_no_nul(bytes: &[u8]) -> bool
@@ -49,7 +106,7 @@ fn are_distinct(alloc: Global, users: &[User]) -> Result<bool, AllocError>
 }
 
 /// Whether each user is one who may log in, and no name stands twice.
-pub fn are_users(alloc: Global, users: &[User]) -> Result<bool, AllocError>
+fn are_users(alloc: Global, users: &[User]) -> Result<bool, AllocError>
     ensures { IfOk result (λ b. b ≡ are_users users.now) }
 {
     if !are_words(users) {

@@ -7,11 +7,11 @@ use crate::answer::{Answers, push_stop};
 use audit_trail::{Event, line};
 use authorizer::Refusal;
 use commands::{Order, Sent};
-use message_words::{Sheet, push_closed, push_sent_reply, push_silence, push_unread_answer};
-use msg_admin::{FRAME_LIMIT, Reply, read_request, write_reply};
+use message_words::{Sheet, push_closed, push_sent_reply, push_served_versions, push_silence};
+use msg_admin::{FRAME_LIMIT, Frame, Reply, decode_frame, write_reply};
 use request_handlers::{Core, Stop};
 use std::alloc::AllocError;
-use wire_types::{ReadFault, WriteFault};
+use wire_types::WriteFault;
 
 /// Appends the reply to a request, if it can be sent.
 fn push_request_reply(
@@ -87,18 +87,21 @@ fn push_request_step(
     requires { length sent.frame ≤ FRAME_LIMIT }
 {
     let Sent { caller, frame } = sent;
-    match read_request(sheet.alloc(), &frame) {
-        Ok((header, request)) => {
-            let alloc = sheet.alloc();
+    let alloc = sheet.alloc();
+    match decode_frame(alloc, &frame)? {
+        Frame::Request(header, request) => {
             let caller = core.trail().share_caller(alloc, caller)?;
             let event = Event::ask(alloc, caller, header.client, request)?;
             push_step(core, sheet, Some(header.correlation), event)
         }
-        Err(ReadFault::Malformed(_)) => {
-            push_unread_answer(sheet, &frame)?;
+        Frame::OtherApiVersions(correlation) => {
+            push_served_versions(sheet, &frame, correlation)?;
             Ok(None)
         }
-        Err(ReadFault::NoMemory) => Err(AllocError),
+        Frame::Malformed(_) => {
+            push_closed(sheet)?;
+            Ok(None)
+        }
     }
 }
 

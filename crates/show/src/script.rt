@@ -14,6 +14,7 @@ use std::io::Write;
 
 const LINE_FEED: u8 = b'\n';
 
+/// Writes a text whole.
 fn write_text<W: Write>(writer: &mut W, text: &str) -> Result<(), ShowFault> {
     match write_whole(writer, text.as_bytes()) {
         Ok(()) => Ok(()),
@@ -52,6 +53,7 @@ fn push_turn<A: Answers>(
     }
 }
 
+/// Appends what is told of a line that can't be read.
 fn push_unreadable(
     sheet: &mut Sheet,
     number: u64,
@@ -122,8 +124,7 @@ fn show_anew<W: Write>(
         Err(SettingsFault::NoMemory) => return Err(ShowFault::NoMemory),
         Err(fault) => return show_refused(alloc, fault, writer),
     };
-    // The settings have no fault, so only memory can be refused.
-    match Core::open(alloc, settings) {
+    match Core::open_checked(alloc, settings) {
         Ok(mut core) => show_lines(alloc, script, &mut core, writer),
         Err(_) => Err(ShowFault::NoMemory),
     }

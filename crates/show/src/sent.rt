@@ -4,9 +4,9 @@ use acl_binding::Caller;
 use audit_trail::push_word;
 use commands::Sent;
 use message_words::{Sheet, api_name, fault_end, key_name, push_request};
-use msg_admin::{FRAME_LIMIT, Header, Request, read_request, unsupported_versions};
+use msg_admin::{FRAME_LIMIT, Frame, Header, Request, decode_frame};
 use std::alloc::AllocError;
-use wire_types::{Bytes, Cursor, Malformed, ReadFault};
+use wire_types::{Bytes, Cursor, Malformed};
 
 /// Begins with who sends something, with the escapes of an audit line, and what.
 fn push_heading(
@@ -24,6 +24,7 @@ fn push_heading(
     sheet.begin(line.as_str())
 }
 
+/// Appends who asks what, and the fields of the request.
 fn push_asked(
     sheet: &mut Sheet,
     number: u64,
@@ -68,20 +69,22 @@ fn push_start(sheet: &mut Sheet, frame: &Bytes) -> Result<(), AllocError> {
     Ok(())
 }
 
-/// A frame that can't be read as a request.
-fn push_unread(
+/// A frame that asks ApiVersions in a version that isn't served.
+fn push_other_versions(sheet: &mut Sheet, number: u64, sent: &Sent) -> Result<(), AllocError> {
+    let what = "asks ApiVersions in a version that isn't served";
+    push_heading(sheet, number, &sent.caller, what)?;
+    push_start(sheet, &sent.frame)
+}
+
+/// A frame that is no request.
+fn push_malformed(
     sheet: &mut Sheet,
     number: u64,
     sent: &Sent,
     fault: Malformed,
 ) -> Result<(), AllocError> {
-    if unsupported_versions(&sent.frame).is_some() {
-        let what = "asks ApiVersions in a version that isn't served";
-        push_heading(sheet, number, &sent.caller, what)?;
-    } else {
-        let what = fault_text(sheet, &sent.frame, fault)?;
-        push_heading(sheet, number, &sent.caller, what.as_str())?;
-    }
+    let what = fault_text(sheet, &sent.frame, fault)?;
+    push_heading(sheet, number, &sent.caller, what.as_str())?;
     push_start(sheet, &sent.frame)
 }
 
@@ -99,9 +102,11 @@ pub(crate) fn push_sent(sheet: &mut Sheet, number: u64, sent: &Sent) -> Result<(
     if sent.frame.len() > FRAME_LIMIT {
         return push_too_long(sheet, number, sent);
     }
-    match read_request(sheet.alloc(), &sent.frame) {
-        Ok((header, request)) => push_asked(sheet, number, &sent.caller, &header, &request),
-        Err(ReadFault::Malformed(fault)) => push_unread(sheet, number, sent, fault),
-        Err(ReadFault::NoMemory) => Err(AllocError),
+    match decode_frame(sheet.alloc(), &sent.frame)? {
+        Frame::Request(header, request) => {
+            push_asked(sheet, number, &sent.caller, &header, &request)
+        }
+        Frame::OtherApiVersions(_) => push_other_versions(sheet, number, sent),
+        Frame::Malformed(fault) => push_malformed(sheet, number, sent, fault),
     }
 }

@@ -82,6 +82,7 @@ fn push_line_answer(
 }
 
 impl<'a> Told<'a> {
+    /// All of a text that was printed.
     pub(crate) fn new(answers: &'a [u8]) -> Told<'a> {
         Told { left: answers }
     }

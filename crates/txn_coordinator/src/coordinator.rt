@@ -81,34 +81,21 @@ impl Coordinator {
             (init self.old id.now timeout greatest)) }
         ensures err { OnErr result.1 (self.new ≡ self.old) }
     {
-        (
-            permit.spend(policy),
-            self.take_init(alloc, id, timeout, greatest),
-        )
-    }
-
-    fn take_init(
-        &mut self,
-        alloc: Global,
-        id: &Text,
-        timeout: i32,
-        greatest: i32,
-    ) -> Result<ProducerIdAnswer, AllocError>
-        ensures ok { OnOk result
-            (self.new ≡ apply_transition self.old (init self.old id.now timeout greatest)) }
-        ensures answer { IfOk result
-            (λ answer. answer ≡ transition_answer self.old id.now
-            (init self.old id.now timeout greatest)) }
-        ensures err { OnErr result (self.new ≡ self.old) }
-    {
+        let spent = permit.spend(policy);
         if id.is_empty() {
-            return Ok(ProducerIdAnswer::refused(ErrorCode::InvalidRequest));
+            return (
+                spent,
+                Ok(ProducerIdAnswer::refused(ErrorCode::InvalidRequest)),
+            );
         }
         let Some(timeout) = timeout_within(timeout, greatest) else {
-            return Ok(ProducerIdAnswer::refused(ErrorCode::InvalidTransactionTimeout));
+            return (
+                spent,
+                Ok(ProducerIdAnswer::refused(ErrorCode::InvalidTransactionTimeout)),
+            );
         };
         let (given, owed) = (&mut self.given, &mut self.owed);
-        self.records.init(alloc, given, owed, id, timeout)
+        (spent, self.records.init(alloc, given, owed, id, timeout))
     }
 
     /// AddPartitionsToTxn, at this moment in milliseconds.
@@ -131,34 +118,17 @@ impl Coordinator {
             (add_partitions self.old id.now pair moment partitions.now)) }
         ensures err { OnErr result.1 (self.new ≡ self.old) }
     {
-        (
-            permit.spend(policy),
-            self.take_partitions(id, pair, moment, partitions),
-        )
-    }
-
-    fn take_partitions(
-        &mut self,
-        id: &Text,
-        pair: ProducerIdAndEpoch,
-        moment: u64,
-        partitions: &[TopicPartition],
-    ) -> Result<ErrorCode, AllocError>
-        ensures ok { OnOk result
-            (self.new ≡ apply_transition self.old
-            (add_partitions self.old id.now pair moment partitions.now)) }
-        ensures code { IfOk result
-            (λ code. code ≡ transition_code
-            (add_partitions self.old id.now pair moment partitions.now)) }
-        ensures err { OnErr result (self.new ≡ self.old) }
-    {
+        let spent = permit.spend(policy);
         if partitions.is_empty() {
-            return Ok(ErrorCode::None);
+            return (spent, Ok(ErrorCode::None));
         }
         if id.is_empty() {
-            return Ok(ErrorCode::InvalidRequest);
+            return (spent, Ok(ErrorCode::InvalidRequest));
         }
-        self.records.add_partitions(id, pair, moment, partitions)
+        (
+            spent,
+            self.records.add_partitions(id, pair, moment, partitions),
+        )
     }
 
     /// AddOffsetsToTxn, at this moment in milliseconds.
@@ -180,30 +150,11 @@ impl Coordinator {
             (λ code. code ≡ transition_code (add_group self.old id.now pair moment group.now)) }
         ensures err { OnErr result.1 (self.new ≡ self.old) }
     {
-        (
-            permit.spend(policy),
-            self.take_group(id, pair, moment, group),
-        )
-    }
-
-    fn take_group(
-        &mut self,
-        id: &Text,
-        pair: ProducerIdAndEpoch,
-        moment: u64,
-        group: &Text,
-    ) -> Result<ErrorCode, AllocError>
-        ensures ok { OnOk result
-            (self.new ≡ apply_transition self.old
-            (add_group self.old id.now pair moment group.now)) }
-        ensures code { IfOk result
-            (λ code. code ≡ transition_code (add_group self.old id.now pair moment group.now)) }
-        ensures err { OnErr result (self.new ≡ self.old) }
-    {
+        let spent = permit.spend(policy);
         if id.is_empty() {
-            return Ok(ErrorCode::InvalidRequest);
+            return (spent, Ok(ErrorCode::InvalidRequest));
         }
-        self.records.add_group(id, pair, moment, group)
+        (spent, self.records.add_group(id, pair, moment, group))
     }
 
     /// EndTxn. Before version 5 the pair of the answer is left out.
@@ -226,8 +177,19 @@ impl Coordinator {
             (end self.old form id.now pair outcome)) }
         ensures err { OnErr result.1 (self.new ≡ self.old) }
     {
-        let spent = permit.spend(policy);
-        (spent, self.take_end(alloc, form, id, pair, outcome))
+        let spent: Spent = permit.spend(policy);
+        if id.is_empty() {
+            return (
+                spent,
+                Ok(ProducerIdAnswer::refused(ErrorCode::InvalidRequest)),
+            );
+        }
+        let (given, owed) = (&mut self.given, &mut self.owed);
+        (
+            spent,
+            self.records
+                .end(alloc, given, owed, form, id, pair, outcome),
+        )
     }
 
     /// Gives a producer id out to no transactional id (InitProducerId with the null id).
@@ -355,29 +317,6 @@ impl Coordinator {
         ensures { result ≡ fresh_producer_id self.now }
     {
         self.given.len() as i64
-    }
-
-    fn take_end(
-        &mut self,
-        alloc: Global,
-        form: EndForm,
-        id: &Text,
-        pair: ProducerIdAndEpoch,
-        outcome: TransactionResult,
-    ) -> Result<ProducerIdAnswer, AllocError>
-        ensures ok { OnOk result
-            (self.new ≡ apply_transition self.old (end self.old form id.now pair outcome)) }
-        ensures answer { IfOk result
-            (λ answer. answer ≡ transition_answer self.old id.now
-            (end self.old form id.now pair outcome)) }
-        ensures err { OnErr result (self.new ≡ self.old) }
-    {
-        if id.is_empty() {
-            return Ok(ProducerIdAnswer::refused(ErrorCode::InvalidRequest));
-        }
-        let (given, owed) = (&mut self.given, &mut self.owed);
-        self.records
-            .end(alloc, given, owed, form, id, pair, outcome)
     }
 }
 

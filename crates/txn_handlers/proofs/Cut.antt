@@ -44,6 +44,9 @@ module _ (w : World) (caller : Caller) (r : AddPartitionsToTxnRequest) where
   pub cut_outcome_is : is_cut caller r.transactional_id w.topics (rules_of w) r.topics ≡ true → add_partitions_outcome w caller r ≡ cut_outcome w caller r
   cut_outcome_is h = ap (λ (b : Bool). cond b (cut_outcome w caller r) (added_outcome w r)) h
 
+  pub added_outcome_is : is_cut caller r.transactional_id w.topics (rules_of w) r.topics ≡ false → add_partitions_outcome w caller r ≡ added_outcome w r
+  added_outcome_is h = ap (λ (b : Bool). cond b (cut_outcome w caller r) (added_outcome w r)) h
+
   pub no_parts_paid : is_cut caller r.transactional_id w.topics (rules_of w) r.topics ≡ true → added_parts w caller r ≡ []
   no_parts_paid h = ap (λ (b : Bool). cond b [] (asked_in (cut_rule caller r.transactional_id w.topics) r.topics)) h
 

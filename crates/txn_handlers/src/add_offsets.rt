@@ -1,8 +1,7 @@
 //! AddOffsetsToTxn: a group becomes part of a transaction.
 
-ghost use Rattle.std.specs.Prelude.{◌≡◌, IfOk, OnOk};
-ghost use Rattle.authorizer.specs.Asking.{part_paid};
-ghost use Rattle.broker_world.specs.World.{rules_of};
+ghost use Rattle.std.specs.Prelude.{[], ◌≡◌, IfOk, OnOk};
+ghost use Rattle.broker_world.specs.HandlerResult.{HandlerMeets};
 ghost use Rattle.txn_coordinator.specs.Permission.{MayWrite as MayWriteId};
 ghost use Rattle.txn_coordinator.specs.Coordinator.{apply_transition, transition_code};
 ghost use Rattle.txn_handlers.specs.AddOffsets.{add_offsets_questions, add_offsets_reply, add_offsets_transition, add_offsets_outcome};
@@ -56,16 +55,10 @@ pub fn answer_add_offsets(
     caller: &Caller,
     request: &AddOffsetsToTxnRequest,
 ) -> Result<HandlerResult, AllocError>
-    ensures world { OnOk result
-        (state.new ≡ (add_offsets_outcome state.old caller.now request.now).world) }
-    ensures reply { IfOk result
-        (λ o. o.reply ≡ (add_offsets_outcome state.old caller.now request.now).reply) }
-    ensures refusals { IfOk result
-        (λ o. o.refusals ≡ (add_offsets_outcome state.old caller.now request.now).refusals) }
-    ensures paid { IfOk result
-        (λ o. o.paid ≡ part_paid (rules_of state.old)
-        (add_offsets_questions caller.now request.now.transactional_id request.now.group)) }
-    ensures spent { IfOk result (λ o. o.spent ≡ 0) }
+    ensures { HandlerMeets state.old state.new
+        (add_offsets_outcome state.old caller.now request.now)
+        (add_offsets_questions caller.now request.now.transactional_id request.now.group)
+        [] result }
 {
     let id = state
         .policy

@@ -9,8 +9,8 @@ ghost use Rattle.authorizer.specs.Tally.{count_after_parts};
 ghost use Rattle.walk.specs.Walk.{plain_topics, answers, refusals, asked_in};
 ghost use Rattle.walk.specs.Woven.{has_part};
 ghost use Rattle.txn_coordinator.specs.Coordinator.{transition_code, apply_transition};
+ghost use Rattle.broker_world.specs.HandlerResult.{HandlerMeets};
 ghost use Rattle.broker_world.specs.Questions.{id_question};
-ghost use Rattle.broker_world.specs.World.{rules_of};
 ghost use Rattle.txn_handlers.specs.Asked.{AsksForId};
 ghost use Rattle.txn_handlers.specs.AddPartitions.{added_partition, cut_code, is_missing_in, is_missing, cut_rule, code_rule, code_rule_for, added_parts, partitions_in, partitions_of, add_transition, add_reply, add_partitions_outcome};
 
@@ -235,16 +235,9 @@ pub fn answer_add_partitions(
     caller: &Caller,
     request: &AddPartitionsToTxnRequest,
 ) -> Result<HandlerResult, AllocError>
-    ensures world { OnOk result
-        (state.new ≡ (add_partitions_outcome state.old caller.now request.now).world) }
-    ensures reply { IfOk result
-        (λ o. o.reply ≡ (add_partitions_outcome state.old caller.now request.now).reply) }
-    ensures refusals { IfOk result
-        (λ o. o.refusals ≡ (add_partitions_outcome state.old caller.now request.now).refusals) }
-    ensures paid { IfOk result (λ o. o.paid ≡ []) }
-    ensures spent { IfOk result
-        (λ o. o.spent ≡ count_after_parts (rules_of state.old) 0
-        (added_parts state.old caller.now request.now)) }
+    ensures { HandlerMeets state.old state.new
+        (add_partitions_outcome state.old caller.now request.now)
+        [] (added_parts state.old caller.now request.now) result }
 {
     let (id, named) = (&request.transactional_id, request.topics.as_slice());
     let asked = state.policy.settle(id_question(caller, id)?);

@@ -1,8 +1,7 @@
 //! EndTxn: a transaction is committed or aborted.
 
-ghost use Rattle.std.specs.Prelude.{◌≡◌, IfOk, OnOk};
-ghost use Rattle.authorizer.specs.Asking.{part_paid};
-ghost use Rattle.broker_world.specs.World.{rules_of};
+ghost use Rattle.std.specs.Prelude.{[], ◌≡◌, IfOk, OnOk};
+ghost use Rattle.broker_world.specs.HandlerResult.{HandlerMeets};
 ghost use Rattle.txn_coordinator.specs.Permission.{MayWrite as MayWriteId};
 ghost use Rattle.txn_coordinator.specs.Coordinator.{apply_transition, transition_answer};
 ghost use Rattle.txn_handlers.specs.EndTxn.{form_of, ending_id, ending_of, end_questions, end_reply, end_transition, end_txn_outcome};
@@ -95,15 +94,9 @@ pub fn answer_end_txn(
     caller: &Caller,
     request: &EndTxnRequest,
 ) -> Result<HandlerResult, AllocError>
-    ensures world { OnOk result
-        (state.new ≡ (end_txn_outcome state.old caller.now request.now).world) }
-    ensures reply { IfOk result
-        (λ o. o.reply ≡ (end_txn_outcome state.old caller.now request.now).reply) }
-    ensures refusals { IfOk result
-        (λ o. o.refusals ≡ (end_txn_outcome state.old caller.now request.now).refusals) }
-    ensures paid { IfOk result
-        (λ o. o.paid ≡ part_paid (rules_of state.old) (end_questions caller.now request.now)) }
-    ensures spent { IfOk result (λ o. o.spent ≡ 0) }
+    ensures { HandlerMeets state.old state.new
+        (end_txn_outcome state.old caller.now request.now)
+        (end_questions caller.now request.now) [] result }
 {
     let question = id_question(caller, &request.asked().transactional_id)?;
     match ask_one(&state.policy, question) {

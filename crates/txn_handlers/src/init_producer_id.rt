@@ -1,8 +1,8 @@
 //! InitProducerId: a producer, or a transactional id, is given a producer id with an epoch.
 
-ghost use Rattle.std.specs.Prelude.{◌≡◌, ◌&&◌, is_none, IfOk, OnOk};
+ghost use Rattle.std.specs.Prelude.{[], ◌≡◌, ◌&&◌, is_none, IfOk, OnOk};
 ghost use Rattle.authorizer.specs.AnyTopic.{any_topic};
-ghost use Rattle.authorizer.specs.Asking.{part_paid};
+ghost use Rattle.broker_world.specs.HandlerResult.{HandlerMeets};
 ghost use Rattle.broker_world.specs.World.{rules_of};
 ghost use Rattle.txn_handlers.specs.InitProducerId.{IsInitPermit, init_question, init_questions, init_given, init_error, init_answered, init_reply, coordinator_after, init_producer_id_outcome};
 
@@ -67,16 +67,9 @@ pub fn answer_init_producer_id(
     caller: &Caller,
     request: &InitProducerIdRequest,
 ) -> Result<HandlerResult, AllocError>
-    ensures world { OnOk result
-        (state.new ≡ (init_producer_id_outcome state.old caller.now request.now).world) }
-    ensures reply { IfOk result
-        (λ o. o.reply ≡ (init_producer_id_outcome state.old caller.now request.now).reply) }
-    ensures refusals { IfOk result
-        (λ o. o.refusals ≡ (init_producer_id_outcome state.old caller.now request.now).refusals) }
-    ensures paid { IfOk result
-        (λ o. o.paid ≡ part_paid (rules_of state.old)
-        (init_questions (rules_of state.old) caller.now request.now.transactional_id)) }
-    ensures spent { IfOk result (λ o. o.spent ≡ 0) }
+    ensures { HandlerMeets state.old state.new
+        (init_producer_id_outcome state.old caller.now request.now)
+        (init_questions (rules_of state.old) caller.now request.now.transactional_id) [] result }
 {
     let question = init_question(alloc, caller, &request.transactional_id)?;
     match ask_one(&state.policy, question) {

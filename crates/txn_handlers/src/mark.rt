@@ -1,6 +1,7 @@
 //! A marker step: the front marker that is pending is written.
 
-ghost use Rattle.std.specs.Prelude.{◌≡◌, ◌<◌, [], IfOk, OnOk, OnErr};
+ghost use Rattle.std.specs.Prelude.{◌≡◌, ◌<◌, [], OnOk, OnErr};
+ghost use Rattle.broker_world.specs.HandlerResult.{HandlerMeets};
 ghost use Rattle.broker_world.specs.Logs.{most_end};
 ghost use Rattle.broker_world.specs.Markers.{marker_batch};
 ghost use Rattle.txn_handlers.specs.Marks.{topics_with_marker_at, groups_with_decision_at, mark_outcome};
@@ -45,11 +46,7 @@ fn write_marker(
 /// asked.
 pub fn answer_mark(alloc: Global, state: &mut State) -> Result<HandlerResult, AllocError>
     requires { most_end state.old.topics < 9223372036854775807 }
-    ensures world { OnOk result (state.new ≡ (mark_outcome state.old).world) }
-    ensures reply { IfOk result (λ o. o.reply ≡ (mark_outcome state.old).reply) }
-    ensures refusals { IfOk result (λ o. o.refusals ≡ (mark_outcome state.old).refusals) }
-    ensures paid { IfOk result (λ o. o.paid ≡ []) }
-    ensures spent { IfOk result (λ o. o.spent ≡ 0) }
+    ensures { HandlerMeets state.old state.new (mark_outcome state.old) [] [] result }
 {
     let Some(warrant) = state.coordinator.next_warrant() else {
         return Ok(served_whole(alloc, Reply::Idle, Paid::nothing()));

@@ -6,10 +6,10 @@ ghost use Rattle.acl_binding.specs.declared.words.Operation.TheVariants as opera
 ghost use Rattle.group_offsets.specs.Groups.{groups_after};
 ghost use Rattle.group_offsets.specs.Permission.{MayUse};
 ghost use Rattle.group_offsets.specs.GroupTransition.{answer_of};
+ghost use Rattle.broker_world.specs.HandlerResult.{HandlerMeets};
 ghost use Rattle.broker_world.specs.Codes.{code_in};
 ghost use Rattle.authorizer.specs.Asking.{policy_rules};
 ghost use Rattle.authorizer.specs.Tally.{count_after_parts};
-ghost use Rattle.broker_world.specs.World.{rules_of};
 ghost use Rattle.walk.specs.Walk.{world_after, answers, refusals, asked_in};
 ghost use Rattle.txn_handlers.specs.TxnOffsetCommit.{staging_of, offset_staged, staged_code, staging_refusal, transition_by, stage_rule, staging_rule, txn_offset_commit_outcome};
 
@@ -234,16 +234,9 @@ pub fn answer_txn_offset_commit(
     caller: &Caller,
     request: &TxnOffsetCommitRequest,
 ) -> Result<HandlerResult, AllocError>
-    ensures world { OnOk result
-        (state.new ≡ (txn_offset_commit_outcome state.old caller.now request.now).world) }
-    ensures reply { IfOk result
-        (λ o. o.reply ≡ (txn_offset_commit_outcome state.old caller.now request.now).reply) }
-    ensures refusals { IfOk result
-        (λ o. o.refusals ≡ (txn_offset_commit_outcome state.old caller.now request.now).refusals) }
-    ensures paid { IfOk result (λ o. o.paid ≡ []) }
-    ensures spent { IfOk result
-        (λ o. o.spent ≡ count_after_parts (rules_of state.old) 0
-        (asked_in (staging_rule state.old caller.now request.now) request.now.topics)) }
+    ensures { HandlerMeets state.old state.new
+        (txn_offset_commit_outcome state.old caller.now request.now)
+        [] (asked_in (staging_rule state.old caller.now request.now) request.now.topics) result }
 {
     let refusal = staging_refusal(&state.coordinator, request)?;
     let (policy, groups) = (&state.policy, &mut state.groups);

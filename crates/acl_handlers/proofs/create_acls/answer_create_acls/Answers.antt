@@ -1,14 +1,14 @@
-use Rattle.std.proofs.Common.{List, map, ap, sym, ◌∙◌}
+use Rattle.std.proofs.Common.{List, map, ap, sym, ◌∙◌, rules}
 use Rattle.msg_acl.specs.declared.entries.BindingEntry.{BindingEntry}
 use Rattle.msg_admin.specs.declared.reply.Reply.TheVariants as replies
 use Rattle.authorizer.specs.Asking.{policy_rules}
 use Rattle.walk.specs.Codes.{refusal_code}
 use Rattle.broker_world.specs.World.{rules_of}
 use Rattle.acl_handlers.specs.CreateAcls.{creation_result_with, create_acls_reply}
-use Rattle.broker_world.proofs.Wholes.{refused_told}
+use Rattle.broker_world.proofs.Wholes.{refused_met}
 use Rattle.acl_handlers.proofs.create_acls.answer_create_acls.Goals as goal
 
-pub returns-in_ok-reply-in-Err-clause-reply : goal.returns-in_ok-reply-in-Err-clause-reply
-returns-in_ok-reply-in-Err-clause-reply c =
+pub returns-in_ok-reply-in-Err : goal.returns-in_ok-reply-in-Err
+returns-in_ok-reply-in-Err c =
     let listed = ap (λ (es : List BindingEntry). replies.CreateAcls (create_acls_reply (map (λ (e : BindingEntry). creation_result_with (refusal_code c.in-Err.refusal)) es))) c.as_slice-creations.ensures in
-    refused_told c.args.state.now (policy_rules c.state.inside.policy) _ _ _ _ _ _ _ (ap rules_of (sym c.state.view_is)) c.in_ok-question.ensures c.in-Err.ensures.refused (c.in_ok-reply-in-Err.ensures ∙ listed) c.refused_whole.ensures
+    refused_met c.args.state.now _ (policy_rules c.state.inside.policy) _ _ _ _ _ _ _ (search rules) (ap rules_of (sym c.state.view_is)) c.in_ok-question.ensures c.in-Err.ensures.refused (c.in_ok-reply-in-Err.ensures ∙ listed) c.refused_whole.ensures

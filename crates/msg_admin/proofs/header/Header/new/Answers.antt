@@ -1,69 +1,39 @@
-use Rattle.std.proofs.Common.{◌≡◌, refl}
-use Rattle.std.proofs.Common.{w16, to_z, of_z}
-use Rattle.msg_admin.specs.declared.api.Api.{Api}
-use Rattle.msg_admin.specs.declared.api.Api.TheVariants as apis
-use Rattle.msg_admin.specs.Api.{key_of, version_of, api_at-own}
+use Rattle.std.proofs.Common.{◌≡◌, refl, sym, ap, ◌∙◌, rules, w16, to_z, of_z}
+use Rattle.std.proofs.lemmas.Int.{to_z-of_z}
+use Rattle.std.specs.Int.RustNames.{FitsSigned}
+use Rattle.msg_admin.specs.declared.api_key.ApiKey.{ApiKey}
+use Rattle.msg_admin.specs.declared.api_key.ApiKey.TheVariants as keys
+use Rattle.msg_admin.specs.ApiKey.{number_of, is_served}
+use Rattle.msg_admin.specs.Api.{api_at-own}
 use Rattle.msg_admin.proofs.header.Header.new.Goals as goal
 
-key_again : (api : Api) → to_z w16 (of_z w16 (key_of api)) ≡ key_of api
-unfolding key_of
-key_again apis.Produce = refl
-key_again apis.Fetch = refl
-key_again apis.ListOffsets = refl
-key_again apis.Metadata = refl
-key_again apis.OffsetCommit = refl
-key_again apis.OffsetFetch = refl
-key_again apis.FindCoordinator = refl
-key_again apis.JoinGroup = refl
-key_again apis.Heartbeat = refl
-key_again apis.LeaveGroup = refl
-key_again apis.SyncGroup = refl
-key_again apis.SaslHandshake = refl
-key_again apis.ApiVersions = refl
-key_again apis.InitProducerId = refl
-key_again apis.AddPartitionsToTxn = refl
-key_again apis.AddOffsetsToTxn = refl
-key_again apis.EndTxn0 = refl
-key_again apis.EndTxn1 = refl
-key_again apis.EndTxn2 = refl
-key_again apis.EndTxn3 = refl
-key_again apis.EndTxn4 = refl
-key_again apis.EndTxn5 = refl
-key_again apis.TxnOffsetCommit = refl
-key_again apis.DescribeAcls = refl
-key_again apis.CreateAcls = refl
-key_again apis.DeleteAcls = refl
-key_again apis.SaslAuthenticate = refl
-
-version_again : (api : Api) → to_z w16 (of_z w16 (version_of api)) ≡ version_of api
-unfolding version_of
-version_again apis.Produce = refl
-version_again apis.Fetch = refl
-version_again apis.ListOffsets = refl
-version_again apis.Metadata = refl
-version_again apis.OffsetCommit = refl
-version_again apis.OffsetFetch = refl
-version_again apis.FindCoordinator = refl
-version_again apis.JoinGroup = refl
-version_again apis.Heartbeat = refl
-version_again apis.LeaveGroup = refl
-version_again apis.SyncGroup = refl
-version_again apis.SaslHandshake = refl
-version_again apis.ApiVersions = refl
-version_again apis.InitProducerId = refl
-version_again apis.AddPartitionsToTxn = refl
-version_again apis.AddOffsetsToTxn = refl
-version_again apis.EndTxn0 = refl
-version_again apis.EndTxn1 = refl
-version_again apis.EndTxn2 = refl
-version_again apis.EndTxn3 = refl
-version_again apis.EndTxn4 = refl
-version_again apis.EndTxn5 = refl
-version_again apis.TxnOffsetCommit = refl
-version_again apis.DescribeAcls = refl
-version_again apis.CreateAcls = refl
-version_again apis.DeleteAcls = refl
-version_again apis.SaslAuthenticate = refl
+number_again : (key : ApiKey) → to_z w16 (of_z w16 (number_of key)) ≡ number_of key
+number_again keys.Produce = refl
+number_again keys.Fetch = refl
+number_again keys.ListOffsets = refl
+number_again keys.Metadata = refl
+number_again keys.OffsetCommit = refl
+number_again keys.OffsetFetch = refl
+number_again keys.FindCoordinator = refl
+number_again keys.JoinGroup = refl
+number_again keys.Heartbeat = refl
+number_again keys.LeaveGroup = refl
+number_again keys.SyncGroup = refl
+number_again keys.SaslHandshake = refl
+number_again keys.ApiVersions = refl
+number_again keys.InitProducerId = refl
+number_again keys.AddPartitionsToTxn = refl
+number_again keys.AddOffsetsToTxn = refl
+number_again keys.EndTxn = refl
+number_again keys.TxnOffsetCommit = refl
+number_again keys.DescribeAcls = refl
+number_again keys.CreateAcls = refl
+number_again keys.DeleteAcls = refl
+number_again keys.SaslAuthenticate = refl
 
 pub returns-clause-served : goal.returns-clause-served
-returns-clause-served c = rw (c.key.ensures, c.version.ensures, key_again, version_again) (api_at-own c.args.api)
+returns-clause-served c =
+    let fits : FitsSigned w16 c.version.result = search rules in
+    let version = to_z-of_z w16 c.version.result fits ∙ c.version.ensures.value in
+    let served = ap (is_served c.args.api.key) (sym c.version.ensures.value) ∙ c.version.ensures.served in
+    rw (c.number.ensures, c.key.ensures, number_again c.args.api.key, version) (api_at-own c.args.api.key c.args.api.version served)

@@ -1,4 +1,0 @@
-use Rattle.arguments.proofs.serving.with_rates.Goals as goal
-
-pub returns-clause-app : goal.returns-clause-app
-returns-clause-app c = rw (← c.option-rate.ensures.rule, ← c.option-rate_bytes.ensures.rule) c.with_two.ensures.app

@@ -1,4 +1,0 @@
-use Rattle.arguments.proofs.serving.with_reports.Goals as goal
-
-pub returns-clause-app : goal.returns-clause-app
-returns-clause-app c = rw (← c.option-audit.ensures.rule, ← c.flag-log_times.ensures.rule) c.with_two.ensures.app

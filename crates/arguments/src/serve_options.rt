@@ -1,0 +1,205 @@
+//! Which options `serve` has.
+
+ghost use Rattle.std.specs.Prelude.{◌≡◌, IfOk, false};
+ghost use Rattle.clap.specs.Simple.{app_of};
+ghost use Rattle.clap.specs.Walk.{rule_of};
+ghost use Rattle.clap.specs.declared.builder.command.Command.TheViews.{out-Command as fields_of};
+ghost use Rattle.arguments.specs.CommandLine.{flag_rule, listen_rule, option_rule, with_rules, with_two_rules, with_serve_clients, with_serve_deadlines, with_serve_ending, with_serve_numbers, with_serve_options, with_serve_rates, with_serve_reports, with_serve_shares, with_serve_steering, with_serve_switches};
+
+use crate::help::{
+    AUDIT, CONNECTIONS, CONTROL, ENDLESS, FOR, FRAME_WITHIN, GRACE, IDLE, LIBRDKAFKA, LISTEN,
+    LOG_TIMES, LOGIN_WITHIN, PER_HOST, RATE, RATE_BYTES, SETTINGS, STOP_WITH_INPUT, WORKERS,
+};
+use clap::{Arg, ArgAction, Command};
+use std::alloc::{AllocError, Global};
+
+/// An option of this name, with a value.
+pub(crate) fn option<'a>(
+    alloc: Global,
+    name: &'a str,
+    value: &'a str,
+    help: &'a str,
+    must: bool,
+) -> Arg<'a>
+    ensures rule { rule_of result ≡ option_rule name.entry.now must }
+    ensures local { result.global ≡ false }
+{
+    Arg::new(alloc, name)
+        .long(name)
+        .value_name(value)
+        .help(help)
+        .required(must)
+}
+
+/// The option of the address to listen on. Who looks for `--port`, as other servers have it, is told what this one takes.
+fn listen_option<'a>(alloc: Global) -> Result<Arg<'a>, AllocError>
+    ensures rule { IfOk result (λ made. rule_of made ≡ listen_rule) }
+    ensures local { IfOk result (λ made. made.global ≡ false) }
+{
+    option(alloc, "listen", "ADDR", LISTEN, true).alias("port")
+}
+
+/// A flag of this name.
+fn flag<'a>(alloc: Global, name: &'a str, help: &'a str) -> Arg<'a>
+    ensures rule { rule_of result ≡ flag_rule name.entry.now }
+    ensures local { result.global ≡ false }
+{
+    Arg::new(alloc, name)
+        .long(name)
+        .action(ArgAction::SetTrue)
+        .help(help)
+}
+
+/// The command with two options more, none of them global.
+fn with_two<'a>(
+    command: Command<'a>,
+    first: Arg<'a>,
+    second: Arg<'a>,
+) -> Result<Command<'a>, AllocError>
+    requires first { first.global ≡ false }
+    requires second { second.global ≡ false }
+    ensures app { IfOk result
+        (λ made. app_of made ≡ with_two_rules (app_of command.entry) (rule_of first.entry)
+        (rule_of second.entry)) }
+    ensures local { IfOk result
+        (λ made. (fields_of made).has_globals ≡ (fields_of command.entry).has_globals) }
+{
+    command.arg(first)?.arg(second)
+}
+
+/// The command with three options more, none of them global.
+fn with_three<'a>(
+    command: Command<'a>,
+    first: Arg<'a>,
+    second: Arg<'a>,
+    third: Arg<'a>,
+) -> Result<Command<'a>, AllocError>
+    requires first { first.global ≡ false }
+    requires second { second.global ≡ false }
+    requires third { third.global ≡ false }
+    ensures app { IfOk result
+        (λ made. app_of made ≡ with_rules (app_of command.entry) (rule_of first.entry)
+        (rule_of second.entry) (rule_of third.entry)) }
+    ensures local { IfOk result
+        (λ made. (fields_of made).has_globals ≡ (fields_of command.entry).has_globals) }
+{
+    command.arg(first)?.arg(second)?.arg(third)
+}
+
+/// The command with the options that say where, and how many are served.
+fn with_numbers<'a>(alloc: Global, command: Command<'a>) -> Result<Command<'a>, AllocError>
+    ensures app { IfOk result (λ made. app_of made ≡ with_serve_numbers (app_of command.entry)) }
+    ensures local { IfOk result
+        (λ made. (fields_of made).has_globals ≡ (fields_of command.entry).has_globals) }
+{
+    let listen = listen_option(alloc)?;
+    let workers = option(alloc, "workers", "N", WORKERS, false);
+    let connections = option(alloc, "connections", "N", CONNECTIONS, false);
+    with_three(command, listen, workers, connections)
+}
+
+/// The command with the options that change nothing where they aren't given.
+fn with_switches<'a>(alloc: Global, command: Command<'a>) -> Result<Command<'a>, AllocError>
+    ensures app { IfOk result (λ made. app_of made ≡ with_serve_switches (app_of command.entry)) }
+    ensures local { IfOk result
+        (λ made. (fields_of made).has_globals ≡ (fields_of command.entry).has_globals) }
+{
+    let open = option(alloc, "for", "SECONDS", FOR, false);
+    let idle = option(alloc, "idle", "SECONDS", IDLE, false);
+    with_two(command, open, idle)
+}
+
+/// The command with the options of what is told, and of the time before each line of it.
+fn with_reports<'a>(alloc: Global, command: Command<'a>) -> Result<Command<'a>, AllocError>
+    ensures app { IfOk result (λ made. app_of made ≡ with_serve_reports (app_of command.entry)) }
+    ensures local { IfOk result
+        (λ made. (fields_of made).has_globals ≡ (fields_of command.entry).has_globals) }
+{
+    let audit = option(alloc, "audit", "-", AUDIT, false);
+    let log_times = flag(alloc, "log-times", LOG_TIMES);
+    with_two(command, audit, log_times)
+}
+
+/// The command with the options of the time that a login has, and a frame.
+fn with_deadlines<'a>(alloc: Global, command: Command<'a>) -> Result<Command<'a>, AllocError>
+    ensures app { IfOk result (λ made. app_of made ≡ with_serve_deadlines (app_of command.entry)) }
+    ensures local { IfOk result
+        (λ made. (fields_of made).has_globals ≡ (fields_of command.entry).has_globals) }
+{
+    let login = option(alloc, "login-within", "SECONDS", LOGIN_WITHIN, false);
+    let frame = option(alloc, "frame-within", "SECONDS", FRAME_WITHIN, false);
+    with_two(command, login, frame)
+}
+
+/// The command with the options of connections that aren't counted, and of those of one host.
+fn with_shares<'a>(alloc: Global, command: Command<'a>) -> Result<Command<'a>, AllocError>
+    ensures app { IfOk result (λ made. app_of made ≡ with_serve_shares (app_of command.entry)) }
+    ensures local { IfOk result
+        (λ made. (fields_of made).has_globals ≡ (fields_of command.entry).has_globals) }
+{
+    let endless = flag(alloc, "endless", ENDLESS);
+    let per_host = option(alloc, "per-host", "N", PER_HOST, false);
+    with_two(command, endless, per_host)
+}
+
+/// The command with the options of how fast each user may ask.
+fn with_rates<'a>(alloc: Global, command: Command<'a>) -> Result<Command<'a>, AllocError>
+    ensures app { IfOk result (λ made. app_of made ≡ with_serve_rates (app_of command.entry)) }
+    ensures local { IfOk result
+        (λ made. (fields_of made).has_globals ≡ (fields_of command.entry).has_globals) }
+{
+    let rate = option(alloc, "rate", "REQUESTS", RATE, false);
+    let rate_bytes = option(alloc, "rate-bytes", "BYTES", RATE_BYTES, false);
+    with_two(command, rate, rate_bytes)
+}
+
+/// The command with the options of a broker that is steered.
+fn with_steering<'a>(alloc: Global, command: Command<'a>) -> Result<Command<'a>, AllocError>
+    ensures app { IfOk result (λ made. app_of made ≡ with_serve_steering (app_of command.entry)) }
+    ensures local { IfOk result
+        (λ made. (fields_of made).has_globals ≡ (fields_of command.entry).has_globals) }
+{
+    let settings = option(alloc, "settings", "FILE", SETTINGS, false);
+    let control = flag(alloc, "control", CONTROL);
+    with_two(command, settings, control)
+}
+
+/// The command with the options of how a server stops.
+fn with_ending<'a>(alloc: Global, command: Command<'a>) -> Result<Command<'a>, AllocError>
+    ensures app { IfOk result (λ made. app_of made ≡ with_serve_ending (app_of command.entry)) }
+    ensures local { IfOk result
+        (λ made. (fields_of made).has_globals ≡ (fields_of command.entry).has_globals) }
+{
+    let grace = option(alloc, "grace", "SECONDS", GRACE, false);
+    let with_input = flag(alloc, "stop-with-input", STOP_WITH_INPUT);
+    with_two(command, grace, with_input)
+}
+
+/// The command with the options for clients that look for other versions.
+fn with_clients<'a>(alloc: Global, command: Command<'a>) -> Result<Command<'a>, AllocError>
+    ensures app { IfOk result (λ made. app_of made ≡ with_serve_clients (app_of command.entry)) }
+    ensures local { IfOk result
+        (λ made. (fields_of made).has_globals ≡ (fields_of command.entry).has_globals) }
+{
+    command.arg(flag(alloc, "librdkafka", LIBRDKAFKA))
+}
+
+/// The command with the options of `serve`.
+pub(crate) fn with_options<'a>(
+    alloc: Global,
+    command: Command<'a>,
+) -> Result<Command<'a>, AllocError>
+    ensures app { IfOk result (λ made. app_of made ≡ with_serve_options (app_of command.entry)) }
+    ensures local { IfOk result
+        (λ made. (fields_of made).has_globals ≡ (fields_of command.entry).has_globals) }
+{
+    let command = with_numbers(alloc, command)?;
+    let command = with_switches(alloc, command)?;
+    let command = with_reports(alloc, command)?;
+    let command = with_deadlines(alloc, command)?;
+    let command = with_shares(alloc, command)?;
+    let command = with_rates(alloc, command)?;
+    let command = with_steering(alloc, command)?;
+    let command = with_ending(alloc, command)?;
+    with_clients(alloc, command)
+}

@@ -1,0 +1,49 @@
+use Rattle.std.proofs.Common.{◌≡◌, None, sym, subst, ap, ◌∙◌}
+use Rattle.std.specs.Map.{values_of}
+use Rattle.std.specs.Option.{option_copied_mut}
+use Rattle.std.proofs.lemmas.Result.{on_ok_weaker, on_err_weaker, IfOk-weaker}
+use Rattle.group_offsets.specs.declared.group.Group.{Group}
+use Rattle.group_offsets.specs.Group.{sync_group}
+use Rattle.group_offsets.specs.Groups.{place_of}
+use Rattle.group_offsets.proofs.Places.{refused_fresh, refusal_fresh, sync_fresh}
+use Rattle.group_offsets.specs.Named.{IsKept}
+use Rattle.group_offsets.proofs.Named.{none_in, turned_in, answered_in, unchanged_in, named_in}
+use Rattle.group_offsets.proofs.groups.Groups.sync.Goals as goal
+
+pub invariant_of-self : goal.invariant_of-self
+invariant_of-self c = subst (λ m. IsKept m.entries c.self.inside.nothing) (sym c.get_mut.follows.holds-at-none) c.self.invariant
+
+pub returns-in_default-clause-groups : goal.returns-in_default-clause-groups
+returns-in_default-clause-groups c =
+    let es = c.self.inside.table.entries in
+    let none : place_of (values_of es) c.args.request.now.group ≡ None = none_in es c.as_str.result.now c.args.request.now.group c.as_str.ensures c.self.invariant.named (sym (ap option_copied_mut c.in_default.is) ∙ c.get_mut.ensures.value) in
+    rw (← c.self.view_is) (ap (λ m. values_of m.entries) c.get_mut.follows.holds-at-none ∙ refused_fresh (values_of es) c.args.request.now.group (λ (g : Group). sync_group g c.args.request.now c.args.moment) none (sync_fresh c.args.request.now c.args.moment))
+
+pub returns-in_default-clause-answer : goal.returns-in_default-clause-answer
+returns-in_default-clause-answer c =
+    let es = c.self.inside.table.entries in
+    let none : place_of (values_of es) c.args.request.now.group ≡ None = none_in es c.as_str.result.now c.args.request.now.group c.as_str.ensures c.self.invariant.named (sym (ap option_copied_mut c.in_default.is) ∙ c.get_mut.ensures.value) in
+    rw (← c.self.view_is, c.unknown_group_error.ensures) (refusal_fresh (values_of es) c.args.request.now.group (λ (g : Group). sync_group g c.args.request.now c.args.moment) none (sync_fresh c.args.request.now c.args.moment))
+
+pub invariant_of-self-2 : goal.invariant_of-self-2
+invariant_of-self-2 c =
+    let es = c.self.inside.table.entries in
+    record {
+      named = named_in es (c.get_mut.follows.lender c.sync.new.self).entries c.as_str.result.now c.in-Some.group.now c.sync.new.self c.in-Some.ensures.value (c.get_mut.follows.holds c.sync.new.self).0 c.sync.ensures.name c.self.invariant.named;
+      empty = c.self.invariant.empty;
+    }
+
+pub returns-clause-groups : goal.returns-clause-groups
+returns-clause-groups c =
+    let es = c.self.inside.table.entries in
+    rw (← c.self.view_is) (on_ok_weaker c.sync.result (λ made. turned_in es (c.get_mut.follows.lender c.sync.new.self).entries c.as_str.result.now c.args.request.now.group c.in-Some.group.now c.sync.new.self (λ (g : Group). sync_group g c.args.request.now c.args.moment) c.as_str.ensures c.self.invariant.named c.in-Some.ensures.value (c.get_mut.follows.holds c.sync.new.self).0 made c.sync.ensures.name) c.sync.ensures.group)
+
+pub returns-clause-answer : goal.returns-clause-answer
+returns-clause-answer c =
+    let es = c.self.inside.table.entries in
+    rw (← c.self.view_is) (IfOk-weaker c.sync.result _ _ (λ answer e. e ∙ answered_in es c.as_str.result.now c.args.request.now.group c.in-Some.group.now (λ (g : Group). sync_group g c.args.request.now c.args.moment) c.as_str.ensures c.self.invariant.named c.in-Some.ensures.value) c.sync.ensures.answer)
+
+pub returns-clause-err : goal.returns-clause-err
+returns-clause-err c =
+    let es = c.self.inside.table.entries in
+    rw (← c.self.view_is) (on_err_weaker c.sync.result (λ same. unchanged_in es (c.get_mut.follows.lender c.sync.new.self).entries c.as_str.result.now c.in-Some.group.now c.sync.new.self c.in-Some.ensures.value (c.get_mut.follows.holds c.sync.new.self).0 same) c.sync.ensures.err)
