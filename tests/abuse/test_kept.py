@@ -1,7 +1,8 @@
 """What the broker keeps of a small event, above the bytes of its frame.
 
 It is the growth of the peak of memory from FEW events to MANY, less the event's line in the script, which `replay` holds too, and
-less the event's frame. FEW are so many that the peak is the program's, and not that of the process that starts it. No contract speaks of it: a body that kept a caller, a reply or a list anew for each event would be proved.
+less the event's frame. FEW are so many that the peak is the program's, and not that of the process that starts it. No contract
+speaks of it: a body that kept a caller, a reply or a list anew for each event would be proved.
 """
 
 import unittest
@@ -26,9 +27,9 @@ EVENTS = {
 LIMITS = {
     "a tick": 120,
     "a marker step": 120,
-    "a Metadata of one topic": 480,
-    "a Fetch of one record": 720,
-    "a Produce of one record": 790,
+    "a Metadata of one topic": 450,
+    "a Fetch of one record": 690,
+    "a Produce of one record": 770,
 }
 
 

@@ -33,14 +33,14 @@ pub struct Numbered {
 }
 
 impl Binding {
-    /// The binding is about this resource.
+    /// Whether the binding's resource pattern matches this resource.
     pub fn covers(&self, kind: Kind, name: &Text) -> bool
         ensures { result ≡ covers self.now kind name.now }
     {
         self.kind == kind && self.pattern.covers(&self.name, name)
     }
 
-    /// The binding is for this principal at this host.
+    /// Whether the binding is for this principal at this host. `User:*` stands for every principal, and `*` for every host.
     pub fn applies(&self, who: &Text, host: &Text) -> bool
         ensures { result ≡ applies self.now who.now host.now }
     {
@@ -48,7 +48,7 @@ impl Binding {
             && (self.host == *host || self.host.as_str() == ANY_HOST)
     }
 
-    /// The binding is a DENY of the operation, or of all.
+    /// Whether the binding is a DENY of this operation or of ALL.
     pub fn denies(&self, op: Operation) -> bool
         ensures { result ≡ denies self.now op }
     {
@@ -56,14 +56,14 @@ impl Binding {
             && (self.operation == op || self.operation == Operation::All)
     }
 
-    /// The binding is an ALLOW of the operation, of one that implies it, or of all.
+    /// Whether the binding is an ALLOW of this operation, of one that implies it, or of ALL.
     pub fn allows(&self, op: Operation) -> bool
         ensures { result ≡ allows self.now op }
     {
         self.permission == Permission::Allow && self.operation.implies(op)
     }
 
-    /// The binding covers, applies and denies.
+    /// Whether the binding denies what is asked: its resource, principal, host and operation all match, and it is a DENY.
     pub fn is_denial(&self, question: &Question) -> bool
         ensures { result ≡ is_denial question.now self.now }
     {
@@ -72,7 +72,7 @@ impl Binding {
             && self.denies(question.op)
     }
 
-    /// The binding covers, applies and allows.
+    /// Whether the binding allows what is asked: its resource, principal, host and operation all match, and it is an ALLOW.
     pub fn is_grant(&self, question: &Question) -> bool
         ensures { result ≡ is_grant question.now self.now }
     {

@@ -51,6 +51,7 @@ impl Book {
         }
     }
 
+    /// The number of bindings.
     pub fn len(&self) -> usize
         ensures { result ≡ length self.now.entries }
     {
@@ -71,21 +72,22 @@ impl Book {
         &self.entries
     }
 
-    /// The number that the next new binding gets.
+    /// The creation number that the next new binding gets. The numbers of removed bindings aren't given again.
     pub fn next(&self) -> u64
         ensures { result ≡ self.now.next }
     {
         self.next
     }
 
-    /// The creation number of an equal binding.
+    /// The creation number of the binding that is equal to this one, `None` if there is none.
     pub fn number_of(&self, binding: &Binding) -> Option<u64>
         ensures { result ≡ number_of self.now.entries binding.now }
     {
         number_of(&self.entries, binding)
     }
 
-    /// Takes a new binding under the next number.
+    /// Puts an entry that bears the next creation number at the end, and counts that number up. An allocation failure
+    /// changes nothing.
     fn append(&mut self, entry: Shared<Numbered>) -> Result<(), AllocError>
         requires bound { self.old.next + 1 < 2 ^ 64 }
         requires number { entry.number ≡ self.old.next }
@@ -98,7 +100,8 @@ impl Book {
         Ok(())
     }
 
-    /// Adds a binding under the next creation number, unless an equal one is there.
+    /// Adds a binding under the next creation number. If an equal one is there, the book stays as it is. An allocation
+    /// failure changes nothing.
     pub fn add(&mut self, alloc: Global, binding: Binding) -> Result<Added, AllocError>
         requires { self.old.next + 1 < 2 ^ 64 }
         ensures ok { OnOk result (self.new ≡ with_binding self.old binding) }
@@ -115,14 +118,14 @@ impl Book {
         Ok(Added::Added(number))
     }
 
-    /// Copies of the bindings that the filter picks, in creation order.
+    /// Copies of the bindings that match the filter, in creation order.
     pub fn matching(&self, alloc: Global, filter: &Filter) -> Result<Items<Binding>, AllocError>
         ensures { IfOk result (λ picked. picked ≡ matching_bindings self.now.entries filter.now) }
     {
         matching(alloc, &self.entries, filter)
     }
 
-    /// Takes out the bindings that the filter picks, and answers them in creation order.
+    /// Removes the bindings that match the filter, and gives them in creation order. An allocation failure removes none.
     pub fn remove(&mut self, alloc: Global, filter: &Filter) -> Result<Items<Binding>, AllocError>
         ensures ok { OnOk result (self.new ≡ without_matching self.old filter.now) }
         ensures picked { IfOk result
@@ -134,7 +137,7 @@ impl Book {
         Ok(picked)
     }
 
-    /// Takes out the bindings that the filter picks.
+    /// Drops the bindings that match the filter.
     fn clean(&mut self, filter: &Filter)
         ensures { self.new ≡ without_matching self.old filter.now }
     {
@@ -142,7 +145,8 @@ impl Book {
             .retain(|entry| !filter.matches(&entry.value().binding));
     }
 
-    /// What the bindings answer to the question: deny before allow.
+    /// What the bindings answer to a question. A DENY goes before every ALLOW, and of several the one that was created first
+    /// is named.
     pub fn verdict(&self, question: &Question) -> Verdict
         ensures { result ≡ verdict_of self.now.entries question.now }
     {

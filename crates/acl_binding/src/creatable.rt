@@ -10,7 +10,7 @@ use wire_types::Text;
 /// The one name that the cluster has.
 pub const CLUSTER_NAME: &str = "kafka-cluster";
 
-/// Whether the text is `User:` and at least one character.
+/// Whether the text is a principal: `User:` and at least one character.
 pub fn is_principal(text: &str) -> bool
     ensures { result ≡ is_principal text.now }
 {
@@ -20,6 +20,7 @@ pub fn is_principal(text: &str) -> bool
     }
 }
 
+/// Whether a resource of this kind may have this name: the cluster is named `kafka-cluster`, and any other name isn't empty.
 fn is_resource_name(kind: Kind, name: &Text) -> bool
     ensures { result ≡ is_resource_name kind name.now }
 {
@@ -30,8 +31,8 @@ fn is_resource_name(kind: Kind, name: &Text) -> bool
 }
 
 impl Binding {
-    /// Whether the binding may be created: its name and host aren't empty, the cluster has its one name, and its
-    /// principal is a user.
+    /// Whether CreateAcls may create the binding: it has a resource name that its kind allows, a principal `User:...` and a
+    /// host that isn't empty.
     pub fn is_creatable(&self) -> bool
         ensures { result ≡ is_creatable self.now }
     {

@@ -20,6 +20,8 @@ const ANY_NUMBER: i8 = 1;
 #[error("the entry is no binding that may be created, or no filter")]
 pub struct BadEntry;
 
+/// What a filter says by this number about kinds of resources: `Some(None)` if it matches any, `Some(Some(kind))` if just
+/// that one, `None` if the number is unknown.
 fn any_kind(number: i8) -> Option<Option<Kind>>
     ensures { result ≡ or_any kind_at number }
 {
@@ -29,6 +31,8 @@ fn any_kind(number: i8) -> Option<Option<Kind>>
     Some(Some(Kind::of_number(number)?))
 }
 
+/// What a filter says by this number about operations: `Some(None)` if it matches any, `Some(Some(operation))` if just that
+/// one, `None` if the number is unknown.
 fn any_operation(number: i8) -> Option<Option<Operation>>
     ensures { result ≡ or_any operation_at number }
 {
@@ -38,6 +42,8 @@ fn any_operation(number: i8) -> Option<Option<Operation>>
     Some(Some(Operation::of_number(number)?))
 }
 
+/// What a filter says by this number about permissions: `Some(None)` if it matches any, `Some(Some(permission))` if just
+/// that one, `None` if the number is unknown.
 fn any_permission(number: i8) -> Option<Option<Permission>>
     ensures { result ≡ or_any permission_at number }
 {
@@ -47,7 +53,8 @@ fn any_permission(number: i8) -> Option<Option<Permission>>
     Some(Some(Permission::of_number(number)?))
 }
 
-/// The binding that the entry is, if it is one.
+/// The binding that an entry of CreateAcls describes. `None` if one of its numbers is unknown or CreateAcls may not create
+/// the binding.
 fn binding_of(entry: BindingEntry) -> Option<Binding>
     ensures binding { result ≡ binding_of entry }
     ensures creatable { IfSome result (λ b. is_creatable b ≡ true) }
@@ -68,7 +75,7 @@ fn binding_of(entry: BindingEntry) -> Option<Binding>
     }
 }
 
-/// The filter that the entry is, if it is one.
+/// The filter that an entry of DescribeAcls or DeleteAcls describes. `None` if one of its numbers is unknown.
 fn filter_of(entry: FilterEntry) -> Option<Filter>
     ensures { result ≡ filter_of entry }
 {
@@ -84,7 +91,8 @@ fn filter_of(entry: FilterEntry) -> Option<Filter>
 }
 
 impl Binding {
-    /// The binding that the entry is. It is refused where a word is unknown or the binding may not be created.
+    /// The binding that an entry of CreateAcls describes. `BadEntry` if one of its numbers is unknown or CreateAcls may not
+    /// create the binding.
     pub fn check(entry: BindingEntry) -> Result<Binding, BadEntry>
         ensures ok { IfOk result (λ b. binding_of entry ≡ Some b) }
         ensures creatable { IfOk result (λ b. is_creatable b ≡ true) }
@@ -95,7 +103,7 @@ impl Binding {
 }
 
 impl Filter {
-    /// The filter that the entry is. It is refused where a word is unknown.
+    /// The filter that an entry of DescribeAcls or DeleteAcls describes. `BadEntry` if one of its numbers is unknown.
     pub fn check(entry: FilterEntry) -> Result<Filter, BadEntry>
         ensures ok { IfOk result (λ f. filter_of entry ≡ Some f) }
         ensures err { OnErr result (filter_of entry ≡ None) }

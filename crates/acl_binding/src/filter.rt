@@ -33,7 +33,7 @@ pub struct Filter {
 }
 
 impl Filter {
-    /// The filter picks the binding.
+    /// Whether the filter picks the binding: each of its fields is `None` or matches.
     pub fn matches(&self, binding: &Binding) -> bool
         ensures { result ≡ matches self.now binding.now }
     {
@@ -45,6 +45,7 @@ impl Filter {
     }
 }
 
+/// Whether the wanted kind of resource is this one, or any.
 fn kind_fits(wanted: Option<Kind>, kind: Kind) -> bool
     ensures { result ≡ kind_fits wanted kind }
 {
@@ -54,6 +55,7 @@ fn kind_fits(wanted: Option<Kind>, kind: Kind) -> bool
     }
 }
 
+/// Whether the wanted text (a principal, a host or a name) is this one, or any.
 fn text_fits(wanted: &Option<Text>, own: &Text) -> bool
     ensures { result ≡ text_fits wanted.now own.now }
 {
@@ -63,6 +65,7 @@ fn text_fits(wanted: &Option<Text>, own: &Text) -> bool
     }
 }
 
+/// Whether the wanted operation is this one, or any.
 fn operation_fits(wanted: Option<Operation>, operation: Operation) -> bool
     ensures { result ≡ operation_fits wanted operation }
 {
@@ -72,6 +75,7 @@ fn operation_fits(wanted: Option<Operation>, operation: Operation) -> bool
     }
 }
 
+/// Whether the wanted permission is this one, or any.
 fn permission_fits(wanted: Option<Permission>, permission: Permission) -> bool
     ensures { result ≡ permission_fits wanted permission }
 {
@@ -81,6 +85,7 @@ fn permission_fits(wanted: Option<Permission>, permission: Permission) -> bool
     }
 }
 
+/// Whether the binding's pattern matches the resource of this name, or the name may be any (pattern type MATCH of KIP-290).
 fn covering_fits(name: &Option<Text>, binding: &Binding) -> bool
     ensures { result ≡ covering_fits name.now binding.now }
 {
@@ -90,6 +95,8 @@ fn covering_fits(name: &Option<Text>, binding: &Binding) -> bool
     }
 }
 
+/// Whether the binding's name and pattern type are those that the filter wants by its own (ANY, MATCH, LITERAL or PREFIXED
+/// of KIP-290).
 fn name_fits(pattern: FilterPattern, name: &Option<Text>, binding: &Binding) -> bool
     ensures { result ≡ name_fits pattern name.now binding.now }
 {

@@ -4,12 +4,13 @@ ghost use Rattle.acl_binding.specs.Laws.{SameIsEqual};
 ghost use Rattle.acl_binding.specs.Relations.{TestsAreRelations};
 ghost use Rattle.acl_binding.specs.Verdict.{VerdictIsDecided};
 
-/// Bindings are equal exactly where all seven fields are.
+/// Two bindings are equal exactly where all seven fields are.
 pub fn equal_bindings()
     ensures { SameIsEqual }
 {}
 
-/// Deny before allow: the first binding that denies is named; else one must allow.
+/// The verdict puts DENY before ALLOW: it names the first binding that denies; where none does, it is `Yes` exactly if one
+/// allows.
 pub fn verdict_is_decided()
     ensures { VerdictIsDecided }
 {}

@@ -33,7 +33,7 @@ pub(crate) const OPERATIONS: [Operation; 11] = [
 pub(crate) const PERMISSIONS: [Permission; 2] = [Permission::Deny, Permission::Allow];
 
 impl Kind {
-    /// The kind's name.
+    /// The kind's name, such as `TransactionalId`.
     pub fn name(self) -> &'static str
         ensures { result.now ≡ kind_name self }
     {
@@ -45,7 +45,7 @@ impl Kind {
         }
     }
 
-    /// The kind of a name, if it is one.
+    /// The kind that has this name, `None` if none has. Case matters.
     pub fn named(name: &str) -> Option<Kind>
         ensures { result ≡ kind_named name.now }
     {
@@ -53,6 +53,7 @@ impl Kind {
     }
 }
 
+/// The first of these kinds that has this name.
 fn first_kind(kinds: &[Kind], name: &str) -> Option<Kind>
     ensures { result ≡ find (λ k. bytes_eq (kind_name k) name.now) kinds.now }
 {
@@ -60,7 +61,7 @@ fn first_kind(kinds: &[Kind], name: &str) -> Option<Kind>
 }
 
 impl Pattern {
-    /// The pattern's name.
+    /// The pattern type's name, LITERAL or PREFIXED.
     pub fn name(self) -> &'static str
         ensures { result.now ≡ pattern_name self }
     {
@@ -70,7 +71,7 @@ impl Pattern {
         }
     }
 
-    /// The pattern of a name, if it is one.
+    /// The pattern type that has this name, `None` if none has. Case matters.
     pub fn named(name: &str) -> Option<Pattern>
         ensures { result ≡ pattern_named name.now }
     {
@@ -78,6 +79,7 @@ impl Pattern {
     }
 }
 
+/// The first of these pattern types that has this name.
 fn first_pattern(patterns: &[Pattern], name: &str) -> Option<Pattern>
     ensures { result ≡ find (λ p. bytes_eq (pattern_name p) name.now) patterns.now }
 {
@@ -88,7 +90,7 @@ fn first_pattern(patterns: &[Pattern], name: &str) -> Option<Pattern>
 }
 
 impl Operation {
-    /// The operation's name.
+    /// The operation's name, such as `DESCRIBE_CONFIGS`.
     pub fn name(self) -> &'static str
         ensures { result.now ≡ operation_name self }
     {
@@ -107,7 +109,7 @@ impl Operation {
         }
     }
 
-    /// The operation of a name, if it is one.
+    /// The operation that has this name, `None` if none has. Case matters.
     pub fn named(name: &str) -> Option<Operation>
         ensures { result ≡ operation_named name.now }
     {
@@ -115,6 +117,7 @@ impl Operation {
     }
 }
 
+/// The first of these operations that has this name.
 fn first_operation(operations: &[Operation], name: &str) -> Option<Operation>
     ensures { result ≡ find (λ op. bytes_eq (operation_name op) name.now) operations.now }
 {
@@ -122,7 +125,7 @@ fn first_operation(operations: &[Operation], name: &str) -> Option<Operation>
 }
 
 impl Permission {
-    /// The permission's name.
+    /// The permission's name, DENY or ALLOW.
     pub fn name(self) -> &'static str
         ensures { result.now ≡ permission_name self }
     {
@@ -132,7 +135,7 @@ impl Permission {
         }
     }
 
-    /// The permission of a name, if it is one.
+    /// The permission that has this name, `None` if none has. Case matters.
     pub fn named(name: &str) -> Option<Permission>
         ensures { result ≡ permission_named name.now }
     {
@@ -140,6 +143,7 @@ impl Permission {
     }
 }
 
+/// The first of these permissions that has this name.
 fn first_permission(permissions: &[Permission], name: &str) -> Option<Permission>
     ensures { result ≡ find (λ p. bytes_eq (permission_name p) name.now) permissions.now }
 {

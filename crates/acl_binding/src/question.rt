@@ -36,7 +36,7 @@ pub enum Verdict {
 }
 
 impl Caller {
-    /// May the caller do this with the resource of this name?
+    /// The question whether the caller may do this operation on the resource of this kind and name.
     pub fn asks(&self, op: Operation, kind: Kind, name: &Text) -> Result<Question, AllocError>
         ensures { IfOk result (λ question. question ≡ question_of self.now op kind name.now) }
     {
@@ -49,7 +49,7 @@ impl Caller {
         })
     }
 
-    /// The same for a resource that may be left unnamed: then nothing is asked.
+    /// The same question about a resource whose name may be missing: `None` where it is, since then nothing is asked.
     pub fn asks_given(
         &self,
         op: Operation,

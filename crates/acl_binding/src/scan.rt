@@ -11,7 +11,7 @@ use crate::question::Question;
 use std::alloc::{AllocError, Global};
 use wire_types::{Items, Shared};
 
-/// The creation number of the binding that is equal to this one.
+/// The creation number of the binding that is equal to this one, `None` if there is none.
 pub fn number_of(entries: &[Shared<Numbered>], binding: &Binding) -> Option<u64>
     ensures { result ≡ number_of entries.now binding.now }
 {
@@ -24,7 +24,8 @@ pub fn number_of(entries: &[Shared<Numbered>], binding: &Binding) -> Option<u64>
     None
 }
 
-/// The creation number of the first binding that denies: where numbers rise, the least of them.
+/// The creation number of the first binding that denies what is asked, `None` if none does. The entries stand by rising
+/// numbers, so it is the least.
 pub fn first_denial(entries: &[Shared<Numbered>], question: &Question) -> Option<u64>
     requires { IsRising 1 entries.now }
     ensures { result ≡ least_of (denials entries.now question.now) }
@@ -38,7 +39,7 @@ pub fn first_denial(entries: &[Shared<Numbered>], question: &Question) -> Option
     None
 }
 
-/// Some binding allows.
+/// Whether some binding allows what is asked.
 pub fn any_grant(entries: &[Shared<Numbered>], question: &Question) -> bool
     ensures { result ≡ any_grant entries.now question.now }
 {
@@ -47,7 +48,7 @@ pub fn any_grant(entries: &[Shared<Numbered>], question: &Question) -> bool
         .any(|entry| entry.value().binding.is_grant(question))
 }
 
-/// Copies of the bindings that the filter picks.
+/// Copies of the bindings that match the filter, in creation order.
 pub fn matching(
     alloc: Global,
     entries: &[Shared<Numbered>],

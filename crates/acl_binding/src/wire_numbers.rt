@@ -17,7 +17,7 @@ const FILTER_PATTERNS: [FilterPattern; 4] = [
 ];
 
 impl Kind {
-    /// The kind's number.
+    /// The number that the protocol gives the kind (`ResourceType`).
     #[tactic(auto, unfolding(crate::specs::WireNumbers::kind_code))]
     pub fn number(self) -> i8
         ensures { result ≡ kind_code self }
@@ -25,7 +25,7 @@ impl Kind {
         self as i8
     }
 
-    /// The kind of a number, if it is one.
+    /// The kind that the protocol gives this number, `None` if it is unknown.
     #[tactic(auto, unfolding(crate::specs::WireNumbers::kind_at))]
     pub fn of_number(number: i8) -> Option<Kind>
         ensures { result ≡ kind_at number }
@@ -34,6 +34,7 @@ impl Kind {
     }
 }
 
+/// The first of these kinds that has this number.
 fn kind_among(kinds: &[Kind], number: i8) -> Option<Kind>
     ensures { result ≡ find (λ k. int_eq (kind_code k) number) kinds.now }
 {
@@ -41,7 +42,7 @@ fn kind_among(kinds: &[Kind], number: i8) -> Option<Kind>
 }
 
 impl Pattern {
-    /// The pattern's number.
+    /// The number that the protocol gives the pattern type (`PatternType`).
     #[tactic(auto, unfolding(crate::specs::WireNumbers::pattern_code))]
     pub fn number(self) -> i8
         ensures { result ≡ pattern_code self }
@@ -49,7 +50,7 @@ impl Pattern {
         self as i8
     }
 
-    /// The pattern of a number, if it is one.
+    /// The pattern type that the protocol gives this number. `None` if it is unknown or only for filters.
     #[tactic(auto, unfolding(crate::specs::WireNumbers::pattern_at))]
     pub fn of_number(number: i8) -> Option<Pattern>
         ensures { result ≡ pattern_at number }
@@ -58,6 +59,7 @@ impl Pattern {
     }
 }
 
+/// The first of these pattern types that has this number.
 fn pattern_among(patterns: &[Pattern], number: i8) -> Option<Pattern>
     ensures { result ≡ find (λ p. int_eq (pattern_code p) number) patterns.now }
 {
@@ -68,7 +70,7 @@ fn pattern_among(patterns: &[Pattern], number: i8) -> Option<Pattern>
 }
 
 impl Operation {
-    /// The operation's number.
+    /// The number that the protocol gives the operation (`AclOperation`).
     #[tactic(auto, unfolding(crate::specs::WireNumbers::operation_code))]
     pub fn number(self) -> i8
         ensures { result ≡ operation_code self }
@@ -76,7 +78,7 @@ impl Operation {
         self as i8
     }
 
-    /// The operation of a number, if it is one.
+    /// The operation that the protocol gives this number, `None` if it is unknown.
     #[tactic(auto, unfolding(crate::specs::WireNumbers::operation_at))]
     pub fn of_number(number: i8) -> Option<Operation>
         ensures { result ≡ operation_at number }
@@ -85,6 +87,7 @@ impl Operation {
     }
 }
 
+/// The first of these operations that has this number.
 fn operation_among(operations: &[Operation], number: i8) -> Option<Operation>
     ensures { result ≡ find (λ op. int_eq (operation_code op) number) operations.now }
 {
@@ -92,7 +95,7 @@ fn operation_among(operations: &[Operation], number: i8) -> Option<Operation>
 }
 
 impl Permission {
-    /// The permission's number.
+    /// The number that the protocol gives the permission (`AclPermissionType`).
     #[tactic(auto, unfolding(crate::specs::WireNumbers::permission_code))]
     pub fn number(self) -> i8
         ensures { result ≡ permission_code self }
@@ -100,7 +103,7 @@ impl Permission {
         self as i8
     }
 
-    /// The permission of a number, if it is one.
+    /// The permission that the protocol gives this number, `None` if it is unknown.
     #[tactic(auto, unfolding(crate::specs::WireNumbers::permission_at))]
     pub fn of_number(number: i8) -> Option<Permission>
         ensures { result ≡ permission_at number }
@@ -109,6 +112,7 @@ impl Permission {
     }
 }
 
+/// The first of these permissions that has this number.
 fn permission_among(permissions: &[Permission], number: i8) -> Option<Permission>
     ensures { result ≡ find (λ p. int_eq (permission_code p) number) permissions.now }
 {
@@ -119,6 +123,7 @@ fn permission_among(permissions: &[Permission], number: i8) -> Option<Permission
 }
 
 impl FilterPattern {
+    /// The number that the protocol gives a filter's pattern type (`PatternType`).
     #[tactic(auto, unfolding(crate::specs::WireNumbers::filter_pattern_code))]
     fn number(self) -> i8
         ensures { result ≡ filter_pattern_code self }
@@ -126,7 +131,7 @@ impl FilterPattern {
         self as i8
     }
 
-    /// The filter's pattern of a number, if it is one.
+    /// The pattern type of a filter that the protocol gives this number, `None` if it is unknown.
     #[tactic(auto, unfolding(crate::specs::WireNumbers::filter_pattern_at))]
     pub fn of_number(number: i8) -> Option<FilterPattern>
         ensures { result ≡ filter_pattern_at number }
@@ -135,6 +140,7 @@ impl FilterPattern {
     }
 }
 
+/// The first of these pattern types of filters that has this number.
 fn filter_pattern_among(patterns: &[FilterPattern], number: i8) -> Option<FilterPattern>
     ensures { result ≡ find (λ p. int_eq (filter_pattern_code p) number) patterns.now }
 {

@@ -50,7 +50,8 @@ pub enum Permission {
 const ANY: &str = "*";
 
 impl Pattern {
-    /// A pattern's own name takes in the name of a resource.
+    /// Whether a resource pattern of this type with the name `own` matches the resource `name`. The literal `*` matches
+    /// every name.
     pub fn covers(self, own: &Text, name: &Text) -> bool
         ensures { result ≡ name_covers self own.now name.now }
     {
@@ -62,7 +63,8 @@ impl Pattern {
 }
 
 impl Operation {
-    /// Whoever is allowed this operation is allowed the other.
+    /// Whether an ALLOW of this operation allows the other one too: its own, DESCRIBE by READ, WRITE, DELETE or ALTER,
+    /// DESCRIBE_CONFIGS by ALTER_CONFIGS, and any by ALL.
     pub fn implies(self, other: Operation) -> bool
         ensures { result ≡ implies self other }
     {

@@ -16,6 +16,7 @@ use std::alloc::{AllocError, Global};
 use walk::refusal_code;
 use wire_types::{ErrorCode, Items};
 
+/// An entry's answer with this error code, NONE if its binding was created.
 fn created_with(error: ErrorCode) -> CreatedAcl
     ensures { result ≡ creation_result_with error }
 {
@@ -25,6 +26,7 @@ fn created_with(error: ErrorCode) -> CreatedAcl
     }
 }
 
+/// The CreateAcls reply with these answers.
 fn create_acls_reply(results: Items<CreatedAcl>) -> Reply
     ensures { result ≡ Reply.CreateAcls (create_acls_reply results) }
 {
@@ -34,7 +36,8 @@ fn create_acls_reply(results: Items<CreatedAcl>) -> Reply
     })
 }
 
-/// Adds the binding that an entry is, if it is one.
+/// Adds the binding that an entry describes, or answers INVALID_REQUEST if it describes none that may be created. One that
+/// is there already is answered NONE too.
 fn create(
     alloc: Global,
     policy: &mut Policy,
@@ -56,7 +59,8 @@ fn create(
     }
 }
 
-/// Adds the bindings of the entries, one after the other.
+/// Adds the bindings of the entries in order, and gives an answer for each. After an allocation failure some may have been
+/// added.
 fn create_all(
     alloc: Global,
     policy: &mut Policy,
@@ -74,7 +78,7 @@ fn create_all(
     Ok(results)
 }
 
-/// The code of the refusal for each entry.
+/// The reply where nothing is created since the request was refused: the refusal's code for each entry.
 fn created_none(
     alloc: Global,
     refusal: &Refusal,
@@ -94,7 +98,8 @@ fn created_none(
     Ok(create_acls_reply(results))
 }
 
-/// What a CreateAcls does and is answered.
+/// Handles a CreateAcls: adds the bindings if the caller may ALTER the cluster, else answers CLUSTER_AUTHORIZATION_FAILED
+/// for each.
 pub fn answer_create_acls(
     alloc: Global,
     state: &mut State,

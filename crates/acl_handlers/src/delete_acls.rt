@@ -20,7 +20,7 @@ use std::alloc::{AllocError, Global};
 use walk::refusal_code;
 use wire_types::{ErrorCode, Items};
 
-/// The binding as it stands in a message.
+/// A deleted binding as the reply lists it, with error code NONE.
 fn deleted_acl(binding: &Binding) -> Result<DeletedAcl, AllocError>
     ensures { IfOk result (λ acl. acl ≡ deleted_acl binding.now) }
 {
@@ -39,6 +39,7 @@ fn deleted_acl(binding: &Binding) -> Result<DeletedAcl, AllocError>
     })
 }
 
+/// A filter's answer with this error code, and no bindings.
 fn deleted_error(alloc: Global, error: ErrorCode) -> DeletedAcls
     ensures { result ≡ deletion_error error }
 {
@@ -49,6 +50,7 @@ fn deleted_error(alloc: Global, error: ErrorCode) -> DeletedAcls
     }
 }
 
+/// The DeleteAcls reply with these answers.
 fn delete_acls_reply(results: Items<DeletedAcls>) -> Reply
     ensures { result ≡ Reply.DeleteAcls (delete_acls_reply results) }
 {
@@ -58,7 +60,7 @@ fn delete_acls_reply(results: Items<DeletedAcls>) -> Reply
     })
 }
 
-/// The bindings as they stand in a message.
+/// The deleted bindings as the reply lists them.
 fn deleted_acls(alloc: Global, bindings: &[Binding]) -> Result<Items<DeletedAcl>, AllocError>
     ensures { IfOk result (λ matches. matches ≡ map deleted_acl bindings.now) }
 {
@@ -69,7 +71,7 @@ fn deleted_acls(alloc: Global, bindings: &[Binding]) -> Result<Items<DeletedAcl>
     Ok(matches)
 }
 
-/// Takes out what the filter of an entry picks, if it is one.
+/// Removes the bindings that match an entry's filter and lists them, or answers INVALID_REQUEST if the entry is no filter.
 fn delete(
     alloc: Global,
     policy: &mut Policy,
@@ -93,7 +95,8 @@ fn delete(
     })
 }
 
-/// Takes out what the filters pick, one after the other.
+/// Removes what the entries' filters match, in order, and gives an answer for each. After an allocation failure some may
+/// have been removed.
 fn delete_all(
     alloc: Global,
     policy: &mut Policy,
@@ -112,7 +115,7 @@ fn delete_all(
     Ok(results)
 }
 
-/// The code of the refusal for each filter.
+/// The reply where nothing is deleted since the request was refused: the refusal's code for each filter.
 fn deleted_none(
     alloc: Global,
     refusal: &Refusal,
@@ -131,7 +134,8 @@ fn deleted_none(
     Ok(delete_acls_reply(results))
 }
 
-/// What a DeleteAcls does and is answered.
+/// Handles a DeleteAcls: removes the bindings that match the filters if the caller may ALTER the cluster, else answers
+/// CLUSTER_AUTHORIZATION_FAILED for each filter.
 pub fn answer_delete_acls(
     alloc: Global,
     state: &mut State,

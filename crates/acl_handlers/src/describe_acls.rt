@@ -22,6 +22,7 @@ use std::hash::RandomState;
 use walk::refusal_code;
 use wire_types::{Boxed, ErrorCode, Items};
 
+/// A binding as the reply lists it under its resource pattern.
 fn described_acl(binding: &Binding) -> Result<DescribedAcl, AllocError>
     ensures { IfOk result (λ acl. acl ≡ described_acl binding.now) }
 {
@@ -33,7 +34,7 @@ fn described_acl(binding: &Binding) -> Result<DescribedAcl, AllocError>
     })
 }
 
-/// The resource of a binding, with that binding alone.
+/// The resource pattern of a binding as the reply lists it, with that binding alone so far.
 fn begun(alloc: Global, binding: &Binding) -> Result<DescribedResource, AllocError>
     ensures { IfOk result (λ resource. resource ≡ resource_with binding.now) }
 {
@@ -47,7 +48,7 @@ fn begun(alloc: Global, binding: &Binding) -> Result<DescribedResource, AllocErr
     })
 }
 
-/// One more binding: it is the last one of its resource, or begins it.
+/// Adds a binding to the list of its resource pattern, which is begun if there is none yet.
 fn enter(
     alloc: Global,
     groups: &mut IndexMap<Resource, DescribedResource, RandomState>,
@@ -67,7 +68,8 @@ fn enter(
     Ok(())
 }
 
-/// The resources in the order of the first binding of each.
+/// The bindings as the reply lists them: by resource pattern, in the order of the first binding of each. `hasher` hashes the
+/// patterns; the answer doesn't depend on it.
 fn described(
     alloc: Global,
     bindings: &[Binding],
@@ -83,6 +85,7 @@ fn described(
     Ok(Items::from(resources))
 }
 
+/// The DescribeAcls reply with this error code, and no bindings.
 fn describe_acls_error(alloc: Global, error: ErrorCode) -> DescribeAclsReply
     ensures { result ≡ describe_acls_error error }
 {
@@ -94,7 +97,8 @@ fn describe_acls_error(alloc: Global, error: ErrorCode) -> DescribeAclsReply
     }
 }
 
-/// What a DescribeAcls is answered.
+/// Handles a DescribeAcls: lists the bindings that match the filter if the caller may DESCRIBE the cluster, else answers
+/// CLUSTER_AUTHORIZATION_FAILED.
 pub fn answer_describe_acls(
     alloc: Global,
     state: &State,
@@ -122,7 +126,8 @@ pub fn answer_describe_acls(
     }
 }
 
-/// The answer, permission aside.
+/// The reply to a DescribeAcls, permission aside: the bindings that match the filter, or INVALID_REQUEST if the entry is no
+/// filter.
 fn described_by(
     alloc: Global,
     state: &State,

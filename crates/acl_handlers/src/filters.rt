@@ -7,6 +7,7 @@ use acl_binding::{BadEntry, Filter};
 use msg_acl::FilterEntry;
 use std::alloc::AllocError;
 
+/// A copy of the entry. An `AllocError` is an allocation failure.
 fn copied(entry: &FilterEntry) -> Result<FilterEntry, AllocError>
     ensures { IfOk result (λ copy. copy ≡ entry.now) }
 {
@@ -21,7 +22,8 @@ fn copied(entry: &FilterEntry) -> Result<FilterEntry, AllocError>
     })
 }
 
-/// The filter that an entry of a message is, if it is one.
+/// The filter that an entry of a message describes, `None` if one of its numbers is unknown. An `AllocError` is an
+/// allocation failure.
 pub(crate) fn filter_in(entry: &FilterEntry) -> Result<Option<Filter>, AllocError>
     ensures { IfOk result (λ filter. filter ≡ filter_of entry.now) }
 {

@@ -11,7 +11,7 @@ use std::alloc::AllocError;
 use std::hash::{Hash, Hasher};
 use wire_types::Text;
 
-/// What a binding is about, its kind and its pattern by their numbers: bindings of equal resources are about one.
+/// A resource pattern (KIP-290) as a key of a table: kind and pattern type by the protocol's numbers, and the name.
 #[derive(Drop, PartialEq, Eq)]
 pub struct Resource {
     kind: i8,
@@ -25,6 +25,7 @@ impl Hash for Resource {
 
     ghost respects_eq = { Prim.search (hashing, rules) };
 
+    /// Hashes kind, pattern type and name.
     fn hash<H: Hasher>(&self, state: &mut H) {
         self.kind.hash(state);
         self.pattern.hash(state);
@@ -33,7 +34,7 @@ impl Hash for Resource {
 }
 
 impl Resource {
-    /// What the binding is about.
+    /// The resource pattern of a binding.
     pub(crate) fn of(binding: &Binding) -> Result<Resource, AllocError>
         ensures { IfOk result (λ resource. resource ≡ resource_of binding.now) }
     {

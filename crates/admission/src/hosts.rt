@@ -35,7 +35,7 @@ impl Drop for Hosts {
 }
 
 impl Hosts {
-    /// No host has a connection, and none may have more than so many. It takes no memory.
+    /// No host has a connection yet, and each may have `most` at once. Nothing is allocated.
     pub fn new(alloc: Global, most: u64) -> Hosts
         ensures most { result.most ≡ most }
         ensures none { (host : List ℕ) → connections result host ≡ 0 }
@@ -46,7 +46,7 @@ impl Hosts {
         }
     }
 
-    /// How many connections a host has.
+    /// How many connections a host has now; 0 for a host that isn't known.
     pub fn connections(&self, host: &Text) -> u64
         ensures is { result ≡ connections self.now host.now }
         ensures within { result ≤ self.now.most }
@@ -57,7 +57,8 @@ impl Hosts {
         }
     }
 
-    /// A host gets one connection more; false where it has as many as it may.
+    /// Counts one connection more of a host, and gives true; false, and no change, where the host has as many as it may. After an
+    /// allocation failure nothing has changed.
     pub fn enter(&mut self, alloc: Global, host: &Text) -> Result<bool, AllocError>
         ensures room { IfOk result
             (λ entered. IsTrue entered ↔ (connections self.old host.now < self.old.most)) }
@@ -73,7 +74,7 @@ impl Hosts {
         Ok(true)
     }
 
-    /// A host has one connection less. One that has none stays as it is.
+    /// Counts one connection less of a host; one that has none stays as it is.
     pub fn leave(&mut self, host: &Text)
         ensures left { 0 < connections self.old host.now → HasOneMore self.new self.old host.now }
         ensures none { connections self.old host.now ≡ 0 → self.new ≡ self.old }

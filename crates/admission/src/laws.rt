@@ -2,8 +2,8 @@
 
 ghost use Rattle.admission.specs.PaceLaws.{RateIsKept};
 
-/// Who is read on only once it has been waited for as long as [`Pace::charge`](crate::Pace::charge) tells sends no more than its rate:
-/// in each stretch from its first request on, what it sent before the next one costs no more than the time that passed, and a second.
+/// At each moment at which [`Pace::charge`](crate::Pace::charge) lets a user go on, its requests so far cost no more than the
+/// time since the first of them, and a second: so it sends no more than its rate.
 pub fn rate_is_kept()
     ensures { RateIsKept }
 {}

@@ -8,8 +8,8 @@ use std::alloc::{AllocError, Global};
 use std::marker::Model;
 use wire_types::Text;
 
-/// So many requests, and so many bytes of them, each user may send in a second; any number where there is none. A rate of 0 is one
-/// of 1.
+/// How many requests, and how many bytes of them, each user may send in a second; any number where it is `None`. A rate of 0
+/// counts as one of 1.
 #[derive(Clone, Copy, Debug, PartialEq, Eq)]
 pub struct Rate {
     pub requests: Option<u64>,
@@ -19,7 +19,7 @@ pub struct Rate {
 /// The nanoseconds of a second.
 const SECOND: u64 = 1_000_000_000;
 
-/// What so many things cost, in nanoseconds.
+/// How long so many things take at this rate a second, in nanoseconds, rounded down; nothing without a rate.
 fn cost(rate: Option<u64>, things: u64) -> u64
     ensures { result ≡ cost rate things }
 {
@@ -30,7 +30,7 @@ fn cost(rate: Option<u64>, things: u64) -> u64
     u64::try_from(nanoseconds).unwrap_or(u64::MAX)
 }
 
-/// For how many nanoseconds a user waits at a moment that has paid until another one.
+/// How many nanoseconds a user must wait at `now` who has paid until `paid`: as long as that lies more than a second ahead.
 fn wait(paid: u64, now: u64) -> u64
     ensures { result ≡ wait paid now }
 {
@@ -44,21 +44,23 @@ impl Rate {
         bytes: None,
     };
 
-    /// Whether any number of requests may be sent, of any number of bytes.
+    /// Whether there is no limit, neither to requests nor to bytes.
     pub fn is_any(&self) -> bool
         ensures { result ≡ is_any self.now }
     {
         self.requests.is_none() && self.bytes.is_none()
     }
 
-    /// What a request of so many bytes costs, in nanoseconds.
+    /// What a request of so many bytes costs, in nanoseconds: what it takes by the requests' rate or by the bytes', whichever is
+    /// more.
     fn price(&self, bytes: u64) -> u64
         ensures { result ≡ price self.now bytes }
     {
         cost(self.requests, 1).max(cost(self.bytes, bytes))
     }
 
-    /// Until when a user has paid that asks with so many bytes at a moment, and had paid until another one.
+    /// Until when a user has paid once it has sent a request of so many bytes at `now`, and had paid until `paid` before: the
+    /// request's price counts from the later of the two.
     fn paid_after(&self, paid: u64, now: u64, bytes: u64) -> u64
         ensures { result ≡ paid_after self.now paid now bytes }
     {
@@ -91,7 +93,7 @@ impl Drop for Pace {
 }
 
 impl Pace {
-    /// Nobody has asked. It takes no memory.
+    /// A pace of this rate, by which nobody has asked yet. Nothing is allocated.
     pub fn new(alloc: Global, rate: Rate) -> Pace
         ensures rate { result.rate ≡ rate }
         ensures none { (user : List ℕ) → paid_until result user ≡ 0 }
@@ -102,7 +104,7 @@ impl Pace {
         }
     }
 
-    /// Until when a user has paid.
+    /// Until when a user has paid, in nanoseconds; 0 for one that hasn't asked.
     fn paid(&self, user: &Text) -> u64
         ensures { result ≡ paid_until self.now user.now }
     {
@@ -112,8 +114,8 @@ impl Pace {
         }
     }
 
-    /// A user has sent a request of so many bytes, at a moment in nanoseconds: for how many nanoseconds it is to wait before the
-    /// next one. After an error everything is as it was.
+    /// Charges a user for a request of so many bytes, sent at `now` in nanoseconds: gives for how many nanoseconds its session
+    /// waits before it reads the next one. After an allocation failure nothing has changed.
     pub fn charge(
         &mut self,
         alloc: Global,

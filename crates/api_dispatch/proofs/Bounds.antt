@@ -55,7 +55,7 @@ use Rattle.txn_handlers.specs.AddOffsets.{add_offsets_questions}
 use Rattle.txn_handlers.specs.AddPartitions.{cut_rule, is_cut, cut_outcome, added_outcome}
 use Rattle.broker_world.specs.Markers.{marker_batch}
 use Rattle.txn_handlers.specs.Marks.{topics_with_marker_at, mark_by}
-use Rattle.broker_world.proofs.LogRoom.{marked_within}
+use Rattle.broker_world.proofs.OffsetsLeft.{marked_within}
 use Rattle.group_handlers.specs.OffsetCommit.{committing_rule}
 use Rattle.txn_handlers.specs.TxnOffsetCommit.{staging_rule}
 use Rattle.msg_txn.specs.declared.txn_offset_commit.TxnOffsetCommitRequest.{TxnOffsetCommitRequest}
@@ -350,34 +350,34 @@ same_ends : {us vs : List TopicValue} → us ≡ vs → most_end us ≤ most_end
 same_ends {us} {vs} same = subst (λ (ts : List TopicValue). most_end ts ≤ most_end vs + most_parts) (sym same) (omega arith)
 
 pub ends_outcome : (w : World) (e : Event) → EventFits e → most_parts + most_end w.topics < 9223372036854775807 → most_end (outcome w e).world.topics ≤ most_end w.topics + most_parts
-ends_outcome w (Ask caller client (Produce r)) fits room =
+ends_outcome w (Ask caller client (Produce r)) fits budget =
     let after : List TopicValue = world_after (producing_rule w caller r) (rules_of w) w.topics r.topics in
     let taken : offsets_left w.topics ≤ topics_weight (producing_rule w caller r) r.topics + offsets_left after = walk_takes (producing_rule w caller r) (rules_of w) w.topics r.topics in
     let few : topics_weight (producing_rule w caller r) r.topics ≤ most_parts = produce_weight w caller r fits in
-    let ends : most_end after ≤ most_end w.topics + most_parts = omega (arith, room, few, taken) in
+    let ends : most_end after ≤ most_end w.topics + most_parts = omega (arith, budget, few, taken) in
     ends
-ends_outcome w (Ask caller client (Fetch r)) fits room = omega arith
-ends_outcome w (Ask caller client (ListOffsets r)) fits room = omega arith
-ends_outcome w (Ask caller client (Metadata r)) fits room = omega arith
-ends_outcome w (Ask caller client (OffsetCommit r)) fits room = omega arith
-ends_outcome w (Ask caller client (OffsetFetch r)) fits room = same_ends (ap (λ (v : World). v.topics) (offsets_keep w caller r))
-ends_outcome w (Ask caller client (JoinGroup r)) fits room = same_ends (whole_topics (part_refusal (rules_of w) (read_question caller r.group ∷ [])) w _ _ refl)
-ends_outcome w (Ask caller client (Heartbeat r)) fits room = same_ends (whole_topics (part_refusal (rules_of w) (read_question caller r.group ∷ [])) w _ _ refl)
-ends_outcome w (Ask caller client (LeaveGroup r)) fits room = same_ends (whole_topics (part_refusal (rules_of w) (read_question caller r.group ∷ [])) w _ _ refl)
-ends_outcome w (Ask caller client (SyncGroup r)) fits room = same_ends (whole_topics (part_refusal (rules_of w) (read_question caller r.group ∷ [])) w _ _ refl)
-ends_outcome w (Ask caller client (FindCoordinator r)) fits room = same_ends (whole_topics (part_refusal (rules_of w) (find_questions caller (kind_of r.key_type) r.key)) w _ _ refl)
-ends_outcome w (Ask caller client (InitProducerId r)) fits room = same_ends (whole_topics (part_refusal (rules_of w) (init_questions (rules_of w) caller r.transactional_id)) w _ _ refl)
-ends_outcome w (Ask caller client (AddPartitionsToTxn r)) fits room = same_ends (add_keeps (λ v. v.topics) (λ v c. refl) w caller r)
-ends_outcome w (Ask caller client (AddOffsetsToTxn r)) fits room = same_ends (whole_topics (part_refusal (rules_of w) (add_offsets_questions caller r.transactional_id r.group)) w _ _ refl)
-ends_outcome w (Ask caller client (EndTxn r)) fits room = same_ends (whole_topics (part_refusal (rules_of w) (end_questions caller r)) w _ _ refl)
-ends_outcome w (Ask caller client (TxnOffsetCommit r)) fits room = omega arith
-ends_outcome w (Ask caller client (SaslHandshake r)) fits room = omega arith
-ends_outcome w (Ask caller client ApiVersions) fits room = omega arith
-ends_outcome w (Ask caller client (SaslAuthenticate r)) fits room = omega arith
-ends_outcome w (Ask caller client (DescribeAcls r)) fits room = same_ends (whole_topics (part_refusal (rules_of w) (describe_acls_questions caller)) w _ _ refl)
-ends_outcome w (Ask caller client (CreateAcls r)) fits room = same_ends (whole_topics (part_refusal (rules_of w) (alter_questions caller)) w _ _ refl)
-ends_outcome w (Ask caller client (DeleteAcls r)) fits room = same_ends (whole_topics (part_refusal (rules_of w) (alter_questions caller)) w _ _ refl)
-ends_outcome w Mark fits room = by_front (next_warrant w.coordinator) where
+ends_outcome w (Ask caller client (Fetch r)) fits budget = omega arith
+ends_outcome w (Ask caller client (ListOffsets r)) fits budget = omega arith
+ends_outcome w (Ask caller client (Metadata r)) fits budget = omega arith
+ends_outcome w (Ask caller client (OffsetCommit r)) fits budget = omega arith
+ends_outcome w (Ask caller client (OffsetFetch r)) fits budget = same_ends (ap (λ (v : World). v.topics) (offsets_keep w caller r))
+ends_outcome w (Ask caller client (JoinGroup r)) fits budget = same_ends (whole_topics (part_refusal (rules_of w) (read_question caller r.group ∷ [])) w _ _ refl)
+ends_outcome w (Ask caller client (Heartbeat r)) fits budget = same_ends (whole_topics (part_refusal (rules_of w) (read_question caller r.group ∷ [])) w _ _ refl)
+ends_outcome w (Ask caller client (LeaveGroup r)) fits budget = same_ends (whole_topics (part_refusal (rules_of w) (read_question caller r.group ∷ [])) w _ _ refl)
+ends_outcome w (Ask caller client (SyncGroup r)) fits budget = same_ends (whole_topics (part_refusal (rules_of w) (read_question caller r.group ∷ [])) w _ _ refl)
+ends_outcome w (Ask caller client (FindCoordinator r)) fits budget = same_ends (whole_topics (part_refusal (rules_of w) (find_questions caller (kind_of r.key_type) r.key)) w _ _ refl)
+ends_outcome w (Ask caller client (InitProducerId r)) fits budget = same_ends (whole_topics (part_refusal (rules_of w) (init_questions (rules_of w) caller r.transactional_id)) w _ _ refl)
+ends_outcome w (Ask caller client (AddPartitionsToTxn r)) fits budget = same_ends (add_keeps (λ v. v.topics) (λ v c. refl) w caller r)
+ends_outcome w (Ask caller client (AddOffsetsToTxn r)) fits budget = same_ends (whole_topics (part_refusal (rules_of w) (add_offsets_questions caller r.transactional_id r.group)) w _ _ refl)
+ends_outcome w (Ask caller client (EndTxn r)) fits budget = same_ends (whole_topics (part_refusal (rules_of w) (end_questions caller r)) w _ _ refl)
+ends_outcome w (Ask caller client (TxnOffsetCommit r)) fits budget = omega arith
+ends_outcome w (Ask caller client (SaslHandshake r)) fits budget = omega arith
+ends_outcome w (Ask caller client ApiVersions) fits budget = omega arith
+ends_outcome w (Ask caller client (SaslAuthenticate r)) fits budget = omega arith
+ends_outcome w (Ask caller client (DescribeAcls r)) fits budget = same_ends (whole_topics (part_refusal (rules_of w) (describe_acls_questions caller)) w _ _ refl)
+ends_outcome w (Ask caller client (CreateAcls r)) fits budget = same_ends (whole_topics (part_refusal (rules_of w) (alter_questions caller)) w _ _ refl)
+ends_outcome w (Ask caller client (DeleteAcls r)) fits budget = same_ends (whole_topics (part_refusal (rules_of w) (alter_questions caller)) w _ _ refl)
+ends_outcome w Mark fits budget = by_front (next_warrant w.coordinator) where
   by_target : (m : PendingMarker) (t : Target) → most_end (topics_with_marker_at w.topics t (marker_batch m w.moment)) ≤ most_end w.topics + 1
   by_target m (Partition p) = marked_within w.topics p.topic p.index m w.moment
   by_target m (Group g) = omega arith
@@ -385,7 +385,7 @@ ends_outcome w Mark fits room = by_front (next_warrant w.coordinator) where
   by_front : (o : Option PendingMarker) → most_end (mark_by w o).world.topics ≤ most_end w.topics + most_parts
   by_front None = omega arith
   by_front (Some m) = omega (arith, by_target m m.target)
-ends_outcome w (Tick told) fits room = omega arith
+ends_outcome w (Tick told) fits budget = omega arith
 
 -- ---- creation numbers
 

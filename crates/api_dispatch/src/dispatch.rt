@@ -29,10 +29,12 @@ use txn_handlers::{
     answer_mark, answer_txn_offset_commit,
 };
 
-/// What an event does and is answered. It isn't counted yet.
+/// Handles an event: changes the world, and gives reply, refusals and what was spent. The number of events isn't raised yet
+/// (see `count`). After an allocation failure the world is as it was if the event only reads, and else may be changed in
+/// part.
 pub fn apply(alloc: Global, state: &mut State, event: &Event) -> Result<HandlerResult, AllocError>
     requires fits { EventFits event.now }
-    requires room { most_parts ≤ offsets_left state.old.topics }
+    requires budget { most_parts ≤ offsets_left state.old.topics }
     requires numbers { state.old.book.next + most_parts < 2 ^ 63 }
     requires generations { GenerationsWithin most_events state.old.groups }
     ensures world { OnOk result (state.new ≡ (outcome state.old event.now).world) }
@@ -55,7 +57,7 @@ pub fn apply(alloc: Global, state: &mut State, event: &Event) -> Result<HandlerR
     }
 }
 
-/// What a request does and is answered.
+/// Hands a request to the handler of its api.
 fn answer(
     alloc: Global,
     state: &mut State,
@@ -63,7 +65,7 @@ fn answer(
     request: &Request,
 ) -> Result<HandlerResult, AllocError>
     requires fits { Fits request.now }
-    requires room { most_parts ≤ offsets_left state.old.topics }
+    requires budget { most_parts ≤ offsets_left state.old.topics }
     requires numbers { state.old.book.next + most_parts < 2 ^ 63 }
     requires generations { GenerationsWithin most_events state.old.groups }
     ensures meets { HandlerMeets state.old state.new
@@ -118,7 +120,7 @@ fn answer(
     }
 }
 
-/// Counts an event.
+/// Raises the number of events that the broker has answered by one.
 pub fn count(state: &mut State)
     requires { state.old.events + 1 < 2 ^ 64 }
     ensures { state.new ≡ with_event_counted state.old }

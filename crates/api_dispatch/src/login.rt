@@ -12,7 +12,7 @@ use msg_login::{SaslAuthenticateReply, SaslHandshakeReply};
 use std::alloc::{AllocError, Global};
 use wire_types::{Boxed, ErrorCode};
 
-/// What an ApiVersions is answered.
+/// Handles an ApiVersions: the apis that are served, with their versions. It needs no permission.
 pub(crate) fn answer_api_versions(alloc: Global) -> Result<HandlerResult, AllocError>
     ensures { IfOk result
         (λ o. o ≡ record {
@@ -26,7 +26,7 @@ pub(crate) fn answer_api_versions(alloc: Global) -> Result<HandlerResult, AllocE
     Ok(served_whole(alloc, reply, Paid::nothing()))
 }
 
-/// What a SaslHandshake is answered: whoever asks is logged in.
+/// Handles a SaslHandshake that comes after the login: ILLEGAL_SASL_STATE, with the mechanisms that are served.
 pub(crate) fn answer_sasl_handshake(alloc: Global) -> Result<HandlerResult, AllocError>
     ensures { IfOk result
         (λ o. o ≡ record {
@@ -40,7 +40,7 @@ pub(crate) fn answer_sasl_handshake(alloc: Global) -> Result<HandlerResult, Allo
     Ok(served_whole(alloc, Reply::SaslHandshake(told), Paid::nothing()))
 }
 
-/// What a SaslAuthenticate is answered: whoever asks is logged in.
+/// Handles a SaslAuthenticate that comes after the login: ILLEGAL_SASL_STATE.
 pub(crate) fn answer_sasl_authenticate(alloc: Global) -> Result<HandlerResult, AllocError>
     ensures { IfOk result
         (λ o. o ≡ record {

@@ -6,7 +6,7 @@ ghost use Rattle.api_dispatch.specs.Step.{is_reading, is_reading_request};
 use audit_trail::Event;
 use msg_admin::Request;
 
-/// Whether a request only reads: after an allocation failure the core is as it was.
+/// Whether a request of this api only reads, so that the world is as it was after it, and after an allocation failure too.
 fn is_reading_request(request: &Request) -> bool
     ensures { result ≡ is_reading_request request.now }
 {
@@ -36,7 +36,8 @@ fn is_reading_request(request: &Request) -> bool
     }
 }
 
-/// The event changes nothing but the trail and the number of events.
+/// Whether the event only reads: it changes nothing but the trail and the number of events. Marker steps and ticks don't
+/// only read.
 pub fn is_reading(event: &Event) -> bool
     ensures { result ≡ is_reading event.now }
 {

@@ -10,7 +10,8 @@ use broker_world::{HandlerResult, State, served_whole};
 use msg_admin::Reply;
 use std::alloc::{AllocError, Global};
 
-/// What a tick does and is answered. It tells the clock's moment in milliseconds.
+/// Handles a tick that tells the clock's time, `told`, in milliseconds. It moves the clock on, removes members whose session
+/// timed out, and aborts transactions that timed out. The reply tells how many markers are pending.
 pub(crate) fn answer_tick(
     alloc: Global,
     state: &mut State,

@@ -236,7 +236,7 @@ produced_clean : (most : ℕ) (c : CoordinatorValue) (id : Option (List ℕ)) (a
 unfolding number_of
 produced_clean = produced_codes Clean refl refl refl refl refl refl refl refl refl refl refl refl
 
-fetched_clean : (level : Isolation) (room : FetchBudget) (p : FetchPartition) (log : Option LogValue) → Clean (fetched_records level p (served_by level room p log)).error
+fetched_clean : (level : Isolation) (budget : FetchBudget) (p : FetchPartition) (log : Option LogValue) → Clean (fetched_records level p (served_by level budget p log)).error
 unfolding number_of
 fetched_clean = fetched_codes Clean refl refl refl
 
@@ -579,7 +579,7 @@ module _ (w : World) (caller : Caller) where
   tells_parts (requests.Produce r) place h = produce_tells r place
   tells_parts (requests.Fetch r) place h =
       walk_tells FetchPartition FetchedRecords FetchBudget (fetch_rule caller r.isolation w.topics) (λ (p : FetchedRecords). p.error) w caller (topic_rows (requests.Fetch r)) (λ name p. refl) (λ code name p. refl)
-      (λ room name p. fetched_clean r.isolation room p (log_at w.topics name p.index)) (whole_budget r) r.topics place
+      (λ budget name p. fetched_clean r.isolation budget p (log_at w.topics name p.index)) (whole_budget r) r.topics place
   tells_parts (requests.ListOffsets r) place h =
       walk_tells WantedOffset FoundOffset (Unit {0}) (list_rule caller r.isolation w.topics) (λ (p : FoundOffset). p.error) w caller (topic_rows (requests.ListOffsets r)) (λ name p. refl) (λ code name p. refl)
       (λ v name p. listed_clean r.isolation p (log_at w.topics name p.index)) tt r.topics place

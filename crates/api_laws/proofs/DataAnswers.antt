@@ -30,7 +30,7 @@ use Rattle.txn_coordinator.specs.Holding.{holding_code}
 use Rattle.txn_coordinator.specs.Coordinator.{CoordinatorValue, owner, given_by}
 use Rattle.data_handlers.specs.Judged.{partition_at, id_and_epoch_of, held_code, are_acks, given_code, producer_code, batch_or_error_by, batch_or_error, batch_in, batch_to_append, topics_produced}
 use Rattle.broker_world.specs.Codes.{code_unless_none}
-use Rattle.data_handlers.specs.RoomLaws.{IsGoodBatch, judged_batch}
+use Rattle.data_handlers.specs.BudgetLaws.{IsGoodBatch, judged_batch}
 use Rattle.data_handlers.specs.Produce.{produced_to, produce_answer_by, produce_answer}
 use Rattle.data_handlers.specs.ListOffsets.{listed_offset_by, listed_at, listed_error}
 use Rattle.api_laws.proofs.DataGrants.{find_same}

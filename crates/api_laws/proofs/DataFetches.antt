@@ -14,7 +14,7 @@ use Rattle.msg_data.specs.declared.fetch.FetchPartition.{FetchPartition}
 use Rattle.data_handlers.specs.declared.fetch_budget.FetchBudget.{FetchBudget}
 use Rattle.broker_world.specs.World.{TopicValue, LogValue}
 use Rattle.broker_world.specs.Logs.{log_at}
-use Rattle.data_handlers.specs.Fetch.{budget_for, is_outside, served_by, served_at, fetched_partition, room_after}
+use Rattle.data_handlers.specs.Fetch.{budget_for, is_outside, served_by, served_at, fetched_partition, budget_after}
 use Rattle.api_laws.specs.DataLaws.{IsServed, IsFetched, IsUnserved, FetchesRuns}
 
 -- ---- beginnings and ends of a log
@@ -39,18 +39,18 @@ below_first limit (b ∷ rest) = by_test (int_le (next_offset b) limit) (below_f
   by_test true r = (r.0, ap (λ l. b ∷ l) r.1)
   by_test false r = (b ∷ rest, refl)
 
-fitting_first : (room : ℕ) (l : List BatchData) → (after : List BatchData) × (l ≡ fitting_batches room l ++ after)
-fitting_first room [] = ([], refl)
-fitting_first room (b ∷ rest) = by_test (nat_le (length b.bytes) room) (fitting_first (room - length b.bytes) rest) where
-  by_test : (t : Bool) → (after : List BatchData) × (rest ≡ fitting_batches (room - length b.bytes) rest ++ after) → (after : List BatchData) × (b ∷ rest ≡ cond t (b ∷ fitting_batches (room - length b.bytes) rest) [] ++ after)
+fitting_first : (budget : ℕ) (l : List BatchData) → (after : List BatchData) × (l ≡ fitting_batches budget l ++ after)
+fitting_first budget [] = ([], refl)
+fitting_first budget (b ∷ rest) = by_test (nat_le (length b.bytes) budget) (fitting_first (budget - length b.bytes) rest) where
+  by_test : (t : Bool) → (after : List BatchData) × (rest ≡ fitting_batches (budget - length b.bytes) rest ++ after) → (after : List BatchData) × (b ∷ rest ≡ cond t (b ∷ fitting_batches (budget - length b.bytes) rest) [] ++ after)
   by_test true r = (r.0, ap (λ l. b ∷ l) r.1)
   by_test false r = (b ∷ rest, refl)
 
-fitting_small : (room : ℕ) (l : List BatchData) → total_bytes (fitting_batches room l) ≤ room
-fitting_small room [] = omega arith
-fitting_small room (b ∷ rest) = by_test (nat_le (length b.bytes) room) refl (fitting_small (room - length b.bytes) rest) where
-  by_test : (t : Bool) → nat_le (length b.bytes) room ≡ t → total_bytes (fitting_batches (room - length b.bytes) rest) ≤ room - length b.bytes → total_bytes (cond t (b ∷ fitting_batches (room - length b.bytes) rest) []) ≤ room
-  by_test true e more = omega (arith, leb-true (length b.bytes) room e)
+fitting_small : (budget : ℕ) (l : List BatchData) → total_bytes (fitting_batches budget l) ≤ budget
+fitting_small budget [] = omega arith
+fitting_small budget (b ∷ rest) = by_test (nat_le (length b.bytes) budget) refl (fitting_small (budget - length b.bytes) rest) where
+  by_test : (t : Bool) → nat_le (length b.bytes) budget ≡ t → total_bytes (fitting_batches (budget - length b.bytes) rest) ≤ budget - length b.bytes → total_bytes (cond t (b ∷ fitting_batches (budget - length b.bytes) rest) []) ≤ budget
+  by_test true e more = omega (arith, leb-true (length b.bytes) budget e)
   by_test false e more = omega arith
 
 one_first : (l : List BatchData) → (after : List BatchData) × (l ≡ take 1 l ++ after)
@@ -64,46 +64,46 @@ least_first true candidates [] first = one_first candidates
 least_first false candidates [] first = first
 least_first forced candidates (b ∷ run) first = first
 
-least_small : (given : Bool) (room : ℕ) (candidates run : List BatchData) → total_bytes run ≤ room
-    → (total_bytes (at_least_one (not given) candidates run) ≤ room) ⊎ ((given ≡ false) × (length (at_least_one (not given) candidates run) ≡ 1))
-least_small true room candidates [] small = inl (omega arith)
-least_small false room [] [] small = inl (omega arith)
-least_small false room (x ∷ xs) [] small = inr (refl, refl)
-least_small given room candidates (b ∷ run) small = inl small
+least_small : (given : Bool) (budget : ℕ) (candidates run : List BatchData) → total_bytes run ≤ budget
+    → (total_bytes (at_least_one (not given) candidates run) ≤ budget) ⊎ ((given ≡ false) × (length (at_least_one (not given) candidates run) ≡ 1))
+least_small true budget candidates [] small = inl (omega arith)
+least_small false budget [] [] small = inl (omega arith)
+least_small false budget (x ∷ xs) [] small = inr (refl, refl)
+least_small given budget candidates (b ∷ run) small = inl small
 
 three_parts : (log before reach bel run more later : List BatchData) → log ≡ before ++ reach → reach ≡ bel ++ later → bel ≡ run ++ more → log ≡ before ++ (run ++ (more ++ later))
 three_parts log before reach bel run more later p q r = p ∙ ap (λ l. before ++ l) (q ∙ ap (λ l. l ++ later) r ∙ append_assoc run more later)
 
-run_served : (level : Isolation) (log : List BatchData) (offset : ℤ) (room : ℕ) (given : Bool) → IsServed log offset room given (run_of log offset level room (not given))
-run_served level log offset room given =
+run_served : (level : Isolation) (log : List BatchData) (offset : ℤ) (budget : ℕ) (given : Bool) → IsServed log offset budget given (run_of log offset level budget (not given))
+run_served level log offset budget given =
     let candidates : List BatchData = batches_below (limit_of level log) (batches_from offset log) in
-    let run : List BatchData = fitting_batches room candidates in
+    let run : List BatchData = fitting_batches budget candidates in
     let b = behind offset log in
     let later = below_first (limit_of level log) (batches_from offset log) in
-    let more = least_first (not given) candidates run (fitting_first room candidates) in
+    let more = least_first (not given) candidates run (fitting_first budget candidates) in
     record {
       before = b.before;
       after = more.0 ++ later.0;
       in_order = three_parts log b.before (batches_from offset log) candidates (at_least_one (not given) candidates run) more.0 later.0 b.whole later.1 more.1;
       from = b.all;
-      small = least_small given room candidates run (fitting_small room candidates);
+      small = least_small given budget candidates run (fitting_small budget candidates);
     }
 
 -- ---- what is answered
 
-inside_served : (level : Isolation) (topics : List TopicValue) (room : FetchBudget) (name : List ℕ) (p : FetchPartition) (log : LogValue) → log_at topics name p.index ≡ Some log → is_outside log p.offset ≡ false
-    → served_at level topics room name p ≡ Ok (served_of log p.offset level (budget_for room p) (not room.given))
-inside_served level topics room name p log there inside =
-    ap (served_by level room p) there ∙ ap (λ x. cond x (Err codes.OffsetOutOfRange) (Ok (served_of log p.offset level (budget_for room p) (not room.given)))) inside
+inside_served : (level : Isolation) (topics : List TopicValue) (budget : FetchBudget) (name : List ℕ) (p : FetchPartition) (log : LogValue) → log_at topics name p.index ≡ Some log → is_outside log p.offset ≡ false
+    → served_at level topics budget name p ≡ Ok (served_of log p.offset level (budget_for budget p) (not budget.given))
+inside_served level topics budget name p log there inside =
+    ap (served_by level budget p) there ∙ ap (λ x. cond x (Err codes.OffsetOutOfRange) (Ok (served_of log p.offset level (budget_for budget p) (not budget.given)))) inside
 
-outside_served : (level : Isolation) (topics : List TopicValue) (room : FetchBudget) (name : List ℕ) (p : FetchPartition) (log : LogValue) → log_at topics name p.index ≡ Some log → is_outside log p.offset ≡ true → served_at level topics room name p ≡ Err codes.OffsetOutOfRange
-outside_served level topics room name p log there outside =
-    ap (served_by level room p) there ∙ ap (λ x. cond x (Err codes.OffsetOutOfRange) (Ok (served_of log p.offset level (budget_for room p) (not room.given)))) outside
+outside_served : (level : Isolation) (topics : List TopicValue) (budget : FetchBudget) (name : List ℕ) (p : FetchPartition) (log : LogValue) → log_at topics name p.index ≡ Some log → is_outside log p.offset ≡ true → served_at level topics budget name p ≡ Err codes.OffsetOutOfRange
+outside_served level topics budget name p log there outside =
+    ap (served_by level budget p) there ∙ ap (λ x. cond x (Err codes.OffsetOutOfRange) (Ok (served_of log p.offset level (budget_for budget p) (not budget.given)))) outside
 
-within : (level : Isolation) (log : LogValue) (room : FetchBudget) (p : FetchPartition) → IsFetched log room p (fetched_partition level p (Ok (served_of log p.offset level (budget_for room p) (not room.given)))) (room_after room (Ok (served_of log p.offset level (budget_for room p) (not room.given))))
-within level log room p = record {
-  batches = run_of log p.offset level (budget_for room p) (not room.given);
-  served = run_served level log p.offset (budget_for room p) room.given;
+within : (level : Isolation) (log : LogValue) (budget : FetchBudget) (p : FetchPartition) → IsFetched log budget p (fetched_partition level p (Ok (served_of log p.offset level (budget_for budget p) (not budget.given)))) (budget_after budget (Ok (served_of log p.offset level (budget_for budget p) (not budget.given))))
+within level log budget p = record {
+  batches = run_of log p.offset level (budget_for budget p) (not budget.given);
+  served = run_served level log p.offset (budget_for budget p) budget.given;
   error = refl;
   records = refl;
   high = refl;
@@ -111,12 +111,12 @@ within level log room p = record {
   left = refl;
 }
 
-unserved : (level : Isolation) (room : FetchBudget) (p : FetchPartition) (code : ErrorCode) (s : Result Served ErrorCode) → s ≡ Err code → ((fetched_partition level p s).error ≡ code) × IsUnserved room (fetched_partition level p s) (room_after room s)
-unserved level room p code s is = subst (λ (x : Result Served ErrorCode). ((fetched_partition level p x).error ≡ code) × IsUnserved room (fetched_partition level p x) (room_after room x)) (sym is) (refl, record { records = refl; high = refl; left = refl })
+unserved : (level : Isolation) (budget : FetchBudget) (p : FetchPartition) (code : ErrorCode) (s : Result Served ErrorCode) → s ≡ Err code → ((fetched_partition level p s).error ≡ code) × IsUnserved budget (fetched_partition level p s) (budget_after budget s)
+unserved level budget p code s is = subst (λ (x : Result Served ErrorCode). ((fetched_partition level p x).error ≡ code) × IsUnserved budget (fetched_partition level p x) (budget_after budget x)) (sym is) (refl, record { records = refl; high = refl; left = refl })
 
 pub fetches_runs : FetchesRuns
 fetches_runs = record {
-  within = λ level topics room name p log there inside. subst (λ (x : Result Served ErrorCode). IsFetched log room p (fetched_partition level p x) (room_after room x)) (sym (inside_served level topics room name p log there inside)) (within level log room p);
-  outside = λ level topics room name p log there outside. unserved level room p codes.OffsetOutOfRange (served_at level topics room name p) (outside_served level topics room name p log there outside);
-  missing = λ level topics room name p none. unserved level room p codes.UnknownTopicOrPartition (served_at level topics room name p) (ap (served_by level room p) none);
+  within = λ level topics budget name p log there inside. subst (λ (x : Result Served ErrorCode). IsFetched log budget p (fetched_partition level p x) (budget_after budget x)) (sym (inside_served level topics budget name p log there inside)) (within level log budget p);
+  outside = λ level topics budget name p log there outside. unserved level budget p codes.OffsetOutOfRange (served_at level topics budget name p) (outside_served level topics budget name p log there outside);
+  missing = λ level topics budget name p none. unserved level budget p codes.UnknownTopicOrPartition (served_at level topics budget name p) (ap (served_by level budget p) none);
 }

@@ -47,7 +47,7 @@ use Rattle.data_handlers.specs.Judged.{partition_at, id_and_epoch_of, held_code,
 use Rattle.broker_world.specs.Codes.{code_unless_none}
 use Rattle.data_handlers.specs.Sent.{batch_or_fault}
 use Rattle.data_handlers.specs.Produce.{produce_questions, produce_answer, produce_answer_by, produce_rule, producing_rule, produce_reply}
-use Rattle.data_handlers.specs.Fetch.{served_by, served_at, fetched_partition, room_after, fetch_rule, whole_budget}
+use Rattle.data_handlers.specs.Fetch.{served_by, served_at, fetched_partition, budget_after, fetch_rule, whole_budget}
 use Rattle.data_handlers.specs.ListOffsets.{listed_offset_by, list_rule}
 use Rattle.api_laws.proofs.Recorded.{same_owner}
 use Rattle.api_laws.specs.Tenants.{SameGranted, SameOn}
@@ -75,16 +75,16 @@ same_log us vs name index same = ap (option_and_then (log_of index)) same
 -- ---- Fetch
 
 same_served : (level : Isolation) (us vs : List TopicValue) (a b : FetchBudget) (name : List ℕ) (p : FetchPartition) → find_topic us name ≡ find_topic vs name → a ≡ b → served_at level us a name p ≡ served_at level vs b name p
-same_served level us vs a b name p same room = ap (served_by level a p) (same_log us vs name p.index same) ∙ ap (λ (r : FetchBudget). served_at level vs r name p) room
+same_served level us vs a b name p same budget = ap (served_by level a p) (same_log us vs name p.index same) ∙ ap (λ (r : FetchBudget). served_at level vs r name p) budget
 
 fetch_alike : (v w : World) (caller : Caller) (level : Isolation) → AreAlike (fetch_rule caller level v.topics) (fetch_rule caller level w.topics) (rules_of w) (λ name p. SameGranted v w ((fetch_rule caller level w.topics).questions name p)) (λ a b. a ≡ b)
 fetch_alike v w caller level = record {
   questions = λ name p. refl;
   refused = λ code name p. refl;
-  plain = λ a b name p is room none. ap (fetched_partition level p) (same_served level v.topics w.topics a b name p (same_topic v w (question_of caller operations.Read kinds.Topic name) is none) room);
-  after = λ a b name p is room none.
-      ap (λ (r : FetchBudget). room_after r (served_at level v.topics a name p)) room
-      ∙ ap (room_after b) (same_served level v.topics w.topics a b name p (same_topic v w (question_of caller operations.Read kinds.Topic name) is none) room);
+  plain = λ a b name p is budget none. ap (fetched_partition level p) (same_served level v.topics w.topics a b name p (same_topic v w (question_of caller operations.Read kinds.Topic name) is none) budget);
+  after = λ a b name p is budget none.
+      ap (λ (r : FetchBudget). budget_after r (served_at level v.topics a name p)) budget
+      ∙ ap (budget_after b) (same_served level v.topics w.topics a b name p (same_topic v w (question_of caller operations.Read kinds.Topic name) is none) budget);
 }
 
 pub fetch_depends : FetchDependsOnGrants

@@ -198,7 +198,7 @@ module _ (w : World) (caller : Caller) where
   fetch_among r =
       let numbers : List ℕ = errors_of (requests.Fetch r) in
       walk_among FetchPartition FetchedRecords FetchBudget (fetch_rule caller r.isolation w.topics) (λ (p : FetchedRecords). p.error) numbers (rules_of w) (λ code name p. refl) (λ name p. (refl, tt))
-      (λ room name p. fetched_codes (Among numbers) refl refl refl r.isolation room p (log_at w.topics name p.index)) (whole_budget r) r.topics
+      (λ budget name p. fetched_codes (Among numbers) refl refl refl r.isolation budget p (log_at w.topics name p.index)) (whole_budget r) r.topics
 
   list_among : (r : ListOffsetsRequest) → AreAmong (errors_of (requests.ListOffsets r)) (request_outcome w caller (requests.ListOffsets r)).reply
   unfolding number_of

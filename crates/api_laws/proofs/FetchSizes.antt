@@ -26,32 +26,32 @@ use Rattle.data_handlers.specs.declared.fetch_budget.FetchBudget.{FetchBudget}
 use Rattle.broker_world.specs.World.{World, LogValue, rules_of}
 use Rattle.broker_world.specs.First.{non_negative}
 use Rattle.broker_world.specs.Logs.{log_at}
-use Rattle.data_handlers.specs.Fetch.{budget_for, room_after_batches, is_outside, served_at, fetched_partition, room_after, batch_bytes, fetch_rule, whole_budget, fetch_outcome}
+use Rattle.data_handlers.specs.Fetch.{budget_for, budget_after_batches, is_outside, served_at, fetched_partition, budget_after, batch_bytes, fetch_rule, whole_budget, fetch_outcome}
 use Rattle.api_laws.specs.DataLaws.{IsFetched}
 use Rattle.api_laws.specs.FetchSizes.{bytes_of_topic, bytes_of, IsOneBatch, IsWithin, FetchIsWithin}
 use Rattle.api_laws.proofs.DataFetches.{fetches_runs}
 
--- ---- what a part of an answer does with the room
+-- ---- what a part of an answer does with the budget
 
 -- nothing was served
-record Same (room next : FetchBudget) (bytes : List ℕ) : Type 0 where
+record Same (budget next : FetchBudget) (bytes : List ℕ) : Type 0 where
   empty : bytes ≡ []
-  still : next ≡ room
+  still : next ≡ budget
 
 -- what was served was taken off
-record Fits (room next : FetchBudget) (bytes : List ℕ) : Type 0 where
+record Fits (budget next : FetchBudget) (bytes : List ℕ) : Type 0 where
   given : next.given ≡ true
-  small : length bytes + next.left ≤ room.left
+  small : length bytes + next.left ≤ budget.left
 
--- it is one batch, for which there was no room, and none is left
-record Forced (w : World) (room next : FetchBudget) (bytes : List ℕ) : Type 0 where
-  fresh : room.given ≡ false
+-- it is one batch, larger than the budget, and nothing of that is left
+record Forced (w : World) (budget next : FetchBudget) (bytes : List ℕ) : Type 0 where
+  fresh : budget.given ≡ false
   given : next.given ≡ true
   none : next.left ≡ 0
   one : IsOneBatch w bytes
 
 abbrev Goes : World → FetchBudget → FetchBudget → List ℕ → Type 0
-Goes w room next bytes = Same room next bytes ⊎ (Fits room next bytes ⊎ Forced w room next bytes)
+Goes w budget next bytes = Same budget next bytes ⊎ (Fits budget next bytes ⊎ Forced w budget next bytes)
 
 -- ---- one part after the other
 
@@ -102,83 +102,83 @@ only_one w name index log before [] after there stands one = absurd (omega (arit
 only_one w name index log before (b ∷ []) after there stands one = record { name = name; index = index; log = log; before = before; batch = b; after = after; there = there; stands = stands; whole = append-nil b.bytes }
 only_one w name index log before (b ∷ next ∷ rest) after there stands one = absurd (omega (arith, one))
 
-run_goes : (w : World) (room : FetchBudget) (batches : List BatchData) → (total_bytes batches ≤ room.left) ⊎ ((room.given ≡ false) × IsOneBatch w (batch_bytes batches)) → Goes w room (room_after_batches room batches) (batch_bytes batches)
-run_goes w room [] small =
-    let left : room.left - 0 ≡ room.left = omega arith in
-    inl (record { empty = refl; still = λ i. record { left = left i; given = or_false room.given i } })
-run_goes w room (b ∷ rest) (inl small) = inr (inl (record { given = or_true room.given; small = omega (arith, small, bytes_long (b ∷ rest)) }))
-run_goes w room (b ∷ rest) (inr (fresh, one)) = by_test (nat_le (total_bytes (b ∷ rest)) room.left) refl where
-  by_test : (t : Bool) → nat_le (total_bytes (b ∷ rest)) room.left ≡ t → Goes w room (room_after_batches room (b ∷ rest)) (batch_bytes (b ∷ rest))
-  by_test true e = inr (inl (record { given = or_true room.given; small = omega (arith, leb-true (total_bytes (b ∷ rest)) room.left e, bytes_long (b ∷ rest)) }))
-  by_test false e = inr (inr (record { fresh = fresh; given = or_true room.given; none = omega (arith, leb-false (total_bytes (b ∷ rest)) room.left e); one = one }))
+run_goes : (w : World) (budget : FetchBudget) (batches : List BatchData) → (total_bytes batches ≤ budget.left) ⊎ ((budget.given ≡ false) × IsOneBatch w (batch_bytes batches)) → Goes w budget (budget_after_batches budget batches) (batch_bytes batches)
+run_goes w budget [] small =
+    let left : budget.left - 0 ≡ budget.left = omega arith in
+    inl (record { empty = refl; still = λ i. record { left = left i; given = or_false budget.given i } })
+run_goes w budget (b ∷ rest) (inl small) = inr (inl (record { given = or_true budget.given; small = omega (arith, small, bytes_long (b ∷ rest)) }))
+run_goes w budget (b ∷ rest) (inr (fresh, one)) = by_test (nat_le (total_bytes (b ∷ rest)) budget.left) refl where
+  by_test : (t : Bool) → nat_le (total_bytes (b ∷ rest)) budget.left ≡ t → Goes w budget (budget_after_batches budget (b ∷ rest)) (batch_bytes (b ∷ rest))
+  by_test true e = inr (inl (record { given = or_true budget.given; small = omega (arith, leb-true (total_bytes (b ∷ rest)) budget.left e, bytes_long (b ∷ rest)) }))
+  by_test false e = inr (inr (record { fresh = fresh; given = or_true budget.given; none = omega (arith, leb-false (total_bytes (b ∷ rest)) budget.left e); one = one }))
 
 -- ---- a part
 
-small_by : (w : World) (name : List ℕ) (room : FetchBudget) (p : FetchPartition) (log : LogValue) (answer : FetchedRecords) (next : FetchBudget) (f : IsFetched log room p answer next) → log_at w.topics name p.index ≡ Some log
-    → (total_bytes f.batches ≤ budget_for room p) ⊎ ((room.given ≡ false) × IsOneBatch w (batch_bytes f.batches))
-small_by w name room p log answer next f there = by_size f.served.small where
-  by_size : (total_bytes f.batches ≤ budget_for room p) ⊎ ((room.given ≡ false) × (length f.batches ≡ 1)) → (total_bytes f.batches ≤ budget_for room p) ⊎ ((room.given ≡ false) × IsOneBatch w (batch_bytes f.batches))
+small_by : (w : World) (name : List ℕ) (budget : FetchBudget) (p : FetchPartition) (log : LogValue) (answer : FetchedRecords) (next : FetchBudget) (f : IsFetched log budget p answer next) → log_at w.topics name p.index ≡ Some log
+    → (total_bytes f.batches ≤ budget_for budget p) ⊎ ((budget.given ≡ false) × IsOneBatch w (batch_bytes f.batches))
+small_by w name budget p log answer next f there = by_size f.served.small where
+  by_size : (total_bytes f.batches ≤ budget_for budget p) ⊎ ((budget.given ≡ false) × (length f.batches ≡ 1)) → (total_bytes f.batches ≤ budget_for budget p) ⊎ ((budget.given ≡ false) × IsOneBatch w (batch_bytes f.batches))
   by_size (inl small) = inl small
   by_size (inr (fresh, one)) = inr (fresh, only_one w name p.index log f.served.before f.batches f.served.after there f.served.in_order one)
 
-fetched_goes : (w : World) (name : List ℕ) (room : FetchBudget) (p : FetchPartition) (log : LogValue) (answer : FetchedRecords) (next : FetchBudget) → IsFetched log room p answer next → log_at w.topics name p.index ≡ Some log → Goes w room next answer.records
-fetched_goes w name room p log answer next f there =
-    let small = by_size (small_by w name room p log answer next f there) in
-    subst (λ (r : FetchBudget). Goes w room r answer.records) (sym f.left) (subst (Goes w room (room_after_batches room f.batches)) (sym f.records) (run_goes w room f.batches small)) where
-      by_size : (total_bytes f.batches ≤ budget_for room p) ⊎ ((room.given ≡ false) × IsOneBatch w (batch_bytes f.batches)) → (total_bytes f.batches ≤ room.left) ⊎ ((room.given ≡ false) × IsOneBatch w (batch_bytes f.batches))
-      by_size (inl small) = inl (min_right (non_negative p.max_bytes) room.left (total_bytes f.batches) small)
+fetched_goes : (w : World) (name : List ℕ) (budget : FetchBudget) (p : FetchPartition) (log : LogValue) (answer : FetchedRecords) (next : FetchBudget) → IsFetched log budget p answer next → log_at w.topics name p.index ≡ Some log → Goes w budget next answer.records
+fetched_goes w name budget p log answer next f there =
+    let small = by_size (small_by w name budget p log answer next f there) in
+    subst (λ (r : FetchBudget). Goes w budget r answer.records) (sym f.left) (subst (Goes w budget (budget_after_batches budget f.batches)) (sym f.records) (run_goes w budget f.batches small)) where
+      by_size : (total_bytes f.batches ≤ budget_for budget p) ⊎ ((budget.given ≡ false) × IsOneBatch w (batch_bytes f.batches)) → (total_bytes f.batches ≤ budget.left) ⊎ ((budget.given ≡ false) × IsOneBatch w (batch_bytes f.batches))
+      by_size (inl small) = inl (min_right (non_negative p.max_bytes) budget.left (total_bytes f.batches) small)
       by_size (inr one) = inr one
 
-fetched_within : (w : World) (name : List ℕ) (room : FetchBudget) (p : FetchPartition) (log : LogValue) (answer : FetchedRecords) (next : FetchBudget) → IsFetched log room p answer next → log_at w.topics name p.index ≡ Some log → IsWithin w p.max_bytes answer.records
-fetched_within w name room p log answer next f there = subst (IsWithin w p.max_bytes) (sym f.records) (by_size (small_by w name room p log answer next f there)) where
-  by_size : (total_bytes f.batches ≤ budget_for room p) ⊎ ((room.given ≡ false) × IsOneBatch w (batch_bytes f.batches)) → IsWithin w p.max_bytes (batch_bytes f.batches)
-  by_size (inl small) = inl (omega (arith, min_left (non_negative p.max_bytes) room.left (total_bytes f.batches) small, bytes_long f.batches))
+fetched_within : (w : World) (name : List ℕ) (budget : FetchBudget) (p : FetchPartition) (log : LogValue) (answer : FetchedRecords) (next : FetchBudget) → IsFetched log budget p answer next → log_at w.topics name p.index ≡ Some log → IsWithin w p.max_bytes answer.records
+fetched_within w name budget p log answer next f there = subst (IsWithin w p.max_bytes) (sym f.records) (by_size (small_by w name budget p log answer next f there)) where
+  by_size : (total_bytes f.batches ≤ budget_for budget p) ⊎ ((budget.given ≡ false) × IsOneBatch w (batch_bytes f.batches)) → IsWithin w p.max_bytes (batch_bytes f.batches)
+  by_size (inl small) = inl (omega (arith, min_left (non_negative p.max_bytes) budget.left (total_bytes f.batches) small, bytes_long f.batches))
   by_size (inr (fresh, one)) = inr one
 
--- what holds of each part, refused or not, in whatever room
-record IsPart (w : World) (room next : FetchBudget) (p : FetchPartition) (answer : FetchedRecords) : Type 0 where
-  goes : Goes w room next answer.records
+-- what holds of each part, refused or not, with whatever budget
+record IsPart (w : World) (budget next : FetchBudget) (p : FetchPartition) (answer : FetchedRecords) : Type 0 where
+  goes : Goes w budget next answer.records
   within : IsWithin w p.max_bytes answer.records
 
-empty_part : (w : World) (room next : FetchBudget) (p : FetchPartition) (answer : FetchedRecords) → answer.records ≡ [] → next ≡ room → IsPart w room next p answer
-empty_part w room next p answer none still = record { goes = inl (record { empty = none; still = still }); within = inl (let no : length answer.records ≡ 0 = ap length none in omega (arith, no)) }
+empty_part : (w : World) (budget next : FetchBudget) (p : FetchPartition) (answer : FetchedRecords) → answer.records ≡ [] → next ≡ budget → IsPart w budget next p answer
+empty_part w budget next p answer none still = record { goes = inl (record { empty = none; still = still }); within = inl (let no : length answer.records ≡ 0 = ap length none in omega (arith, no)) }
 
-plain_part : (w : World) (level : Isolation) (room : FetchBudget) (name : List ℕ) (p : FetchPartition) → IsPart w room (room_after room (served_at level w.topics room name p)) p (fetched_partition level p (served_at level w.topics room name p))
-plain_part w level room name p = by_log (log_at w.topics name p.index) refl where
-  by_log : (o : Option LogValue) → log_at w.topics name p.index ≡ o → IsPart w room (room_after room (served_at level w.topics room name p)) p (fetched_partition level p (served_at level w.topics room name p))
-  by_log None there = let u = (fetches_runs.missing level w.topics room name p there).1 in empty_part w room _ p _ u.records u.left
+plain_part : (w : World) (level : Isolation) (budget : FetchBudget) (name : List ℕ) (p : FetchPartition) → IsPart w budget (budget_after budget (served_at level w.topics budget name p)) p (fetched_partition level p (served_at level w.topics budget name p))
+plain_part w level budget name p = by_log (log_at w.topics name p.index) refl where
+  by_log : (o : Option LogValue) → log_at w.topics name p.index ≡ o → IsPart w budget (budget_after budget (served_at level w.topics budget name p)) p (fetched_partition level p (served_at level w.topics budget name p))
+  by_log None there = let u = (fetches_runs.missing level w.topics budget name p there).1 in empty_part w budget _ p _ u.records u.left
   by_log (Some log) there = by_place (is_outside log p.offset) refl where
-    by_place : (t : Bool) → is_outside log p.offset ≡ t → IsPart w room (room_after room (served_at level w.topics room name p)) p (fetched_partition level p (served_at level w.topics room name p))
-    by_place true e = let u = (fetches_runs.outside level w.topics room name p log there e).1 in empty_part w room _ p _ u.records u.left
-    by_place false e = let f = fetches_runs.within level w.topics room name p log there e in record { goes = fetched_goes w name room p log _ _ f there; within = fetched_within w name room p log _ _ f there }
+    by_place : (t : Bool) → is_outside log p.offset ≡ t → IsPart w budget (budget_after budget (served_at level w.topics budget name p)) p (fetched_partition level p (served_at level w.topics budget name p))
+    by_place true e = let u = (fetches_runs.outside level w.topics budget name p log there e).1 in empty_part w budget _ p _ u.records u.left
+    by_place false e = let f = fetches_runs.within level w.topics budget name p log there e in record { goes = fetched_goes w name budget p log _ _ f there; within = fetched_within w name budget p log _ _ f there }
 
-part : (w : World) (caller : Caller) (level : Isolation) (room : FetchBudget) (name : List ℕ) (p : FetchPartition) (refusal : Option Refusal)
-    → IsPart w room (world_by (fetch_rule caller level w.topics) refusal room name p) p (answer_by (fetch_rule caller level w.topics) refusal room name p)
-part w caller level room name p (Some r) = empty_part w room room p _ refl refl
-part w caller level room name p None = plain_part w level room name p
+part : (w : World) (caller : Caller) (level : Isolation) (budget : FetchBudget) (name : List ℕ) (p : FetchPartition) (refusal : Option Refusal)
+    → IsPart w budget (world_by (fetch_rule caller level w.topics) refusal budget name p) p (answer_by (fetch_rule caller level w.topics) refusal budget name p)
+part w caller level budget name p (Some r) = empty_part w budget budget p _ refl refl
+part w caller level budget name p None = plain_part w level budget name p
 
 -- ---- the whole answer
 
-parts_go : (w : World) (caller : Caller) (level : Isolation) (rules : Rules) (room : FetchBudget) (name : List ℕ) (ps : List FetchPartition)
-    → Goes w room (parts_world (fetch_rule caller level w.topics) rules room name ps) (flat_map (λ (p : FetchedRecords). p.records) (parts_answers (fetch_rule caller level w.topics) rules room name ps))
-parts_go w caller level rules room name [] = inl (record { empty = refl; still = refl })
-parts_go w caller level rules room name (p ∷ ps) =
+parts_go : (w : World) (caller : Caller) (level : Isolation) (rules : Rules) (budget : FetchBudget) (name : List ℕ) (ps : List FetchPartition)
+    → Goes w budget (parts_world (fetch_rule caller level w.topics) rules budget name ps) (flat_map (λ (p : FetchedRecords). p.records) (parts_answers (fetch_rule caller level w.topics) rules budget name ps))
+parts_go w caller level rules budget name [] = inl (record { empty = refl; still = refl })
+parts_go w caller level rules budget name (p ∷ ps) =
     let api = fetch_rule caller level w.topics in
     let refusal = refusal_of api rules name p in
-    let next : FetchBudget = world_by api refusal room name p in
-    join w room next _ _ _ (part w caller level room name p refusal).goes (parts_go w caller level rules next name ps)
+    let next : FetchBudget = world_by api refusal budget name p in
+    join w budget next _ _ _ (part w caller level budget name p refusal).goes (parts_go w caller level rules next name ps)
 
-topics_go : (w : World) (caller : Caller) (level : Isolation) (rules : Rules) (room : FetchBudget) (ts : List (Topic FetchPartition))
-    → Goes w room (topics_world (fetch_rule caller level w.topics) rules room ts) (bytes_of (topics_answers (fetch_rule caller level w.topics) rules room ts))
-topics_go w caller level rules room [] = inl (record { empty = refl; still = refl })
-topics_go w caller level rules room (t ∷ ts) =
-    let next : FetchBudget = parts_world (fetch_rule caller level w.topics) rules room t.name t.partitions in
-    join w room next _ _ _ (parts_go w caller level rules room t.name t.partitions) (topics_go w caller level rules next ts)
+topics_go : (w : World) (caller : Caller) (level : Isolation) (rules : Rules) (budget : FetchBudget) (ts : List (Topic FetchPartition))
+    → Goes w budget (topics_world (fetch_rule caller level w.topics) rules budget ts) (bytes_of (topics_answers (fetch_rule caller level w.topics) rules budget ts))
+topics_go w caller level rules budget [] = inl (record { empty = refl; still = refl })
+topics_go w caller level rules budget (t ∷ ts) =
+    let next : FetchBudget = parts_world (fetch_rule caller level w.topics) rules budget t.name t.partitions in
+    join w budget next _ _ _ (parts_go w caller level rules budget t.name t.partitions) (topics_go w caller level rules next ts)
 
-within_room : (w : World) (r : FetchRequest) (next : FetchBudget) (bytes : List ℕ) → Goes w (whole_budget r) next bytes → IsWithin w r.max_bytes bytes
-within_room w r next bytes (inl s) = inl (let none : length bytes ≡ 0 = ap length s.empty in omega (arith, none))
-within_room w r next bytes (inr (inl f)) = inl (omega (arith, f.small))
-within_room w r next bytes (inr (inr h)) = inr h.one
+within_budget : (w : World) (r : FetchRequest) (next : FetchBudget) (bytes : List ℕ) → Goes w (whole_budget r) next bytes → IsWithin w r.max_bytes bytes
+within_budget w r next bytes (inl s) = inl (let none : length bytes ≡ 0 = ap length s.empty in omega (arith, none))
+within_budget w r next bytes (inr (inl f)) = inl (omega (arith, f.small))
+within_budget w r next bytes (inr (inr h)) = inr h.one
 
 same_reply : (x y : FetchReply) → replies.Fetch x ≡ replies.Fetch y → x ≡ y
 same_reply x y h = cc
@@ -193,7 +193,7 @@ whole : (w : World) (caller : Caller) (r : FetchRequest) (reply : FetchReply) �
 whole w caller r reply is =
     let api = fetch_rule caller r.isolation w.topics in
     let told = (woven api (rules_of w) (whole_budget r) r.topics).answers ∙ told_topics w caller r reply is in
-    subst (λ (ts : List (Topic FetchedRecords)). IsWithin w r.max_bytes (bytes_of ts)) told (within_room w r _ _ (topics_go w caller r.isolation (rules_of w) (whole_budget r) r.topics))
+    subst (λ (ts : List (Topic FetchedRecords)). IsWithin w r.max_bytes (bytes_of ts)) told (within_budget w r _ _ (topics_go w caller r.isolation (rules_of w) (whole_budget r) r.topics))
 
 each : (w : World) (caller : Caller) (r : FetchRequest) (reply : FetchReply) → (fetch_outcome w caller r).reply ≡ replies.Fetch reply
     → (i j : ℕ) (t : Topic FetchPartition) (a : Topic FetchedRecords) (p : FetchPartition) (answer : FetchedRecords)

@@ -13,26 +13,26 @@ as_long : (forced : Bool) (candidates run : List BatchData) → length run ≤ l
 as_long forced candidates [] = omega arith
 as_long forced candidates (b ∷ run) = omega arith
 
-nothing : (forced : Bool) (room : ℕ) (b : BatchData) (rest : List BatchData) → at_least_one forced (b ∷ rest) (fitting_batches room (b ∷ rest)) ≡ [] → (forced ≡ false) × (room < length b.bytes)
-nothing forced room b rest h = by_size (nat_le (length b.bytes) room) refl h where
+nothing : (forced : Bool) (budget : ℕ) (b : BatchData) (rest : List BatchData) → at_least_one forced (b ∷ rest) (fitting_batches budget (b ∷ rest)) ≡ [] → (forced ≡ false) × (budget < length b.bytes)
+nothing forced budget b rest h = by_size (nat_le (length b.bytes) budget) refl h where
   unforced : (f : Bool) → cond f (b ∷ []) [] ≡ [] → f ≡ false
   unforced false h = refl
   unforced true h = absurd (let clash : b ∷ [] ≡ [] = h in cc)
 
-  by_size : (t : Bool) → nat_le (length b.bytes) room ≡ t → at_least_one forced (b ∷ rest) (cond t (b ∷ fitting_batches (room - length b.bytes) rest) []) ≡ [] → (forced ≡ false) × (room < length b.bytes)
-  by_size true small h = absurd (let clash : b ∷ fitting_batches (room - length b.bytes) rest ≡ [] = h in cc)
-  by_size false large h = (unforced forced h, leb-false (length b.bytes) room large)
+  by_size : (t : Bool) → nat_le (length b.bytes) budget ≡ t → at_least_one forced (b ∷ rest) (cond t (b ∷ fitting_batches (budget - length b.bytes) rest) []) ≡ [] → (forced ≡ false) × (budget < length b.bytes)
+  by_size true small h = absurd (let clash : b ∷ fitting_batches (budget - length b.bytes) rest ≡ [] = h in cc)
+  by_size false large h = (unforced forced h, leb-false (length b.bytes) budget large)
 
-longest : (log : List BatchData) (offset limit : ℤ) (room : ℕ) (forced : Bool) → IsLongest log offset limit room forced (served_batches log offset limit room forced)
-longest log offset limit room forced =
+longest : (log : List BatchData) (offset limit : ℤ) (budget : ℕ) (forced : Bool) → IsLongest log offset limit budget forced (served_batches log offset limit budget forced)
+longest log offset limit budget forced =
     let candidates = batches_below limit (batches_from offset log) in
     record {
-      most = λ longer rest parts fits. omega (arith, (fitting_longest room candidates).1 longer rest parts fits, as_long forced candidates (fitting_batches room candidates));
-      none = λ empty b rest are. nothing forced room b rest (ap (λ (l : List BatchData). at_least_one forced l (fitting_batches room l)) (sym are) ∙ empty);
+      most = λ longer rest parts fits. omega (arith, (fitting_longest budget candidates).1 longer rest parts fits, as_long forced candidates (fitting_batches budget candidates));
+      none = λ empty b rest are. nothing forced budget b rest (ap (λ (l : List BatchData). at_least_one forced l (fitting_batches budget l)) (sym are) ∙ empty);
     }
 
 pub serves : ServesWhatFits
-serves log offset room forced = record {
-  uncommitted = longest log offset (end_of log) room forced;
-  committed = longest log offset (last_stable_offset log) room forced;
+serves log offset budget forced = record {
+  uncommitted = longest log offset (end_of log) budget forced;
+  committed = longest log offset (last_stable_offset log) budget forced;
 }

@@ -6,7 +6,7 @@ use Rattle.partition_log.specs.Log.{end_from, end_of, at_end}
 use Rattle.broker_world.specs.World.{LogValue}
 use Rattle.broker_world.specs.First.{non_negative}
 use Rattle.broker_world.specs.Markers.{marker_batch}
-use Rattle.broker_world.proofs.LogRoom.{next_at_end}
+use Rattle.broker_world.proofs.OffsetsLeft.{next_at_end}
 use Rattle.api_laws.specs.CheckedLogs.{OffsetsCountRecords}
 use Rattle.api_laws.proofs.EachLog.{Stays, each_log}
 

@@ -31,7 +31,7 @@ use Rattle.broker_world.specs.Codes.{code_unless_none}
 use Rattle.broker_world.specs.World.{TopicValue, LogValue}
 use Rattle.broker_world.specs.Logs.{log_at}
 use Rattle.data_handlers.specs.Sent.{batch_or_fault}
-use Rattle.data_handlers.specs.RoomLaws.{judged_batch}
+use Rattle.data_handlers.specs.BudgetLaws.{judged_batch}
 use Rattle.data_handlers.specs.Judged.{are_acks, id_and_epoch_of, partition_at, held_code, given_code, producer_code, batch_or_error_by, batch_or_error, batch_in, batch_to_append, topics_produced}
 use Rattle.data_handlers.specs.Produce.{produce_answer_by, produce_answer}
 use Rattle.api_laws.specs.DataLaws.{IsAppended, IsRepeated}

@@ -201,10 +201,10 @@ module _ (Q : ErrorCode → Type 0) (none : Q codes.None) (corrupt : Q codes.Cor
 -- ---- Fetch, ListOffsets and Metadata
 
 module _ (Q : ErrorCode → Type 0) (none : Q codes.None) (range : Q codes.OffsetOutOfRange) (missing : Q codes.UnknownTopicOrPartition) where
-  pub fetched_codes : (level : Isolation) (room : FetchBudget) (p : FetchPartition) (log : Option LogValue) → Q (fetched_records level p (served_by level room p log)).error
-  fetched_codes level room p None = missing
-  fetched_codes level room p (Some log) = by_place (is_outside log p.offset) where
-    by_place : (b : Bool) → Q (fetched_records level p (cond b (Err codes.OffsetOutOfRange) (Ok (served_of log p.offset level (budget_for room p) (not room.given))))).error
+  pub fetched_codes : (level : Isolation) (budget : FetchBudget) (p : FetchPartition) (log : Option LogValue) → Q (fetched_records level p (served_by level budget p log)).error
+  fetched_codes level budget p None = missing
+  fetched_codes level budget p (Some log) = by_place (is_outside log p.offset) where
+    by_place : (b : Bool) → Q (fetched_records level p (cond b (Err codes.OffsetOutOfRange) (Ok (served_of log p.offset level (budget_for budget p) (not budget.given))))).error
     by_place true = range
     by_place false = none
 

@@ -23,7 +23,7 @@ use Rattle.broker_world.specs.World.{TopicValue, LogValue}
 use Rattle.broker_world.specs.Logs.{log_at}
 use Rattle.data_handlers.specs.Judged.{partition_at, batch_to_append, topics_produced}
 use Rattle.data_handlers.specs.Produce.{produce_answer}
-use Rattle.data_handlers.specs.Fetch.{budget_for, room_after_batches, is_outside, served_at, fetched_partition, room_after, batch_bytes}
+use Rattle.data_handlers.specs.Fetch.{budget_for, budget_after_batches, is_outside, served_at, fetched_partition, budget_after, batch_bytes}
 use Rattle.data_handlers.specs.ListOffsets.{listed_offset, listed_at}
 
 -- ---- Produce
@@ -97,36 +97,36 @@ pub record ListsEnds : Type 0 where
 -- ---- Fetch
 
 -- The batches that are served of a log follow one another in it, from the one on that holds the offset. They fit into
--- the room, or it is one batch alone where none of the answer was given one before.
-pub record IsServed (log : LogValue) (offset : ℤ) (room : ℕ) (given : Bool) (batches : List BatchData) : Type 0 where
+-- the budget, or it is one batch alone where none of the answer was given one before.
+pub record IsServed (log : LogValue) (offset : ℤ) (budget : ℕ) (given : Bool) (batches : List BatchData) : Type 0 where
   pub before : List BatchData
   pub after : List BatchData
   pub in_order : log ≡ before ++ (batches ++ after)
   pub from : AllByRecursion (λ (b : BatchData). int_le (next_offset b) offset ≡ true) before
-  pub small : (total_bytes batches ≤ room) ⊎ ((given ≡ false) × (length batches ≡ 1))
+  pub small : (total_bytes batches ≤ budget) ⊎ ((given ≡ false) × (length batches ≡ 1))
 
 -- the answer tells these batches, and where the log ends
-pub record IsFetched (log : LogValue) (room : FetchBudget) (p : FetchPartition) (answer : FetchedRecords) (next : FetchBudget) : Type 0 where
+pub record IsFetched (log : LogValue) (budget : FetchBudget) (p : FetchPartition) (answer : FetchedRecords) (next : FetchBudget) : Type 0 where
   pub batches : List BatchData
-  pub served : IsServed log p.offset (budget_for room p) room.given batches
+  pub served : IsServed log p.offset (budget_for budget p) budget.given batches
   pub error : answer.error ≡ codes.None
   pub records : answer.records ≡ batch_bytes batches
   pub high : answer.high_watermark ≡ end_of log
   pub stable : answer.last_stable_offset ≡ last_stable_offset log
   -- what was served is no longer left for the partitions that follow
-  pub left : next ≡ room_after_batches room batches
+  pub left : next ≡ budget_after_batches budget batches
 
--- no batch, no offset, and the room is as it was
-pub record IsUnserved (room : FetchBudget) (answer : FetchedRecords) (next : FetchBudget) : Type 0 where
+-- no batch, no offset, and the budget is as it was
+pub record IsUnserved (budget : FetchBudget) (answer : FetchedRecords) (next : FetchBudget) : Type 0 where
   pub records : answer.records ≡ []
   pub high : answer.high_watermark ≡ negsuc 0
-  pub left : next ≡ room
+  pub left : next ≡ budget
 
 -- an offset within the log is served, and one outside it or of a partition that isn't there is not
 pub record FetchesRuns : Type 0 where
-  pub within : (level : Isolation) (topics : List TopicValue) (room : FetchBudget) (name : List ℕ) (p : FetchPartition) (log : LogValue) → log_at topics name p.index ≡ Some log → is_outside log p.offset ≡ false
-      → IsFetched log room p (fetched_partition level p (served_at level topics room name p)) (room_after room (served_at level topics room name p))
-  pub outside : (level : Isolation) (topics : List TopicValue) (room : FetchBudget) (name : List ℕ) (p : FetchPartition) (log : LogValue) → log_at topics name p.index ≡ Some log → is_outside log p.offset ≡ true
-      → ((fetched_partition level p (served_at level topics room name p)).error ≡ codes.OffsetOutOfRange) × IsUnserved room (fetched_partition level p (served_at level topics room name p)) (room_after room (served_at level topics room name p))
-  pub missing : (level : Isolation) (topics : List TopicValue) (room : FetchBudget) (name : List ℕ) (p : FetchPartition) → log_at topics name p.index ≡ None
-      → ((fetched_partition level p (served_at level topics room name p)).error ≡ codes.UnknownTopicOrPartition) × IsUnserved room (fetched_partition level p (served_at level topics room name p)) (room_after room (served_at level topics room name p))
+  pub within : (level : Isolation) (topics : List TopicValue) (budget : FetchBudget) (name : List ℕ) (p : FetchPartition) (log : LogValue) → log_at topics name p.index ≡ Some log → is_outside log p.offset ≡ false
+      → IsFetched log budget p (fetched_partition level p (served_at level topics budget name p)) (budget_after budget (served_at level topics budget name p))
+  pub outside : (level : Isolation) (topics : List TopicValue) (budget : FetchBudget) (name : List ℕ) (p : FetchPartition) (log : LogValue) → log_at topics name p.index ≡ Some log → is_outside log p.offset ≡ true
+      → ((fetched_partition level p (served_at level topics budget name p)).error ≡ codes.OffsetOutOfRange) × IsUnserved budget (fetched_partition level p (served_at level topics budget name p)) (budget_after budget (served_at level topics budget name p))
+  pub missing : (level : Isolation) (topics : List TopicValue) (budget : FetchBudget) (name : List ℕ) (p : FetchPartition) → log_at topics name p.index ≡ None
+      → ((fetched_partition level p (served_at level topics budget name p)).error ≡ codes.UnknownTopicOrPartition) × IsUnserved budget (fetched_partition level p (served_at level topics budget name p)) (budget_after budget (served_at level topics budget name p))

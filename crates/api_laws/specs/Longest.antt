@@ -7,15 +7,15 @@ use Rattle.partition_log.specs.Fetch.{batches_below, batches_from, served_of}
 use Rattle.partition_log.specs.Laws.{total_bytes}
 
 -- of the whole batches that stand below the limit, from the one on that holds the offset, no longer beginning fits into the
--- room; and none is served only where there is none, or where the first is longer than the room and none is forced
-pub record IsLongest (log : List BatchData) (offset limit : ℤ) (room : ℕ) (forced : Bool) (run : List BatchData) : Type 0 where
-  pub most : (longer rest : List BatchData) → batches_below limit (batches_from offset log) ≡ longer ++ rest → total_bytes longer ≤ room → length longer ≤ length run
-  pub none : run ≡ [] → (b : BatchData) (rest : List BatchData) → batches_below limit (batches_from offset log) ≡ b ∷ rest → (forced ≡ false) × (room < length b.bytes)
+-- budget; and none is served only where there is none, or where the first is longer than the budget and none is forced
+pub record IsLongest (log : List BatchData) (offset limit : ℤ) (budget : ℕ) (forced : Bool) (run : List BatchData) : Type 0 where
+  pub most : (longer rest : List BatchData) → batches_below limit (batches_from offset log) ≡ longer ++ rest → total_bytes longer ≤ budget → length longer ≤ length run
+  pub none : run ≡ [] → (b : BatchData) (rest : List BatchData) → batches_below limit (batches_from offset log) ≡ b ∷ rest → (forced ≡ false) × (budget < length b.bytes)
 
 -- read_uncommitted goes to the log's end, and read_committed to the last stable offset
-pub record ServesTheLongest (log : List BatchData) (offset : ℤ) (room : ℕ) (forced : Bool) : Type 0 where
-  pub uncommitted : IsLongest log offset (end_of log) room forced (served_of log offset ReadUncommitted room forced).batches
-  pub committed : IsLongest log offset (last_stable_offset log) room forced (served_of log offset ReadCommitted room forced).batches
+pub record ServesTheLongest (log : List BatchData) (offset : ℤ) (budget : ℕ) (forced : Bool) : Type 0 where
+  pub uncommitted : IsLongest log offset (end_of log) budget forced (served_of log offset ReadUncommitted budget forced).batches
+  pub committed : IsLongest log offset (last_stable_offset log) budget forced (served_of log offset ReadCommitted budget forced).batches
 
 abbrev pub ServesWhatFits : Type 0
-ServesWhatFits = (log : List BatchData) (offset : ℤ) (room : ℕ) (forced : Bool) → ServesTheLongest log offset room forced
+ServesWhatFits = (log : List BatchData) (offset : ℤ) (budget : ℕ) (forced : Bool) → ServesTheLongest log offset budget forced

@@ -28,254 +28,271 @@ ghost use Rattle.api_laws.specs.Unchanged.{ErrorsChangeNothing};
 ghost use Rattle.api_laws.specs.BareAnswers.{RefusalsTellNothing};
 ghost use Rattle.api_laws.specs.ErrorCases.{ErrorsAreAnswered};
 
-/// A run without a stop has a receipt for each event, and leaves the core where the events lead.
+/// A list of events that a core takes without a stop gives a receipt for each event, in order, and leaves the core in the state
+/// to which these events lead.
 pub fn whole_runs()
     ensures { WholeRuns }
 {}
 
-/// Each topic that a Metadata request names is answered at its place: a refused one by its code, any other as the
-/// plain broker does.
+/// Each topic that a Metadata request names is answered at its place: one that may not be described by TOPIC_AUTHORIZATION_FAILED
+/// (29), any other as by a broker without access control.
 pub fn metadata_answers_each_topic()
     ensures { AnswersEachTopic }
 {}
 
-/// The refusals of a Metadata request are those of its refused topics, in order, and a null list has none.
+/// The refusals that the trail keeps of a Metadata request are those of the named topics that may not be described, in order. A
+/// null list, which asks for all topics, has none.
 pub fn metadata_refuses_each_topic()
     ensures { RefusesEachTopic }
 {}
 
-/// A Metadata request with a null list is told exactly the topics that may be described, each as where it is asked for alone.
+/// A Metadata request with a null list, which asks for all topics, is told exactly those that the caller may describe, each as
+/// where it is asked for alone.
 pub fn null_metadata_tells_describable()
     ensures { NullTellsDescribable }
 {}
 
-/// At either level a fetch serves the longest run of whole batches that fits, up to the log's end or the last stable offset,
-/// or the first one alone.
+/// At either isolation level a fetch is served the longest run of whole batches that its size limit has bytes for, up to the
+/// log's end or the last stable offset; or the first batch alone, where not even that fits and one is served anyway.
 pub fn serves_what_fits()
     ensures { ServesWhatFits }
 {}
 
-/// A log's last stable offset is where the first batch stands whose transaction no control batch has ended, or the log's end.
+/// A log's last stable offset is the base offset of the first batch whose transaction no control batch has ended; or the log's
+/// end, where there is none.
 pub fn last_stable_is_exact()
     ensures { LastStableIsExact }
 {}
 
-/// A response begins with the size of what comes and with the correlation id that was asked under; between that and the body
-/// stands nothing but the empty tagged section of a flexible version.
+/// Each response begins with the size of what follows, and the correlation id of its request. Between that and the body stands
+/// nothing but, in a flexible version (KIP-482), an empty section of tagged fields.
 pub fn responses_are_framed()
     ensures { ResponsesAreFramed }
 {}
 
-/// A refused part is told 29, 30, 31 or 53, by what its question is about.
+/// A part of a request that is refused is told TOPIC_, GROUP_, CLUSTER_ or TRANSACTIONAL_ID_AUTHORIZATION_FAILED (29, 30, 31,
+/// 53), by the kind of resource that it asks about.
 pub fn refusals_by_number()
     ensures { RefusalsByNumber }
 {}
 
-/// The node of the settings is the only broker, the controller, the leader and the one replica of each partition, and the coordinator
-/// of each group and each transactional id.
+/// The node of the settings is the only broker, the controller, the leader and the only replica of each partition, and the
+/// coordinator of each group and each transactional id.
 pub fn one_node_is_all()
     ensures { OneNodeIsAll }
 {}
 
-/// A Metadata request is answered by what its questions were granted alone.
+/// What a Metadata request is answered depends only on what it is allowed to see: worlds that agree on that answer it the same.
 pub fn metadata_depends_on_grants()
     ensures { DependsOnGrants }
 {}
 
-/// An allowed partition of a Produce is answered no error exactly where its batch was appended, now or before; and of a
-/// batch that passes the other checks the log decides: the next is appended, and a repeat is answered its offset.
+/// A partition of a Produce that is allowed is answered no error exactly where its batch stands in the log, appended now or
+/// before. Of a batch that passes the other checks the log decides: the producer's next one is appended, and one sent again is
+/// answered the offset that it got.
 pub fn produces_as_answered()
     ensures { ProducesAsAnswered }
 {}
 
-/// An allowed partition of a Fetch is served a run of its log's batches, which is taken off the room that is left.
+/// An allowed partition of a Fetch is served a run of its log's batches, whose bytes are taken off the budget that is left.
 pub fn fetches_runs()
     ensures { FetchesRuns }
 {}
 
-/// The batches of a Fetch's answer have together at most the request's bytes, and those of a partition at most its own; or they
-/// are one batch.
+/// The batches of a Fetch response have together at most the request's max_bytes, and those of a partition at most the
+/// partition's own; or they are one batch alone.
 pub fn fetch_is_within()
     ensures { FetchIsWithin }
 {}
 
-/// An allowed partition of a ListOffsets is told the end of its log as far as the reader sees, or the start; for another timestamp
-/// 42, and 3 where it isn't there.
+/// An allowed partition of a ListOffsets is told, for the timestamp -1, the end of its log as far as the reader's isolation level
+/// sees it, and for -2 the start. Any other timestamp is INVALID_REQUEST (42), and a partition that isn't there
+/// UNKNOWN_TOPIC_OR_PARTITION (3).
 pub fn lists_ends()
     ensures { ListsEnds }
 {}
 
-/// A topic that a Produce was not granted is as before.
+/// A Produce leaves each topic to which it may not write as it was.
 pub fn produce_keeps_the_rest()
     ensures { ProduceKeepsTheRest }
 {}
 
-/// A partition for which a Produce has no granted part is as before.
+/// A Produce leaves each partition as it was for which it has no part that is allowed.
 pub fn produce_keeps_other_partitions()
     ensures { ProduceKeepsOtherPartitions }
 {}
 
-/// A Produce is answered by what its questions were granted alone.
+/// What a Produce is answered depends only on the topics and the transactional id that it is allowed to write: worlds that agree
+/// on these answer it the same.
 pub fn produce_depends_on_grants()
     ensures { ProduceDependsOnGrants }
 {}
 
-/// A Fetch is answered by what its questions were granted alone.
+/// What a Fetch is answered depends only on the topics that it is allowed to read: worlds that agree on these answer it the same.
 pub fn fetch_depends_on_grants()
     ensures { FetchDependsOnGrants }
 {}
 
-/// A ListOffsets is answered by what its questions were granted alone.
+/// What a ListOffsets is answered depends only on the topics that it is allowed to describe: worlds that agree on these answer it
+/// the same.
 pub fn list_offsets_depends_on_grants()
     ensures { ListOffsetsDependsOnGrants }
 {}
 
-/// After a CreateAcls that is granted each entry that is a binding stands in the book.
+/// After a CreateAcls that is allowed, each of its entries that is a valid binding is among the ACLs, whatever its other entries
+/// are.
 pub fn creates_each()
     ensures { CreatesEach }
 {}
 
-/// After a DeleteAcls that is granted none of its filters picks anything.
+/// After a DeleteAcls that is allowed, none of its filters matches an ACL any more.
 pub fn deletes_each()
     ensures { DeletesEach }
 {}
 
-/// A DescribeAcls tells each binding of the book that its filter picks once, in groups by kind, name and pattern.
+/// A DescribeAcls tells each ACL binding that its filter matches, once, grouped by resource type, name and pattern type.
 pub fn describes_each()
     ensures { DescribesEach }
 {}
 
-/// A CreateAcls or DeleteAcls that the book of before refuses changes nothing.
+/// A CreateAcls or DeleteAcls that the ACLs of before don't allow changes nothing.
 pub fn refused_edit_nothing()
     ensures { RefusedEditNothing }
 {}
 
-/// The answers about access control, and the book that they leave, depend on the book alone.
+/// What DescribeAcls, CreateAcls and DeleteAcls are answered, and which ACLs they leave, depends only on the ACLs of before.
 pub fn acls_depend_on_the_book()
     ensures { AclsDependOnTheBook }
 {}
 
-/// Edits of the book touch no log.
+/// A CreateAcls or DeleteAcls changes no partition's log.
 pub fn acls_keep_topics()
     ensures { AclsKeepTopics }
 {}
 
-/// Each log holds what a producer wrote in an epoch once, in order and without a gap, whatever the events were.
+/// Whatever the events were, each log holds what a producer wrote in one epoch once, in order and without a gap.
 pub fn holds_once()
     ensures { HoldsOnce }
 {}
 
-/// An InitProducerId without a transactional id gives out a producer id that was never given out, where it is allowed.
+/// An InitProducerId without a transactional id that is allowed gives out a producer id that was never given out before.
 pub fn inits_once()
     ensures { InitsOnce }
 {}
 
-/// An InitProducerId is answered by what its question was granted and by the producer ids given out, and touches no log.
+/// What an InitProducerId is answered depends only on whether it is allowed and on the producer ids given out before; and it
+/// changes no log.
 pub fn init_depends_on_grants()
     ensures { InitDependsOnGrants }
 {}
 
-/// An AddPartitionsToTxn adds all its partitions where each may be added, and else none.
+/// An AddPartitionsToTxn adds all its partitions to the transaction where each may be added, and else none of them.
 pub fn adds_all_or_none()
     ensures { AddsAllOrNone }
 {}
 
-/// AddPartitionsToTxn and EndTxn are answered by what their questions were granted and by the producer ids given out.
+/// What an AddPartitionsToTxn or an EndTxn is answered depends only on what it is allowed to use and on the producer ids given
+/// out before.
 pub fn transactions_depend_on_grants()
     ensures { TransactionsDependOnGrants }
 {}
 
-/// A request for a transactional id leaves the records of the others, and every log, as they were; and where writing
-/// with the id isn't granted, its own record too.
+/// A request for one transactional id leaves all other ids, and every log, as they were; and where writing with the id isn't
+/// allowed, that id too.
 pub fn transactions_keep_the_rest()
     ensures { TransactionsKeepTheRest }
 {}
 
-/// The requests about groups and offsets are answered by what their questions were granted alone.
+/// What a request about a group or its offsets is answered depends only on the group and the topics that it is allowed to use.
 pub fn groups_depend_on_grants()
     ensures { GroupsDependOnGrants }
 {}
 
-/// A request about a group leaves every other group, every log and every transactional id as they were; and where
-/// reading the group isn't granted, the group too.
+/// A request about one group leaves all other groups, every log and every transactional id as they were; and where reading the
+/// group isn't allowed, that group too.
 pub fn groups_keep_the_rest()
     ensures { GroupsKeepTheRest }
 {}
 
-/// AddOffsetsToTxn and TxnOffsetCommit are answered by what their questions were granted and by the producer ids given
-/// out.
+/// What an AddOffsetsToTxn or a TxnOffsetCommit is answered depends only on what it is allowed to use and on the producer ids
+/// given out before.
 pub fn staged_offsets_depend_on_grants()
     ensures { StagingDependsOnGrants }
 {}
 
-/// To add a group to a transaction changes one transactional id alone, and to stage offsets one group alone; and where the
-/// id may not be written or the group not be read, neither.
+/// An AddOffsetsToTxn changes one transactional id alone, and a TxnOffsetCommit one group alone; and where writing with the id or
+/// reading the group isn't allowed, they change nothing.
 pub fn staged_offsets_keep_the_rest()
     ensures { StagingKeepsTheRest }
 {}
 
-/// Each batch of data in a log is one that the check of what producers send passes, within the settings' greatest size,
-/// whatever the events were.
+/// Whatever the events were, each batch of records in a log passes the check of what producers send, and is no longer than the
+/// settings' max_batch.
 pub fn logs_hold_checked_batches()
     ensures { LogsHoldCheckedBatches }
 {}
 
-/// The offset of each batch and marker in a log is the number of records before it there, whatever the events were.
+/// Whatever the events were, the base offset of each batch and marker in a log is the number of records before it there.
 pub fn offsets_count_records()
     ensures { OffsetsCountRecords }
 {}
 
-/// A Produce that may be served appends a faultless batch of no producer, of an idempotent one, or of an open transaction
-/// that is next in sequence, at the log's end, as it was sent.
+/// A Produce that is allowed appends a batch without a fault at the log's end, as it was sent, if it is of no producer, of an
+/// idempotent producer, or of an open transaction, and the next in sequence.
 pub fn accepts_what_it_ought()
     ensures { AcceptsWhatItOught }
 {}
 
-/// A part of a Produce is answered no error only for a faultless batch within the greatest size, with acks -1, 0 or 1, that is
-/// of no producer, of an idempotent one, or of the open transaction of the request's id that took the partition in.
+/// A partition of a Produce is answered no error only for a batch without a fault, no longer than the settings' max_batch and
+/// with acks -1, 0 or 1, that is of no producer, of an idempotent producer, or of the open transaction of the request's id, which
+/// took the partition in.
 pub fn accepts_nothing_else()
     ensures { AcceptsNothingElse }
 {}
 
-/// Each of a producer's last five batches of its epoch, sent again, is answered its old offset and appended to nothing;
-/// each earlier one is answered 45, as what leaves a gap is, and nothing else repeats.
+/// Each of the last five batches that a producer wrote in its epoch, sent again, is answered its old offset and isn't appended.
+/// An earlier one is answered OUT_OF_ORDER_SEQUENCE_NUMBER (45), as one is that leaves a gap. No other batch counts as sent
+/// again.
 pub fn last_five_repeat()
     ensures { LastFiveRepeat }
 {}
 
-/// What each api asks stands in one table: a request, and each of its parts at its place, is told the code of the first of its
-/// rows that isn't granted, and nobody else is told such a code.
+/// One table says for which operations on which resources each api has to be authorized. A request, and each of its parts at its
+/// place, is told the error of the first of its rows that isn't granted; nobody else is told such an error.
 pub fn asks_by_table()
     ensures { AsksByTable }
 {}
 
-/// The refusals of a request are those of the same table: of each refused part the first row that isn't granted, in order, with its
-/// verdict.
+/// The refusals that the trail keeps of a request are those of the same table: for each refused part the first of its rows that
+/// isn't granted, with the verdict on it, in the parts' order.
 pub fn refusals_by_table()
     ensures { RefusalsByTable }
 {}
 
-/// Each error in an answer is 0, or one of those that a table lists for its api.
+/// Each error code in an answer is 0, or one of those that a table lists for its api.
 pub fn errors_by_table()
     ensures { ErrorsByTable }
 {}
 
-/// A partition of an AddPartitionsToTxn that is refused keeps all others out: each is told 55, or 3 where it isn't there.
+/// Where one partition of an AddPartitionsToTxn is refused, none is added: each of the others is told OPERATION_NOT_ATTEMPTED
+/// (55), or UNKNOWN_TOPIC_OR_PARTITION (3) where it isn't there.
 pub fn refused_keeps_out()
     ensures { RefusedKeepsOut }
 {}
 
-/// What is told an error changes nothing, but for an InitProducerId that is told 51: it may have aborted a transaction.
+/// A request, or a part of one, that is told an error changes nothing; but an InitProducerId that is told CONCURRENT_TRANSACTIONS
+/// (51) may have aborted the open transaction of its id.
 pub fn errors_change_nothing()
     ensures { ErrorsChangeNothing }
 {}
 
-/// A refused request, and a refused part at its place, is told its error alone: no offset, no records, no members and no bindings.
+/// A request that isn't allowed, and a part of one at its place, is told its error alone: no offset, no records, no members, no
+/// producer id and no ACLs.
 pub fn refusals_tell_nothing()
     ensures { RefusalsTellNothing }
 {}
 
-/// Each number of that table is answered for a request of its api in some world.
+/// Each error code that the table lists for an api is answered to some request of that api in some world.
 pub fn errors_are_answered()
     ensures { ErrorsAreAnswered }
 {}

@@ -42,7 +42,7 @@ pub enum Job<'a> {
     Show(Showing<'a>),
 }
 
-/// A subcommand of this name, with what `--help` says of it.
+/// A subcommand of this name, with its short and its long help, and an example after that.
 fn described<'a>(
     alloc: Global,
     name: &'a str,
@@ -59,7 +59,7 @@ fn described<'a>(
         .after_help(example)
 }
 
-/// The file that a command reads in place of standard input.
+/// The argument FILE, which a command reads in place of standard input.
 fn file<'a>(alloc: Global, help: &'a str) -> Arg<'a>
     ensures rule { rule_of result ≡ file_rule }
     ensures local { result.global ≡ false }
@@ -67,7 +67,7 @@ fn file<'a>(alloc: Global, help: &'a str) -> Arg<'a>
     Arg::new(alloc, "file").value_name("FILE").help(help)
 }
 
-/// The command with a file that may be named.
+/// The command, with an argument FILE that may be left out.
 fn with_file<'a>(
     alloc: Global,
     command: Command<'a>,
@@ -80,7 +80,7 @@ fn with_file<'a>(
     command.arg(file(alloc, help))
 }
 
-/// The command that shows a script.
+/// The subcommand `show`, with its FILE and its option `--answers`.
 fn show_command<'a>(alloc: Global) -> Result<Command<'a>, AllocError>
     ensures app { IfOk result (λ made. app_of made ≡ show_app) }
     ensures local { IfOk result (λ made. (fields_of made).has_globals ≡ false) }
@@ -90,7 +90,7 @@ fn show_command<'a>(alloc: Global) -> Result<Command<'a>, AllocError>
     show.arg(option(alloc, "answers", "FILE", ANSWERS, false))
 }
 
-/// The program before it has subcommands.
+/// The program `kbroker` with its help and its version, before it has subcommands.
 fn bare_program<'a>(alloc: Global) -> Command<'a>
     ensures { app_of result ≡ program }
 {
@@ -101,7 +101,7 @@ fn bare_program<'a>(alloc: Global) -> Command<'a>
         .arg_required_else_help(true)
 }
 
-/// The command line that is understood.
+/// The whole command line: the program with its subcommands `replay`, `check`, `serve` and `show`.
 fn command<'a>(alloc: Global) -> Result<Command<'a>, AllocError>
     ensures { IfOk result (λ made. app_of made ≡ command_line) }
 {
@@ -118,16 +118,15 @@ fn command<'a>(alloc: Global) -> Result<Command<'a>, AllocError>
         .subcommand(show_command(alloc)?)
 }
 
-/// Says what is wrong with an option of `serve`, above the usage of `serve`.
+/// The error to print where an option of `serve` is misused: a sentence about it, above the usage of `serve`.
 fn misuse(alloc: Global, misused: Misused) -> Result<Error, AllocError> {
     let serve = described(alloc, "serve", SERVE, SERVE_LONG, SERVE_EXAMPLE);
     let mut serve = with_options(alloc, serve.bin_name("kbroker serve")?)?;
     serve.error(ErrorKind::ValueValidation, misused.sentence())
 }
 
-/// What the words ask for, of which the first is the program's own name: the job that the next one names. Behind `replay` and
-/// `check` at most one file is named, after `serve` and `show` their options follow. A refusal holds the text to print on standard
-/// error; help and the version are refusals.
+/// Reads the command line, whose first word is the program's own name, and gives the job that its subcommand asks for. The error
+/// holds the text to print: what isn't understood, or the help or the version, where these are asked for.
 pub fn arguments<'a>(alloc: Global, words: &'a [&'a str]) -> Result<Job<'a>, Error>
     ensures job { IfOk result (λ job. IsAsked (map (λ word. word.now) words.entry.now) job) }
     ensures refusal { IfErr result (λ error. AsksNothing (map (λ word. word.now) words.entry.now)

@@ -21,7 +21,7 @@ pub(crate) enum Misused {
 }
 
 impl Misused {
-    /// What is wrong with it.
+    /// What is wrong with the option, and which values it takes, in one sentence for the user.
     pub(crate) fn sentence(self) -> &'static str {
         match self {
             Misused::Listen => "--listen takes an address and a port, as in 127.0.0.1:9092",

@@ -13,7 +13,7 @@ use crate::help::{
 use clap::{Arg, ArgAction, Command};
 use std::alloc::{AllocError, Global};
 
-/// An option of this name, with a value.
+/// An option `--NAME` that takes a value, which the help calls `value`; `must` says that it may not be left out.
 pub(crate) fn option<'a>(
     alloc: Global,
     name: &'a str,
@@ -31,7 +31,8 @@ pub(crate) fn option<'a>(
         .required(must)
 }
 
-/// The option of the address to listen on. Who looks for `--port`, as other servers have it, is told what this one takes.
+/// The option `--listen`, with the address to listen on. Who looks for `--port`, as other servers have it, is told what this one
+/// takes.
 fn listen_option<'a>(alloc: Global) -> Result<Arg<'a>, AllocError>
     ensures rule { IfOk result (λ made. rule_of made ≡ listen_rule) }
     ensures local { IfOk result (λ made. made.global ≡ false) }
@@ -39,7 +40,7 @@ fn listen_option<'a>(alloc: Global) -> Result<Arg<'a>, AllocError>
     option(alloc, "listen", "ADDR", LISTEN, true).alias("port")
 }
 
-/// A flag of this name.
+/// A switch `--NAME` without a value.
 fn flag<'a>(alloc: Global, name: &'a str, help: &'a str) -> Arg<'a>
     ensures rule { rule_of result ≡ flag_rule name.entry.now }
     ensures local { result.global ≡ false }
@@ -50,7 +51,7 @@ fn flag<'a>(alloc: Global, name: &'a str, help: &'a str) -> Arg<'a>
         .help(help)
 }
 
-/// The command with two options more, none of them global.
+/// The command with these two options more, none of them global.
 fn with_two<'a>(
     command: Command<'a>,
     first: Arg<'a>,
@@ -67,7 +68,7 @@ fn with_two<'a>(
     command.arg(first)?.arg(second)
 }
 
-/// The command with three options more, none of them global.
+/// The command with these three options more, none of them global.
 fn with_three<'a>(
     command: Command<'a>,
     first: Arg<'a>,
@@ -86,7 +87,7 @@ fn with_three<'a>(
     command.arg(first)?.arg(second)?.arg(third)
 }
 
-/// The command with the options that say where, and how many are served.
+/// Adds `--listen`, `--workers` and `--connections`: where to listen, and how many connections are served, at once and in all.
 fn with_numbers<'a>(alloc: Global, command: Command<'a>) -> Result<Command<'a>, AllocError>
     ensures app { IfOk result (λ made. app_of made ≡ with_serve_numbers (app_of command.entry)) }
     ensures local { IfOk result
@@ -98,7 +99,7 @@ fn with_numbers<'a>(alloc: Global, command: Command<'a>) -> Result<Command<'a>, 
     with_three(command, listen, workers, connections)
 }
 
-/// The command with the options that change nothing where they aren't given.
+/// Adds `--for` and `--idle`: after how many seconds the server stops, and an idle connection is closed.
 fn with_switches<'a>(alloc: Global, command: Command<'a>) -> Result<Command<'a>, AllocError>
     ensures app { IfOk result (λ made. app_of made ≡ with_serve_switches (app_of command.entry)) }
     ensures local { IfOk result
@@ -109,7 +110,7 @@ fn with_switches<'a>(alloc: Global, command: Command<'a>) -> Result<Command<'a>,
     with_two(command, open, idle)
 }
 
-/// The command with the options of what is told, and of the time before each line of it.
+/// Adds `--audit` and `--log-times`: whether refusals are told, and whether each line of standard error begins with a time.
 fn with_reports<'a>(alloc: Global, command: Command<'a>) -> Result<Command<'a>, AllocError>
     ensures app { IfOk result (λ made. app_of made ≡ with_serve_reports (app_of command.entry)) }
     ensures local { IfOk result
@@ -120,7 +121,7 @@ fn with_reports<'a>(alloc: Global, command: Command<'a>) -> Result<Command<'a>, 
     with_two(command, audit, log_times)
 }
 
-/// The command with the options of the time that a login has, and a frame.
+/// Adds `--login-within` and `--frame-within`: how many seconds a client has to log in, and to send a request.
 fn with_deadlines<'a>(alloc: Global, command: Command<'a>) -> Result<Command<'a>, AllocError>
     ensures app { IfOk result (λ made. app_of made ≡ with_serve_deadlines (app_of command.entry)) }
     ensures local { IfOk result
@@ -131,7 +132,7 @@ fn with_deadlines<'a>(alloc: Global, command: Command<'a>) -> Result<Command<'a>
     with_two(command, login, frame)
 }
 
-/// The command with the options of connections that aren't counted, and of those of one host.
+/// Adds `--endless` and `--per-host`: whether connections aren't counted, and how many one host may have at once.
 fn with_shares<'a>(alloc: Global, command: Command<'a>) -> Result<Command<'a>, AllocError>
     ensures app { IfOk result (λ made. app_of made ≡ with_serve_shares (app_of command.entry)) }
     ensures local { IfOk result
@@ -142,7 +143,7 @@ fn with_shares<'a>(alloc: Global, command: Command<'a>) -> Result<Command<'a>, A
     with_two(command, endless, per_host)
 }
 
-/// The command with the options of how fast each user may ask.
+/// Adds `--rate` and `--rate-bytes`: how many requests, and how many bytes of them, each user may send in a second.
 fn with_rates<'a>(alloc: Global, command: Command<'a>) -> Result<Command<'a>, AllocError>
     ensures app { IfOk result (λ made. app_of made ≡ with_serve_rates (app_of command.entry)) }
     ensures local { IfOk result
@@ -153,7 +154,7 @@ fn with_rates<'a>(alloc: Global, command: Command<'a>) -> Result<Command<'a>, Al
     with_two(command, rate, rate_bytes)
 }
 
-/// The command with the options of a broker that is steered.
+/// Adds `--settings` and `--control`: the file of the settings, and whether lines of standard input steer the broker.
 fn with_steering<'a>(alloc: Global, command: Command<'a>) -> Result<Command<'a>, AllocError>
     ensures app { IfOk result (λ made. app_of made ≡ with_serve_steering (app_of command.entry)) }
     ensures local { IfOk result
@@ -164,7 +165,8 @@ fn with_steering<'a>(alloc: Global, command: Command<'a>) -> Result<Command<'a>,
     with_two(command, settings, control)
 }
 
-/// The command with the options of how a server stops.
+/// Adds `--grace` and `--stop-with-input`: how long connections stay open after a stop, and whether the end of input stops the
+/// server.
 fn with_ending<'a>(alloc: Global, command: Command<'a>) -> Result<Command<'a>, AllocError>
     ensures app { IfOk result (λ made. app_of made ≡ with_serve_ending (app_of command.entry)) }
     ensures local { IfOk result
@@ -175,7 +177,7 @@ fn with_ending<'a>(alloc: Global, command: Command<'a>) -> Result<Command<'a>, A
     with_two(command, grace, with_input)
 }
 
-/// The command with the options for clients that look for other versions.
+/// Adds `--librdkafka`: whether ApiVersions lists what librdkafka looks for before a login.
 fn with_clients<'a>(alloc: Global, command: Command<'a>) -> Result<Command<'a>, AllocError>
     ensures app { IfOk result (λ made. app_of made ≡ with_serve_clients (app_of command.entry)) }
     ensures local { IfOk result
@@ -184,7 +186,7 @@ fn with_clients<'a>(alloc: Global, command: Command<'a>) -> Result<Command<'a>, 
     command.arg(flag(alloc, "librdkafka", LIBRDKAFKA))
 }
 
-/// The command with the options of `serve`.
+/// The command with all options of `serve`.
 pub(crate) fn with_options<'a>(
     alloc: Global,
     command: Command<'a>,

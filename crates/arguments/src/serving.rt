@@ -74,7 +74,7 @@ const USUAL_LOGIN_SECONDS: u64 = 10;
 
 const USUAL_FRAME_SECONDS: u64 = 30;
 
-/// The number that a text writes, if it lies from 1 to a most.
+/// Reads a number from 1 to `most`; `None` where the text is none.
 fn number_of(text: &str, most: u64) -> Option<u64>
     ensures some { IfSome result (λ number. IsIn most number × Writes text.now number) }
     ensures none { IfNone result ((number : _) → IsIn most number → Writes text.now number → ⊥) }
@@ -85,7 +85,8 @@ fn number_of(text: &str, most: u64) -> Option<u64>
     }
 }
 
-/// The number of an option, or the usual one where it isn't given.
+/// The number of an option, from 1 to `most`, or the usual one where the option isn't given. The error is `misused`, for any
+/// other text.
 fn number_or(text: Option<&str>, most: u64, usual: u64, misused: Misused) -> Result<u64, Misused>
     requires { IsIn most usual }
     ensures within { IfOk result (IsIn most) }
@@ -100,7 +101,8 @@ fn number_or(text: Option<&str>, most: u64, usual: u64, misused: Misused) -> Res
     }
 }
 
-/// The number of an option, if it is given.
+/// The number of an option, from 1 to `most`, and `None` where the option isn't given. The error is `misused`, for any other
+/// text.
 fn number_if_given(text: Option<&str>, most: u64, misused: Misused) -> Result<Option<u64>, Misused>
     ensures within { IfOk result (λ told. IfSome told (IsIn most)) }
     ensures told { IfOk result (TellsIfGiven (option_map (λ t. t.now) text.entry)) }
@@ -117,7 +119,7 @@ fn number_if_given(text: Option<&str>, most: u64, misused: Misused) -> Result<Op
     }
 }
 
-/// The seconds of an option, if it is given.
+/// The seconds of an option, 1 to 1,000,000, and `None` where the option isn't given. The error is `misused`, for any other text.
 fn seconds_of(text: Option<&str>, misused: Misused) -> Result<Option<u64>, Misused>
     ensures within { IfOk result (λ told. IfSome told (IsIn 1000000)) }
     ensures told { IfOk result (TellsIfGiven (option_map (λ t. t.now) text.entry)) }
@@ -128,7 +130,7 @@ fn seconds_of(text: Option<&str>, misused: Misused) -> Result<Option<u64>, Misus
     number_if_given(text, MOST_SECONDS, misused)
 }
 
-/// The same, or the usual seconds where it isn't given.
+/// The seconds of an option, 1 to 1,000,000, or the usual ones where it isn't given. The error is `misused`, for any other text.
 fn seconds_or(text: Option<&str>, usual: u64, misused: Misused) -> Result<u64, Misused>
     requires { IsIn 1000000 usual }
     ensures within { IfOk result (IsIn 1000000) }
@@ -140,7 +142,8 @@ fn seconds_or(text: Option<&str>, usual: u64, misused: Misused) -> Result<u64, M
     number_or(text, MOST_SECONDS, usual, misused)
 }
 
-/// How many connections are served in all, of which no number is given where they aren't counted.
+/// How many connections are served in all, by `--connections`: 1 to 1,000,000, and 1,000,000 where it isn't given. The error is
+/// `Endless` where it is given beside `--endless`, `Connections` where it is out of range.
 fn connections_of(text: Option<&str>, endless: bool) -> Result<u64, Misused>
     ensures within { IfOk result (IsIn 1000000) }
     ensures told { IfOk result (Tells (option_map (λ t. t.now) text.entry) 1000000) }
@@ -161,7 +164,7 @@ fn connections_of(text: Option<&str>, endless: bool) -> Result<u64, Misused>
     )
 }
 
-/// Whether refusals are told. The one place for them is standard error, which goes by the name `-`.
+/// Whether refusals are told as they happen, by `--audit -`: on standard error. The error is `Audit`, for any value but `-`.
 fn audit_of(text: Option<&str>) -> Result<bool, Misused>
     ensures told { IfOk result (TellsAudit (option_map (λ t. t.now) text.entry)) }
     ensures none { IfErr result
@@ -174,14 +177,15 @@ fn audit_of(text: Option<&str>) -> Result<bool, Misused>
     }
 }
 
-/// Whether the flag is given, which clap reads as `true` or `false`.
+/// Whether a switch is given, for which clap gives the text `true`.
 fn is_given(text: Option<&str>) -> bool
     ensures { result ≡ is_given (option_map (λ t. t.now) text.entry) }
 {
     text == Some("true")
 }
 
-/// Whether lines steer a broker, whose settings then come from a file, and which tells refusals where it is asked.
+/// Whether `--control` is given, so that lines of standard input steer the broker. The error is `Control` where the settings come
+/// from standard input too, or `--audit` is given beside it.
 fn control_of(text: Option<&str>, settings: Option<&str>, audit: bool) -> Result<bool, Misused>
     ensures told { IfOk result (λ told. told ≡ is_given (option_map (λ t. t.now) text.entry)) }
     ensures steered { IfOk result (λ told. told ≡ true → MaySteer (is_some settings.entry) audit) }
@@ -198,7 +202,7 @@ fn control_of(text: Option<&str>, settings: Option<&str>, audit: bool) -> Result
     Ok(true)
 }
 
-/// The seconds that a text writes, if they are few enough. There may be none.
+/// Reads the seconds of `--grace`, 0 to 1,000,000; `None` for any other text.
 fn grace_in(text: &str) -> Option<u64>
     ensures some { IfSome result (λ seconds. seconds ≤ 1000000 × Writes text.now seconds) }
     ensures none { IfNone result ((seconds : _) → seconds ≤ 1000000 → Writes text.now seconds → ⊥) }
@@ -209,7 +213,7 @@ fn grace_in(text: &str) -> Option<u64>
     }
 }
 
-/// The seconds of grace, if they are given.
+/// The seconds of `--grace`, 0 to 1,000,000, and `None` where it isn't given. The error is `Grace`, for any other text.
 fn grace_of(text: Option<&str>) -> Result<Option<u64>, Misused>
     ensures within { IfOk result (λ told. IfSome told (λ seconds. seconds ≤ 1000000)) }
     ensures told { IfOk result (TellsIfGiven (option_map (λ t. t.now) text.entry)) }
@@ -226,7 +230,8 @@ fn grace_of(text: Option<&str>) -> Result<Option<u64>, Misused>
     }
 }
 
-/// Whether the end of standard input stops a server, whose settings then come from a file, and which no lines steer.
+/// Whether `--stop-with-input` is given, so that the end of standard input stops the server. The error is `StopWithInput` where
+/// standard input holds the settings, or the lines of `--control`.
 fn with_input_of(text: Option<&str>, settings: Option<&str>, control: bool) -> Result<bool, Misused>
     ensures told { IfOk result (λ told. told ≡ is_given (option_map (λ t. t.now) text.entry)) }
     ensures stopped { IfOk result (λ told. told ≡ true → MayStop (is_some settings.entry) control) }
@@ -243,7 +248,7 @@ fn with_input_of(text: Option<&str>, settings: Option<&str>, control: bool) -> R
     Ok(true)
 }
 
-/// How a server stops, by these options.
+/// How a server stops, by `--grace` and `--stop-with-input`. The error names the option that is wrong.
 fn ending_by(
     options: &ArgMatches<'_>,
     settings: Option<&str>,
@@ -263,7 +268,7 @@ fn ending_by(
     })
 }
 
-/// How connections are served, by these options.
+/// Reads all options of `serve`, and checks that they go together. The error names the first one that is wrong.
 pub(crate) fn serving_by<'a>(options: &ArgMatches<'a>) -> Result<Serving<'a>, Misused>
     ensures within { IfOk result IsWithin }
     ensures served { IfOk result (IsServedBy (first_value (found_of options.now))) }

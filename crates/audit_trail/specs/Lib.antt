@@ -1,2 +1,3 @@
 pub mod Trail
+pub mod Refusals
 pub mod Line

@@ -18,8 +18,8 @@ pub struct AclKey<'a> {
     pub name: &'a str,
 }
 
-/// The keys under which all bindings are found that the filter picks (KIP-290, on MATCH and ANY). None where the filter has no name:
-/// then each binding has to be looked at.
+/// The keys under which all bindings stand that match the filter (KIP-290, on MATCH and ANY). `None` where the filter has no
+/// name: then every binding has to be tested.
 pub(crate) fn acl_keys<'a>(
     alloc: Global,
     filter: &'a Filter,
@@ -32,7 +32,7 @@ pub(crate) fn acl_keys<'a>(
     }
 }
 
-/// The keys of the bindings under this name.
+/// The keys under which the bindings stand that this filter's kind and pattern type pick for this name.
 fn keys_under<'a>(
     alloc: Global,
     name: &'a str,
@@ -55,7 +55,7 @@ fn keys_under<'a>(
     Ok(acl_keys)
 }
 
-/// Adds a key.
+/// Adds the key of this kind, pattern and name to the list. On an allocation failure the list is as it was.
 fn add<'a>(
     kind: Kind,
     pattern: Pattern,
@@ -73,7 +73,7 @@ fn add<'a>(
     })
 }
 
-/// Those of one kind.
+/// Adds the keys of one kind under which bindings stand that the wanted pattern type picks for this name.
 fn add_keys<'a>(
     kind: Kind,
     name: &'a str,
@@ -99,7 +99,7 @@ fn add_keys<'a>(
     }
 }
 
-/// The places of the prefixed bindings whose names begin the name: one for each of its beginnings.
+/// Adds the key of each prefixed binding that may match the name: one for each beginning of the name, up to the whole.
 fn add_beginnings<'a>(
     kind: Kind,
     name: &'a str,

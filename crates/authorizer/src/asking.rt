@@ -33,7 +33,7 @@ pub struct GivenPermits {
     pub last: Permit,
 }
 
-/// The permit of the question, or its refusal.
+/// Asks the policy, and gives the permit or the refusal.
 pub fn ask_one(policy: &Policy, question: Question) -> Result<Permit, Refusal>
     ensures granted { IfOk result (λ permit. IsGranted policy.now question permit) }
     ensures yes { OnOk result (AreYes policy.now (question ∷ [])) }
@@ -42,7 +42,7 @@ pub fn ask_one(policy: &Policy, question: Question) -> Result<Permit, Refusal>
     ask_settled(policy, policy.settle(question))
 }
 
-/// The permit of a question that was settled, or its refusal.
+/// Gives the permit or the refusal of a question that the policy was already asked.
 pub fn ask_settled(policy: &Policy, settled: Settled) -> Result<Permit, Refusal>
     requires { IsSettled policy.now settled }
     ensures granted { IfOk result (λ permit. IsGranted policy.now settled.question permit) }
@@ -55,7 +55,8 @@ pub fn ask_settled(policy: &Policy, settled: Settled) -> Result<Permit, Refusal>
     }
 }
 
-/// Both permits, or the first refusal, where the first question was settled.
+/// Both permits, or the first refusal. The first question was already asked (`Settled`). Where the second is refused, the
+/// first permit is declined.
 pub fn ask_two(policy: &Policy, first: Settled, second: Question) -> Result<TwoPermits, Refusal>
     requires { IsSettled policy.now first }
     ensures granted { IfOk result
@@ -73,7 +74,8 @@ pub fn ask_two(policy: &Policy, first: Settled, second: Question) -> Result<TwoP
     }
 }
 
-/// All three permits, or the first refusal, where the first two questions were settled.
+/// All three permits, or the first refusal. The first two questions were already asked (`Settled`). Permits that were given
+/// before a refusal are declined.
 pub fn ask_three(
     policy: &Policy,
     first: Settled,
@@ -107,7 +109,8 @@ pub fn ask_three(
     }
 }
 
-/// The permit of a first question that may be absent and was settled, and that of the last; or the first refusal.
+/// The permit of a first question, if there is one, and that of the last; or the first refusal. The first question was
+/// already asked (`Settled`). Where the last is refused, the first permit is declined.
 pub fn ask_given(
     policy: &Policy,
     given: Option<Settled>,
@@ -137,7 +140,7 @@ pub fn ask_given(
 }
 
 impl TwoPermits {
-    /// Uses both permits up.
+    /// Uses both permits up, and gives the evidence that they were spent.
     pub fn spend(self, policy: &Policy) -> Paid
         requires { AreBothGood policy.now self }
         ensures { result ≡ self.first.question ∷ self.second.question ∷ [] }
@@ -148,7 +151,7 @@ impl TwoPermits {
 }
 
 impl ThreePermits {
-    /// Uses all three permits up.
+    /// Uses all three permits up, and gives the evidence that they were spent.
     pub fn spend(self, policy: &Policy) -> Paid
         requires { AreThreeGood policy.now self }
         ensures { result ≡ self.first.question ∷ self.second.question ∷ self.third.question ∷ [] }
@@ -167,7 +170,8 @@ impl ThreePermits {
 }
 
 impl GivenPermits {
-    /// Uses up the permit of the first question, where there is one, and hands on the last.
+    /// Uses up the permit of the first question, if there is one, and gives the evidence of that with the last permit,
+    /// unspent.
     pub fn last(self, policy: &Policy) -> (Option<Spent>, Permit)
         requires { IfSome self.given (IsGood policy.now) }
         ensures given { result.0 ≡ given_question self.given }
@@ -180,7 +184,7 @@ impl GivenPermits {
         }
     }
 
-    /// Uses both permits up.
+    /// Uses up the last permit, and the first if there is one. Gives the evidence that they were spent.
     pub fn spend(self, policy: &Policy) -> Paid
         requires given { IfSome self.given (IsGood policy.now) }
         requires last { IsGood policy.now self.last }

@@ -11,7 +11,7 @@ use std::alloc::{AllocError, Global};
 use std::marker::Model;
 use wire_types::{Shared, Text};
 
-/// Bindings in creation order, seen as their list.
+/// The bindings of one kind, pattern type and name, in creation order.
 #[derive(Drop)]
 pub struct Bucket {
     entries: Vec<Shared<Numbered>>,
@@ -27,7 +27,7 @@ impl Model for Bucket {
 }
 
 impl Bucket {
-    /// A bucket with its first binding.
+    /// A bucket with its first binding. An `AllocError` is an allocation failure.
     pub(crate) fn of(alloc: Global, entry: Shared<Numbered>) -> Result<Bucket, AllocError>
         ensures { IfOk result (λ bucket. bucket ≡ entry ∷ []) }
     {
@@ -36,13 +36,14 @@ impl Bucket {
         Ok(Bucket { entries })
     }
 
+    /// The bindings, in creation order.
     pub(crate) fn as_slice(&self) -> &[Shared<Numbered>]
         ensures { result.now ≡ self.now }
     {
         &self.entries
     }
 
-    /// Some binding lets the caller write, and no denial of the book stands over it.
+    /// Whether some binding here allows this principal at this host to WRITE, and no DENY of the book covers all its names.
     pub(crate) fn any_not_overridden(&self, book: &IndexedBook, who: &Text, host: &Text) -> bool
         ensures { result ≡ list_any (is_unbarred book.now.entries who.now host.now) self.now }
     {
@@ -51,7 +52,7 @@ impl Bucket {
             .any(|entry| book.is_unbarred(entry.value(), who, host))
     }
 
-    /// Puts a binding after the others: its creation number is the greatest.
+    /// Appends a binding, whose creation number is greater than all others here. An allocation failure changes nothing.
     pub(crate) fn push(&mut self, entry: Shared<Numbered>) -> Result<(), AllocError>
         ensures { self.new ≡ (if is_ok result then self.old ++ entry ∷ [] else self.old) }
     {
@@ -59,8 +60,8 @@ impl Bucket {
         Ok(())
     }
 
-    /// Leaves what the filter doesn't pick, and answers whether that is anything.
-    pub(crate) fn leave(&mut self, filter: &Filter) -> bool
+    /// Drops the bindings that match the filter, and tells whether any is left.
+    pub(crate) fn keep_unmatched(&mut self, filter: &Filter) -> bool
         ensures left { self.new ≡ kept (is_not_matched filter.now) self.old }
         ensures any { result ≡ not (nat_eq (length self.new) 0) }
     {

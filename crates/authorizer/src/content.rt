@@ -29,6 +29,7 @@ impl PartialEq for Content {
 
     ghost laws = { partial_equiv_from_equiv says_same_laws };
 
+    /// Whether both bindings say the same, whatever their creation numbers.
     fn eq(&self, other: &Content) -> bool {
         self.binding() == other.binding()
     }
@@ -44,6 +45,7 @@ impl Hash for Content {
 
     ghost respects_eq = { said_alike.fed };
 
+    /// Hashes the binding's seven fields, and not its creation number.
     fn hash<H: Hasher>(&self, state: &mut H) {
         let binding = self.binding();
         binding.kind.number().hash(state);
@@ -57,7 +59,7 @@ impl Hash for Content {
 }
 
 impl Content {
-    /// The binding with one more owner.
+    /// The binding as a key, with one more owner of it. It fails only where the count of owners is full.
     pub(crate) fn of(entry: &Shared<Numbered>) -> Result<Content, AllocError>
         ensures { IfOk result (λ content. content ≡ entry.now) }
     {
@@ -66,19 +68,21 @@ impl Content {
         })
     }
 
-    /// The same with one more owner.
+    /// One more owner of the same binding. It fails only where the count of owners is full.
     pub(crate) fn share(&self) -> Result<Content, AllocError>
         ensures { IfOk result (λ content. content ≡ self.now) }
     {
         Content::of(&self.entry)
     }
 
+    /// The binding's creation number.
     pub(crate) fn number(&self) -> u64
         ensures { result ≡ self.now.number }
     {
         self.entry.value().number
     }
 
+    /// The binding, without its creation number.
     pub(crate) fn binding(&self) -> &Binding
         ensures { result.now ≡ self.now.binding }
     {

@@ -39,6 +39,7 @@ pub struct Index {
 }
 
 impl KindIndex {
+    /// An index of one kind without bindings. `hasher` hashes the names.
     fn new(alloc: Global, hasher: RandomState) -> KindIndex
         ensures { (kind : AnyKind) → IsKindIndexed result kind [] }
     {
@@ -48,7 +49,7 @@ impl KindIndex {
         }
     }
 
-    /// The bindings of this pattern.
+    /// The bindings of this pattern type, by their names.
     fn of(&self, pattern: Pattern) -> &Names
         ensures { result.now ≡ pattern_names self.now pattern }
     {
@@ -58,6 +59,8 @@ impl KindIndex {
         }
     }
 
+    /// Adds a binding of this kind under its pattern type and name, with one more owner of it. An allocation failure changes
+    /// nothing.
     fn add(&mut self, alloc: Global, entry: &Shared<Numbered>) -> Result<(), AllocError>
         ensures ok { OnOk result
             ((kind : AnyKind) (es : List Entry) → kind_number entry.now.binding.kind
@@ -76,6 +79,7 @@ impl KindIndex {
         }
     }
 
+    /// Drops the bindings of this kind that match the filter.
     fn clean(&mut self, filter: &Filter)
         ensures { (kind : AnyKind) (es : List Entry) → IsKindIndexed self.old kind es
             → IsKindIndexed self.new kind (kept (is_not_matched filter.now) es) }
@@ -84,7 +88,7 @@ impl KindIndex {
         self.prefixed.clean(filter);
     }
 
-    /// Takes out the bindings of this pattern and name that the filter picks.
+    /// Drops the bindings of this pattern type and name that match the filter.
     fn clean_at(&mut self, pattern: Pattern, name: &str, filter: &Filter)
         ensures { (kind : AnyKind) (es : List Entry) → IsKindIndexed self.old kind es
             → IsKindIndexed self.new kind
@@ -98,6 +102,7 @@ impl KindIndex {
 }
 
 impl Index {
+    /// An index without bindings. `hasher` hashes the names.
     pub(crate) fn new(alloc: Global, hasher: RandomState) -> Index
         ensures { IsIndexed result [] }
     {
@@ -109,7 +114,7 @@ impl Index {
         }
     }
 
-    /// The bindings of this kind.
+    /// The index of this kind of resource.
     pub(crate) fn of(&self, kind: Kind) -> &KindIndex
         ensures { result.now ≡ kind_index self.now kind }
     {
@@ -121,7 +126,7 @@ impl Index {
         }
     }
 
-    /// The bindings at the place.
+    /// The bindings under this key, in creation order.
     fn held(&self, acl_key: &AclKey) -> &[Shared<Numbered>]
         ensures { (es : List Entry) → IsIndexed self.now es → result.now
             ≡ bindings_about acl_key.now.kind acl_key.now.pattern acl_key.now.name.now es }
@@ -129,7 +134,8 @@ impl Index {
         self.of(acl_key.kind).of(acl_key.pattern).held(acl_key.name)
     }
 
-    /// Takes those of the bindings at these places that the filter picks.
+    /// Adds to `picked` the bindings under these keys that match the filter. On an allocation failure some may have been
+    /// added.
     pub(crate) fn pick(
         &self,
         acl_keys: &[AclKey],
@@ -147,7 +153,7 @@ impl Index {
         Ok(())
     }
 
-    /// One more binding, after all others.
+    /// Adds a binding, whose creation number is greater than all others. An allocation failure changes nothing.
     pub(crate) fn add(&mut self, alloc: Global, entry: &Shared<Numbered>) -> Result<(), AllocError>
         ensures ok { OnOk result
             ((es : List Entry) → IsIndexed self.old es
@@ -164,7 +170,7 @@ impl Index {
         }
     }
 
-    /// Takes out the bindings that the filter picks.
+    /// Drops all bindings that match the filter.
     pub(crate) fn clean(&mut self, filter: &Filter)
         ensures { (es : List Entry) → IsIndexed self.old es
             → IsIndexed self.new (kept (is_not_matched filter.now) es) }
@@ -175,7 +181,7 @@ impl Index {
         self.ids.clean(filter);
     }
 
-    /// Takes out the bindings at the place that the filter picks.
+    /// Drops the bindings under this key that match the filter.
     fn clean_at(&mut self, acl_key: &AclKey, filter: &Filter)
         ensures { (es : List Entry) → IsIndexed self.old es
             → IsIndexed self.new (kept (is_left filter.now (stands_at acl_key.now)) es) }
@@ -188,7 +194,7 @@ impl Index {
         }
     }
 
-    /// Takes out the bindings at these places that the filter picks.
+    /// Drops the bindings under these keys that match the filter.
     pub(crate) fn clean_keys(&mut self, acl_keys: &[AclKey], filter: &Filter)
         ensures { (es : List Entry) → IsIndexed self.old es
             → IsIndexed self.new (kept (is_left filter.now (stands_in acl_keys.now)) es) }

@@ -56,6 +56,7 @@ impl Model for IndexedBook {
 }
 
 impl IndexedBook {
+    /// A book without bindings. Creation numbers begin at 1; `hasher` hashes names and bindings.
     pub(crate) fn new(alloc: Global, hasher: RandomState) -> IndexedBook
         ensures { result ≡ empty_book }
     {
@@ -67,12 +68,12 @@ impl IndexedBook {
         }
     }
 
-    /// What names are hashed by.
+    /// What the names of bindings are hashed by.
     pub(crate) fn hasher(&self) -> RandomState {
         *self.contents.hasher()
     }
 
-    /// The bindings by kind, pattern and name.
+    /// The bindings by kind, pattern type and name.
     pub(crate) fn index(&self) -> &Index
         ensures indexed { IsIndexed result.now self.now.entries }
         ensures named { AllByRecursion IsNamed self.now.entries }
@@ -80,7 +81,8 @@ impl IndexedBook {
         &self.index
     }
 
-    /// Adds a binding under the next creation number, unless an equal one is there.
+    /// Adds a binding under the next creation number. If an equal one is there, the book stays as it is. An allocation
+    /// failure changes nothing.
     pub(crate) fn add(&mut self, alloc: Global, binding: Binding) -> Result<Added, AllocError>
         requires next { self.old.next + 1 < 2 ^ 64 }
         requires named { binding.pattern ≡ Prefixed → 0 < length binding.name }
@@ -99,14 +101,14 @@ impl IndexedBook {
         Ok(Added::Added(number))
     }
 
-    /// The creation number of the binding that says the same.
+    /// The creation number of the binding that says the same, `None` if there is none.
     fn number_of(&self, content: &Content) -> Option<u64>
         ensures { result ≡ number_of self.now.entries content.now.binding }
     {
         self.contents.get(content).copied()
     }
 
-    /// Takes a new binding, which has the next number.
+    /// Adds a binding that isn't in the book and bears the next creation number. An allocation failure changes nothing.
     fn insert(
         &mut self,
         alloc: Global,
@@ -133,7 +135,7 @@ impl IndexedBook {
         Ok(())
     }
 
-    /// Copies of the bindings that the filter picks, in creation order.
+    /// Copies of the bindings that match the filter, in creation order.
     pub(crate) fn matching(
         &self,
         alloc: Global,
@@ -145,7 +147,7 @@ impl IndexedBook {
         copies(alloc, &self.picked(alloc, filter, &acl_keys)?)
     }
 
-    /// The bindings that the filter picks: those at the places, and without places those of all.
+    /// The bindings that match the filter, among those under the keys, or among all where `acl_keys` is `None`.
     fn picked(
         &self,
         alloc: Global,
@@ -166,7 +168,7 @@ impl IndexedBook {
         }
     }
 
-    /// Takes out the bindings that the filter picks, and answers them in creation order.
+    /// Removes the bindings that match the filter, and gives them in creation order. An allocation failure removes none.
     pub(crate) fn remove(
         &mut self,
         alloc: Global,
@@ -184,7 +186,8 @@ impl IndexedBook {
         Ok(copies)
     }
 
-    /// Takes out what the filter picks, which stands at the places.
+    /// Removes from the book and its index what the filter picked, which stands under the keys, or anywhere where `acl_keys`
+    /// is `None`.
     fn take_out(&mut self, filter: &Filter, acl_keys: &Option<Items<AclKey>>, picked: &ByNumber)
         requires acl_keys { AreAllAt acl_keys.now filter.now }
         requires picked { picked.now.entries
@@ -199,7 +202,7 @@ impl IndexedBook {
         }
     }
 
-    /// What the bindings answer to the question, deny before allow, and how often a name was looked up for it.
+    /// What the bindings answer to the question, DENY before ALLOW, and how many names were looked up for it.
     pub(crate) fn verdict_counted(&self, question: &Question) -> (Verdict, u64)
         ensures verdict { result.0 ≡ verdict_of self.now.entries question.now }
         ensures looked { result.1
@@ -210,7 +213,8 @@ impl IndexedBook {
         (finding.verdict(), looked)
     }
 
-    /// What the bindings that may cover the question's name say: those of the name, of `*` and of its beginnings.
+    /// What the bindings that may match the question's name say to it: those of the name, of `*`, and the prefixed ones of
+    /// its beginnings. Also how many names were looked up.
     fn found(&self, question: &Question) -> (Finding, u64)
         ensures finding { result.0 ≡ finding_of self.now.entries question.now }
         ensures looked { result.1

@@ -26,7 +26,7 @@ pub struct Finding {
 }
 
 impl Finding {
-    /// Where there is no binding: nothing denies or allows.
+    /// What no bindings say: nothing is denied, nothing allowed.
     fn none() -> Finding
         ensures { result ≡ record { denied = None; allowed = false } }
     {
@@ -36,7 +36,7 @@ impl Finding {
         }
     }
 
-    /// What these bindings say to the question. They stand in the order of their creation.
+    /// What these bindings, in creation order, say to the question.
     fn of(entries: &[Shared<Numbered>], question: &Question) -> Finding
         requires { IsRising 1 entries.now }
         ensures { result ≡ finding_of entries.now question.now }
@@ -47,7 +47,7 @@ impl Finding {
         }
     }
 
-    /// What the bindings of both say together.
+    /// What the bindings of both findings say together: the lesser number of a denial, and whether any allows.
     pub(crate) fn joined(self, other: Finding) -> Finding
         ensures { result ≡ combined_finding self other }
     {
@@ -57,7 +57,7 @@ impl Finding {
         }
     }
 
-    /// The answer to the question: a denial goes before what is allowed.
+    /// The answer to the question: DENY goes before ALLOW.
     pub(crate) fn verdict(self) -> Verdict
         ensures { result ≡ verdict_by self.denied self.allowed }
     {
@@ -69,7 +69,7 @@ impl Finding {
     }
 }
 
-/// The lesser of the numbers that are there, if one is.
+/// The lesser of the numbers that are there, `None` if neither is.
 fn min_some(a: Option<u64>, b: Option<u64>) -> Option<u64>
     ensures { result ≡ min_some a b }
 {
@@ -80,7 +80,7 @@ fn min_some(a: Option<u64>, b: Option<u64>) -> Option<u64>
     }
 }
 
-/// What the bindings of this name say: one look-up.
+/// What the bindings of this name say to the question. It takes one look-up, which is counted in `looked`.
 pub(crate) fn look_up_name(
     names: &Names,
     name: &str,
@@ -95,8 +95,8 @@ pub(crate) fn look_up_name(
     Finding::of(names.look_up(name, looked), question)
 }
 
-/// What the prefixed bindings whose names begin the question's say: a look-up for each beginning that is no longer than
-/// the longest of those names.
+/// What the prefixed bindings whose names begin the question's say to it. It takes a look-up, counted in `looked`, for each
+/// beginning that is no longer than the longest of those names.
 pub(crate) fn look_up_prefixes(names: &Names, question: &Question, looked: &mut u64) -> Finding
     requires rising { (name : List ℕ) → IsRising 1 (bindings_under names.now name) }
     requires count { looked.old + length question.now.name + 1 < 2 ^ 64 }

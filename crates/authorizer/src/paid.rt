@@ -6,7 +6,7 @@ ghost use Rattle.std.specs.List.{cons_option};
 use crate::permit::Spent;
 use std::marker::Model;
 
-/// The questions whose permits were spent for a part, in order and at most three. It takes no memory.
+/// The evidence of the permits that were spent for a part of a request, in order and at most three. It allocates nothing.
 pub struct Paid {
     pub(crate) first: Option<Spent>,
     pub(crate) second: Option<Spent>,
@@ -34,7 +34,7 @@ impl Model for Paid {
 }
 
 impl Paid {
-    /// Nothing was asked.
+    /// For a part that needed no permit.
     pub fn nothing() -> Paid
         ensures { result ≡ [] }
     {
@@ -45,7 +45,7 @@ impl Paid {
         }
     }
 
-    /// One question.
+    /// For a part that needed one permit.
     pub fn one(first: Spent) -> Paid
         ensures { result ≡ first ∷ [] }
     {
@@ -56,7 +56,7 @@ impl Paid {
         }
     }
 
-    /// Two questions.
+    /// For a part that needed two permits.
     pub fn two(first: Spent, second: Spent) -> Paid
         ensures { result ≡ first ∷ second ∷ [] }
     {
@@ -67,7 +67,7 @@ impl Paid {
         }
     }
 
-    /// Three questions.
+    /// For a part that needed three permits.
     pub fn three(first: Spent, second: Spent, third: Spent) -> Paid
         ensures { result ≡ first ∷ second ∷ third ∷ [] }
     {
@@ -78,7 +78,7 @@ impl Paid {
         }
     }
 
-    /// A first question that may be absent, and the last.
+    /// For a part that needed the last permit, and a first one if it asked a first question.
     pub fn given(given: Option<Spent>, last: Spent) -> Paid
         ensures { result ≡ cons_option given (last ∷ []) }
     {

@@ -7,7 +7,8 @@ use crate::policy::Policy;
 use acl_binding::Question;
 use std::marker::Model;
 
-/// Neither `Clone` nor `Drop`: it must be spent or declined.
+/// The right to do what a question asked, once, before the next change of the bindings. Neither `Clone` nor `Drop`: it must
+/// be spent or declined.
 pub struct Permit {
     edit: u64,
     question: Question,
@@ -21,7 +22,7 @@ impl Model for Permit {
     ghost view = { λ p. record { edit = p.edit; question = p.question } };
 }
 
-/// That the permit of a question was spent. It is made by [`Permit::spend`] alone, and can't be copied.
+/// The evidence that the permit of a question was spent. It is made by [`Permit::spend`] alone, and can't be copied.
 pub struct Spent {
     question: Question,
 }
@@ -43,6 +44,7 @@ impl Model for Spent {
 }
 
 impl Permit {
+    /// The permit of a question that was granted under this edit number of the policy.
     pub(crate) fn new(edit: u64, question: Question) -> Permit
         ensures { result ≡ record { edit = edit; question = question } }
     {
@@ -56,7 +58,8 @@ impl Permit {
         &self.question
     }
 
-    /// Uses the permit up, under the policy that gave it and before any change of the book since.
+    /// Uses the permit up for what it was asked for, and gives the evidence of that. The policy is the one that gave the
+    /// permit, with no change of its bindings since.
     pub fn spend(self, policy: &Policy) -> Spent
         requires { IsGood policy.now self }
         ensures { result ≡ self.question }
@@ -67,7 +70,7 @@ impl Permit {
         Spent { question }
     }
 
-    /// Gives the permit up.
+    /// Gives the permit up unused, since another question of the same part was refused.
     pub fn decline(self) {
         let Permit {
             edit: _,

@@ -17,7 +17,7 @@ use wire_types::{Items, Shared};
 /// Bindings by their creation numbers: one that is entered twice stands once.
 pub(crate) type ByNumber = BTreeMap<u64, Content>;
 
-/// Takes those of the bindings that the filter picks.
+/// Adds to `picked` those of the entries that match the filter. On an allocation failure some may have been added.
 pub(crate) fn pick_from(
     entries: &[Shared<Numbered>],
     filter: &Filter,
@@ -35,7 +35,7 @@ pub(crate) fn pick_from(
     Ok(())
 }
 
-/// Those of all bindings that the filter picks.
+/// The entries that match the filter.
 pub(crate) fn pick_from_all(
     alloc: Global,
     entries: &ByNumber,
@@ -54,7 +54,7 @@ pub(crate) fn pick_from_all(
     Ok(picked)
 }
 
-/// Copies of what was picked, in creation order.
+/// Copies of the picked bindings, in creation order.
 pub(crate) fn copies(alloc: Global, picked: &ByNumber) -> Result<Items<Binding>, AllocError>
     ensures { IfOk result (λ copies. copies ≡ map (λ (e : Entry). e.binding) (values picked.now)) }
 {
@@ -65,7 +65,7 @@ pub(crate) fn copies(alloc: Global, picked: &ByNumber) -> Result<Items<Binding>,
     Ok(copies)
 }
 
-/// Takes out of the bindings those that were picked among them.
+/// Removes from the entries, by their creation numbers, those that were picked.
 pub(crate) fn take_out(entries: &mut ByNumber, picked: &ByNumber)
     ensures { entries.new.entries ≡ without_numbers entries.old.entries (keys picked.now) }
 {
@@ -74,7 +74,7 @@ pub(crate) fn take_out(entries: &mut ByNumber, picked: &ByNumber)
     }
 }
 
-/// Takes what they say out of what the bindings say.
+/// Removes the picked bindings from the table of what each binding says.
 pub(crate) fn forget(contents: &mut IndexMap<Content, u64, RandomState>, picked: &ByNumber)
     ensures { HasForgotten contents.old.entries contents.new.entries (values picked.now) }
 {

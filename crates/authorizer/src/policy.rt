@@ -40,7 +40,7 @@ impl Model for Policy {
 }
 
 impl Policy {
-    /// No binding yet, and these super users. Names are hashed by `hasher`; no answer depends on it.
+    /// A policy without bindings and with these super users. `hasher` hashes names; no answer depends on it.
     pub fn new(alloc: Global, supers: Items<Text>, hasher: RandomState) -> Policy
         ensures { result ≡ first_policy supers }
     {
@@ -51,19 +51,20 @@ impl Policy {
         }
     }
 
-    /// What the names of bindings are hashed by, for other tables of them.
+    /// What the names of bindings are hashed by. Other tables of names are to use the same.
     pub fn hasher(&self) -> RandomState {
         self.book.hasher()
     }
 
-    /// The number of changes that the book has seen.
+    /// The edit number: how often the bindings were changed. A permit is good under one edit number.
     pub(crate) fn edit(&self) -> u64
         ensures { result ≡ self.now.edit }
     {
         self.edit
     }
 
-    /// Adds a binding. The edit number rises where the book changes.
+    /// Adds a binding under the next creation number, and counts the edit number up. If an equal binding is there, or on an
+    /// allocation failure, nothing changes.
     pub fn add(&mut self, alloc: Global, binding: Binding) -> Result<Added, AllocError>
         requires next { self.old.book.next + 1 < 2 ^ 63 }
         requires named { binding.pattern ≡ Prefixed → 0 < length binding.name }
@@ -81,7 +82,7 @@ impl Policy {
         Ok(answer)
     }
 
-    /// Copies of the bindings that the filter picks, in creation order.
+    /// Copies of the bindings that match the filter, in creation order.
     pub fn matching(&self, alloc: Global, filter: &Filter) -> Result<Items<Binding>, AllocError>
         ensures { IfOk result
             (λ picked. picked ≡ matching_bindings self.now.book.entries filter.now) }
@@ -89,8 +90,8 @@ impl Policy {
         self.book.matching(alloc, filter)
     }
 
-    /// Takes out the bindings that the filter picks, and answers them in creation order. The edit number rises where
-    /// there are any.
+    /// Removes the bindings that match the filter, and gives them in creation order. The edit number is counted up if there
+    /// are any. An allocation failure removes none.
     pub fn remove(&mut self, alloc: Global, filter: &Filter) -> Result<Items<Binding>, AllocError>
         requires { self.old.book.next < 2 ^ 63 }
         ensures ok { OnOk result (self.new ≡ policy_removed self.old filter.now) }
@@ -105,15 +106,15 @@ impl Policy {
         Ok(picked)
     }
 
-    /// Deny before allow; super users may do everything.
+    /// What the policy answers to a question: `Yes` to a super user, else what the bindings say, DENY before ALLOW.
     pub fn verdict(&self, question: &Question) -> Verdict
         ensures { result ≡ policy_verdict self.now question.now }
     {
         self.verdict_counted(question).0
     }
 
-    /// The verdict, and how often a name was looked up for it among the bindings: once for the name, once for `*`, and
-    /// once for each of its beginnings that is no longer than the longest prefixed name bound for the kind.
+    /// The verdict, and how many names were looked up for it: for a super user none, else the asked name, `*`, and each
+    /// beginning of the name that is no longer than the longest prefixed name of that kind.
     pub fn verdict_counted(&self, question: &Question) -> (Verdict, u64)
         ensures verdict { result.0 ≡ policy_verdict self.now question.now }
         ensures looked { result.1 ≡ look_ups self.now question.now }
@@ -124,15 +125,15 @@ impl Policy {
         self.book.verdict_counted(question)
     }
 
-    /// Some binding lets the caller write to topics, and no denial stands over it: who has that may have a producer id
-    /// without a transactional id (KIP-679).
+    /// Whether this principal at this host may have a producer id without a transactional id, since it may WRITE to some
+    /// topic: a binding allows it, and no DENY covers all names of that binding (KIP-679).
     pub fn any_topic(&self, who: &Text, host: &Text) -> bool
         ensures { result ≡ any_topic self.now.book.entries who.now host.now }
     {
         self.book.any_topic(who, host)
     }
 
-    /// What it says to a question, for all that ask the same before the next change of the book.
+    /// Asks a question once for all parts of a request. What is said holds until the next change of the bindings.
     pub fn settle(&self, question: Question) -> Settled
         ensures { result ≡ settled_value self.now question }
     {
@@ -144,14 +145,14 @@ impl Policy {
         }
     }
 
-    /// A permit exactly where the verdict is `Yes`.
+    /// Asks a question. The answer is a permit if the verdict is `Yes`, else a refusal with the reason.
     pub fn ask(&self, question: Question) -> Answer
         ensures { result ≡ asking_answer self.now question }
     {
         self.answer(self.settle(question))
     }
 
-    /// The same to a question that was settled under this policy, and before any change of the book since.
+    /// The permit or the refusal of a question that was settled under this policy, with no change of the bindings since.
     pub fn answer(&self, settled: Settled) -> Answer
         requires { IsSettled self.now settled }
         ensures { result ≡ asking_answer self.now settled.question }
@@ -159,6 +160,7 @@ impl Policy {
         settled.answer()
     }
 
+    /// Whether the principal is a super user.
     fn is_super(&self, who: &Text) -> bool
         ensures { result ≡ is_super self.now.supers who.now }
     {

@@ -37,7 +37,7 @@ impl Model for Settled {
 }
 
 impl Settled {
-    /// The same once more, for one more part.
+    /// A copy, for one more part of the request. An `AllocError` is an allocation failure.
     pub fn again(&self) -> Result<Settled, AllocError>
         ensures { IfOk result (λ settled. settled ≡ self.now) }
     {
@@ -48,7 +48,7 @@ impl Settled {
         })
     }
 
-    /// A permit, or the refusal.
+    /// The permit if the verdict is `Yes`, else the refusal with the reason.
     pub(crate) fn answer(self) -> Answer
         ensures { result ≡ answer_by self.verdict self.edit self.question }
     {
@@ -66,7 +66,7 @@ impl Settled {
     }
 }
 
-/// What the policy says to a question that may be absent.
+/// Asks the policy a question for all parts of a request. `None` where there is no question.
 pub fn settle_if_given(policy: &Policy, question: Option<Question>) -> Option<Settled>
     ensures { result ≡ settled_value_if_given policy.now question }
 {
@@ -76,7 +76,7 @@ pub fn settle_if_given(policy: &Policy, question: Option<Question>) -> Option<Se
     }
 }
 
-/// The same once more, for one more part.
+/// A copy, for one more part of the request. `None` where there was no question.
 pub fn again_if_given(settled: &Option<Settled>) -> Result<Option<Settled>, AllocError>
     ensures { IfOk result (λ again. again ≡ settled.now) }
 {

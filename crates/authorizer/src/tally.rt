@@ -24,14 +24,14 @@ impl Model for Tally {
 }
 
 impl Tally {
-    /// Nothing was spent.
+    /// A tally of no permits.
     pub fn none() -> Tally
         ensures { result ≡ 0 }
     {
         Tally { spent: 0 }
     }
 
-    /// Counts what was spent for a part.
+    /// Counts the permits that were spent for a part.
     pub fn add(&mut self, paid: Paid)
         ensures { self.new ≡ count_after self.old paid }
     {
@@ -40,6 +40,7 @@ impl Tally {
         self.count(&paid.third);
     }
 
+    /// Counts one more permit if there is one and the count is below the greatest `u64`.
     fn count(&mut self, spent: &Option<Spent>)
         ensures { self.new ≡ count_after self.old (cons_option spent.now []) }
     {

@@ -46,7 +46,7 @@ struct Refused {
     len: usize,
 }
 
-/// The refusals of the entries from a place on.
+/// The refusals in the trail's entries from this place on, and how many entries the trail has.
 fn refused_since(alloc: Global, core: &Core, since: usize) -> Result<Refused, AllocError> {
     let trail = core.trail();
     Ok(Refused {
@@ -71,7 +71,7 @@ impl<'d, 'r, L: DeskLedger, R: Wait + time::Clock, I: BufRead, O: Write> Asking<
     I,
     O,
 > {
-    /// Before the first line.
+    /// Reads lines from where `steering` has them; none was read yet.
     pub(crate) fn new(
         alloc: Global,
         desk: &'d LockedDesk<L, &'r R>,
@@ -87,12 +87,12 @@ impl<'d, 'r, L: DeskLedger, R: Wait + time::Clock, I: BufRead, O: Write> Asking<
         }
     }
 
-    /// Answers with whole lines. Whoever doesn't read them misses them.
+    /// Writes whole lines as an answer. If that fails, nothing else does.
     pub(crate) fn answer(&mut self, lines: &str) {
         let _ = write_whole(&mut self.steering.answers, lines.as_bytes());
     }
 
-    /// Answers with lines, or tells that memory was refused for them.
+    /// Writes lines as an answer, or that an allocation failed for them.
     pub(crate) fn answer_or_stop(&mut self, lines: Result<String, AllocError>) {
         match lines {
             Ok(lines) => self.answer(lines.as_str()),
@@ -100,24 +100,25 @@ impl<'d, 'r, L: DeskLedger, R: Wait + time::Clock, I: BufRead, O: Write> Asking<
         }
     }
 
-    /// Answers a line that asks for nothing that is done, and tells an operator which lines do.
+    /// Answers `unreadable`, since a line is none of those that may come, and tells an operator which these are.
     pub(crate) fn answer_unreadable(&mut self, lines: &str) {
         self.answer("unreadable\n");
         self.log.tell_unreadable(lines);
     }
 
-    /// No more connections are to be taken.
+    /// Sets the flag that no more connections are to be taken.
     pub(crate) fn close(&self) {
         self.steering.closing.close();
     }
 
-    /// The same, and an operator is told which are still open.
+    /// Sets the flag that no more connections are to be taken, and tells an operator how many are still open.
     pub(crate) fn close_and_tell(&self) {
         self.close();
         self.log.tell_open();
     }
 
-    /// What the next line asks for; none where it can't be read. The end of the lines is `end`.
+    /// Reads the next line, and tells what it asks for; `None` where it is none of those that may come. The end of the lines is
+    /// the command `end`.
     pub(crate) fn read(&mut self) -> Option<ControlCommand> {
         let mut line = Vec::new(self.alloc);
         match self.steering.lines.read_until(b'\n', &mut line) {
@@ -130,7 +131,7 @@ impl<'d, 'r, L: DeskLedger, R: Wait + time::Clock, I: BufRead, O: Write> Asking<
         }
     }
 
-    /// Answers the line `state`.
+    /// Answers the line `state`: how things stand in the broker.
     pub(crate) fn tell_state(&mut self) {
         let alloc = self.alloc;
         let lines = match self.desk.look(|core| state_report_of(alloc, core)) {
@@ -140,7 +141,7 @@ impl<'d, 'r, L: DeskLedger, R: Wait + time::Clock, I: BufRead, O: Write> Asking<
         self.answer_or_stop(lines);
     }
 
-    /// Answers the line `audit`.
+    /// Answers the line `audit`: the refusals since it was asked last.
     pub(crate) fn tell_refusals(&mut self) {
         let (alloc, told) = (self.alloc, self.told);
         let lines = match self.desk.look(|core| refused_since(alloc, core, told)) {
@@ -172,7 +173,7 @@ impl<'d, 'r, L: DeskLedger, R: Wait + time::Clock, I: BufRead + Drop, O: Write +
     I,
     O,
 > {
-    /// Before the first line.
+    /// Reads lines from where `steering` has them; none was read yet.
     pub fn new(
         rt: &'r R,
         alloc: Global,
@@ -186,8 +187,8 @@ impl<'d, 'r, L: DeskLedger, R: Wait + time::Clock, I: BufRead + Drop, O: Write +
         }
     }
 
-    /// Answers `state` and `audit`, and nothing else, until the line `end` or the end of the lines. From there on no more connections
-    /// are to be taken.
+    /// Answers `state` and `audit`, and any other line as unreadable, until the line `end` or the end of the lines. From there on
+    /// no more connections are to be taken.
     pub fn attend(mut self) {
         let rt = self.rt;
         for _ in rt.forever() {

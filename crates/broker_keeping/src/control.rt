@@ -64,7 +64,8 @@ pub struct Control<'d, 'r, L: DeskLedger, R: Wait, I: BufRead, O: Write> {
     seen: Seen,
 }
 
-/// What is told of a step that was taken: the marker that was written, or the moment and what it aborted.
+/// What is told of a step that was taken: the marker that was written, or the moment and which transactions it aborted. The error
+/// is an allocation failure.
 fn seen_text(alloc: Global, seen: &Seen) -> Result<String, AllocError> {
     match seen {
         Seen::Front(front) => front_text(alloc, front),
@@ -73,7 +74,8 @@ fn seen_text(alloc: Global, seen: &Seen) -> Result<String, AllocError> {
     }
 }
 
-/// What is to be seen before a step.
+/// What has to be seen in the core before a step: the transactions that are open before a tick, the marker that comes first
+/// before a mark.
 fn seen_before(alloc: Global, core: &Core, in_flight: InFlight) -> Seen {
     match in_flight {
         InFlight::Tick => open_ones(alloc, core).map_or(Seen::Nothing, Seen::Open),
@@ -82,7 +84,7 @@ fn seen_before(alloc: Global, core: &Core, in_flight: InFlight) -> Seen {
     }
 }
 
-/// The line that tells why a step wasn't made.
+/// The line that tells why a step wasn't taken, `stop N`.
 fn stop_line(why: EndReason) -> &'static str {
     match why {
         EndReason::Stopped(stop) => stop.line(),
@@ -98,7 +100,7 @@ impl<'d, 'r, L: DeskLedger, R: Wait + time::Clock, I: BufRead, O: Write> Control
     I,
     O,
 > {
-    /// Before the first line.
+    /// A keeper's steps by lines, of which none was read yet.
     pub fn new(
         rt: &'r R,
         alloc: Global,
@@ -116,14 +118,14 @@ impl<'d, 'r, L: DeskLedger, R: Wait + time::Clock, I: BufRead, O: Write> Control
         }
     }
 
-    /// `markers N` after the last of them.
+    /// Answers `markers N`, once `marks` has written all N of them.
     fn tell_markers(&mut self, count: u64) {
         self.in_flight = InFlight::Nothing;
         let line = format!(in self.alloc; "markers {count}\n");
         self.asking.answer_or_stop(line);
     }
 
-    /// The first mark, if one is owed.
+    /// Begins what the line `marks` asks for: a mark, if there is a marker to be written; else the answer is `markers 0`.
     fn first_of_marks(&mut self) -> Effect {
         if self
             .asking
@@ -137,7 +139,7 @@ impl<'d, 'r, L: DeskLedger, R: Wait + time::Clock, I: BufRead, O: Write> Control
         Effect::Answered
     }
 
-    /// Does what a line says, and tells what it leads to.
+    /// Does what a line asks for, or tells which step does it.
     fn obey(&mut self, command: ControlCommand) -> Effect {
         match command {
             ControlCommand::Tick(moment) => return Effect::Steps(
@@ -153,7 +155,7 @@ impl<'d, 'r, L: DeskLedger, R: Wait + time::Clock, I: BufRead, O: Write> Control
         Effect::Answered
     }
 
-    /// The line of a step that was taken: `moment MOMENT` or `marker ..`, and how many markers are pending.
+    /// Answers with what a step did, `moment ..` or `marker ..`, and with how many markers are left to be written.
     fn tell_step(&mut self, left: u64) {
         self.left = left;
         let alloc = self.alloc;
@@ -175,10 +177,12 @@ impl<'d, 'r, L: DeskLedger, R: Wait + time::Clock, I: BufRead, O: Write> Steps
     /// Whoever steers the broker says when a marker is written.
     ghost owed = { λ _. None };
 
+    /// Sees in the core what can be told of the step only if it is seen before it.
     fn before(&mut self, core: &Core) {
         self.seen = seen_before(self.alloc, core, self.in_flight);
     }
 
+    /// Sees which transactions a tick has aborted.
     fn after(&mut self, core: &Core) {
         let report = match &self.seen {
             Seen::Open(open) => tick_report_of(self.alloc, core, open.as_slice()),
@@ -190,6 +194,8 @@ impl<'d, 'r, L: DeskLedger, R: Wait + time::Clock, I: BufRead, O: Write> Steps
         };
     }
 
+    /// The next step, by the next line that asks for one; lines that ask for none are answered meanwhile. After `marks` it is a
+    /// mark as long as markers are left. `None` after `end`, or where the lines end.
     fn next(&mut self, _done: bool) -> Option<Step> {
         if let InFlight::Marks(count) = self.in_flight {
             if self.left > 0 {
@@ -216,6 +222,7 @@ impl<'d, 'r, L: DeskLedger, R: Wait + time::Clock, I: BufRead, O: Write> Steps
         None
     }
 
+    /// Answers the line that asked for the step: what it did, or `stop N`, where it wasn't taken. The keeper goes on either way.
     fn on_result(&mut self, outcome: Result<u64, EndReason>) -> bool {
         match outcome {
             Ok(left) => self.tell_step(left),

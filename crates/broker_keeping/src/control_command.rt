@@ -23,7 +23,7 @@ pub(crate) enum ControlCommand {
     End,
 }
 
-/// The command that a line is, if it is one.
+/// The command that a line is, `tick N`, `mark`, `marks`, `audit`, `state` or `end`; `None` for any other.
 fn parse_text(text: &str) -> Option<ControlCommand>
     ensures { result ≡ command_in text.now }
 {
@@ -52,7 +52,7 @@ fn parse_text(text: &str) -> Option<ControlCommand>
     }
 }
 
-/// What a line without its line feed asks for; none where it can't be read.
+/// What a line asks for, given without its line feed; `None` where it is no command.
 pub(crate) fn parse_control_command(line: &[u8]) -> Option<ControlCommand>
     ensures { result ≡ command_of line.now }
 {

@@ -50,7 +50,7 @@ pub(crate) struct Counted {
 }
 
 impl Counted {
-    /// What an entry adds to those of a kind.
+    /// What an entry of the trail adds to the counts of a kind: one event and its refusals, if it is of that kind, else nothing.
     #[tactic(auto, using(crate::proofs::Counting::one, crate::proofs::Counting::none, crate::proofs::Counting::its_refusals, crate::proofs::Counting::no_refusals))]
     fn of(kind: EventKind, entry: &Entry) -> Counted
         ensures events { result.events ≡ length (entries_of kind (entry.now ∷ [])) }
@@ -69,7 +69,7 @@ impl Counted {
         }
     }
 
-    /// All of both.
+    /// The sums of both counts.
     fn plus(self, more: Counted) -> Counted
         requires events { self.events + more.events < 2 ^ 64 }
         requires refusals { self.refusals + more.refusals < 2 ^ 64 }
@@ -83,7 +83,7 @@ impl Counted {
     }
 }
 
-/// The events of a kind in a trail.
+/// How many events of a kind a trail has, and how many parts of them were refused.
 pub(crate) fn count_of(trail: &Trail, kind: EventKind) -> Counted
     ensures events { result.events ≡ length (entries_of kind trail.now) }
     ensures refusals { result.refusals ≡ refusal_count (entries_of kind trail.now) }
@@ -119,7 +119,7 @@ pub(crate) struct Counts {
     apis: Vec<ApiCount>,
 }
 
-/// What the events of a trail are; none where memory was refused.
+/// How many requests to each api, ticks and marks a trail has; `None` after an allocation failure.
 pub(crate) fn counts_of(alloc: Global, trail: &Trail) -> Option<Counts> {
     let mut apis = Vec::new(alloc);
     let served = versions_reply(alloc).ok()?;
@@ -137,7 +137,7 @@ pub(crate) fn counts_of(alloc: Global, trail: &Trail) -> Option<Counts> {
     })
 }
 
-/// Appends how many requests of an api were answered, and how many of their parts were refused, if some were.
+/// Appends how many requests to an api were answered, and how many of their parts were refused, if some were.
 fn push_api(
     alloc: Global,
     line: &mut String,
@@ -155,7 +155,7 @@ fn push_api(
     }
 }
 
-/// The line that tells requests, ticks and marks apart.
+/// The line that tells how many requests, ticks and marks were answered, and how many requests of each api.
 pub(crate) fn counts_line(alloc: Global, counts: &Counts) -> Result<String, AllocError> {
     let Counts { ticks, marks, apis } = counts;
     let mut requests: u64 = 0;

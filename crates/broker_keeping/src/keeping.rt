@@ -11,7 +11,8 @@ use std::sync::Wait;
 use std::time;
 
 /// Tells the keeper its steps by the clock. After each it tells an operator what is new in the trail, and where the step wasn't
-/// taken that the clock stops; and at ticks that connections wait for a worker. It waits for nobody who reads that: what finds no room in the queue is left out.
+/// taken that the clock stops; and at ticks that connections wait for a worker. It waits for nobody who reads that: what the full
+/// queue doesn't take is left out.
 #[derive(Drop)]
 pub struct Timekeeper<'d, 'r, L: DeskLedger, R: Wait + time::Clock> {
     clock: Clocked<Ticks<'d, 'r, L, R>>,
@@ -19,7 +20,7 @@ pub struct Timekeeper<'d, 'r, L: DeskLedger, R: Wait + time::Clock> {
 }
 
 impl<'d, 'r, L: DeskLedger, R: Wait + time::Clock> Timekeeper<'d, 'r, L, R> {
-    /// Keeps time by this clock, while this watch looks.
+    /// Keeps time by this clock, and tells an operator by this watch.
     pub fn new(clock: Ticks<'d, 'r, L, R>, watch: Watch<'d, 'r, L, R>) -> Timekeeper<'d, 'r, L, R> {
         Timekeeper {
             clock: Clocked::new(clock),
@@ -31,7 +32,8 @@ impl<'d, 'r, L: DeskLedger, R: Wait + time::Clock> Timekeeper<'d, 'r, L, R> {
 impl<'d, 'r, L: DeskLedger, R: Wait + time::Clock> Steps for Timekeeper<'d, 'r, L, R> {
     ghost owed = { λ keeper. Some keeper.clock.left };
 
-    /// Until all workers have ended there is a next step, and where they left markers pending, there is one afterwards too.
+    /// The clock's next step, until all workers have ended and no marker is left to be written. At ticks it is looked whether
+    /// connections wait.
     fn next(&mut self, done: bool) -> Option<Step>
         ensures step { IfSome result (λ step. IsDue (Some self.old.clock.left) (step_event step)) }
         ensures owed { self.new.clock.left ≡ self.old.clock.left }
@@ -48,12 +50,15 @@ impl<'d, 'r, L: DeskLedger, R: Wait + time::Clock> Steps for Timekeeper<'d, 'r, 
         step
     }
 
+    /// Does nothing: what is new is looked for after the step.
     fn before(&mut self, _core: &Core) {}
 
+    /// Takes what is new in the trail, while the core is locked.
     fn after(&mut self, core: &Core) {
         self.watch.note(core);
     }
 
+    /// Tells an operator what was taken, and that the clock stops, where the step wasn't taken. Gives whether the clock goes on.
     fn on_result(&mut self, outcome: Result<u64, EndReason>) -> bool
         ensures owed { Some self.new.clock.left ≡ pending_after_outcome (Some self.old.clock.left)
             outcome }

@@ -15,7 +15,7 @@ pub(crate) enum Level {
 }
 
 impl Level {
-    /// Its name, as logs have it.
+    /// The level's name, as logs have it.
     pub(crate) fn name(self) -> &'static str {
         match self {
             Level::Info => "INFO",
@@ -35,7 +35,7 @@ pub(crate) enum LogMessage {
     End,
 }
 
-/// How many lines a text has.
+/// How many line feeds a text has.
 fn lines_in(text: &str) -> u64
     ensures { result ≡ count_by (λ byte. byte == 10) text.now }
 {
@@ -46,7 +46,7 @@ fn lines_in(text: &str) -> u64
 }
 
 impl LogMessage {
-    /// How many lines it has.
+    /// How many lines of the log the message makes.
     pub(crate) fn lines(&self) -> u64 {
         match self {
             LogMessage::Lines(_, lines) => lines_in(lines.as_str()),

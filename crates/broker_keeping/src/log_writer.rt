@@ -30,7 +30,7 @@ pub struct LogWriter<E: Write> {
     repeats: Repeats,
 }
 
-/// The line that tells how many were dropped.
+/// The line that tells how many lines were dropped, since the queue was full.
 fn dropped_line(alloc: Global, count: u64) -> Result<String, AllocError>
     ensures { IfOk result (λ line. string_bytes line ≡ dropped_line count) }
 {
@@ -38,7 +38,7 @@ fn dropped_line(alloc: Global, count: u64) -> Result<String, AllocError>
 }
 
 impl<E: Write + Drop> LogWriter<E> {
-    /// Nothing was written yet.
+    /// A writer of what comes from this queue, by which nothing was written yet.
     pub(crate) fn new(
         alloc: Global,
         from: Receiver<Queued>,
@@ -55,10 +55,10 @@ impl<E: Write + Drop> LogWriter<E> {
         })
     }
 
-    /// Writes all messages in the order in which they came into the queue, until it is to end or nobody is left to send one, and gives
-    /// the writer back. Where lines were dropped, it writes how many before the next message, or at the end. Where the same is said of
-    /// further sessions, it writes of how many: of the first ten, of the hundred after these, and so on, and of the others once other
-    /// things were said, or nothing for ten seconds. What can't be written is lost.
+    /// Writes all messages in the order in which they came into the queue, until it is to end or nobody is left to send one, and
+    /// gives the writer back. Where lines were dropped, it writes how many before the next message, or at the end. Where the same
+    /// is said of further sessions, it writes of how many: of the first ten, of the hundred after these, and so on, and of the
+    /// others once other things were said, or nothing for ten seconds. What can't be written is lost.
     pub fn run<R: Wait + time::Clock>(mut self, rt: &R) -> E {
         for _ in rt.forever() {
             match self.from.recv_timeout(rt, Duration::from_secs(QUIET)) {
@@ -79,7 +79,7 @@ impl<E: Write + Drop> LogWriter<E> {
         errors
     }
 
-    /// Writes a message. Gives whether more are to come.
+    /// Writes a message. Gives whether more are to come: not after `End`.
     fn tell(&mut self, queued: Queued) -> bool {
         let Queued {
             moment,
@@ -99,7 +99,7 @@ impl<E: Write + Drop> LogWriter<E> {
         true
     }
 
-    /// Writes lines. Where memory is refused for their stamps, they are written without.
+    /// Writes lines, each after its stamp, if lines get one. Where an allocation fails for the stamps, they are written without.
     fn write(&mut self, stamp: Stamp, lines: &str) {
         if self.stamps {
             if let Ok(stamped) = stamp.on(self.alloc, lines) {
@@ -110,14 +110,14 @@ impl<E: Write + Drop> LogWriter<E> {
         let _ = write_whole(&mut self.errors, lines.as_bytes());
     }
 
-    /// Writes a line, unless there is none.
+    /// Writes a line, or nothing for `None`.
     fn write_line(&mut self, moment: Option<SystemTime>, level: Level, line: Option<String>) {
         if let Some(line) = line {
             self.write(Stamp { moment, level }, line.as_str());
         }
     }
 
-    /// Writes what is said of a session, or counts it where the same was said of another.
+    /// Writes what is said of a session, or counts it where the same was said of another one lately.
     fn tell_of_session(&mut self, moment: Option<SystemTime>, session: u64, words: String) {
         let alloc = self.alloc;
         if let Some(repeated) = self.repeats.find(words.as_str()) {
@@ -134,13 +134,13 @@ impl<E: Write + Drop> LogWriter<E> {
         self.write_line(moment, Level::Info, line);
     }
 
-    /// Writes of how many more sessions the same was said.
+    /// Writes of how many more sessions the same was said than was told before.
     fn tell_repeated(&mut self, moment: Option<SystemTime>, mut repeated: Repeated) {
         let line = repeated.take_line(self.alloc);
         self.write_line(moment, Level::Info, line);
     }
 
-    /// The same of all that was said of sessions last, which is forgotten then.
+    /// Writes, for all that was said of sessions lately, of how many more it was said, and forgets it.
     fn tell_untold(&mut self, moment: Option<SystemTime>) {
         for _ in 0..self.repeats.len() {
             if let Some(repeated) = self.repeats.forget() {
@@ -149,7 +149,7 @@ impl<E: Write + Drop> LogWriter<E> {
         }
     }
 
-    /// Writes how many lines were dropped, if some were. Where memory is refused for that, it is left for the next time.
+    /// Writes how many lines were dropped, if some were. Where an allocation fails for that, it is left for the next time.
     fn tell_dropped(&mut self, moment: Option<SystemTime>) {
         if self.dropped == 0 {
             return;

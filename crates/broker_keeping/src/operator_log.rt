@@ -25,9 +25,10 @@ const WAITING: usize = 1_024;
 /// After so long a wait for a worker it is told that a connection is served, in seconds.
 const LONG: u64 = 1;
 
-/// The log for an operator. It gets a line for each session that ends by other than Closed, and lines about connections that wait or
-/// aren't served. Messages wait in a queue for a `LogWriter`, so nobody waits for whoever reads them: where the queue is full, they
-/// are dropped, and the next message comes with the number of their lines. A message that can't be put down makes nothing else fail.
+/// The log for an operator. It gets a line for each session that ends by other than Closed, and lines about connections that wait
+/// or aren't served. Messages wait in a queue for a `LogWriter`, so nobody waits for whoever reads them: where the queue is full,
+/// they are dropped, and the next message comes with the number of their lines. A message that can't be put down makes nothing
+/// else fail.
 #[derive(Drop)]
 pub struct OperatorLog<'r, R: Wait> {
     rt: &'r R,
@@ -48,8 +49,8 @@ pub struct OperatorLog<'r, R: Wait> {
 }
 
 impl<'r, R: Wait + time::Clock> OperatorLog<'r, R> {
-    /// An empty queue, and the writer of what comes out of it, which puts the time and the level before each line where `stamps` is
-    /// set. Memory for 1,024 messages is allocated here.
+    /// A log with an empty queue for 1,024 messages, which is allocated here, and the writer of what comes out of it. That puts
+    /// the time and the level before each line where `stamps` is set.
     pub fn new<E: Write + Drop>(
         rt: &'r R,
         alloc: Global,
@@ -71,7 +72,7 @@ impl<'r, R: Wait + time::Clock> OperatorLog<'r, R> {
         Ok((log, LogWriter::new(alloc, from, errors, stamps)?))
     }
 
-    /// A message of this moment, with the number of lines that were dropped before it.
+    /// A message with the present moment, and the number of lines that were dropped before it.
     fn queued(&self, message: LogMessage) -> Queued {
         Queued {
             moment: SystemTime::now(self.rt).ok(),
@@ -88,40 +89,40 @@ impl<'r, R: Wait + time::Clock> OperatorLog<'r, R> {
         }
     }
 
-    /// Puts down whole lines that tell how things go, and neither fails nor waits for whoever reads them. Where the queue is full, or
+    /// Logs whole lines that tell how things go, and neither fails nor waits for whoever reads them. Where the queue is full, or
     /// the writer is gone, they are dropped and counted.
     pub fn info(&self, lines: String) {
         self.hand(LogMessage::Lines(Level::Info, lines));
     }
 
-    /// Puts down a line that tells how things go, unless memory was refused for it.
+    /// Logs a line that tells how things go; nothing, where an allocation failed for it.
     fn info_line(&self, line: Result<String, AllocError>) {
         if let Ok(line) = line {
             self.info(line);
         }
     }
 
-    /// Puts down a line about which somebody should do something, unless memory was refused for it.
+    /// Logs a line about which somebody should do something; nothing, where an allocation failed for it.
     pub(crate) fn warn(&self, line: Result<String, AllocError>) {
         if let Ok(line) = line {
             self.hand(LogMessage::Lines(Level::Warn, line));
         }
     }
 
-    /// Puts down words about a session, unless memory was refused for them.
+    /// Logs words about a session; nothing, where an allocation failed for them.
     fn info_of_session(&self, session: u64, words: Option<String>) {
         if let Some(words) = words {
             self.hand(LogMessage::OfSession(session, words));
         }
     }
 
-    /// Tells what is served, as a server starts.
+    /// Logs what is served, as a server starts.
     pub fn start(&self, core: &Core, started: Started) {
         self.info_line(start_line(self.alloc, core, started));
     }
 
-    /// Warns where clients are told another port than this one, on which a server listens: they couldn't come back. Where a proxy
-    /// stands between them, that is as it should be.
+    /// Warns where the settings tell clients another port than this one, on which a server listens: they couldn't come back.
+    /// Where a proxy stands between them, that is as it should be.
     pub fn warn_of_port(&self, core: &Core, listens: u16) {
         let told = core.world().node().port;
         if told != i32::from(listens) {
@@ -131,7 +132,7 @@ impl<'r, R: Wait + time::Clock> OperatorLog<'r, R> {
         }
     }
 
-    /// Tells how many requests, ticks and marks were answered at a desk.
+    /// Logs how many requests, ticks and marks were answered at a desk.
     pub fn tell_counts<L: DeskLedger>(&self, desk: &LockedDesk<L, &'r R>) {
         let alloc = self.alloc;
         if let Some(counts) = desk.look(|core| counts_of(alloc, core.trail())) {
@@ -150,12 +151,12 @@ impl<'r, R: Wait + time::Clock> OperatorLog<'r, R> {
         self.dropped.fetch_add(message.lines(), Ordering::SeqCst);
     }
 
-    /// Whether some connection was taken for which no worker is found yet.
+    /// Whether some connection waits for a worker.
     pub(crate) fn has_waiting(&self) -> bool {
         self.begun.load(Ordering::SeqCst) != self.taken.load(Ordering::SeqCst)
     }
 
-    /// Tells that connections wait for a worker.
+    /// Warns that connections wait for a worker.
     pub(crate) fn tell_waiting(&self) {
         let workers = self.workers.load(Ordering::SeqCst);
         self.warn(format!(in self.alloc;
@@ -163,7 +164,7 @@ impl<'r, R: Wait + time::Clock> OperatorLog<'r, R> {
         ));
     }
 
-    /// Tells which lines of standard input are answered, where one of them isn't.
+    /// Warns that a line of standard input can't be read, and which lines can.
     pub(crate) fn tell_unreadable(&self, lines: &str) {
         self.warn(format!(in self.alloc;
             "kbroker: a line of standard input can't be read: there are {lines}\n"
@@ -178,7 +179,7 @@ impl<'r, R: Wait + time::Clock> OperatorLog<'r, R> {
         begun.saturating_sub(ended.saturating_add(unseated))
     }
 
-    /// Tells that connections are open which a stop waits for, if some are.
+    /// Logs how many connections are open, for which a stop waits, if some are.
     pub(crate) fn tell_open(&self) {
         let open = self.open();
         if open > 0 {
@@ -188,12 +189,12 @@ impl<'r, R: Wait + time::Clock> OperatorLog<'r, R> {
         }
     }
 
-    /// How many lines were dropped of which the writer doesn't know yet.
+    /// How many lines were dropped since the last message that went into the queue: the writer doesn't know of them yet.
     pub fn dropped(&self) -> u64 {
         self.dropped.load(Ordering::SeqCst)
     }
 
-    /// Tells why a session ended.
+    /// Logs that a session ended, whose it was, and why.
     fn tell_end<D: Display + Drop>(&self, session: u64, host: &Text, who: Option<&Text>, why: D) {
         let host = host.as_str();
         let who = who.map_or("nobody", |who| who.as_str());
@@ -201,30 +202,34 @@ impl<'r, R: Wait + time::Clock> OperatorLog<'r, R> {
         self.info_of_session(session, words.ok());
     }
 
-    /// Has the writer end after what it was handed. Where the queue is full this waits until there is room, and where the writer is gone
-    /// it does nothing.
+    /// Has the writer end after what it was handed. Where the queue is full this waits until it isn't, and where the writer is
+    /// gone it does nothing.
     pub fn end(&self) {
         let _ = self.to.send(self.rt, self.queued(LogMessage::End));
     }
 }
 
 impl<'r, R: Wait + time::Clock> Gate for OperatorLog<'r, R> {
+    /// Logs nothing.
     fn before(&self, _session: u64, _frame: u64) {}
 
+    /// Logs nothing.
     fn logged_in(&self, _session: u64, _who: &Text) {}
 
+    /// Logs nothing.
     fn after(&self, _session: u64, _frame: u64) {}
 
-    /// Tells which api it asks, and what of it is served.
+    /// Logs which api the frame asks, and which versions of it are served.
     fn malformed(&self, session: u64, kept: &[u8]) {
         self.info_of_session(session, unserved_words(self.alloc, kept));
     }
 
-    /// Tells what of its login failed, or what it asks before that.
+    /// Logs why the session's login failed, or what it asked before that.
     fn refused(&self, session: u64, kept: &Bytes, is_answered: bool) {
         self.info_of_session(session, refused_words(self.alloc, kept, is_answered));
     }
 
+    /// Counts the end of a session, and logs it, unless the connection was closed between two requests.
     fn ended(&self, session: u64, host: &Text, who: Option<&Text>, why: EndReason) {
         self.ended.fetch_add(1, Ordering::SeqCst);
         if why != EndReason::Closed {
@@ -232,6 +237,7 @@ impl<'r, R: Wait + time::Clock> Gate for OperatorLog<'r, R> {
         }
     }
 
+    /// Counts the end of a session, and logs why it ended, in these words.
     fn ended_as(
         &self,
         session: u64,
@@ -246,18 +252,21 @@ impl<'r, R: Wait + time::Clock> Gate for OperatorLog<'r, R> {
 }
 
 impl<'r, R: Wait + time::Clock> Doorman for OperatorLog<'r, R> {
+    /// Warns that connections can't be accepted for now.
     fn failed(&self, error: &io::Error) {
         self.warn(format!(in self.alloc;
             "kbroker: connections can't be accepted for now: {error}\n"
         ));
     }
 
+    /// Logs that no more connections are taken, since so many were.
     fn used_up(&self, connections: u64) {
         self.info_line(format!(in self.alloc;
             "kbroker: no more connections are taken, since --connections is {connections}\n"
         ));
     }
 
+    /// Warns that a connection was closed, since its host has as many as it may.
     fn turned_away(&self, host: &Text) {
         let host = host.as_str();
         self.warn(format!(in self.alloc;
@@ -265,7 +274,7 @@ impl<'r, R: Wait + time::Clock> Doorman for OperatorLog<'r, R> {
         ));
     }
 
-    /// Tells so the first time.
+    /// Counts a session for which no seat was left, and warns of the first.
     fn unseated(&self) {
         if self.unseated.fetch_add(1, Ordering::SeqCst) == 0 {
             let seats = MOST_SEATS;
@@ -275,12 +284,13 @@ impl<'r, R: Wait + time::Clock> Doorman for OperatorLog<'r, R> {
         }
     }
 
+    /// Counts a connection that waits for a worker.
     fn taken(&self, workers: usize) {
         self.workers.store(workers as u64, Ordering::SeqCst);
         self.taken.fetch_add(1, Ordering::SeqCst);
     }
 
-    /// Tells so of one that has waited for a second.
+    /// Counts a connection for which a worker was found, and logs it where it has waited for a second or more.
     fn begun(&self, host: &Text, waited: Duration) {
         self.begun.fetch_add(1, Ordering::SeqCst);
         let seconds = waited.as_secs();
@@ -292,6 +302,7 @@ impl<'r, R: Wait + time::Clock> Doorman for OperatorLog<'r, R> {
         }
     }
 
+    /// Logs that a session is closed, since it was still open so long after a stop.
     fn closed(&self, session: u64, grace: Duration) {
         let seconds = grace.as_secs();
         self.info_line(format!(in self.alloc;
@@ -299,6 +310,7 @@ impl<'r, R: Wait + time::Clock> Doorman for OperatorLog<'r, R> {
         ));
     }
 
+    /// Warns that fewer workers could be started than were asked for.
     fn fewer_workers(&self, started: usize, asked: usize) {
         self.warn(format!(in self.alloc;
             "kbroker: only {started} of {asked} workers could be started\n"

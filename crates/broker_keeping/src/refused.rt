@@ -11,8 +11,9 @@ use wire_types::Bytes;
 /// The keys of the two apis of a login.
 const LOGIN_KEYS: [i16; 2] = [17, 36];
 
-/// Appends which api came out of its order.
-fn push_early(alloc: Global, words: &mut String, key: i16) -> Result<(), AllocError> {
+/// Appends which api a frame asks that isn't served before the login: `asks Metadata before its login`; or `asks SaslAuthenticate
+/// out of its order`, if the api belongs to the login.
+fn push_api_before_login(alloc: Global, words: &mut String, key: i16) -> Result<(), AllocError> {
     match api_name(alloc, key) {
         Some(name) => words.push_str(format!(in alloc; "asks {name}")?.as_str())?,
         None => words.push_str(format!(in alloc; "asks api {key}")?.as_str())?,
@@ -24,7 +25,8 @@ fn push_early(alloc: Global, words: &mut String, key: i16) -> Result<(), AllocEr
     }
 }
 
-/// Appends what a login's message tells, without its password.
+/// Appends why a SaslAuthenticate was refused: its message is no PLAIN message, or no user has its name and password. The
+/// password isn't told.
 fn push_login(words: &mut String, message: &[u8]) -> Result<(), AllocError> {
     let Some(name) = name_in(message) else {
         return words.push_str("sends a login that is no PLAIN message");
@@ -37,7 +39,7 @@ fn push_login(words: &mut String, message: &[u8]) -> Result<(), AllocError> {
     words.push_str(": no user has this name and password")
 }
 
-/// Appends what of a login was refused.
+/// Appends why a message of the login was refused, a SaslHandshake's or a SaslAuthenticate's.
 fn push_refused(alloc: Global, words: &mut String, kept: &Bytes) -> Result<(), AllocError> {
     let Ok((_header, request)) = read_request(alloc, kept) else {
         return words.push_str("sends a login that is longer than each user's");
@@ -53,14 +55,14 @@ fn push_refused(alloc: Global, words: &mut String, kept: &Bytes) -> Result<(), A
     }
 }
 
-/// What a session asked whose user isn't known, or why its login failed, in words; none where memory was refused for them.
+/// What a session asked whose user isn't known, or why its login failed, in words; `None` after an allocation failure.
 pub(crate) fn refused_words(alloc: Global, kept: &Bytes, is_answered: bool) -> Option<String> {
     let (key, _version) = asked(kept.as_slice())?;
     let mut words = String::new(alloc);
     if is_answered {
         push_refused(alloc, &mut words, kept).ok()?;
     } else {
-        push_early(alloc, &mut words, key).ok()?;
+        push_api_before_login(alloc, &mut words, key).ok()?;
     }
     Some(words)
 }

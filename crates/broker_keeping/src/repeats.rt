@@ -6,10 +6,11 @@ use std::alloc::{AllocError, Global};
 /// So many different messages about sessions are kept at most, and the next one is compared with them.
 const RECENT: usize = 4;
 
-/// Of so many more sessions the same is said until that is told the first time. From then on it takes ten times as many each time.
+/// Of so many more sessions the same is said until that is told the first time. From then on it takes ten times as many each
+/// time.
 const FEW: u64 = 10;
 
-/// The line that says something of a session.
+/// The log's line that says something of a session.
 pub(crate) fn session_line(alloc: Global, session: u64, words: &str) -> Result<String, AllocError> {
     format!(in alloc; "kbroker: session {session} {words}\n")
 }
@@ -27,7 +28,7 @@ pub(crate) struct Repeated {
 }
 
 impl Repeated {
-    /// It was said of a first session.
+    /// What is said of a first session, which is told at once.
     fn first(session: u64, words: String) -> Repeated {
         Repeated {
             words,
@@ -37,15 +38,15 @@ impl Repeated {
         }
     }
 
-    /// It is said of one more session. Gives whether that is to be told now.
+    /// Counts one more session of which it is said. Gives whether that is to be told now.
     pub(crate) fn again(&mut self, session: u64) -> bool {
         self.session = session;
         self.untold = self.untold.saturating_add(1);
         self.due <= self.untold
     }
 
-    /// The line that tells of how many more sessions it was said, after which it is told of all of them; none where it was before,
-    /// or memory is refused for it.
+    /// The line that tells of how many more sessions it was said, after which none is untold. `None` where none was, or after an
+    /// allocation failure.
     pub(crate) fn take_line(&mut self, alloc: Global) -> Option<String> {
         let (untold, session) = (self.untold, self.session);
         if untold == 0 {
@@ -72,14 +73,14 @@ pub(crate) struct Repeats {
 }
 
 impl Repeats {
-    /// Nothing was said.
+    /// Nothing was said yet. Memory for four messages is allocated here.
     pub(crate) fn new(alloc: Global) -> Result<Repeats, AllocError> {
         Ok(Repeats {
             latest: HeapCircularBuffer::with_capacity(alloc, RECENT)?,
         })
     }
 
-    /// What was said in these words, if that is among the latest.
+    /// What was said in these words, if that is among the last four messages; else `None`.
     pub(crate) fn find(&mut self, words: &str) -> Option<&mut Repeated> {
         let place = self
             .latest
@@ -88,17 +89,17 @@ impl Repeats {
         self.latest.get_mut(place)
     }
 
-    /// Keeps what was said of a session. Gives what is forgotten for it, if something is.
+    /// Remembers what was said of a first session, and gives the oldest message, if that is forgotten for it.
     pub(crate) fn keep(&mut self, session: u64, words: String) -> Option<Repeated> {
         self.latest.push_back(Repeated::first(session, words))
     }
 
-    /// Forgets the oldest, and gives it.
+    /// Forgets the oldest message, and gives it; `None` where there is none.
     pub(crate) fn forget(&mut self) -> Option<Repeated> {
         self.latest.pop_front()
     }
 
-    /// How many are kept.
+    /// How many messages are remembered.
     pub(crate) fn len(&self) -> usize {
         self.latest.len()
     }

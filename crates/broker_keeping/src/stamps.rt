@@ -14,8 +14,8 @@ pub(crate) struct Stamp {
 }
 
 impl Stamp {
-    /// The moment in UTC, to the millisecond (RFC 3339, section 5.6), and the level, with a blank after each. Where it can't be told
-    /// when something was said, `-` stands for the moment.
+    /// The moment in UTC, to the millisecond (RFC 3339, section 5.6), and the level, with a blank after each. `-` stands for a
+    /// moment that can't be told.
     fn text(self, alloc: Global) -> Result<String, AllocError> {
         let level = self.level.name();
         let moment = self
@@ -27,7 +27,7 @@ impl Stamp {
         }
     }
 
-    /// These lines, each after the stamp.
+    /// These lines, each of them after the stamp.
     pub(crate) fn on(self, alloc: Global, lines: &str) -> Result<String, AllocError> {
         let front = self.text(alloc)?;
         let mut text = String::new(alloc);

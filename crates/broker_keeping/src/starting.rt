@@ -29,7 +29,7 @@ fn partitions_of(slots: &[Slot]) -> u64 {
     count
 }
 
-/// Appends how many events the trail takes, and for how long that is at rest.
+/// Appends how many events the trail takes, and how many hours that is for a broker at rest, if that has a clock.
 fn push_trail(
     alloc: Global,
     line: &mut String,
@@ -44,7 +44,7 @@ fn push_trail(
     Ok(())
 }
 
-/// The line that says what is served.
+/// The line that says what is served, as a server starts: its version, node, topics, users, ACLs, workers and trail.
 pub(crate) fn start_line(
     alloc: Global,
     core: &Core,

@@ -60,7 +60,7 @@ pub(crate) struct TickReport {
     pub(crate) aborted: Vec<Text>,
 }
 
-/// What is told of a topic.
+/// What is told of a topic: the log end offset and the last stable offset of each partition.
 fn topic_of(alloc: Global, slot: &Slot) -> Result<TopicReport, AllocError> {
     let mut partitions = Vec::new(alloc);
     for index in 0..slot.partitions.len() {
@@ -77,7 +77,7 @@ fn topic_of(alloc: Global, slot: &Slot) -> Result<TopicReport, AllocError> {
     })
 }
 
-/// Appends what a group has committed for the partitions of a topic.
+/// Appends the offsets that a group has committed for the partitions of a topic.
 fn push_committed(
     committed: &mut Vec<CommittedOffset>,
     group: &Group,
@@ -96,7 +96,7 @@ fn push_committed(
     Ok(())
 }
 
-/// What is told of a group.
+/// What is told of a group: its generation, its member, and its committed offsets.
 fn group_of(alloc: Global, group: &Group, slots: &[Slot]) -> Result<GroupReport, AllocError> {
     let mut committed = Vec::new(alloc);
     for slot in slots {
@@ -123,7 +123,7 @@ fn topics_of(alloc: Global, slots: &[Slot]) -> Result<Vec<TopicReport>, AllocErr
     Ok(topics)
 }
 
-/// Whether a transaction in this state is open or prepared.
+/// Whether a transaction in this state is open or prepared, and so is told.
 fn is_shown(state: TransactionState) -> bool {
     matches!(
         state,
@@ -131,7 +131,7 @@ fn is_shown(state: TransactionState) -> bool {
     )
 }
 
-/// Copies of the transactions that are told.
+/// Copies of the transactions that are open or prepared.
 fn shown_of(alloc: Global, all: &[Transaction]) -> Result<Vec<Transaction>, AllocError> {
     let mut shown = Vec::new(alloc);
     for transaction in all {
@@ -142,7 +142,7 @@ fn shown_of(alloc: Global, all: &[Transaction]) -> Result<Vec<Transaction>, Allo
     Ok(shown)
 }
 
-/// What is told of each group, in the order of their beginning.
+/// What is told of each group, the oldest first.
 fn groups_of(alloc: Global, world: &State) -> Result<Vec<GroupReport>, AllocError> {
     let slots = world.topics.slots();
     let mut groups = Vec::new(alloc);
@@ -152,7 +152,8 @@ fn groups_of(alloc: Global, world: &State) -> Result<Vec<GroupReport>, AllocErro
     Ok(groups)
 }
 
-/// How things stand in a core.
+/// How things stand in a core: its moment, its pending markers, topics, transactions and groups, and how many events it has
+/// answered.
 pub(crate) fn state_report_of(alloc: Global, core: &Core) -> Result<StateReport, AllocError> {
     let world = core.world();
     Ok(StateReport {
@@ -165,7 +166,7 @@ pub(crate) fn state_report_of(alloc: Global, core: &Core) -> Result<StateReport,
     })
 }
 
-/// The marker that is pending first, if one is.
+/// The marker that is to be written next; `None` where none is pending.
 pub(crate) fn front_of(core: &Core) -> Result<Option<PendingMarker>, AllocError> {
     match core.world().coordinator.front() {
         Some(marker) => Ok(Some(marker.clone()?)),
@@ -173,7 +174,7 @@ pub(crate) fn front_of(core: &Core) -> Result<Option<PendingMarker>, AllocError>
     }
 }
 
-/// Which of the transactions are open, in the order of their ids' creation.
+/// Which of the transactions are open, in the order in which their ids were created.
 pub(crate) fn open_ones(alloc: Global, core: &Core) -> Result<Vec<bool>, AllocError> {
     let mut open = Vec::new(alloc);
     for transaction in core.world().coordinator.transactions() {
@@ -182,7 +183,7 @@ pub(crate) fn open_ones(alloc: Global, core: &Core) -> Result<Vec<bool>, AllocEr
     Ok(open)
 }
 
-/// The moment, and those of the open transactions that are open no more.
+/// What a tick did: the moment that the core shows now, and which transactions were open before it and aren't any more.
 pub(crate) fn tick_report_of(
     alloc: Global,
     core: &Core,

@@ -6,7 +6,7 @@ use record_batch::TransactionResult;
 use std::alloc::{AllocError, Global};
 use txn_coordinator::{PendingMarker, Target, TopicPartition, Transaction, TransactionState};
 
-/// Appends the line of a partition.
+/// Appends ` TOPIC INDEX`.
 fn push_partition(
     alloc: Global,
     text: &mut String,
@@ -17,7 +17,7 @@ fn push_partition(
     text.push_str(format!(in alloc; " {index}")?.as_str())
 }
 
-/// `partition TOPIC INDEX end OFFSET stable OFFSET`: its log end offset and its last stable offset.
+/// Appends `partition TOPIC INDEX end OFFSET stable OFFSET` for each partition: its log end offset and its last stable offset.
 fn push_topic(alloc: Global, text: &mut String, topic: &TopicReport) -> Result<(), AllocError> {
     for (index, ends) in topic.partitions.iter().enumerate() {
         let (end, stable) = (ends.end, ends.stable);
@@ -28,7 +28,7 @@ fn push_topic(alloc: Global, text: &mut String, topic: &TopicReport) -> Result<(
     Ok(())
 }
 
-/// The transaction's state by its name in KIP-98, where it is open or prepared.
+/// The transaction's state by its name in KIP-98; `None` where it is neither open nor prepared.
 fn state_name(state: TransactionState) -> Option<&'static str> {
     match state {
         TransactionState::Ongoing => Some("Ongoing"),
@@ -40,7 +40,7 @@ fn state_name(state: TransactionState) -> Option<&'static str> {
     }
 }
 
-/// `added ID topic TOPIC INDEX` for each partition, and `added ID group GROUP` for each group.
+/// Appends `added ID topic TOPIC INDEX` for each partition of a transaction, and `added ID group GROUP` for each group.
 fn push_added(
     alloc: Global,
     text: &mut String,
@@ -63,7 +63,7 @@ fn push_added(
     Ok(())
 }
 
-/// `transaction ID STATE producer ID epoch EPOCH began MOMENT timeout MILLISECONDS`, and what was added to it.
+/// Appends `transaction ID STATE producer ID epoch EPOCH began MOMENT timeout MILLISECONDS`, and what was added to it.
 fn push_transaction(
     alloc: Global,
     text: &mut String,
@@ -81,7 +81,7 @@ fn push_transaction(
     push_added(alloc, text, transaction)
 }
 
-/// `committed GROUP TOPIC INDEX OFFSET`.
+/// Appends `committed GROUP TOPIC INDEX OFFSET`.
 fn push_committed(
     alloc: Global,
     text: &mut String,
@@ -95,7 +95,7 @@ fn push_committed(
     text.push_str(format!(in alloc; " {offset}\n")?.as_str())
 }
 
-/// `group GROUP generation GENERATION`, and ` member MEMBER` where it has one; and its committed offsets.
+/// Appends `group GROUP generation GENERATION`, and ` member MEMBER` where it has one; and its committed offsets.
 fn push_group(alloc: Global, text: &mut String, group: &GroupReport) -> Result<(), AllocError> {
     let generation = group.generation;
     text.push_str("group")?;
@@ -112,7 +112,8 @@ fn push_group(alloc: Global, text: &mut String, group: &GroupReport) -> Result<(
     Ok(())
 }
 
-/// How things stand, and at last `events N`: how many entries the trail has.
+/// The answer to `state`, a line for each thing: the moment, the pending markers, partitions, transactions and groups, and at
+/// last `events N`, how many entries the trail has.
 pub(crate) fn state_text(alloc: Global, report: &StateReport) -> Result<String, AllocError> {
     let (moment, owed, events) = (report.moment, report.owed, report.events);
     let mut text = format!(in alloc; "moment {moment}\nowed {owed}\n")?;
@@ -129,7 +130,7 @@ pub(crate) fn state_text(alloc: Global, report: &StateReport) -> Result<String, 
     Ok(text)
 }
 
-/// A transaction's outcome, as it is told.
+/// A transaction's outcome, `commit` or `abort`.
 fn outcome_name(outcome: TransactionResult) -> &'static str {
     match outcome {
         TransactionResult::Commit => "commit",
@@ -137,7 +138,7 @@ fn outcome_name(outcome: TransactionResult) -> &'static str {
     }
 }
 
-/// `marker commit producer ID epoch EPOCH topic TOPIC INDEX`, or `abort` and `group GROUP`.
+/// `marker commit producer ID epoch EPOCH topic TOPIC INDEX`, or with `abort`, or with `group GROUP` at the end.
 fn marker_text(alloc: Global, marker: &PendingMarker) -> Result<String, AllocError> {
     let outcome = outcome_name(marker.outcome);
     let (producer, epoch) = (marker.pair.producer, marker.pair.epoch);
@@ -155,7 +156,7 @@ fn marker_text(alloc: Global, marker: &PendingMarker) -> Result<String, AllocErr
     Ok(text)
 }
 
-/// The front marker; `marker none` where none is pending.
+/// What is told of the marker that a mark writes: `marker none` where none is pending.
 pub(crate) fn front_text(
     alloc: Global,
     front: &Option<PendingMarker>,
@@ -166,7 +167,7 @@ pub(crate) fn front_text(
     }
 }
 
-/// `moment MOMENT`, and ` aborted ID` for each transaction that it aborted.
+/// What is told of a tick: `moment MOMENT`, and ` aborted ID` for each transaction that it aborted.
 pub(crate) fn moment_text(alloc: Global, report: &TickReport) -> Result<String, AllocError> {
     let milliseconds = report.milliseconds;
     let mut text = format!(in alloc; "moment {milliseconds}")?;

@@ -10,8 +10,9 @@ use std::time::{Duration, Instant};
 /// How long the clock rests before each moment, in milliseconds, unless it is woken.
 const REST: u64 = 100;
 
-/// Gives the milliseconds since its start about ten times a second, until all workers have ended. Where a step of a session leaves
-/// markers pending and none were pending before, it gives them at once, since the keeper writes the markers that are pending after a tick.
+/// Gives the milliseconds since its start about ten times a second, until all workers have ended. Where a step of a session
+/// leaves markers pending and none were pending before, it gives them at once, since the keeper writes the markers that are
+/// pending after a tick.
 #[derive(Drop)]
 pub struct Ticks<'d, 'r, L: DeskLedger, R: Wait + time::Clock> {
     rt: &'r R,
@@ -20,7 +21,7 @@ pub struct Ticks<'d, 'r, L: DeskLedger, R: Wait + time::Clock> {
 }
 
 impl<'d, 'r, L: DeskLedger, R: Wait + time::Clock> Ticks<'d, 'r, L, R> {
-    /// It starts now.
+    /// A clock that starts now.
     pub fn new(rt: &'r R, desk: &'d LockedDesk<L, &'r R>) -> Ticks<'d, 'r, L, R> {
         Ticks {
             rt,
@@ -34,6 +35,8 @@ impl<'d, 'r, L: DeskLedger, R: Wait + time::Clock> Clock for Ticks<'d, 'r, L, R>
     /// A moment until all workers have ended, and none then.
     ghost gives = { λ _ done moment _. is_some moment ≡ not done };
 
+    /// Rests for a tenth of a second, or until markers are pending, and gives the milliseconds since the start. `None` once all
+    /// workers have ended.
     fn next(&mut self, done: bool) -> Option<u64> {
         if done {
             return None;

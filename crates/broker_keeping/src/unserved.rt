@@ -3,7 +3,7 @@
 use msg_admin::{ApiKey, ServedApi};
 use std::alloc::Global;
 
-/// Number and version of the api that a frame asks: its first four bytes.
+/// The api key and the version that a frame asks: its first four bytes. `None` where it has fewer.
 pub(crate) fn asked(kept: &[u8]) -> Option<(i16, i16)> {
     match kept {
         [a, b, c, d, ..] => { Some((i16::from_be_bytes([*a, *b]), i16::from_be_bytes([*c, *d]))) }
@@ -11,14 +11,14 @@ pub(crate) fn asked(kept: &[u8]) -> Option<(i16, i16)> {
     }
 }
 
-/// The name of the api that a number stands for, as the protocol guide has it, if it is served.
+/// The name that the protocol guide gives the api with this key; `None` where it isn't served, or after an allocation failure.
 pub(crate) fn api_name(alloc: Global, number: i16) -> Option<String> {
     let key = ApiKey::of(number)?;
     format!(in alloc; "{key:?}").ok()
 }
 
-/// Which api the frame of a session asks, and which versions of it are served, in words; none where memory was refused for them, or
-/// the frame has no such front.
+/// Which api a frame asks, and which versions of it are served, in words; `None` where the frame has fewer than four bytes, or
+/// after an allocation failure.
 pub(crate) fn unserved_words(alloc: Global, kept: &[u8]) -> Option<String> {
     let (number, version) = asked(kept)?;
     let Some(key) = ApiKey::of(number) else {

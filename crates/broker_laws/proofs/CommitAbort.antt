@@ -128,13 +128,13 @@ not_committed first from to (c ∷ before) b after r x h is own among same = by_
   by_part (inr more) rest = rest more
 
 told_as : (c : Bool) (now : LogValue) (before after : List BatchData) (b : BatchData) → IsLog now → now ≡ before ++ b ∷ after → is_committed b after ≡ is_commit (Some (ending_of c)) → IsShownIf c now b
-told_as true now before after b log parts is = λ offset room forced r own low high.
-    subst (λ l. IsAmong l r) (sym (filtered_committed now offset room forced log))
-    (subst (λ l. IsAmong (committed_records l offset (view_end now offset room forced)) r) (sym parts)
-    (in_committed offset (view_end now offset room forced) before b after r is (among_within offset (view_end now offset room forced) (records_of b) r own low high)))
-told_as false now before after b log parts is = λ offset room forced r x own shown same.
-    not_committed (pos 0) offset (view_end now offset room forced) before b after r x (subst (IsGapless (pos 0)) parts log.gapless) is own
-    (subst (λ l. IsAmong (committed_records l offset (view_end now offset room forced)) x) parts (subst (λ l. IsAmong l x) (filtered_committed now offset room forced log) shown))
+told_as true now before after b log parts is = λ offset budget forced r own low high.
+    subst (λ l. IsAmong l r) (sym (filtered_committed now offset budget forced log))
+    (subst (λ l. IsAmong (committed_records l offset (view_end now offset budget forced)) r) (sym parts)
+    (in_committed offset (view_end now offset budget forced) before b after r is (among_within offset (view_end now offset budget forced) (records_of b) r own low high)))
+told_as false now before after b log parts is = λ offset budget forced r x own shown same.
+    not_committed (pos 0) offset (view_end now offset budget forced) before b after r x (subst (IsGapless (pos 0)) parts log.gapless) is own
+    (subst (λ l. IsAmong (committed_records l offset (view_end now offset budget forced)) x) parts (subst (λ l. IsAmong l x) (filtered_committed now offset budget forced log) shown))
     same
 
 gapless_front : (first : ℤ) (xs ys : List BatchData) → IsGapless first (xs ++ ys) → IsGapless first xs

@@ -54,19 +54,19 @@ pub record IsMarker (producer : ℤ) (committed : Bool) (m : BatchData) : Type 0
 
 -- what a consumer makes of a fetch with read_committed, and where that ends
 abbrev pub view : LogValue → ℤ → ℕ → Bool → List RecordAt
-view log offset room forced = let answer : Served = served_of log offset ReadCommitted room forced in filtered_records answer.batches answer.aborted offset
+view log offset budget forced = let answer : Served = served_of log offset ReadCommitted budget forced in filtered_records answer.batches answer.aborted offset
 
 abbrev pub view_end : LogValue → ℤ → ℕ → Bool → ℤ
-view_end log offset room forced = end_from offset (served_of log offset ReadCommitted room forced).batches
+view_end log offset budget forced = end_from offset (served_of log offset ReadCommitted budget forced).batches
 
 -- each record of the batch that lies in what is served is shown
 abbrev pub IsShown : LogValue → BatchData → Type 0
-IsShown log b = (offset : ℤ) (room : ℕ) (forced : Bool) (r : RecordAt) → IsAmong (records_of b) r → offset ≤ℤ r.offset → r.offset <ℤ view_end log offset room forced
-    → IsAmong (view log offset room forced) r
+IsShown log b = (offset : ℤ) (budget : ℕ) (forced : Bool) (r : RecordAt) → IsAmong (records_of b) r → offset ≤ℤ r.offset → r.offset <ℤ view_end log offset budget forced
+    → IsAmong (view log offset budget forced) r
 
 -- nothing is shown at the offset of a record of the batch
 abbrev pub IsNeverShown : LogValue → BatchData → Type 0
-IsNeverShown log b = (offset : ℤ) (room : ℕ) (forced : Bool) (r x : RecordAt) → IsAmong (records_of b) r → IsAmong (view log offset room forced) x → x.offset ≡ r.offset → ⊥
+IsNeverShown log b = (offset : ℤ) (budget : ℕ) (forced : Bool) (r x : RecordAt) → IsAmong (records_of b) r → IsAmong (view log offset budget forced) x → x.offset ≡ r.offset → ⊥
 
 abbrev pub IsShownIf : Bool → LogValue → BatchData → Type 0
 IsShownIf true log b = IsShown log b

@@ -19,7 +19,7 @@ pub(crate) enum Unbegun {
 }
 
 impl Unbegun {
-    /// The only line of a server that isn't begun.
+    /// The only line that is printed by a server that isn't begun.
     pub(crate) fn line(self) -> &'static str
         ensures { result.now ≡ unbegun_line self }
     {
@@ -41,14 +41,14 @@ pub(crate) enum Failure {
     Settle(#[from] SettleFault),
 }
 
-/// The first line, of where it listens.
+/// The first line, `listening on ADDRESS`.
 pub(crate) fn listening_line(alloc: Global, address: &str) -> Result<String, AllocError>
     ensures { IfOk result (λ text. string_bytes text ≡ listening_line address.now) }
 {
     format!(in alloc; "listening on {address}\n")
 }
 
-/// The last line, where the books are settled.
+/// The last line, where the books are settled: `sessions S events E refusals R`.
 pub(crate) fn settled_line(
     alloc: Global,
     sessions: u64,
@@ -63,7 +63,7 @@ pub(crate) fn settled_line(
     Ok(line)
 }
 
-/// The last line, where they aren't.
+/// The last line, where the books can't be settled: `settle failed: FAULT`.
 pub(crate) fn failure_line(alloc: Global, failure: Failure) -> Result<String, AllocError>
     ensures { IfOk result (λ text. string_bytes text ≡ failure_line failure) }
 {

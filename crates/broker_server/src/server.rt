@@ -57,7 +57,7 @@ pub struct Server<'x, I, O> {
     pub steering: Option<Steering<'x, I, O>>,
 }
 
-/// The receipts of each end.
+/// The receipts of each end, in their order.
 fn receipts_of<L: DeskLedger>(
     alloc: Global,
     ends: Vec<SessionEnd<Seat<L>>>,
@@ -67,7 +67,8 @@ fn receipts_of<L: DeskLedger>(
     ends.into_iter().map(|end| end.receipts).collect(alloc)
 }
 
-/// How many sessions ended: those whose ends are kept, the keeper's left out, and the others. None where 64 bits don't count them.
+/// How many sessions have ended: those whose ends are kept, but the keeper's, and the others. `None` where 64 bits don't count
+/// them.
 #[tactic(auto, using(crate::proofs::Counting::ends_at_least))]
 fn sessions_of<L: DeskLedger>(ends: &[SessionEnd<Seat<L>>], others: u64) -> Option<u64>
     requires { (owed : Option ℕ) × AreEnds owed ends.now }
@@ -77,7 +78,8 @@ fn sessions_of<L: DeskLedger>(ends: &[SessionEnd<Seat<L>>], others: u64) -> Opti
     kept.checked_add(others)
 }
 
-/// Settles the ends with the core of a desk.
+/// Compares the receipts of all ends with the desk's trail, and gives how many sessions there were, and what the core did. The
+/// error says why receipts and trail don't fit.
 #[tactic(auto, using(crate::proofs::Counting::counted))]
 fn settle_ends<L: DeskLedger, R: Wait + Drop>(
     alloc: Global,
@@ -101,7 +103,7 @@ fn settle_ends<L: DeskLedger, R: Wait + Drop>(
     }
 }
 
-/// Serves a listener's connections while the keeper does the steps of the clock.
+/// Serves a listener's connections, while the keeper tells the core the time by the clock.
 fn serve_clocked<
     'x,
     'r,
@@ -125,8 +127,8 @@ fn serve_clocked<
     serve_connections(here, alloc, desk, service, closing, keeper, log)
 }
 
-/// The same, while an attendant in a thread of its own reads lines; where none can be made for it, nothing is served. Once all is
-/// served, it is closed.
+/// Serves a listener's connections by the clock, while a thread of its own reads and answers lines. Where no thread can be made
+/// for that, nothing is served.
 fn serve_attended<
     'x,
     'r,
@@ -175,8 +177,8 @@ fn serve_attended<
     )
 }
 
-/// Serves a listener's connections while the keeper does its steps: those of the lines where they steer the broker in place of the
-/// clock, and else those of the clock.
+/// Serves a listener's connections, while the keeper does its steps: those that lines ask for, where they steer the broker in
+/// place of the clock, and else those of the clock.
 fn serve_steps<
     'x,
     'r,
@@ -217,8 +219,8 @@ fn serve_steps<
     serve_connections(here, alloc, desk, service, closing, keeper, log)
 }
 
-/// The same, while a thread of its own writes the log for an operator; where none can be made for it, nothing is served. It returns
-/// once the log is written, or can't be.
+/// Serves a listener's connections, while a thread of its own writes the log for an operator. Where none can be made for it,
+/// nothing is served. It returns once the log is written, or can't be.
 fn serve_kept<
     'x,
     'r,
@@ -256,7 +258,8 @@ fn serve_kept<
     )
 }
 
-/// Serves connections at a desk, and gives how many sessions there were and what the settled core did.
+/// Serves a listener's connections at a desk, whose core it settles then: gives how many sessions there were, and what the core
+/// did.
 fn serve_at<
     'r,
     L: DeskLedger + Send + Sync,
@@ -286,7 +289,7 @@ fn serve_at<
     }
 }
 
-/// Serves connections with a ledger of its own.
+/// Serves a listener's connections with a ledger of its own, by which each event gets its receipt, and settles the books.
 fn serve_booked<
     'r,
     R: Net<Listener = TcpListener, Stream = TcpStream> + Threads + Wait + time::Clock + Sync,
@@ -308,7 +311,7 @@ fn serve_booked<
     serve_at::<Brand, R, E, I, O>(rt, alloc, blank, core, server, log, log_writer)
 }
 
-/// Whether a broker that is steered so keeps its own time.
+/// Whether the broker keeps its own time: lines don't steer it in place of the clock.
 fn keeps_time<I, O>(steering: &Option<Steering<'_, I, O>>) -> bool {
     match steering {
         Some(steering) => !steering.without_clock,
@@ -316,7 +319,8 @@ fn keeps_time<I, O>(steering: &Option<Steering<'_, I, O>>) -> bool {
     }
 }
 
-/// Serves connections, while the log for an operator is written, beginning with what is served.
+/// Serves a listener's connections, while the log for an operator is written, which begins with what is served; and settles the
+/// books.
 fn serve_told<
     R: Net<Listener = TcpListener, Stream = TcpStream> + Threads + Wait + time::Clock + Sync,
     E: Write + Drop + Send,
@@ -352,7 +356,8 @@ fn serve_told<
     serve_booked(rt, alloc, core, server, &log, log_writer)
 }
 
-/// The first line, of where a listener listens.
+/// The first line, `listening on ADDRESS`. The error is `NoAddress` where the listener can't tell its address, `NoMemory` after
+/// an allocation failure.
 fn first_line(alloc: Global, listener: &TcpListener) -> Result<String, Unbegun>
     ensures { IfOk result
         (λ text. (address : List ℕ) × (string_bytes text ≡ listening_line address)) }
@@ -369,7 +374,7 @@ fn first_line(alloc: Global, listener: &TcpListener) -> Result<String, Unbegun>
     }
 }
 
-/// The last line, and the exit status.
+/// The last line, and the exit status; `None` after an allocation failure.
 fn last_line(alloc: Global, outcome: Result<(u64, Settled), Failure>) -> Option<(String, u8)>
     ensures { (settings : Settings) → IfOk outcome (λ told. IsCounted settings told.0 told.1)
         → IfSome result (λ told. IsLast settings told.1 (string_bytes told.0)) }
@@ -380,21 +385,21 @@ fn last_line(alloc: Global, outcome: Result<(u64, Settled), Failure>) -> Option<
     }
 }
 
-/// Tells an operator that the first line can't be written.
+/// Tells an operator that the first line can't be written to standard output.
 fn tell_unwritten<E: Write + Drop>(mut errors: E) {
     let line = "kbroker: standard output: where the server listens can't be written\n";
     let _ = write_whole(&mut errors, line.as_bytes());
 }
 
-/// Prints where it listens, serves connections until so many were served or no more are taken, settles the books and prints
-/// how that went. Gives the exit status. Where the listener can't tell its address, or memory is refused before anything is
-/// printed, it prints that and serves nothing; where the first line can't be written, it says so to `errors`.
+/// Prints where it listens, serves connections until so many were served or no more are taken, settles the books and prints how
+/// that went. Gives the exit status. Where the listener can't tell its address, or memory is refused before anything is printed,
+/// it prints that and serves nothing; where the first line can't be written, it says so to `errors`.
 ///
-/// `errors` gets the log for an operator: why a session ended, where it didn't end between two requests; that the clock stops, where
-/// the core takes no more of its steps; what becomes of connections that aren't served; at last how many requests there were; and
-/// the line of each refusal, where that is asked for. A thread of its own writes to `errors`, and nobody else waits for it: 1,024
-/// messages are queued at most, and further ones are dropped and counted. The last line alone comes after the log is written, or
-/// can't be.
+/// `errors` gets the log for an operator: why a session ended, where it didn't end between two requests; that the clock stops,
+/// where the core takes no more of its steps; what becomes of connections that aren't served; at last how many requests there
+/// were; and the line of each refusal, where that is asked for. A thread of its own writes to `errors`, and nobody else waits for
+/// it: 1,024 messages are queued at most, and further ones are dropped and counted. The last line alone comes after the log is
+/// written, or can't be.
 ///
 /// Where lines steer the server, connections are taken until the lines end or have it end, or all is served. Where they do so
 /// without a clock, a tick or a marker step comes only by a line.

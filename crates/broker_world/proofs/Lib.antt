@@ -3,7 +3,7 @@ pub mod Parts
 pub mod Places
 pub mod Table
 pub mod Held
-pub mod LogRoom
+pub mod OffsetsLeft
 pub mod Offsets
 pub mod Wholes
 pub mod Rows

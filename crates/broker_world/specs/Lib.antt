@@ -10,3 +10,4 @@ pub mod Whole
 pub mod Questions
 pub mod Codes
 pub mod Kept
+pub use Rattle.acl_binding.specs.Book

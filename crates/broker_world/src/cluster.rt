@@ -39,7 +39,7 @@ impl Drop for Cluster {
 }
 
 impl Cluster {
-    /// The cluster of this node alone.
+    /// The cluster that consists of this node alone. An `AllocError` is an allocation failure.
     pub(crate) fn of(alloc: Global, node: Node) -> Result<Cluster, AllocError>
         ensures { IfOk result (λ cluster. cluster ≡ node) }
     {
@@ -54,22 +54,22 @@ impl Cluster {
         })
     }
 
-    /// The one node.
+    /// The one node of the cluster.
     pub fn node(&self) -> &Node
         ensures { result.now ≡ self.now }
     {
         &self.node
     }
 
-    /// One more owner of the brokers' list. It is refused only where the count of owners is full.
+    /// One more owner of the list of brokers that Metadata answers. It fails only where the count of owners is full.
     pub fn brokers(&self) -> Result<SharedItems<BrokerInfo>, AllocError>
         ensures { IfOk result (λ brokers. brokers ≡ brokers_of self.now) }
     {
         self.brokers.share()
     }
 
-    /// One more owner of the list of no partitions, which a topic has that is told with an error. It is refused only where the
-    /// count of owners is full.
+    /// One more owner of the empty list of partitions, which Metadata answers for a topic with an error. It fails only where
+    /// the count of owners is full.
     pub fn no_partitions(&self) -> Result<SharedItems<PartitionInfo>, AllocError>
         ensures { IfOk result (λ partitions. partitions ≡ []) }
     {
@@ -77,7 +77,7 @@ impl Cluster {
     }
 }
 
-/// What clients are told of a node.
+/// The node as Metadata lists it, without a rack.
 fn broker_info(node: &Node) -> Result<BrokerInfo, AllocError>
     ensures { IfOk result (λ broker. broker ≡ broker_info node.now) }
 {

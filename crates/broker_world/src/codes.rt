@@ -5,7 +5,7 @@ ghost use Rattle.broker_world.specs.Codes.{code_in, code_unless_none};
 
 use wire_types::ErrorCode;
 
-/// The code of an answer.
+/// The error code of a result, NONE for `Ok`.
 pub fn code_in(answer: Result<(), ErrorCode>) -> ErrorCode
     ensures { result ≡ code_in answer }
 {
@@ -15,7 +15,7 @@ pub fn code_in(answer: Result<(), ErrorCode>) -> ErrorCode
     }
 }
 
-/// Why something is refused by a code, unless that is no error.
+/// The error code if it is one, `None` for NONE.
 pub fn refused_by(code: ErrorCode) -> Option<ErrorCode>
     ensures { result ≡ code_unless_none code }
 {

@@ -4,8 +4,8 @@ use authorizer::{Paid, Refusal, Tally};
 use msg_admin::Reply;
 use wire_types::Items;
 
-/// What an event is answered, what was refused of it, what was spent for what it asks for itself, and how many permits
-/// were spent for its parts, one after the other. What is spent for each of its parts is in how that part ends.
+/// What a handler makes of an event: the reply, the refusals of its parts, the permits that were spent for the event itself,
+/// and how many were spent for its parts.
 #[derive(Drop)]
 pub struct HandlerResult {
     pub reply: Reply,

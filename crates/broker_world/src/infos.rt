@@ -7,7 +7,7 @@ use msg_data::{PartitionInfo, SharedItems};
 use std::alloc::{AllocError, Global};
 use wire_types::{ErrorCode, Items};
 
-/// A partition, which the one node leads and keeps.
+/// The partition of this index as Metadata lists it: the one node is its leader and its only replica, in sync.
 fn partition_info(
     node: i32,
     nodes: &SharedItems<i32>,
@@ -26,7 +26,7 @@ fn partition_info(
     })
 }
 
-/// So many partitions, which the one node leads and keeps.
+/// The partitions 0 to `count` - 1 of a topic as Metadata lists them, which this node leads and keeps.
 pub(crate) fn led_by(
     alloc: Global,
     node: i32,

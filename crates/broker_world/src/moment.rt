@@ -26,14 +26,14 @@ impl Model for Moment {
 }
 
 impl Moment {
-    /// The moment of a clock that never ticked.
+    /// The moment of a clock that hasn't ticked yet: 0.
     pub(crate) fn first() -> Moment
         ensures { result ≡ 0 }
     {
         Moment { milliseconds: 0 }
     }
 
-    /// In milliseconds.
+    /// The moment in milliseconds, 0 to 2^62 - 1.
     pub fn milliseconds(&self) -> u64
         ensures value { result ≡ self.now }
         ensures within { result ≤ last_moment }
@@ -41,7 +41,8 @@ impl Moment {
         self.milliseconds
     }
 
-    /// Goes on to what a tick tells.
+    /// Moves on to the time that a tick told, in milliseconds. An earlier time changes nothing, and a later one than 2^62 -
+    /// 1 counts as that.
     pub fn go_on(&mut self, told: u64)
         ensures { self.new ≡ moment_after self.old told }
     {

@@ -20,7 +20,7 @@ pub struct Node {
     pub max_txn_timeout: i32,
 }
 
-/// A number of the settings, which fits 31 bits.
+/// A number of checked settings, 0 to 2^31 - 1, in 32 bits.
 fn narrow(number: i64) -> i32
     requires { is_within 0 2147483647 number ≡ true }
     ensures { result ≡ number }
@@ -29,7 +29,7 @@ fn narrow(number: i64) -> i32
 }
 
 impl Node {
-    /// The node of settings whose numbers are in range.
+    /// The node that settings without a fault describe. An `AllocError` is an allocation failure.
     pub(crate) fn first(settings: &Settings) -> Result<Node, AllocError>
         requires { are_numbers_within settings.now ≡ true }
         ensures { IfOk result (λ node. node ≡ first_node settings.now) }

@@ -10,21 +10,21 @@ use acl_binding::{CLUSTER_NAME, Caller, Kind, Operation, Question};
 use std::alloc::{AllocError, Global};
 use wire_types::Text;
 
-/// May the caller write with the transactional id?
+/// The question whether the caller may WRITE on this transactional id.
 pub fn id_question(caller: &Caller, id: &Text) -> Result<Question, AllocError>
     ensures { IfOk result (λ question. question ≡ id_question caller.now id.now) }
 {
     caller.asks(Operation::Write, Kind::TransactionalId, id)
 }
 
-/// May the caller read the group?
+/// The question whether the caller may READ this consumer group.
 pub fn read_question(caller: &Caller, group: &Text) -> Result<Question, AllocError>
     ensures { IfOk result (λ question. question ≡ read_question caller.now group.now) }
 {
     caller.asks(Operation::Read, Kind::Group, group)
 }
 
-/// May the caller do this with the cluster?
+/// The question whether the caller may do this operation on the cluster.
 pub fn asks_cluster(alloc: Global, caller: &Caller, op: Operation) -> Result<Question, AllocError>
     ensures { IfOk result (λ question. question ≡ question_of caller.now op Cluster cluster_name) }
 {

@@ -58,8 +58,8 @@ impl Model for State {
 }
 
 impl State {
-    /// The world that settings without a fault begin with. What clients name is hashed by `hasher`; no answer depends
-    /// on it.
+    /// The world that a broker begins with, by settings without a fault. `hasher` hashes the names that clients choose; no
+    /// answer depends on it. An `AllocError` is an allocation failure.
     pub fn first(
         alloc: Global,
         settings: &Settings,
@@ -87,7 +87,7 @@ impl State {
         self.cluster.node()
     }
 
-    /// The policy in force.
+    /// The policy in force: bindings and super users.
     pub fn policy(&self) -> &Policy
         ensures { policy_rules result.now ≡ rules_of self.now }
     {
@@ -102,7 +102,7 @@ impl State {
     }
 }
 
-/// The policy that bindings make in their order.
+/// The policy of these super users, to which the bindings of the settings are added in their order.
 fn first_policy(
     alloc: Global,
     supers: &Items<Text>,

@@ -8,7 +8,7 @@ use msg_admin::Reply;
 use std::alloc::{AllocError, Global};
 use wire_types::Items;
 
-/// What a request that was served comes to, for which this was spent.
+/// The outcome of an event that is one part and was served, with the permits that were spent for it.
 pub fn served_whole(alloc: Global, reply: Reply, paid: Paid) -> HandlerResult
     ensures { result ≡ record { reply = reply; refusals = []; paid = paid; spent = 0 } }
 {
@@ -20,8 +20,8 @@ pub fn served_whole(alloc: Global, reply: Reply, paid: Paid) -> HandlerResult
     }
 }
 
-/// What a request comes to that asks nothing for itself, of whose parts these were refused, and so many permits spent for
-/// the others.
+/// The outcome of a request whose parts alone ask permission: the refusals of those that were refused, and how many permits
+/// were spent for the others.
 pub fn served_in_parts(reply: Reply, refusals: Items<Refusal>, spent: Tally) -> HandlerResult
     ensures { result ≡ record { reply = reply; refusals = refusals; paid = []; spent = spent } }
 {
@@ -33,7 +33,7 @@ pub fn served_in_parts(reply: Reply, refusals: Items<Refusal>, spent: Tally) -> 
     }
 }
 
-/// What a request that was refused comes to.
+/// The outcome of a request that is one part and was refused. An `AllocError` is an allocation failure.
 pub fn refused_whole(
     alloc: Global,
     reply: Reply,

@@ -16,6 +16,7 @@ pub const INPUT_LIMIT: usize = 1_073_741_824;
 /// How often in a row a call that was interrupted is made again.
 const RETRIES: u32 = 1_000;
 
+/// How many bytes `read_input` asks a reader for at a time.
 const PIECE: usize = 16_384;
 
 /// Why an input could not be read whole.
@@ -52,7 +53,8 @@ impl From<io::Error> for InputFault {
     }
 }
 
-/// One read, made again where it was interrupted.
+/// Reads once into `piece` and gives how many bytes came, where 0 is the end of the input. A read that fails with
+/// `Interrupted` is made again, up to 1,000 times; every other error is given as it is.
 fn read_some<R: Read>(reader: &mut R, piece: &mut [u8]) -> io::Result<usize>
     ensures bound { ReadsAtMost result piece.new }
     ensures bytes { ReadConsumes (R.remaining reader.old) (R.remaining reader.new) result
@@ -71,7 +73,8 @@ fn read_some<R: Read>(reader: &mut R, piece: &mut [u8]) -> io::Result<usize>
     reader.read(piece)
 }
 
-/// Reads to the end of the input, or until it is longer than the limit.
+/// Reads the whole input. Gives `TooLong` as soon as it has more than `INPUT_LIMIT` bytes, `Read` where a read fails, and
+/// `NoMemory` on an allocation failure.
 #[tactic(auto, using(crate::proofs::Taken::taken_more, crate::proofs::Taken::taken_kept))]
 pub fn read_input<R: Read>(alloc: Global, reader: &mut R) -> Result<Vec<u8>, InputFault>
     ensures whole { IfOk result
@@ -95,7 +98,8 @@ pub fn read_input<R: Read>(alloc: Global, reader: &mut R) -> Result<Vec<u8>, Inp
     }
 }
 
-/// One write, made again where it was interrupted.
+/// Writes once and gives how many bytes were written from the front. A write that fails with `Interrupted` is made again, up
+/// to 1,000 times; every other error is given as it is.
 fn write_some<W: Write>(writer: &mut W, bytes: &[u8]) -> io::Result<usize>
     ensures bound { WritesAtMost result bytes.now }
     ensures bytes { WriteAppends (W.contents writer.old) (W.contents writer.new) result bytes.now }
@@ -113,7 +117,8 @@ fn write_some<W: Write>(writer: &mut W, bytes: &[u8]) -> io::Result<usize>
     writer.write(bytes)
 }
 
-/// Writes the bytes; where a write fails, some of them stand written, from the front.
+/// Writes all the bytes. On an error some of them stand written, from the front. Gives `WriteZero` where the writer takes no
+/// bytes.
 pub fn write_whole<W: Write>(writer: &mut W, bytes: &[u8]) -> io::Result<()>
     ensures { Wrote (W.contents writer.old) (W.contents writer.new) bytes.now result }
 {

@@ -9,7 +9,7 @@ use Rattle.request_handlers.specs.Receipt.{ReceiptValue}
 use Rattle.request_handlers.specs.Core.{CoreValue, IsReady, trail_limit, events_of}
 use Rattle.request_handlers.specs.Headline.{state_after, reference_entry, StepIsRight}
 use Rattle.request_handlers.proofs.Histories.{events_push}
-use Rattle.plain_broker.specs.Events.{reference_step}
+use Rattle.request_handlers.specs.Events.{reference_step}
 use Rattle.audit_trail.specs.Line.{audit_lines}
 use Rattle.commands.specs.Replay.{goes, step_transition, event_text, reply_line, refusals_in, refusals_at, IsUp}
 

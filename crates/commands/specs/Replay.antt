@@ -21,8 +21,8 @@ use Rattle.request_handlers.specs.Stop.{stop_line}
 use Rattle.request_handlers.specs.Core.{CoreValue, trail_limit, events_of}
 use Rattle.request_handlers.specs.Headline.{state_after}
 use Rattle.settings.specs.declared.settings.Settings.{Settings}
-use Rattle.broker_world.specs.HandlerResult.{HandlerResult}
-use Rattle.plain_broker.specs.Events.{reference_step}
+use Rattle.request_handlers.specs.HandlerResult.{HandlerResult}
+use Rattle.request_handlers.specs.Events.{reference_step}
 use Rattle.settings_text.specs.declared.document.Document.{Document}
 use Rattle.settings_text.specs.declared.fault.SettingsFault.{SettingsFault}
 use Rattle.settings_text.specs.Document.{document_of_text, fault_name}

@@ -1,5 +1,5 @@
-//! What a reader is told beside a fault: where a line stands in the input, and what may have brought it there. No contract speaks of
-//! these sentences.
+//! What a reader is told beside a fault: where a line stands in the input, and what may have brought it there. No contract speaks
+//! of these sentences.
 
 use crate::lines::{content, split_line};
 
@@ -12,7 +12,7 @@ pub(crate) fn lines_before(input: &[u8], script: &[u8]) -> u64 {
     }
 }
 
-/// Whether a line ends with a carriage return, as in texts of Windows.
+/// Whether a line ends with a carriage return before its line feed, as in texts of Windows.
 pub(crate) fn has_return(line: &[u8]) -> bool {
     match content(line).split_last() {
         Some((last, _front)) => *last == b'\r',
@@ -20,7 +20,7 @@ pub(crate) fn has_return(line: &[u8]) -> bool {
     }
 }
 
-/// What a settings text holds that no settings have: the line that parts them from a script.
+/// A hint where a settings text holds a line `---`, which only parts settings from a script; `None` where it holds none.
 pub(crate) fn separator_hint(text: &[u8]) -> Option<&'static str> {
     let mut rest = text;
     while !rest.is_empty() {

@@ -7,7 +7,7 @@ ghost use Rattle.commands.specs.Lines.{lines_of, is_line_feed, settings_part, sc
 
 const LINE_FEED: u8 = b'\n';
 
-/// The place of the first line feed.
+/// The place of the first line feed; `None` without one.
 fn find_feed(text: &[u8]) -> Option<usize>
     ensures { result ≡ position is_line_feed text.now }
 {
@@ -37,7 +37,8 @@ pub fn content(line: &[u8]) -> &[u8]
     }
 }
 
-/// The settings' text, which ends before the first line `---`, and the script after that line.
+/// Parts an input: the settings' text, which ends before the first line `---`, and the script after that line. Without such a
+/// line all of it is settings.
 pub fn split_input(input: &[u8]) -> (&[u8], &[u8])
     ensures settings { result.0.now ≡ settings_part (lines_of input.now) }
     ensures script { lines_of result.1.now ≡ script_part (lines_of input.now) }

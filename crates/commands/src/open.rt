@@ -41,12 +41,13 @@ impl From<Early> for Unopened {
 
     ghost from_gives = { λ early unopened. unopened ≡ EarlyOne early };
 
+    /// Something failed before anything was printed.
     fn from(early: Early) -> Unopened {
         Unopened::Early(early)
     }
 }
 
-/// Says what the settings of a server are unlikely to mean. If that fails, nothing else does.
+/// Prints a sentence for each thing that a server's settings are unlikely to mean. If that fails, nothing else does.
 pub(crate) fn warn<E: Write>(alloc: Global, document: &Document, errors: &mut E) {
     if let Ok(sentences) = warnings(alloc, document) {
         for sentence in sentences.as_slice() {
@@ -58,7 +59,7 @@ pub(crate) fn warn<E: Write>(alloc: Global, document: &Document, errors: &mut E)
     }
 }
 
-/// Opens a core with settings, or prints that they are refused.
+/// Reads settings and opens a core with them, whose tables hash by `hasher`. Where they are refused, it prints so and says why.
 #[tactic(auto, using(crate::proofs::OpenLemmas::is_of))]
 fn open_settings<W: Write, E: Write>(
     alloc: Global,
@@ -96,7 +97,8 @@ fn open_settings<W: Write, E: Write>(
     }
 }
 
-/// Reads settings and opens a core with them.
+/// Reads settings up to the end of the input and opens a core with them, whose tables hash by `hasher`. The error says that the
+/// settings are refused, which is printed, or what failed before that.
 fn open_whole<R: Read, W: Write, E: Write>(
     alloc: Global,
     hasher: RandomState,

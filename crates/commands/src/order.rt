@@ -62,7 +62,7 @@ struct Words<'a> {
     digits: &'a str,
 }
 
-/// The bytes after a size field that counts them.
+/// The bytes after the size field; `None` where that doesn't say how many they are.
 #[tactic(auto, unfolding(wire_types::specs::Reading::nat_at))]
 fn after_size(frame: &Bytes) -> Result<Option<Bytes>, AllocError>
     ensures { IfOk result (λ text. text ≡ bytes_after_size (nat_at w32 frame.now)) }
@@ -79,7 +79,8 @@ fn after_size(frame: &Bytes) -> Result<Option<Bytes>, AllocError>
     Ok(Some(frame.slice(SIZE_FIELD..frame.len())?))
 }
 
-/// The frame that the digits spell, without its size field.
+/// The frame that hexadecimal digits spell, without its size field. It is `Digits` where they spell no bytes, `Size` where the
+/// size field is wrong. The outer error is an allocation failure.
 fn parse_frame(alloc: Global, digits: &str) -> Result<Result<Bytes, Unreadable>, AllocError>
     ensures { IfOk result (λ read. result_ok read ≡ frame_of digits.now) }
 {
@@ -94,7 +95,7 @@ fn parse_frame(alloc: Global, digits: &str) -> Result<Result<Bytes, Unreadable>,
     }
 }
 
-/// The words after `req `.
+/// The words of `USER HOST HEX`; `None` where one is missing, or the user or the host is empty.
 fn split_words(text: &str) -> Option<Words<'_>>
     ensures { option_map (λ w. (w.user.now, w.host.now, w.digits.now)) result ≡ words_of text.now }
 {
@@ -106,7 +107,7 @@ fn split_words(text: &str) -> Option<Words<'_>>
     Some(Words { user, host, digits })
 }
 
-/// The principal of a user, and its host.
+/// The caller of a request: the principal `User:USER`, and the host.
 fn caller(alloc: Global, user: &str, host: &str) -> Result<Caller, AllocError>
     ensures { IfOk result (λ caller. caller ≡ caller_of user.now host.now) }
 {
@@ -116,7 +117,8 @@ fn caller(alloc: Global, user: &str, host: &str) -> Result<Caller, AllocError>
     })
 }
 
-/// What is sent by the words after `req `, and by whom.
+/// Reads `USER HOST HEX`, the words after `req `: who sends a request, and its frame. The inner error says why they can't be
+/// read; the outer one is an allocation failure.
 fn parse_sent(alloc: Global, text: &str) -> Result<Result<Sent, Unreadable>, AllocError>
     ensures { IfOk result (λ read. result_ok read ≡ sent_of text.now) }
 {
@@ -132,7 +134,7 @@ fn parse_sent(alloc: Global, text: &str) -> Result<Result<Sent, Unreadable>, All
     }
 }
 
-/// The number that decimal digits write, without a sign.
+/// Reads a number of up to 64 bits in decimal digits, without a sign; `None` for any other text.
 pub fn parse_number(digits: &str) -> Option<u64>
     ensures { result ≡ number_of digits.now }
 {
@@ -145,7 +147,8 @@ pub fn parse_number(digits: &str) -> Option<u64>
     }
 }
 
-/// What a text asks for, or why it can't be read.
+/// Reads a line of a script, `req USER HOST HEX`, `mark` or `tick N`. The inner error says why it can't be read; the outer one is
+/// an allocation failure.
 fn parse_text(alloc: Global, text: &str) -> Result<Result<Order, Unreadable>, AllocError>
     ensures { IfOk result (λ read. result_ok read ≡ order_in text.now) }
 {
@@ -170,7 +173,7 @@ fn parse_text(alloc: Global, text: &str) -> Result<Result<Order, Unreadable>, Al
     }
 }
 
-/// The bytes as text, if they are UTF-8.
+/// The bytes as a text; `None` where they aren't UTF-8.
 fn text_of(bytes: &[u8]) -> Option<&str>
     ensures { option_map (λ t. t.now) result ≡ text_of bytes.now }
 {
@@ -180,7 +183,8 @@ fn text_of(bytes: &[u8]) -> Option<&str>
     }
 }
 
-/// What a line without its line feed asks for, or why it can't be read.
+/// Reads a line of a script, given without its line feed, and tells what it asks for. The inner error says why it can't be read;
+/// the outer one is an allocation failure.
 pub fn parse_order(alloc: Global, line: &[u8]) -> Result<Result<Order, Unreadable>, AllocError>
     ensures { IfOk result (λ read. result_ok read ≡ order_of line.now) }
 {

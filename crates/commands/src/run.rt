@@ -28,7 +28,7 @@ use std::io::{Read, Write, sink};
 const NO_SCRIPT: &str =
     "there is no line `---` after the settings, so there is no script to answer";
 
-/// Writes a text; where a write fails, some of it stands written, from the front.
+/// Writes a whole text. Where a write fails, some of it stands written, from the front.
 fn write_text<W: Write>(writer: &mut W, text: &str) -> Result<(), Early>
     ensures wrote { Wrote (W.contents writer.old) (W.contents writer.new) text.now result }
     ensures cause { IfErr result (λ early. early ≡ EarlyWrite) }
@@ -47,7 +47,7 @@ pub(crate) enum Place {
     Run,
 }
 
-/// Says what went wrong, and where. If that fails, nothing else does.
+/// Prints a sentence to `errors`: what went wrong, and where. If that fails, nothing else does.
 pub(crate) fn explain<E: Write, D: Display + Drop>(
     alloc: Global,
     errors: &mut E,
@@ -66,7 +66,8 @@ pub(crate) fn explain<E: Write, D: Display + Drop>(
     }
 }
 
-/// Says why a line ends its script. If that fails, nothing else does.
+/// Prints why the line of this number ends its script, and whether it ends with a carriage return. If that fails, nothing else
+/// does.
 fn explain_line<E: Write>(alloc: Global, errors: &mut E, number: u64, line: &[u8], cause: Cause) {
     explain(alloc, errors, Place::Line(number), cause);
     if has_return(line) {
@@ -75,7 +76,7 @@ fn explain_line<E: Write>(alloc: Global, errors: &mut E, number: u64, line: &[u8
     }
 }
 
-/// Says what a line means that is answered `closed`. If that fails, nothing else does.
+/// Prints what it means that the line of this number is answered `closed`, if it is. If that fails, nothing else does.
 fn explain_closed<E: Write>(alloc: Global, errors: &mut E, number: u64, text: &String) {
     if is_closed(text) {
         let sentence = "here the broker would close the connection; `kbroker show` tells why";
@@ -83,7 +84,8 @@ fn explain_closed<E: Write>(alloc: Global, errors: &mut E, number: u64, text: &S
     }
 }
 
-/// Runs a script line by line and prints what each line does, until one ends it. So many lines stand before it in its input.
+/// Answers a script line by line, and prints each answer, until a line ends it. `before` lines stand before it in its input.
+/// Gives the exit status: 0 where each line was answered, else 1.
 fn run_script<W: Write, E: Write>(
     alloc: Global,
     mut core: Core,
@@ -122,7 +124,7 @@ fn run_script<W: Write, E: Write>(
     Ok(0)
 }
 
-/// Prints that the settings are refused, and says why.
+/// Prints `settings refused: FAULT`, says why, and gives the exit status 1.
 pub(crate) fn refuse<W: Write, E: Write>(
     alloc: Global,
     text: &[u8],
@@ -146,7 +148,7 @@ pub(crate) fn refuse<W: Write, E: Write>(
     Ok(1)
 }
 
-/// Answers a whole input.
+/// Replays a whole input: opens a broker with its settings, and answers its script. Gives the exit status.
 fn answer_input<W: Write, E: Write>(
     alloc: Global,
     input: &[u8],
@@ -174,7 +176,7 @@ fn answer_input<W: Write, E: Write>(
     }
 }
 
-/// Tells whether settings can be taken.
+/// Prints `settings ok`, and warnings, or that the settings are refused, and why. Gives the exit status.
 fn check_settings<W: Write, E: Write>(
     alloc: Global,
     input: &[u8],
@@ -195,7 +197,7 @@ fn check_settings<W: Write, E: Write>(
     }
 }
 
-/// Does what the command asks with a whole input.
+/// Runs a command on a whole input, and gives the exit status.
 fn answer_to<W: Write, E: Write>(
     alloc: Global,
     command: Command,
@@ -212,7 +214,7 @@ fn answer_to<W: Write, E: Write>(
     }
 }
 
-/// Reads the input and answers it.
+/// Reads the whole input, runs a command on it, and gives the exit status. The error says why that ended early.
 fn run_whole<R: Read, W: Write, E: Write>(
     alloc: Global,
     command: Command,
@@ -233,7 +235,7 @@ fn run_whole<R: Read, W: Write, E: Write>(
     }
 }
 
-/// What is printed last where a run ends early: a line where memory was refused, and else nothing.
+/// What is printed last where a run ends early: a line where an allocation failed, and else nothing.
 fn last_words(early: Early) -> &'static str
     ensures { result.now ≡ last_words early }
 {
@@ -244,14 +246,14 @@ fn last_words(early: Early) -> &'static str
     }
 }
 
-/// Prints the last words of a run that ends early.
+/// Prints the last line of a run that ends early, if it has one. If that fails, nothing else does.
 pub(crate) fn end_early<W: Write>(writer: &mut W, early: Early)
     ensures { EndsEarly (W.contents writer.old) (W.contents writer.new) early }
 {
     let _ = write_text(writer, last_words(early));
 }
 
-/// Runs a command, and says in sentences to `errors` what went wrong.
+/// Runs a command on all that the reader gives, says in sentences to `errors` what went wrong, and gives the exit status.
 fn run_and_explain<R: Read, W: Write, E: Write>(
     alloc: Global,
     command: Command,
@@ -274,7 +276,7 @@ fn run_and_explain<R: Read, W: Write, E: Write>(
     }
 }
 
-/// The command `replay`, which answers the exit status, and says in sentences to `errors` what went wrong.
+/// The command `replay`, as `replay` runs it, which also says in sentences to `errors` what went wrong. Gives the exit status.
 pub fn replay_and_explain<R: Read, W: Write, E: Write>(
     alloc: Global,
     reader: &mut R,
@@ -300,7 +302,7 @@ pub fn replay<R: Read, W: Write>(alloc: Global, reader: &mut R, writer: &mut W) 
     replay_and_explain(alloc, reader, writer, &mut sink())
 }
 
-/// The command `check`, which answers the exit status, and says in sentences to `errors` what went wrong.
+/// The command `check`, as `check` runs it, which also says in sentences to `errors` what went wrong. Gives the exit status.
 pub fn check_and_explain<R: Read, W: Write, E: Write>(
     alloc: Global,
     reader: &mut R,

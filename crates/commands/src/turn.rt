@@ -4,7 +4,7 @@ ghost use Rattle.std.specs.Prelude.{◌≡◌, ◌≤◌, ◌++◌, false, lengt
 ghost use Rattle.msg_admin.specs.Decode.{frame_at};
 ghost use Rattle.msg_admin.specs.Request.{Fits};
 ghost use Rattle.audit_trail.specs.declared.event.Event.TheVariants as events;
-ghost use Rattle.api_dispatch.specs.Bounds.{EventFits};
+ghost use Rattle.request_handlers.specs.Bounds.{EventFits};
 ghost use Rattle.request_handlers.specs.Core.{events_of};
 ghost use Rattle.audit_trail.specs.Line.{audit_lines};
 ghost use Rattle.commands.specs.Replay.{refusals_at, reply_line, IsTransition, step_transition, request_transition, frame_transition, unasked_transition, order_transition, line_transition};
@@ -29,7 +29,7 @@ pub(crate) enum Turn {
     Ends(String, Cause),
 }
 
-/// The refusals that the trail keeps at a place.
+/// The refusals of the event at a place of the trail; none where the trail has no such place.
 fn refusals_at(core: &Core, place: u64) -> &[Refusal]
     ensures { result.now ≡ refusals_at core.now.trail place }
 {
@@ -39,7 +39,7 @@ fn refusals_at(core: &Core, place: u64) -> &[Refusal]
     }
 }
 
-/// What is printed for an event that was answered.
+/// What is printed for an event that was answered: its response, and a line for each of its parts that was refused.
 fn receipt_text(
     alloc: Global,
     core: &Core,
@@ -55,7 +55,8 @@ fn receipt_text(
     Ok(text)
 }
 
-/// Makes the step of an event.
+/// Hands an event to the core, and tells what is printed: what it is answered, or the stop that ends the script. The error is an
+/// allocation failure.
 fn step(alloc: Global, core: &mut Core, correlation: i32, event: Event) -> Result<Turn, AllocError>
     requires up { core.old.down ≡ false }
     requires fits { EventFits event }
@@ -70,7 +71,7 @@ fn step(alloc: Global, core: &mut Core, correlation: i32, event: Event) -> Resul
     }
 }
 
-/// Makes the step of a request.
+/// Hands a request to the core, as asked by this caller, and tells what is printed.
 fn ask(
     alloc: Global,
     core: &mut Core,
@@ -91,7 +92,7 @@ fn ask(
     step(alloc, core, correlation, event)
 }
 
-/// Answers a frame within the limit.
+/// Answers a frame that isn't too long, and tells what is printed: `closed` where it is no request that is served.
 fn request_turn(alloc: Global, core: &mut Core, sent: Sent) -> Result<Turn, AllocError>
     requires up { core.old.down ≡ false }
     requires fits { length sent.frame ≤ FRAME_LIMIT }
@@ -109,7 +110,7 @@ fn request_turn(alloc: Global, core: &mut Core, sent: Sent) -> Result<Turn, Allo
     }
 }
 
-/// Answers a frame.
+/// Answers a frame, and tells what is printed: `closed` where it is longer than a frame may be.
 fn frame_turn(alloc: Global, core: &mut Core, sent: Sent) -> Result<Turn, AllocError>
     requires up { core.old.down ≡ false }
     ensures { IfOk result
@@ -122,7 +123,7 @@ fn frame_turn(alloc: Global, core: &mut Core, sent: Sent) -> Result<Turn, AllocE
     request_turn(alloc, core, sent)
 }
 
-/// Makes the step of an event that no one asked for: its reply isn't sent.
+/// Hands the core an event that no client asked for, a tick or a mark. Its reply isn't sent, so `-` is printed, and its refusals.
 fn unasked_turn(alloc: Global, core: &mut Core, event: Event) -> Result<Turn, AllocError>
     requires up { core.old.down ≡ false }
     requires fits { EventFits event }
@@ -133,7 +134,7 @@ fn unasked_turn(alloc: Global, core: &mut Core, event: Event) -> Result<Turn, Al
     step(alloc, core, 0, event)
 }
 
-/// Does what was asked for.
+/// Does what a line asks for, and tells what is printed.
 fn order_turn(alloc: Global, core: &mut Core, order: Order) -> Result<Turn, AllocError>
     requires up { core.old.down ≡ false }
     ensures { IfOk result
@@ -147,7 +148,7 @@ fn order_turn(alloc: Global, core: &mut Core, order: Order) -> Result<Turn, Allo
     }
 }
 
-/// What the line of this number does.
+/// Reads the line of this number, does what it asks for, and tells what is printed. A line that can't be read ends the script.
 pub(crate) fn line_turn(
     alloc: Global,
     core: &mut Core,

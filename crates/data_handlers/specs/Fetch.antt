@@ -33,11 +33,11 @@ use Rattle.broker_world.specs.Logs.{log_at}
 
 -- the lesser of what is left of the request's bytes and what is wanted of the partition; a negative number is none
 abbrev pub budget_for : FetchBudget → FetchPartition → ℕ
-budget_for room p = min (non_negative p.max_bytes) room.left
+budget_for budget p = min (non_negative p.max_bytes) budget.left
 
 -- what is left once the batches were given
-abbrev pub room_after_batches : FetchBudget → List BatchData → FetchBudget
-room_after_batches room batches = record { left = room.left - total_bytes batches; given = room.given || has_any batches }
+abbrev pub budget_after_batches : FetchBudget → List BatchData → FetchBudget
+budget_after_batches budget batches = record { left = budget.left - total_bytes batches; given = budget.given || has_any batches }
 
 -- ---- a partition, permission aside
 
@@ -46,11 +46,11 @@ is_outside log offset = int_lt offset (pos 0) || int_lt (end_of log) offset
 
 -- What is served of a partition: where none of the answer was given a batch yet, one is forced.
 abbrev pub served_by : Isolation → FetchBudget → FetchPartition → Option LogValue → Result Served ErrorCode
-served_by level room p None = Err codes.UnknownTopicOrPartition
-served_by level room p (Some log) = if is_outside log p.offset then Err codes.OffsetOutOfRange else Ok (served_of log p.offset level (budget_for room p) (not room.given))
+served_by level budget p None = Err codes.UnknownTopicOrPartition
+served_by level budget p (Some log) = if is_outside log p.offset then Err codes.OffsetOutOfRange else Ok (served_of log p.offset level (budget_for budget p) (not budget.given))
 
 abbrev pub served_at : Isolation → List TopicValue → FetchBudget → List ℕ → FetchPartition → Result Served ErrorCode
-served_at level topics room name p = served_by level room p (log_at topics name p.index)
+served_at level topics budget name p = served_by level budget p (log_at topics name p.index)
 
 abbrev pub fetched_error : ErrorCode → FetchPartition → FetchedRecords
 fetched_error code p = record { index = p.index; error = code; high_watermark = negsuc 0; last_stable_offset = negsuc 0; aborted = None; records = [] }
@@ -68,20 +68,20 @@ abbrev pub fetched_partition : Isolation → FetchPartition → Result Served Er
 fetched_partition level p (Err code) = fetched_error code p
 fetched_partition level p (Ok s) = record { index = p.index; error = codes.None; high_watermark = s.high; last_stable_offset = s.stable; aborted = aborted_list level s.aborted; records = batch_bytes s.batches }
 
-abbrev pub room_after : FetchBudget → Result Served ErrorCode → FetchBudget
-room_after room (Err code) = room
-room_after room (Ok s) = room_after_batches room s.batches
+abbrev pub budget_after : FetchBudget → Result Served ErrorCode → FetchBudget
+budget_after budget (Err code) = budget
+budget_after budget (Ok s) = budget_after_batches budget s.batches
 
--- it changes nothing but the room of its answer
+-- it changes nothing but the budget of its answer
 abbrev pub fetch_rule : Caller → Isolation → List TopicValue → PartRule FetchPartition FetchedRecords FetchBudget
 fetch_rule caller level topics = record {
   questions = λ name p. question_of caller operations.Read kinds.Topic name ∷ [];
-  plain = λ room name p. fetched_partition level p (served_at level topics room name p);
-  after = λ room name p. room_after room (served_at level topics room name p);
+  plain = λ budget name p. fetched_partition level p (served_at level topics budget name p);
+  after = λ budget name p. budget_after budget (served_at level topics budget name p);
   refused = λ code name p. fetched_error code p;
   weight = λ p. 0;
-  room = λ room. 0;
-  takes = λ room name p. zero-le;
+  budget = λ budget. 0;
+  takes = λ budget name p. zero-le;
 }
 
 -- ---- the request

@@ -49,7 +49,7 @@ list_rule caller level topics = record {
   after = λ w name p. w;
   refused = λ code name p. listed_error code p;
   weight = λ p. 0;
-  room = λ w. 0;
+  budget = λ w. 0;
   takes = λ w name p. zero-le;
 }
 

@@ -25,7 +25,7 @@ use Rattle.broker_world.specs.First.{non_negative}
 use Rattle.broker_world.specs.HandlerResult.{HandlerResult}
 use Rattle.broker_world.specs.Logs.{log_at, offsets_left, offset_in}
 use Rattle.data_handlers.specs.Judged.{partition_at, batch_to_append, topics_produced, records_size}
-use Rattle.data_handlers.specs.RoomLaws.{produce_takes}
+use Rattle.data_handlers.specs.BudgetLaws.{produce_takes}
 
 -- ---- what is asked
 
@@ -66,7 +66,7 @@ produce_rule caller most c id acks = record {
   after = λ topics name p. topics_produced (batch_to_append most c id acks (partition_at name p.index) p.records) topics name p.index;
   refused = λ code name p. produced_error code p;
   weight = λ p. records_size p.records;
-  room = offsets_left;
+  budget = offsets_left;
   takes = λ topics name p. produce_takes most c id acks topics name p;
 }
 

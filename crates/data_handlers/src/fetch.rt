@@ -4,7 +4,7 @@ ghost use Rattle.std.specs.Prelude.{◌≡◌, [], IfOk};
 ghost use Rattle.std.specs.Option.{option_copied};
 ghost use Rattle.walk.specs.Walk.{asked_in};
 ghost use Rattle.broker_world.specs.HandlerResult.{HandlerMeets};
-ghost use Rattle.data_handlers.specs.Fetch.{fetch_rule, budget_for, room_after_batches, served_by, served_at, fetched_error, batch_bytes, aborted_list, fetched_partition, room_after, whole_budget, fetch_outcome};
+ghost use Rattle.data_handlers.specs.Fetch.{fetch_rule, budget_for, budget_after_batches, served_by, served_at, fetched_error, batch_bytes, aborted_list, fetched_partition, budget_after, whole_budget, fetch_outcome};
 
 use crate::fetch_budget::FetchBudget;
 use acl_binding::{Caller, Kind, Operation};
@@ -20,7 +20,7 @@ use std::alloc::{AllocError, Global};
 use walk::{Part, PartApi, refusal_code, walk};
 use wire_types::{ErrorCode, Items, Pieces, Text};
 
-/// Who fetches, what that reader sees of transactions, and from what.
+/// How a Fetch serves a partition: for whom, at which isolation level, from which topics.
 #[derive(Drop)]
 pub(crate) struct FetchHandler<'a> {
     pub(crate) caller: &'a Caller,
@@ -38,11 +38,13 @@ impl<'a> PartApi<FetchPartition, FetchedRecords, FetchBudget> for FetchHandler<'
 
     ghost settles = { λ _ _. Unit {0} };
 
+    /// Asks whether the caller may READ the topic. If so, it serves the partition out of the budget, else it answers the
+    /// refusal's code.
     fn serve(
         &self,
         alloc: Global,
         policy: &Policy,
-        room: &mut FetchBudget,
+        budget: &mut FetchBudget,
         name: &Text,
         part: &FetchPartition,
     ) -> Result<Part<FetchedRecords>, AllocError> {
@@ -50,8 +52,8 @@ impl<'a> PartApi<FetchPartition, FetchedRecords, FetchBudget> for FetchHandler<'
         match ask_one(policy, topic) {
             Ok(permit) => {
                 let paid = Paid::one(permit.spend(policy));
-                let served = serve(alloc, self.topics, self.isolation, *room, name, part)?;
-                *room = room.after(&served);
+                let served = serve(alloc, self.topics, self.isolation, *budget, name, part)?;
+                *budget = budget.after(&served);
                 let answer = fetched(alloc, part, self.isolation, served)?;
                 Ok(Part::served(answer, paid))
             }
@@ -63,36 +65,39 @@ impl<'a> PartApi<FetchPartition, FetchedRecords, FetchBudget> for FetchHandler<'
     }
 }
 
-/// What is served of a topic's partition, if both are there.
+/// Serves a partition within the budget. The error code is UNKNOWN_TOPIC_OR_PARTITION or OFFSET_OUT_OF_RANGE; an
+/// `AllocError` is an allocation failure.
 fn serve(
     alloc: Global,
     topics: &Topics,
     isolation: Isolation,
-    room: FetchBudget,
+    budget: FetchBudget,
     name: &Text,
     part: &FetchPartition,
 ) -> Result<Result<Served, ErrorCode>, AllocError>
     ensures { IfOk result
-        (λ served. served ≡ served_at isolation topics.now room name.now part.now) }
+        (λ served. served ≡ served_at isolation topics.now budget name.now part.now) }
 {
-    serve_from(alloc, topics.log(name, part.index), isolation, room, part)
+    serve_from(alloc, topics.log(name, part.index), isolation, budget, part)
 }
 
+/// Serves a partition's log within the budget; `log` is `None` if there is no such topic or partition. Errors are those of
+/// `serve`.
 fn serve_from(
     alloc: Global,
     log: Option<&Log>,
     isolation: Isolation,
-    room: FetchBudget,
+    budget: FetchBudget,
     part: &FetchPartition,
 ) -> Result<Result<Served, ErrorCode>, AllocError>
     ensures { IfOk result
-        (λ served. served ≡ served_by isolation room part.now (option_copied log.entry)) }
+        (λ served. served ≡ served_by isolation budget part.now (option_copied log.entry)) }
 {
     let Some(log) = log else {
         return Ok(Err(ErrorCode::UnknownTopicOrPartition));
     };
-    let most = room.most_for(part);
-    match log.fetch(alloc, part.offset, isolation, most, !room.given) {
+    let most = budget.most_for(part);
+    match log.fetch(alloc, part.offset, isolation, most, !budget.given) {
         Ok(served) => Ok(Ok(served)),
         Err(FetchFault::OutOfRange) => Ok(Err(ErrorCode::OffsetOutOfRange)),
         Err(FetchFault::NoMemory) => Err(AllocError),
@@ -100,16 +105,17 @@ fn serve_from(
 }
 
 impl FetchBudget {
-    /// How many bytes may be served of a partition.
+    /// How many bytes may be served of this partition: its own `max_bytes` (0 if negative), but no more than are left of the
+    /// answer's.
     fn most_for(&self, part: &FetchPartition) -> u64
         ensures { result ≡ budget_for self.now part.now }
     {
         u64::from(non_negative(part.max_bytes)).min(self.left)
     }
 
-    /// What is left after what was served of a partition.
+    /// The budget after what was served of a partition: as it was, if that was an error.
     fn after(&self, served: &Result<Served, ErrorCode>) -> FetchBudget
-        ensures { result ≡ room_after self.now served.now }
+        ensures { result ≡ budget_after self.now served.now }
     {
         match served {
             Ok(served) => self.less(served.batches.as_slice()),
@@ -117,9 +123,9 @@ impl FetchBudget {
         }
     }
 
-    /// What is left after the batches.
+    /// The budget after these batches. A forced batch may have more bytes than were left: then none are left.
     fn less(&self, batches: &[Batch]) -> FetchBudget
-        ensures { result ≡ room_after_batches self.now batches.now }
+        ensures { result ≡ budget_after_batches self.now batches.now }
     {
         let mut left = self.left;
         for batch in batches {
@@ -132,6 +138,7 @@ impl FetchBudget {
     }
 }
 
+/// A partition's answer with this error code: no records, and -1 for both offsets.
 fn fetched_error(alloc: Global, error: ErrorCode, part: &FetchPartition) -> FetchedRecords
     ensures { result ≡ fetched_error error part.now }
 {
@@ -145,7 +152,7 @@ fn fetched_error(alloc: Global, error: ErrorCode, part: &FetchPartition) -> Fetc
     }
 }
 
-/// The answer for a partition.
+/// A partition's answer: what was served of it, or its error code.
 fn fetched(
     alloc: Global,
     part: &FetchPartition,
@@ -167,7 +174,7 @@ fn fetched(
     }
 }
 
-/// The list of aborted transactions, for a reader that needs one.
+/// The list of aborted transactions that a partition's answer bears: null for read_uncommitted.
 fn list_told(
     isolation: Isolation,
     aborted: Items<AbortedTransaction>,
@@ -180,7 +187,7 @@ fn list_told(
     }
 }
 
-/// The batches, one after the other. They share their bytes with the log.
+/// The bytes of these batches, one after the other, as the records of an answer. They are shared with the log.
 fn joined(alloc: Global, batches: &[Batch]) -> Result<Pieces, AllocError>
     ensures { IfOk result (λ bytes. bytes ≡ batch_bytes batches.now) }
 {
@@ -191,7 +198,8 @@ fn joined(alloc: Global, batches: &[Batch]) -> Result<Pieces, AllocError>
     Ok(out)
 }
 
-/// What a Fetch is answered.
+/// Handles a Fetch: each partition whose topic the caller may READ is served, in the request's order and within its
+/// `max_bytes`; each other one is answered TOPIC_AUTHORIZATION_FAILED.
 pub fn answer_fetch(
     alloc: Global,
     state: &State,
@@ -208,12 +216,12 @@ pub fn answer_fetch(
         isolation: request.isolation,
         topics: state.topics(),
     };
-    let mut room = whole_budget(request);
+    let mut budget = whole_budget(request);
     let walked = walk(
         alloc,
         &api,
         state.policy(),
-        &mut room,
+        &mut budget,
         request.topics.as_slice(),
     )?;
     let reply = FetchReply {
@@ -223,7 +231,7 @@ pub fn answer_fetch(
     Ok(served_in_parts(Reply::Fetch(reply), walked.refusals, walked.spent))
 }
 
-/// The room of a whole answer.
+/// The budget of a whole answer: the request's `max_bytes`, or 0 where that is negative, and no batch given yet.
 fn whole_budget(request: &FetchRequest) -> FetchBudget
     ensures { result ≡ whole_budget request.now }
 {

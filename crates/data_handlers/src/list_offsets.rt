@@ -22,7 +22,7 @@ const END: i64 = -1;
 /// The timestamp that wants the first offset.
 const START: i64 = -2;
 
-/// Who asks for offsets, what that reader sees of transactions, and of what.
+/// How a ListOffsets answers a partition: for whom, at which isolation level, from which topics.
 #[derive(Drop)]
 pub(crate) struct ListOffsetsHandler<'a> {
     pub(crate) caller: &'a Caller,
@@ -40,6 +40,7 @@ impl<'a> PartApi<WantedOffset, FoundOffset, ()> for ListOffsetsHandler<'a> {
 
     ghost settles = { λ _ _. Unit {0} };
 
+    /// Asks whether the caller may DESCRIBE the topic. If so, it answers the partition's offset, else the refusal's code.
     fn serve(
         &self,
         _alloc: Global,
@@ -63,14 +64,15 @@ impl<'a> PartApi<WantedOffset, FoundOffset, ()> for ListOffsetsHandler<'a> {
     }
 }
 
-/// The answer for a topic's partition.
+/// A partition's answer: its start or its end, or an error code.
 fn listed(topics: &Topics, isolation: Isolation, name: &Text, part: &WantedOffset) -> FoundOffset
     ensures { result ≡ listed_offset isolation topics.now name.now part.now }
 {
     listed_by(topics.log(name, part.index), isolation, part)
 }
 
-/// The answer for a partition, if it is there.
+/// A partition's answer: for timestamp -1 the end that the reader may see, for -2 the start, and for any other
+/// INVALID_REQUEST. It is UNKNOWN_TOPIC_OR_PARTITION if there is no log, since there is no such topic or partition.
 fn listed_by(log: Option<&Log>, isolation: Isolation, part: &WantedOffset) -> FoundOffset
     ensures { result ≡ listed_offset_by isolation part.now (option_copied log.entry) }
 {
@@ -82,6 +84,7 @@ fn listed_by(log: Option<&Log>, isolation: Isolation, part: &WantedOffset) -> Fo
     }
 }
 
+/// A partition's answer with this offset, and timestamp -1.
 fn listed_at(offset: i64, part: &WantedOffset) -> FoundOffset
     ensures { result ≡ listed_at offset part.now }
 {
@@ -93,6 +96,7 @@ fn listed_at(offset: i64, part: &WantedOffset) -> FoundOffset
     }
 }
 
+/// A partition's answer with this error code, and -1 for offset and timestamp.
 fn listed_error(error: ErrorCode, part: &WantedOffset) -> FoundOffset
     ensures { result ≡ listed_error error part.now }
 {
@@ -104,7 +108,8 @@ fn listed_error(error: ErrorCode, part: &WantedOffset) -> FoundOffset
     }
 }
 
-/// What a ListOffsets is answered.
+/// Handles a ListOffsets: for each partition whose topic the caller may DESCRIBE the start or the end of its log; each other
+/// one is answered TOPIC_AUTHORIZATION_FAILED.
 pub fn answer_list_offsets(
     alloc: Global,
     state: &State,

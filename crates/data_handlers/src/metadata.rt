@@ -19,8 +19,7 @@ use std::alloc::{AllocError, Global};
 use walk::Part;
 use wire_types::{Boxed, ErrorCode, Items, Text};
 
-/// The answers to the parts of a request, the refusals of those that were refused, and how many permits were spent for
-/// the others.
+/// The answers for the topics of a Metadata, the refusals, and how many permits were spent.
 #[derive(Drop)]
 pub(crate) struct Answered {
     pub(crate) topics: Items<TopicInfo>,
@@ -28,7 +27,7 @@ pub(crate) struct Answered {
     pub(crate) spent: Tally,
 }
 
-/// The answers for the topics that are asked for: those that are named, or all.
+/// The answers for the topics that are named, or, where no list is given (null), for all that the caller may DESCRIBE.
 fn wanted_topics(
     alloc: Global,
     state: &State,
@@ -48,7 +47,7 @@ fn wanted_topics(
     }
 }
 
-/// The reply with these topics.
+/// The Metadata reply with these topics: the one node is the only broker, and the controller.
 fn metadata_reply(
     alloc: Global,
     cluster: &Cluster,
@@ -70,7 +69,8 @@ fn metadata_reply(
     Ok(Reply::Metadata(Boxed::new(alloc, reply)?))
 }
 
-/// What a Metadata is answered.
+/// Handles a Metadata: the one broker, and the topics that are named, or all that the caller may DESCRIBE. A named topic
+/// that it may not is answered TOPIC_AUTHORIZATION_FAILED.
 pub fn answer_metadata(
     alloc: Global,
     state: &State,
@@ -86,7 +86,7 @@ pub fn answer_metadata(
     Ok(served_in_parts(reply, answered.refusals, answered.spent))
 }
 
-/// The answers for topics that are named, one after the other.
+/// The answers for topics that are named, in order.
 fn named_topics(
     alloc: Global,
     state: &State,
@@ -116,7 +116,8 @@ fn named_topics(
     })
 }
 
-/// The answer for a topic that is named: permission comes before existence.
+/// The answer for a topic that is named. Permission is asked first, so a caller who may not DESCRIBE the topic isn't told
+/// whether it is there.
 fn named_topic(
     alloc: Global,
     state: &State,
@@ -149,7 +150,7 @@ fn named_topic(
     }
 }
 
-/// The answers for all topics that may be described.
+/// The answers for all topics that the caller may DESCRIBE. The others are left out without a refusal.
 fn described_topics(alloc: Global, state: &State, caller: &Caller) -> Result<Answered, AllocError>
     ensures topics { IfOk result (λ a. a.topics ≡ metadata_topics state.now caller.now None) }
     ensures refusals { IfOk result (λ a. a.refusals ≡ []) }
@@ -172,7 +173,7 @@ fn described_topics(alloc: Global, state: &State, caller: &Caller) -> Result<Ans
     })
 }
 
-/// The answer for a topic, if it may be described. That it may not is told to nobody.
+/// The answer for a topic if the caller may DESCRIBE it, else `None`.
 fn described_topic(
     alloc: Global,
     state: &State,
@@ -200,7 +201,7 @@ fn described_topic(
     }
 }
 
-/// What is answered for a topic, permission aside.
+/// The answer for a topic, permission aside: its partitions, or UNKNOWN_TOPIC_OR_PARTITION.
 fn plain_topic(alloc: Global, state: &State, name: &Text) -> Result<TopicInfo, AllocError>
     ensures { IfOk result (λ t. t ≡ plain_topic state.now name.now) }
 {
@@ -216,7 +217,7 @@ fn plain_topic(alloc: Global, state: &State, name: &Text) -> Result<TopicInfo, A
     }
 }
 
-/// A topic that is told with an error, and so without partitions.
+/// The answer for a topic with this error code, and no partitions.
 fn topic_error(cluster: &Cluster, error: ErrorCode, name: &Text) -> Result<TopicInfo, AllocError>
     ensures { IfOk result (λ t. t ≡ topic_error error name.now) }
 {

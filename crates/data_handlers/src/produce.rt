@@ -23,8 +23,8 @@ use txn_coordinator::{Coordinator, ProducerIdAndEpoch, ProducerIdOwner, Target, 
 use walk::{Part, PartApi, refusal_code, walk};
 use wire_types::{ErrorCode, Items, Text, Topic};
 
-/// What a Produce says of all its partitions, what is said to writing with its transactional id, the greatest size of a batch, and
-/// the transactions that are open.
+/// How a Produce serves a partition: the caller, the transactional id and what the policy said to writing with it, the acks,
+/// the greatest size of a batch in bytes, and the open transactions.
 #[derive(Drop)]
 pub(crate) struct ProduceHandler<'a> {
     pub(crate) caller: &'a Caller,
@@ -50,6 +50,8 @@ impl<'a> PartApi<ProducedRecords, ProducedOffset, Topics> for ProduceHandler<'a>
 
     ghost settles = { λ api policy. api.asked.now ≡ settled_value_if_given policy (option_map (question_of api.caller.now operations.Write kinds.TransactionalId) api.id.now) };
 
+    /// Asks whether the caller may WRITE on the request's transactional id, if it has one, and on the topic. If so, it
+    /// appends the partition's batch, else it answers the refusal's code.
     fn serve(
         &self,
         _alloc: Global,
@@ -79,7 +81,8 @@ impl<'a> PartApi<ProducedRecords, ProducedOffset, Topics> for ProduceHandler<'a>
 }
 
 impl<'a> ProduceHandler<'a> {
-    /// Serves a part that was granted, whose target and records are also handed in.
+    /// Serves a partition that was granted, and gives the evidence that its permit was spent. `target` is the partition as
+    /// transactions name it, `records` the batch that was sent for it.
     fn grant(
         &self,
         policy: &Policy,
@@ -93,7 +96,7 @@ impl<'a> ProduceHandler<'a> {
         requires permit { MayWrite policy.now name.now permit }
         requires target { target.now ≡ partition_at name.now part.now.index }
         requires records { records ≡ part.now.records }
-        requires room { records_size part.now.records ≤ offsets_left topics.old }
+        requires budget { records_size part.now.records ≤ offsets_left topics.old }
         ensures spent { IfOk result (λ r. r.0 ≡ permit.question) }
         ensures topics { OnOk result
             (topics.new ≡ topics_produced
@@ -110,7 +113,8 @@ impl<'a> ProduceHandler<'a> {
         produce(policy, permit, topics, name, part, batch)
     }
 
-    /// The batch to be appended to a partition, or why none is, whether or not the partition is there.
+    /// The batch to append, or the error code for which none is: the acks, the batch's fault, or its producer. It doesn't
+    /// matter whether there is such a partition.
     fn judge(&self, target: &Target, records: Option<SentBatch>) -> Result<Batch, ErrorCode>
         ensures { result ≡ batch_to_append self.now.most self.now.coordinator.now self.now.id.now
             self.now.acks target.now records }
@@ -122,7 +126,8 @@ impl<'a> ProduceHandler<'a> {
     }
 }
 
-/// What was judged good is appended, if the partition is there.
+/// Spends the permit and appends the batch, if it is one and there is such a partition. Gives the partition's answer with
+/// the evidence of what was spent.
 fn produce(
     policy: &Policy,
     permit: Permit,
@@ -132,7 +137,7 @@ fn produce(
     batch: Result<Batch, ErrorCode>,
 ) -> Result<(Spent, ProducedOffset), AllocError>
     requires permit { MayWrite policy.now name.now permit }
-    requires room { IfOk batch (λ b. most_end topics.old + length b.bytes ≤ 9223372036854775807) }
+    requires budget { IfOk batch (λ b. most_end topics.old + length b.bytes ≤ 9223372036854775807) }
     ensures spent { IfOk result (λ r. r.0 ≡ permit.question) }
     ensures topics { OnOk result
         (topics.new ≡ topics_produced batch topics.old name.now part.now.index) }
@@ -151,6 +156,7 @@ fn produce(
     }
 }
 
+/// The partition of this topic as transactions name it.
 fn partition_at(name: &Text, index: i32) -> Result<Target, AllocError>
     ensures { IfOk result (λ target. target ≡ partition_at name.now index) }
 {
@@ -158,6 +164,7 @@ fn partition_at(name: &Text, index: i32) -> Result<Target, AllocError>
     Ok(Target::Partition(TopicPartition { topic, index }))
 }
 
+/// A partition's answer with this error code, and offset -1.
 fn produced_error(error: ErrorCode, part: &ProducedRecords) -> ProducedOffset
     ensures { result ≡ produced_error error part.now }
 {
@@ -169,6 +176,7 @@ fn produced_error(error: ErrorCode, part: &ProducedRecords) -> ProducedOffset
     }
 }
 
+/// A partition's answer where its batch stands at this offset.
 fn produced_at(offset: i64, part: &ProducedRecords) -> ProducedOffset
     ensures { result ≡ produced_at offset part.now }
 {
@@ -180,7 +188,7 @@ fn produced_at(offset: i64, part: &ProducedRecords) -> ProducedOffset
     }
 }
 
-/// The answer where the batch stands at an offset, or why it doesn't.
+/// A partition's answer: the offset at which its batch stands, or the error code.
 fn produced_to(part: &ProducedRecords, offset: Result<i64, ErrorCode>) -> ProducedOffset
     ensures { result ≡ produced_to part.now offset }
 {
@@ -190,7 +198,8 @@ fn produced_to(part: &ProducedRecords, offset: Result<i64, ErrorCode>) -> Produc
     }
 }
 
-/// The answer where there is no batch to append.
+/// A partition's answer where there is no batch to append: this error code, but UNKNOWN_TOPIC_OR_PARTITION if there is no
+/// such partition (`log` is `None`).
 fn unproduced(code: ErrorCode, part: &ProducedRecords, log: Option<&Log>) -> ProducedOffset
     ensures { result ≡ produce_failure code part.now (option_copied log.entry) }
 {
@@ -200,7 +209,8 @@ fn unproduced(code: ErrorCode, part: &ProducedRecords, log: Option<&Log>) -> Pro
     }
 }
 
-/// The batch, if there are records.
+/// The batch that was sent for a partition, if it has no fault and its producer may send it. Missing or empty records are
+/// answered INVALID_RECORD.
 fn batch_in(
     records: Option<SentBatch>,
     most: u32,
@@ -218,7 +228,7 @@ fn batch_in(
     }
 }
 
-/// The batch, if its producer may send it.
+/// The batch if its producer may send it, else the error code: that of the batch's fault, or that of the producer.
 fn passed(
     coordinator: &Coordinator,
     id: &Option<Text>,
@@ -236,20 +246,23 @@ fn passed(
     }
 }
 
+/// Whether `acks` is a value that Kafka knows: all (-1), none (0) or the leader (1).
 fn are_acks(acks: i16) -> bool
     ensures { result ≡ are_acks acks }
 {
     acks == -1 || acks == 0 || acks == 1
 }
 
-/// The batch that a producer sent, or its first fault, which was found when it was read.
+/// The batch that was sent, if it has at most `most` bytes, or its first fault.
 fn sent(records: SentBatch, most: u32) -> Result<Batch, BatchFault>
     ensures { result ≡ batch_or_fault most records }
 {
     records.batch(most)
 }
 
-/// Why a batch of a producer or of a transaction is refused, if it is.
+/// The error code by which a batch with this header is refused because of its producer; `None` if it may be appended. A
+/// transactional batch has to belong to an open transaction with this partition. Any other has no producer id, or one that
+/// was given to an idempotent producer.
 fn producer_code(
     coordinator: &Coordinator,
     id: &Option<Text>,
@@ -267,7 +280,7 @@ fn producer_code(
     given_code(coordinator.given(header.producer_id))
 }
 
-/// The producer that a batch names.
+/// The producer id and epoch of a batch.
 fn pair_of(header: &BatchHeader) -> ProducerIdAndEpoch
     ensures { result ≡ id_and_epoch_of header.now }
 {
@@ -277,7 +290,8 @@ fn pair_of(header: &BatchHeader) -> ProducerIdAndEpoch
     }
 }
 
-/// Why a batch of a transaction is refused, if it is.
+/// The error code by which a transactional batch is refused; `None` if this producer has an open transaction with this
+/// partition. Without a transactional id it is INVALID_TXN_STATE.
 fn held_code(
     coordinator: &Coordinator,
     id: &Option<Text>,
@@ -292,7 +306,9 @@ fn held_code(
     }
 }
 
-/// Why a batch that isn't of a transaction is refused by whom its producer id was given to.
+/// The error code by which a batch outside transactions is refused, by the owner of its producer id:
+/// INVALID_PRODUCER_ID_MAPPING if the id was never given, INVALID_TXN_STATE if it belongs to a transactional id; `None` if
+/// it may be appended.
 fn given_code(given: ProducerIdOwner) -> Option<ErrorCode>
     ensures { result ≡ given_code given }
 {
@@ -318,7 +334,8 @@ fn produce_reply(acks: i16, topics: Items<Topic<ProducedOffset>>) -> Reply
     }
 }
 
-/// What a Produce does and is answered.
+/// Handles a Produce: appends the batch of each partition whose topic the caller may WRITE, if it may WRITE on the
+/// transactional id too. A refused partition is answered TRANSACTIONAL_ID_ or TOPIC_AUTHORIZATION_FAILED.
 pub fn answer_produce(
     alloc: Global,
     state: &mut State,

@@ -13,13 +13,14 @@ pub(crate) struct Hand {
 }
 
 impl Hand {
+    /// A clock that shows so many milliseconds.
     pub(crate) fn at(millis: u64) -> Hand {
         Hand {
             shows: Cell::new(Some(millis)),
         }
     }
 
-    /// Goes on by so many milliseconds.
+    /// Moves the clock on by so many milliseconds; one that can't be read stays so.
     fn pass(&self, millis: u64) {
         self.shows
             .set(self.shows.get().map(|shows| shows.saturating_add(millis)));
@@ -27,6 +28,7 @@ impl Hand {
 }
 
 impl time::Clock for Hand {
+    /// The milliseconds that the clock shows; an error where it can't be read.
     fn monotonic(&self) -> io::Result<Duration> {
         match self.shows.get() {
             Some(millis) => Ok(Duration::from_millis(millis)),
@@ -34,6 +36,7 @@ impl time::Clock for Hand {
         }
     }
 
+    /// The same milliseconds.
     fn since_1970(&self) -> io::Result<Duration> {
         self.monotonic()
     }
@@ -55,6 +58,7 @@ pub(crate) struct Peer<'x> {
 }
 
 impl OpenStream for Peer<'_> {
+    /// Notes for how long the next read waits.
     fn set_read_timeout(&self, time: Option<Duration>) -> io::Result<()> {
         let millis = time.map(|time| u64::try_from(time.as_millis()).unwrap_or(u64::MAX));
         self.waits.set(millis);
@@ -67,6 +71,8 @@ impl Read for Peer<'_> {
 
     ghost remaining = { λ _. None };
 
+    /// Says the next piece, and moves the clock on by the time that this takes. Where the wait is no longer than that, it ends
+    /// after the wait with `WouldBlock`.
     fn read(&mut self, piece: &mut [u8]) -> io::Result<usize> {
         let read = self.read.get();
         let Some((after, bytes)) = self.pieces.get(read) else {
@@ -94,6 +100,7 @@ pub(crate) struct Deaf<'x> {
 }
 
 impl OpenStream for Deaf<'_> {
+    /// Notes for how long the next write waits.
     fn set_write_timeout(&self, time: Option<Duration>) -> io::Result<()> {
         let millis = time.map(|time| u64::try_from(time.as_millis()).unwrap_or(u64::MAX));
         self.waits.set(millis);
@@ -102,6 +109,7 @@ impl OpenStream for Deaf<'_> {
 }
 
 impl Write for Deaf<'_> {
+    /// Takes nothing: moves the clock on by the wait, and ends with `WouldBlock`; where the wait is without end, fails at once.
     fn write(&mut self, _bytes: &[u8]) -> io::Result<usize> {
         match self.waits.get() {
             Some(wait) => {
@@ -112,6 +120,7 @@ impl Write for Deaf<'_> {
         }
     }
 
+    /// Does nothing.
     fn flush(&mut self) -> io::Result<()> {
         Ok(())
     }

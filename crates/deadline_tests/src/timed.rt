@@ -7,7 +7,7 @@ use std::io::{Read, Write};
 use std::test::Fail;
 use std::time::Duration;
 
-/// A second for a login, and a second for a frame.
+/// A second for a first frame, a second for a login, a second for each frame, and no idle time.
 fn times() -> Times {
     Times {
         idle: None,
@@ -24,7 +24,7 @@ const WHOLE: &[u8] = b"\0\0\0\x03abc";
 type End = (usize, Option<u64>, Option<Limit>);
 
 /// Reads until the peer says no more, or a read fails. The session begins at 7,000 milliseconds, and its user is known once so
-/// many pieces were read.
+/// many pieces were read. Gives how that ended.
 fn end_of(times: Times, pieces: &[Piece], known_after: usize) -> End {
     let clock = Hand::at(7_000);
     let notes = Notes::new();
@@ -48,12 +48,14 @@ fn end_of(times: Times, pieces: &[Piece], known_after: usize) -> End {
     (read.get(), clock.shows.get(), notes.over())
 }
 
+/// A peer that says nothing is waited for until the time of its first frame is over, a second after it began.
 #[test]
 fn a_silent_peer_has_the_time_of_a_login(rt: HostRuntime) -> Result<(), Fail> {
     assert!(rt; end_of(times(), &[(5_000, WHOLE)], 9) == (0, Some(8_000), Some(Limit::Login)));
     Ok(())
 }
 
+/// Of a silent peer that has waited for a worker, the wait is taken off its time, down to a quarter of a second.
 #[test]
 fn a_silent_peer_that_has_waited_has_less(rt: HostRuntime) -> Result<(), Fail> {
     for (waited, ends) in [(0, 8_000), (600, 7_400), (900, 7_250), (60_000, 7_250)] {
@@ -63,6 +65,7 @@ fn a_silent_peer_that_has_waited_has_less(rt: HostRuntime) -> Result<(), Fail> {
     Ok(())
 }
 
+/// A peer that has waited long for a worker has the whole time of a login once a frame of it has come whole.
 #[test]
 fn a_peer_that_has_waited_and_speaks_has_the_time_of_a_login(rt: HostRuntime) -> Result<(), Fail> {
     let pieces = [(200, WHOLE), (700, WHOLE), (700, WHOLE)];
@@ -71,6 +74,7 @@ fn a_peer_that_has_waited_and_speaks_has_the_time_of_a_login(rt: HostRuntime) ->
     Ok(())
 }
 
+/// A peer that has waited long for a worker, and sends single bytes of its first frame, has a quarter of a second.
 #[test]
 fn a_peer_that_has_waited_and_drips_has_less(rt: HostRuntime) -> Result<(), Fail> {
     let begins: Piece = (100, b"\0");
@@ -80,6 +84,7 @@ fn a_peer_that_has_waited_and_drips_has_less(rt: HostRuntime) -> Result<(), Fail
     Ok(())
 }
 
+/// The time of a login runs from the session's beginning, however many frames have come since.
 #[test]
 fn whole_frames_do_not_stretch_a_login(rt: HostRuntime) -> Result<(), Fail> {
     let pieces = [(400, WHOLE), (400, WHOLE), (400, WHOLE)];
@@ -87,6 +92,7 @@ fn whole_frames_do_not_stretch_a_login(rt: HostRuntime) -> Result<(), Fail> {
     Ok(())
 }
 
+/// Once the user is known, a peer may wait without end between two frames, if there is no idle time.
 #[test]
 fn a_known_user_has_no_time_between_frames(rt: HostRuntime) -> Result<(), Fail> {
     let pieces = [(400, WHOLE), (400_000, WHOLE), (900, WHOLE)];
@@ -94,6 +100,7 @@ fn a_known_user_has_no_time_between_frames(rt: HostRuntime) -> Result<(), Fail> 
     Ok(())
 }
 
+/// The idle time begins anew with each read.
 #[test]
 fn an_idle_peer_has_so_long_for_each_read(rt: HostRuntime) -> Result<(), Fail> {
     let times = Times {
@@ -105,6 +112,7 @@ fn an_idle_peer_has_so_long_for_each_read(rt: HostRuntime) -> Result<(), Fail> {
     Ok(())
 }
 
+/// The time of a frame runs from its first byte to its last, however many reads bring it.
 #[test]
 fn a_frame_has_its_time_from_its_first_byte(rt: HostRuntime) -> Result<(), Fail> {
     let begins: Piece = (300, b"\0");
@@ -120,6 +128,7 @@ fn a_frame_has_its_time_from_its_first_byte(rt: HostRuntime) -> Result<(), Fail>
     Ok(())
 }
 
+/// A frame that begins in the read that ends another has its time from that read on.
 #[test]
 fn a_frame_may_begin_in_the_read_that_ends_another(rt: HostRuntime) -> Result<(), Fail> {
     let begins: Piece = (300, b"\0\0\0\x03ab");
@@ -128,6 +137,7 @@ fn a_frame_may_begin_in_the_read_that_ends_another(rt: HostRuntime) -> Result<()
     Ok(())
 }
 
+/// The end of a frame ends its time, and the next frame has a second of its own.
 #[test]
 fn each_frame_has_its_own_time(rt: HostRuntime) -> Result<(), Fail> {
     let begins: Piece = (300, b"\0\0\0\x03ab");
@@ -142,6 +152,7 @@ fn each_frame_has_its_own_time(rt: HostRuntime) -> Result<(), Fail> {
     Ok(())
 }
 
+/// A read may bring several frames, empty ones among them, and the front of another, whose time then runs.
 #[test]
 fn frames_in_one_read_are_told_apart(rt: HostRuntime) -> Result<(), Fail> {
     let begins: Piece = (300, b"\0\0\0\0\0\0\0\x01a\0\0\0\x02ab\0\0\x01");
@@ -150,6 +161,7 @@ fn frames_in_one_read_are_told_apart(rt: HostRuntime) -> Result<(), Fail> {
     Ok(())
 }
 
+/// Where the time is over before a read, the read fails, and nothing is read of the stream.
 #[test]
 fn where_no_time_is_left_nothing_is_read(rt: HostRuntime) -> Result<(), Fail> {
     let clock = Hand::at(7_000);
@@ -169,6 +181,7 @@ fn where_no_time_is_left_nothing_is_read(rt: HostRuntime) -> Result<(), Fail> {
     Ok(())
 }
 
+/// Where the clock can't be read, a frame that has begun has no time left; between frames it is read on.
 #[test]
 fn a_clock_that_cannot_be_read_leaves_no_time(rt: HostRuntime) -> Result<(), Fail> {
     let clock = Hand::at(7_000);

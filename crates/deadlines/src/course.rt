@@ -6,8 +6,8 @@ use std::io::ErrorKind;
 use std::time::{Duration, Instant};
 use std::{io, time};
 
-/// What is noted of a session: that its user is known, by whoever serves it; and which time was over, how many bytes were read, and
-/// which came first, by what reads and writes it.
+/// What is noted of a session. Whoever serves it notes that its user is known. What reads and writes it notes which time was
+/// over, how many bytes were read, and which of them came first.
 #[derive(Drop)]
 pub struct Notes {
     known: Cell<bool>,
@@ -18,7 +18,7 @@ pub struct Notes {
 }
 
 impl Notes {
-    /// The user isn't known, and no time is over.
+    /// Notes of a session whose user isn't known yet, of which nothing was read and no time is over.
     pub fn new() -> Notes {
         Notes {
             known: Cell::new(false),
@@ -28,24 +28,24 @@ impl Notes {
         }
     }
 
-    /// The user is known.
+    /// Notes that the user is known: from now on the time for a login no longer holds.
     pub fn log_in(&self) {
         self.known.set(true);
     }
 
-    /// How many bytes were read since this was asked last.
+    /// How many bytes were read since the last call of this; the count then begins again at 0.
     pub fn take_read(&self) -> u64 {
         let read = self.read.get();
         self.read.set(0);
         read
     }
 
-    /// Which time was over, if one was.
+    /// Which time ran out, so that a read or a write failed; `None` where none did.
     pub fn over(&self) -> Option<Limit> {
         self.over.get()
     }
 
-    /// The session's first four bytes, if so many came at once.
+    /// The session's first four bytes, if its first read brought as many; else `None`.
     pub fn front(&self) -> Option<[u8; 4]> {
         match self.front.get() {
             Some(front) => *front,
@@ -65,7 +65,7 @@ pub(crate) struct Course<'x, R> {
 }
 
 impl<'x, R: time::Clock> Course<'x, R> {
-    /// It begins now.
+    /// Starts the session's clock: the session begins now.
     pub(crate) fn begin(rt: &'x R, times: Times, notes: &'x Notes) -> Course<'x, R> {
         Course {
             rt,
@@ -75,13 +75,14 @@ impl<'x, R: time::Clock> Course<'x, R> {
         }
     }
 
-    /// How long ago it began, if that can be told.
+    /// How long ago the session began; `None` where the clock can't be read.
     pub(crate) fn now(&self) -> Option<Duration> {
         self.start?.elapsed(self.rt).ok()
     }
 
-    /// For how long a call may wait for a peer of whom a frame was whole or none, and where a frame began at this moment or none
-    /// did. Where no time is left, that is noted, and it fails.
+    /// How long the next read or write may wait, and by which limit; `None` where no limit holds. `unheard` says that no frame
+    /// has come whole yet, `begun` when a frame began of which a part has come. Where no time is left, that is noted, and the
+    /// error is `TimedOut`.
     pub(crate) fn bound(
         &self,
         unheard: bool,
@@ -98,14 +99,15 @@ impl<'x, R: time::Clock> Course<'x, R> {
         Ok(bound)
     }
 
-    /// Notes what was read: how much, and which bytes came first.
+    /// Notes what was read: adds to the number of bytes, and keeps the session's first four.
     pub(crate) fn count(&self, bytes: &[u8]) {
         let read = self.notes.read.get();
         self.notes.read.set(read.saturating_add(bytes.len() as u64));
         let _later = self.notes.front.set(front_of(bytes));
     }
 
-    /// Notes that a time is over, if a call ended for its wait.
+    /// Notes which limit ended a call that waited too long, its error being `WouldBlock` or `TimedOut`. Other errors aren't
+    /// noted.
     pub(crate) fn note(&self, bound: Option<Bound>, error: &io::Error) {
         if matches!(error.kind(), ErrorKind::WouldBlock | ErrorKind::TimedOut) {
             self.notes.over.set(by_of(bound));
@@ -121,7 +123,7 @@ fn front_of(bytes: &[u8]) -> Option<[u8; 4]> {
     }
 }
 
-/// The limit of a bound.
+/// Which limit a bound comes from; `None` without a bound.
 fn by_of(bound: Option<Bound>) -> Option<Limit> {
     match bound {
         None => None,
@@ -129,7 +131,7 @@ fn by_of(bound: Option<Bound>) -> Option<Limit> {
     }
 }
 
-/// The time of a bound.
+/// How long a call may wait by a bound; `None`, without end, where there is no bound.
 pub(crate) fn time_of(bound: Option<Bound>) -> Option<Duration> {
     match bound {
         None => None,

@@ -39,7 +39,8 @@ pub(crate) struct Bound {
     pub(crate) by: Limit,
 }
 
-/// What is left of a time that began at one moment: nothing, where it can't be told what time it is.
+/// What is left at `now` of a time that began at `since`: nothing once it is over, or where `now` is `None`, since the clock
+/// can't be read.
 fn left(time: Duration, since: Duration, now: Option<Duration>) -> Duration
     ensures { as_nanos result ≡ nanos_left time (as_nanos since) now }
 {
@@ -49,7 +50,7 @@ fn left(time: Duration, since: Duration, now: Option<Duration>) -> Duration
     }
 }
 
-/// The bound that leaves less, of those that there are.
+/// The bound that leaves less time; `None` only where neither holds.
 fn lesser(one: Option<Bound>, other: Option<Bound>) -> Option<Bound>
     ensures { IsLesser one other result }
 {
@@ -60,7 +61,7 @@ fn lesser(one: Option<Bound>, other: Option<Bound>) -> Option<Bound>
     }
 }
 
-/// The bound of a limit that holds.
+/// The bound of a limit that holds, with this time left.
 fn bound_by(by: Limit, time: Duration) -> Option<Bound>
     ensures { IsBound by (Some (as_nanos time)) result }
 {
@@ -71,9 +72,9 @@ fn bound_by(by: Limit, time: Duration) -> Option<Bound>
 const LEAST: u64 = 250;
 
 impl Times {
-    /// The times of a peer that has waited for so long until it was served, after its connection was taken. That is taken off the
-    /// time for its first frame, of which a quarter of a second stays if there was as much: those that wait behind many silent ones
-    /// needn't wait for each of these as for the first.
+    /// These times for a peer whose connection waited for so long until a worker was free. The wait is taken off the time for its
+    /// first frame, but a quarter of a second of that stays, if it was as much. So those who wait in line after many silent peers
+    /// needn't wait for each of these as long as for the first.
     pub fn after(self, waited: Duration) -> Times
         ensures first { as_nanos result.first ≡ first_after 250000000 (as_nanos self.first)
             (as_nanos waited) }
@@ -91,7 +92,7 @@ impl Times {
         Times { first, ..self }
     }
 
-    /// For how long a wait may be.
+    /// For how long a wait may be by the idle time; `None` if there is no such time.
     fn idle_bound(&self) -> Option<Bound>
         ensures { IsBound Limit.Idle (option_map as_nanos self.now.idle) result }
     {
@@ -101,14 +102,15 @@ impl Times {
         }
     }
 
-    /// For how long a peer may take until its user is known, and until a frame of it was whole.
+    /// How long a peer may take from the session's beginning until its user is known: the time `first` until a frame of it was
+    /// whole (`unheard`), and `login` from then on.
     fn login_time(&self, unheard: bool) -> Duration
         ensures { result ≡ login_time self.now unheard }
     {
         if unheard { self.first } else { self.login }
     }
 
-    /// What is left of the login's time, until the user is known.
+    /// What is left of the time for the login; `None` once the user is known.
     fn login_bound(&self, known: bool, unheard: bool, now: Option<Duration>) -> Option<Bound>
         ensures { (begun : _)
             → IsBound Limit.Login (nanos_left_by self.now known unheard begun now Limit.Login)
@@ -124,7 +126,7 @@ impl Times {
         }
     }
 
-    /// What is left of a frame's time, once it has begun.
+    /// What is left of the time for a frame that began at `begun`; `None` where none has begun.
     fn frame_bound(&self, begun: Option<Duration>, now: Option<Duration>) -> Option<Bound>
         ensures { (known unheard : _)
             → IsBound Limit.Frame (nanos_left_by self.now known unheard begun now Limit.Frame)
@@ -136,7 +138,8 @@ impl Times {
         }
     }
 
-    /// For how long a read may wait: as long as the limit allows that leaves least, of those that hold.
+    /// How long the next read may wait: the least that the idle time, the login's and the frame's leave, of those that hold, and
+    /// which of them that is. `None` where none holds.
     pub(crate) fn bound(
         &self,
         known: bool,

@@ -27,7 +27,7 @@ pub(crate) struct Progress {
     since: Duration,
 }
 
-/// What has come of a frame of whose body so many bytes are to come.
+/// The part that has come of a frame of whose body so many bytes are still to come: with none of them, the frame is whole.
 fn part_of(to_come: u32) -> Part
     ensures { result ≡ part_of to_come }
 {
@@ -38,7 +38,7 @@ fn part_of(to_come: u32) -> Part
 }
 
 impl Progress {
-    /// Nothing has come.
+    /// Nothing has come: the next byte is the first one of a frame.
     pub(crate) fn new() -> Progress
         ensures { IsCut [] result }
     {
@@ -48,7 +48,7 @@ impl Progress {
         }
     }
 
-    /// When the frame began that isn't whole, if one did.
+    /// When the first byte came of the frame that isn't whole yet; `None` between two frames.
     pub(crate) fn begun(&self) -> Option<Duration>
         ensures { (came : List Came) → (cut : IsCut came self.now) → result ≡ frame_start cut.part }
     {
@@ -58,7 +58,8 @@ impl Progress {
         }
     }
 
-    /// Takes in the next byte, or as many as belong to the same body, and says how many.
+    /// Takes in the next byte of a size field, or as many bytes as belong to the same body, and gives how many that were: at
+    /// least one. `now` is counted from the session's beginning.
     fn step(&mut self, bytes: &[u8], now: Duration) -> usize
         requires { 0 < length bytes.now }
         ensures some { 0 < result }
@@ -85,7 +86,7 @@ impl Progress {
         1
     }
 
-    /// Takes in bytes that came now.
+    /// Takes in all bytes of a read, which came at `now`: they may end frames and begin others.
     pub(crate) fn pass(&mut self, bytes: &[u8], now: Duration)
         ensures { (came : List Came) → IsCut came self.old → IsCut (came ++ bytes_at now bytes.now)
             self.new }

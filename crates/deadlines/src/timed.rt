@@ -28,7 +28,7 @@ pub struct Timed<'x, S, R> {
 }
 
 impl<'x, S: Read + OpenStream, R: time::Clock> Timed<'x, S, R> {
-    /// The session begins now.
+    /// A reader round a stream, whose session begins now.
     pub fn new(rt: &'x R, stream: S, times: Times, notes: &'x Notes) -> Timed<'x, S, R>
         ensures remaining { timed_remaining S.remaining result ≡ S.remaining stream }
         ensures nothing { IsCut [] (progress_of result) }
@@ -42,7 +42,7 @@ impl<'x, S: Read + OpenStream, R: time::Clock> Timed<'x, S, R> {
         }
     }
 
-    /// Has a read of the stream wait for so long at most.
+    /// Sets how long a read of the stream waits at most, where that has changed; `None` is without end.
     fn wait(&mut self, time: Option<Duration>) -> io::Result<()>
         ensures stream { self.new.stream ≡ self.old.stream }
         ensures progress { self.new.progress ≡ self.old.progress }
@@ -54,7 +54,8 @@ impl<'x, S: Read + OpenStream, R: time::Clock> Timed<'x, S, R> {
         Ok(())
     }
 
-    /// Has a read of the stream wait for as long as its peer has time. Where none is left, it fails.
+    /// Sets, before a read, how long the stream waits: as long as its peer has time. The error is `TimedOut` where no time is
+    /// left.
     fn prepare(&mut self) -> io::Result<Option<Bound>>
         ensures stream { self.new.stream ≡ self.old.stream }
         ensures progress { self.new.progress ≡ self.old.progress }
@@ -64,7 +65,8 @@ impl<'x, S: Read + OpenStream, R: time::Clock> Timed<'x, S, R> {
         Ok(bound)
     }
 
-    /// Takes in what was read. Where it can't be told what time it is, that came as the session began.
+    /// Takes in what was read: counts it and follows its frames. Where the clock can't be read, it counts as come when the
+    /// session began.
     fn take_in(&mut self, bytes: &[u8])
         ensures stream { self.new.stream ≡ self.old.stream }
         ensures passed { (came : List Came) → IsCut came self.old.progress → (moment : Duration)
@@ -82,7 +84,8 @@ impl<'x, S: Read + OpenStream, R: time::Clock> Timed<'x, S, R> {
 impl<'x, S: Read + OpenStream, R: time::Clock> Read for Timed<'x, S, R> {
     ghost remaining = { timed_remaining S.remaining };
 
-    /// Reads as the stream does. Where a time is over, before the read or in it, that is noted, and it fails.
+    /// Reads as the stream does, and waits no longer than the session's times allow. Where one of them is over, before the read
+    /// or in it, that is noted, and it fails.
     fn read(&mut self, piece: &mut [u8]) -> io::Result<usize>
         ensures bound { ReadsAtMost result piece.new }
         ensures bytes { ReadConsumes (timed_remaining S.remaining self.old)

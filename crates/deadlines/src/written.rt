@@ -22,7 +22,7 @@ pub struct TimedWriter<'x, S, R> {
 }
 
 impl<'x, S: Write + OpenStream, R: time::Clock> TimedWriter<'x, S, R> {
-    /// The session begins now.
+    /// A writer round a stream, whose session begins now.
     pub fn new(rt: &'x R, stream: S, times: Times, notes: &'x Notes) -> TimedWriter<'x, S, R>
         ensures { timed_contents S.contents result ≡ S.contents stream }
     {
@@ -33,7 +33,8 @@ impl<'x, S: Write + OpenStream, R: time::Clock> TimedWriter<'x, S, R> {
         }
     }
 
-    /// Has a write of the stream wait for as long as its peer has time. Where none is left, it fails.
+    /// Sets, before a write, how long the stream waits: as long as its peer has time for its login. The error is `TimedOut` where
+    /// none is left.
     fn prepare(&mut self) -> io::Result<Option<Bound>>
         ensures { self.new.stream ≡ self.old.stream }
     {
@@ -50,7 +51,8 @@ impl<'x, S: Write + OpenStream, R: time::Clock> TimedWriter<'x, S, R> {
 impl<'x, S: Write + OpenStream, R: time::Clock> Write for TimedWriter<'x, S, R> {
     ghost contents = { timed_contents S.contents };
 
-    /// Writes as the stream does. Where a time is over, before the write or in it, that is noted, and it fails.
+    /// Writes as the stream does, and waits no longer than the login's time and the idle time allow. Where one of them is over,
+    /// before the write or in it, that is noted, and it fails.
     fn write(&mut self, bytes: &[u8]) -> io::Result<usize>
         ensures bound { WritesAtMost result bytes.now }
         ensures bytes { WriteAppends (timed_contents S.contents self.old)
@@ -66,6 +68,7 @@ impl<'x, S: Write + OpenStream, R: time::Clock> Write for TimedWriter<'x, S, R> 
         }
     }
 
+    /// Flushes the stream; no time is kept for that.
     fn flush(&mut self) -> io::Result<()>
         ensures bytes { Keeps (timed_contents S.contents self.old)
             (timed_contents S.contents self.new) }

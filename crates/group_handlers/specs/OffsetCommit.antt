@@ -16,6 +16,7 @@ use Rattle.walk.specs.Rule.{PartRule}
 use Rattle.walk.specs.Walk.{world_after, answers, refusals}
 use Rattle.group_offsets.specs.declared.event.PartitionOffset.{PartitionOffset}
 use Rattle.group_offsets.specs.declared.group.Group.{Group}
+use Rattle.group_offsets.specs.declared.group_metadata.GroupMetadata.{GroupMetadata}
 use Rattle.group_offsets.specs.GroupTransition.{answer_of}
 use Rattle.group_offsets.specs.Groups.{groups_after, commit}
 use Rattle.broker_world.specs.World.{World, TopicValue, LogValue, rules_of}
@@ -33,6 +34,10 @@ pub record Committing : Type 0 where
 abbrev pub committing_of : OffsetCommitRequest → Committing
 committing_of r = record { group = r.group; generation = r.generation; member = r.member }
 
+-- the same by a consumer's metadata
+abbrev pub committing_by : GroupMetadata → Committing
+committing_by m = record { group = m.group.now; generation = m.generation; member = m.member.now }
+
 -- to read the group, and then to read the topic
 abbrev pub commit_questions : Caller → List ℕ → List ℕ → List Question
 commit_questions caller group name = read_question caller group ∷ question_of caller operations.Read kinds.Topic name ∷ []
@@ -44,15 +49,23 @@ offset_of name p = record { topic = name; index = p.index; offset = p.offset; me
 abbrev pub committed_code : ErrorCode → OffsetToCommit → CommittedOffset
 committed_code code p = record { index = p.index; error = code }
 
--- ---- a partition, permission aside: nothing is committed for one that isn't there
+-- ---- an offset, permission aside: nothing is committed for a partition that isn't there
+
+abbrev pub offset_code : Committing → List Group → PartitionOffset → Option LogValue → ErrorCode
+offset_code c gs o None = codes.UnknownTopicOrPartition
+offset_code c gs o (Some log) = code_in (answer_of (commit gs c.group c.generation c.member o))
+
+abbrev pub groups_with_offset : Committing → List Group → PartitionOffset → Option LogValue → List Group
+groups_with_offset c gs o None = gs
+groups_with_offset c gs o (Some log) = groups_after gs (commit gs c.group c.generation c.member o)
+
+-- ---- a partition, permission aside
 
 abbrev pub code_by : Committing → List Group → List ℕ → OffsetToCommit → Option LogValue → ErrorCode
-code_by c gs name p None = codes.UnknownTopicOrPartition
-code_by c gs name p (Some log) = code_in (answer_of (commit gs c.group c.generation c.member (offset_of name p)))
+code_by c gs name p log = offset_code c gs (offset_of name p) log
 
 abbrev pub groups_by : Committing → List Group → List ℕ → OffsetToCommit → Option LogValue → List Group
-groups_by c gs name p None = gs
-groups_by c gs name p (Some log) = groups_after gs (commit gs c.group c.generation c.member (offset_of name p))
+groups_by c gs name p log = groups_with_offset c gs (offset_of name p) log
 
 abbrev pub commit_rule : Caller → Committing → List TopicValue → PartRule OffsetToCommit CommittedOffset (List Group)
 commit_rule caller c topics = record {
@@ -61,7 +74,7 @@ commit_rule caller c topics = record {
   after = λ gs name p. groups_by c gs name p (log_at topics name p.index);
   refused = λ code name p. committed_code code p;
   weight = λ p. 0;
-  room = λ gs. 0;
+  budget = λ gs. 0;
   takes = λ gs name p. zero-le;
 }
 

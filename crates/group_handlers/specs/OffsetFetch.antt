@@ -54,7 +54,7 @@ offset_rule caller es stable = record {
   after = λ w name index. w;
   refused = λ code name index. fetched_code code index;
   weight = λ index. 0;
-  room = λ w. 0;
+  budget = λ w. 0;
   takes = λ w name index. zero-le;
 }
 

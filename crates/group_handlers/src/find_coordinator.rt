@@ -13,7 +13,7 @@ use std::alloc::{AllocError, Global};
 use walk::refusal_code;
 use wire_types::{Boxed, ErrorCode, Text};
 
-/// What is coordinated, by its number.
+/// What a key type stands for: 0 for a group, 1 for a transactional id, `None` for any other.
 fn kind_of(key_type: i8) -> Option<Kind>
     ensures { result ≡ kind_of key_type }
 {
@@ -24,6 +24,7 @@ fn kind_of(key_type: i8) -> Option<Kind>
     }
 }
 
+/// The FindCoordinator reply that names this node as the coordinator.
 fn found_node(alloc: Global, node: &Node) -> Result<Reply, AllocError>
     ensures { IfOk result (λ reply. reply ≡ Reply.FindCoordinator (found_node node.now)) }
 {
@@ -38,6 +39,7 @@ fn found_node(alloc: Global, node: &Node) -> Result<Reply, AllocError>
     Ok(Reply::FindCoordinator(Boxed::new(alloc, reply)?))
 }
 
+/// The FindCoordinator reply with this error code, and no node.
 fn find_error(alloc: Global, error: ErrorCode) -> Result<Reply, AllocError>
     ensures { IfOk result (λ reply. reply ≡ Reply.FindCoordinator (find_error error)) }
 {
@@ -52,7 +54,8 @@ fn find_error(alloc: Global, error: ErrorCode) -> Result<Reply, AllocError>
     Ok(Reply::FindCoordinator(Boxed::new(alloc, reply)?))
 }
 
-/// What a FindCoordinator is answered.
+/// Handles a FindCoordinator: names this broker's only node if the caller may DESCRIBE the group or transactional id. Else
+/// answers GROUP_ or TRANSACTIONAL_ID_AUTHORIZATION_FAILED, or INVALID_REQUEST for an unknown key type.
 pub fn answer_find_coordinator(
     alloc: Global,
     state: &State,

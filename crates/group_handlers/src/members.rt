@@ -22,7 +22,7 @@ use std::alloc::{AllocError, Global};
 use walk::refusal_code;
 use wire_types::{Boxed, Bytes, ErrorCode, Items, Text};
 
-/// What a member is told that has joined.
+/// The JoinGroup reply to a member that has joined. It is the leader, and the only member listed.
 fn join_welcome(alloc: Global, joined: Joined) -> Result<Reply, AllocError>
     ensures { IfOk result (λ reply. reply ≡ Reply.JoinGroup (join_welcome joined)) }
 {
@@ -49,6 +49,7 @@ fn join_welcome(alloc: Global, joined: Joined) -> Result<Reply, AllocError>
     Ok(Reply::JoinGroup(Boxed::new(alloc, reply)?))
 }
 
+/// The JoinGroup reply with this error code.
 fn join_error(
     alloc: Global,
     error: ErrorCode,
@@ -68,6 +69,7 @@ fn join_error(
     Ok(Reply::JoinGroup(Boxed::new(alloc, reply)?))
 }
 
+/// The JoinGroup reply for what the group answered: that the member has joined, or an error code.
 fn join_reply(
     alloc: Global,
     joined: Result<Joined, ErrorCode>,
@@ -81,6 +83,7 @@ fn join_reply(
     }
 }
 
+/// The SyncGroup reply for what the group answered: the member's assignment, or an error code.
 fn sync_reply(alloc: Global, assignment: Result<Bytes, ErrorCode>) -> Result<Reply, AllocError>
     ensures { IfOk result (λ reply. reply ≡ Reply.SyncGroup (sync_reply assignment)) }
 {
@@ -99,19 +102,21 @@ fn sync_reply(alloc: Global, assignment: Result<Bytes, ErrorCode>) -> Result<Rep
     Ok(Reply::SyncGroup(Boxed::new(alloc, reply)?))
 }
 
+/// The Heartbeat reply with this error code.
 fn beat_reply(error: ErrorCode) -> Reply
     ensures { result ≡ Reply.Heartbeat (beat_reply error) }
 {
     Reply::Heartbeat(HeartbeatReply { throttle: 0, error })
 }
 
+/// The LeaveGroup reply with this error code.
 fn leave_reply(error: ErrorCode) -> Reply
     ensures { result ≡ Reply.LeaveGroup (leave_reply error) }
 {
     Reply::LeaveGroup(LeaveGroupReply { throttle: 0, error })
 }
 
-/// The permit to read a group, or the refusal.
+/// Asks the policy whether the caller may READ the group, and gives the permit or the refusal.
 fn ask_to_read(
     policy: &Policy,
     caller: &Caller,
@@ -129,7 +134,8 @@ fn ask_to_read(
     Ok(ask_one(policy, question))
 }
 
-/// What a JoinGroup does and is answered.
+/// Handles a JoinGroup: lets the member in and begins a new generation if the caller may READ the group, else answers
+/// GROUP_AUTHORIZATION_FAILED.
 pub fn answer_join_group(
     alloc: Global,
     state: &mut State,
@@ -156,7 +162,8 @@ pub fn answer_join_group(
     }
 }
 
-/// What a SyncGroup does and is answered.
+/// Handles a SyncGroup: gives the member its assignment if the caller may READ the group, else answers
+/// GROUP_AUTHORIZATION_FAILED.
 pub fn answer_sync_group(
     alloc: Global,
     state: &mut State,
@@ -182,7 +189,8 @@ pub fn answer_sync_group(
     }
 }
 
-/// What a Heartbeat does and is answered.
+/// Handles a Heartbeat: begins the member's session timeout anew if the caller may READ the group, else answers
+/// GROUP_AUTHORIZATION_FAILED.
 pub fn answer_heartbeat(
     alloc: Global,
     state: &mut State,
@@ -207,7 +215,7 @@ pub fn answer_heartbeat(
     }
 }
 
-/// What a LeaveGroup does and is answered.
+/// Handles a LeaveGroup: removes the member if the caller may READ the group, else answers GROUP_AUTHORIZATION_FAILED.
 pub fn answer_leave_group(
     alloc: Global,
     state: &mut State,

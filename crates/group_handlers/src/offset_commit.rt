@@ -6,12 +6,12 @@ ghost use Rattle.acl_binding.specs.declared.words.Operation.TheVariants as opera
 ghost use Rattle.group_offsets.specs.Permission.{MayUse};
 ghost use Rattle.walk.specs.Walk.{asked_in};
 ghost use Rattle.broker_world.specs.HandlerResult.{HandlerMeets};
-ghost use Rattle.group_handlers.specs.OffsetCommit.{committing_rule, offset_of, committed_code, code_by, groups_by, offset_commit_outcome};
+ghost use Rattle.group_handlers.specs.OffsetCommit.{committing_by, committing_rule, offset_of, committed_code, offset_code, groups_with_offset, offset_commit_outcome};
 
 use acl_binding::{Caller, Kind, Operation};
 use authorizer::{Paid, Permit, Policy, Settled, Spent, TwoPermits, ask_two};
 use broker_world::{HandlerResult, State, Topics, code_in, read_question, served_in_parts};
-use group_offsets::{Groups, PartitionOffset};
+use group_offsets::{GroupMetadata, Groups, PartitionOffset};
 use msg_admin::Reply;
 use msg_group::{CommittedOffset, OffsetCommitReply, OffsetCommitRequest, OffsetToCommit};
 use partition_log::Log;
@@ -19,14 +19,13 @@ use std::alloc::{AllocError, Global};
 use walk::{Part, PartApi, refusal_code, walk};
 use wire_types::{ErrorCode, Text};
 
-/// Who commits for which group, what is said to reading it, and what partitions there are.
+/// Serves the partitions of an OffsetCommit. It holds the caller, the group and member for which it commits, what the policy said
+/// to READ of the group, and the topics.
 #[derive(Drop)]
 pub(crate) struct OffsetCommitHandler<'a> {
     pub(crate) caller: &'a Caller,
-    pub(crate) group: &'a Text,
+    pub(crate) metadata: GroupMetadata<'a>,
     pub(crate) asked: &'a Settled,
-    pub(crate) generation: i32,
-    pub(crate) member: &'a Text,
     pub(crate) topics: &'a Topics,
 }
 
@@ -34,14 +33,16 @@ impl<'a> PartApi<OffsetToCommit, CommittedOffset, Groups> for OffsetCommitHandle
     ghost use Rattle.std.specs.Prelude.{false};
     ghost use Rattle.authorizer.specs.Settled.{settled_value};
     ghost use Rattle.broker_world.specs.Questions.{read_question};
-    ghost use Rattle.group_handlers.specs.OffsetCommit.{commit_rule};
+    ghost use Rattle.group_handlers.specs.OffsetCommit.{committing_by, commit_rule};
 
-    ghost rule = { λ api. commit_rule api.caller.now (record { group = api.group.now; generation = api.generation; member = api.member.now }) api.topics.now };
+    ghost rule = { λ api. commit_rule api.caller.now (committing_by api.metadata) api.topics.now };
 
     ghost cuts = { λ _. false };
 
-    ghost settles = { λ api policy. api.asked.now ≡ settled_value policy (read_question api.caller.now api.group.now) };
+    ghost settles = { λ api policy. api.asked.now ≡ settled_value policy (read_question api.caller.now api.metadata.group.now) };
 
+    /// Commits the offset of one partition if the caller may READ the group and the topic. Else answers the partition GROUP_ or
+    /// TOPIC_AUTHORIZATION_FAILED.
     fn serve(
         &self,
         alloc: Global,
@@ -57,9 +58,8 @@ impl<'a> PartApi<OffsetToCommit, CommittedOffset, Groups> for OffsetCommitHandle
             Ok(TwoPermits { first, second }) => {
                 let topic = second.spend(policy);
                 let log = self.topics.log(name, part.index);
-                let (group, answer) = self.commit(
-                    alloc, policy, first, groups, log, name, part, offset,
-                )?;
+                let (group, code) = self.commit(alloc, policy, first, groups, log, offset)?;
+                let answer = committed_code(code, part);
                 Ok(Part::served(answer, Paid::two(group, topic)))
             }
             Err(refusal) => {
@@ -71,7 +71,8 @@ impl<'a> PartApi<OffsetToCommit, CommittedOffset, Groups> for OffsetCommitHandle
 }
 
 impl<'a> OffsetCommitHandler<'a> {
-    /// Commits the offset of a part that was granted, if the partition is there.
+    /// Commits the offset of a partition that the caller may commit, by the permit to READ the group, and gives the error code:
+    /// UNKNOWN_TOPIC_OR_PARTITION if it has no log, else what the group answers.
     fn commit(
         &self,
         alloc: Global,
@@ -79,42 +80,26 @@ impl<'a> OffsetCommitHandler<'a> {
         permit: Permit,
         groups: &mut Groups,
         log: Option<&Log>,
-        name: &Text,
-        part: &OffsetToCommit,
         offset: PartitionOffset,
-    ) -> Result<(Spent, CommittedOffset), AllocError>
-        requires permit { MayUse policy.now operations.Read self.now.group.now permit }
-        requires offset { offset ≡ offset_of name.now part.now }
+    ) -> Result<(Spent, ErrorCode), AllocError>
+        requires { MayUse policy.now operations.Read self.now.metadata.group.now permit }
         ensures spent { IfOk result (λ r. r.0 ≡ permit.question) }
         ensures groups { OnOk result
-            (groups.new ≡ groups_by
-            (record {
-              group = self.now.group.now;
-              generation = self.now.generation;
-              member = self.now.member.now;
-            }) groups.old name.now part.now
+            (groups.new ≡ groups_with_offset (committing_by self.now.metadata) groups.old offset
             (option_copied log.entry)) }
-        ensures answer { IfOk result
-            (λ r. r.1 ≡ committed_code
-            (code_by (record {
-              group = self.now.group.now;
-              generation = self.now.generation;
-              member = self.now.member.now;
-            }) groups.old name.now part.now
-            (option_copied log.entry)) part.now) }
+        ensures code { IfOk result
+            (λ r. r.1 ≡ offset_code (committing_by self.now.metadata) groups.old offset
+            (option_copied log.entry)) }
     {
         if log.is_none() {
-            let answer = committed_code(ErrorCode::UnknownTopicOrPartition, part);
-            return Ok((permit.spend(policy), answer));
+            return Ok((permit.spend(policy), ErrorCode::UnknownTopicOrPartition));
         }
-        let (generation, member) = (self.generation, self.member);
-        let (spent, committed) = groups.commit(
-            alloc, policy, permit, self.group, generation, member, offset,
-        );
-        Ok((spent, committed_code(code_in(committed?), part)))
+        let (spent, committed) = groups.commit(alloc, policy, permit, &self.metadata, offset);
+        Ok((spent, code_in(committed?)))
     }
 }
 
+/// The offset that the request sends for this partition of the topic `name`.
 fn offset_of(
     alloc: Global,
     name: &Text,
@@ -125,6 +110,7 @@ fn offset_of(
     PartitionOffset::told(alloc, name, part.index, part.offset, &part.metadata)
 }
 
+/// The partition's answer, with this error code.
 fn committed_code(error: ErrorCode, part: &OffsetToCommit) -> CommittedOffset
     ensures { result ≡ committed_code error part.now }
 {
@@ -134,7 +120,8 @@ fn committed_code(error: ErrorCode, part: &OffsetToCommit) -> CommittedOffset
     }
 }
 
-/// What an OffsetCommit does and is answered.
+/// Handles an OffsetCommit: commits the offset of each partition for the group if the caller may READ the group and the topic.
+/// Each partition is answered an error code of its own.
 pub fn answer_offset_commit(
     alloc: Global,
     state: &mut State,
@@ -148,10 +135,12 @@ pub fn answer_offset_commit(
     let asked = state.policy.settle(read_question(caller, &request.group)?);
     let api = OffsetCommitHandler {
         caller,
-        group: &request.group,
+        metadata: GroupMetadata {
+            group: &request.group,
+            generation: request.generation,
+            member: &request.member,
+        },
         asked: &asked,
-        generation: request.generation,
-        member: &request.member,
         topics: &state.topics,
     };
     let topics = request.topics.as_slice();

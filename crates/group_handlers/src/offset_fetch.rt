@@ -21,7 +21,8 @@ use std::alloc::{AllocError, Global};
 use walk::{Part, PartApi, refusal_code, walk};
 use wire_types::{ErrorCode, Items, Text, Topic};
 
-/// Whose offsets are asked for, by whom, and whether only stable ones will do.
+/// Serves the partitions that an OffsetFetch names. It holds the caller, the group's offsets, and whether only stable ones are
+/// wanted: those of which no transaction has staged another (KIP-447).
 #[derive(Drop)]
 pub(crate) struct OffsetFetchHandler<'a> {
     pub(crate) caller: &'a Caller,
@@ -39,6 +40,7 @@ impl<'a> PartApi<i32, FetchedOffset, ()> for OffsetFetchHandler<'a> {
 
     ghost settles = { λ _ _. Unit {0} };
 
+    /// Answers the committed offset of one partition if the caller may DESCRIBE the topic, else TOPIC_AUTHORIZATION_FAILED.
     fn serve(
         &self,
         alloc: Global,
@@ -62,13 +64,14 @@ impl<'a> PartApi<i32, FetchedOffset, ()> for OffsetFetchHandler<'a> {
     }
 }
 
-/// May the caller describe the group?
+/// The question whether the caller may DESCRIBE the group.
 fn group_question(caller: &Caller, group: &Text) -> Result<Question, AllocError>
     ensures { IfOk result (λ question. question ≡ group_question caller.now group.now) }
 {
     caller.asks(Operation::Describe, Kind::Group, group)
 }
 
+/// A partition's answer without an offset (-1): with an error code, or with NONE if nothing is committed.
 fn fetched_code(alloc: Global, error: ErrorCode, index: i32) -> Result<FetchedOffset, AllocError>
     ensures { IfOk result (λ answer. answer ≡ fetched_code error index) }
 {
@@ -81,6 +84,7 @@ fn fetched_code(alloc: Global, error: ErrorCode, index: i32) -> Result<FetchedOf
     })
 }
 
+/// A partition's answer with its committed offset and metadata.
 fn fetched_at(offset: &PartitionOffset, index: i32) -> Result<FetchedOffset, AllocError>
     ensures { IfOk result (λ answer. answer ≡ fetched_at offset.now index) }
 {
@@ -93,7 +97,8 @@ fn fetched_at(offset: &PartitionOffset, index: i32) -> Result<FetchedOffset, All
     })
 }
 
-/// The offset that is answered for a partition.
+/// A partition's answer: its committed offset, -1 if there is none, or UNSTABLE_OFFSET_COMMIT if `stable` is set and a
+/// transaction that isn't over has staged another.
 fn fetched(
     alloc: Global,
     offsets: &Offsets,
@@ -111,6 +116,7 @@ fn fetched(
     }
 }
 
+/// The OffsetFetch reply with this error code and these answers.
 fn fetch_reply(error: ErrorCode, topics: Items<Topic<FetchedOffset>>) -> Reply
     ensures { result ≡ fetch_reply error topics }
 {
@@ -121,7 +127,8 @@ fn fetch_reply(error: ErrorCode, topics: Items<Topic<FetchedOffset>>) -> Reply
     })
 }
 
-/// What is told of the partitions of a topic, of so many.
+/// The answers for the partitions of a topic, from 0 up to but not including `count`, that have a committed offset, or with
+/// `stable` a staged one.
 fn told_from(
     alloc: Global,
     offsets: &Offsets,
@@ -139,7 +146,7 @@ fn told_from(
     Ok(told)
 }
 
-/// Tells of a partition, if there is something to tell.
+/// Appends the partition's answer to the list, if it has a committed offset, or with `stable` a staged one.
 fn push_told(
     alloc: Global,
     told: &mut Items<FetchedOffset>,
@@ -159,7 +166,7 @@ fn push_told(
     Ok(())
 }
 
-/// What is told of a topic, permission aside, if something is.
+/// The answers for all partitions of a topic that have any, `None` if there are none. Permission isn't asked.
 fn told_as(
     alloc: Global,
     offsets: &Offsets,
@@ -179,7 +186,8 @@ fn told_as(
     Ok(Some(Topic { name, partitions }))
 }
 
-/// What is told of a topic, if it may be described and something is told. That it may not is told to nobody.
+/// The answers for all partitions of a topic that have any, `None` if there are none, or the caller may not DESCRIBE the topic: a
+/// fetch of all offsets leaves such a topic out.
 fn told_topic(
     alloc: Global,
     caller: &Caller,
@@ -210,7 +218,8 @@ fn told_topic(
     }
 }
 
-/// What is told of all topics that may be described. What is spent for them is counted.
+/// The answers for all topics that the caller may DESCRIBE, where an OffsetFetch asks for all offsets of the group. `spent`
+/// counts the permits that are spent.
 fn told_topics(
     alloc: Global,
     caller: &Caller,
@@ -236,7 +245,9 @@ fn told_topics(
     Ok(topics)
 }
 
-/// What an OffsetFetch is answered.
+/// Handles an OffsetFetch: gives the group's committed offsets if the caller may DESCRIBE the group, else
+/// GROUP_AUTHORIZATION_FAILED. A partition that is named is told TOPIC_AUTHORIZATION_FAILED if the caller may not DESCRIBE its
+/// topic; where all are asked for, such topics are left out.
 pub fn answer_offset_fetch(
     alloc: Global,
     state: &State,
@@ -262,7 +273,8 @@ pub fn answer_offset_fetch(
     }
 }
 
-/// The answer from a group's offsets, for which this was spent.
+/// The answer from the group's offsets, for the partitions that the request names, or for all if it names none at all (null).
+/// `paid` are the permits spent for the group.
 fn fetched_offsets(
     alloc: Global,
     state: &State,

@@ -3,9 +3,10 @@
 ghost use Rattle.std.specs.Prelude.{◌≡◌, IfOk, OnOk, OnErr};
 ghost use Rattle.group_offsets.specs.declared.event.OffsetEvent.TheVariants as events;
 ghost use Rattle.group_offsets.specs.GroupTransition.{answer_of, group_after};
-ghost use Rattle.group_offsets.specs.Group.{fresh_group, is_member, member_refusal, heard_at, given_to, sync_group, beat_group, leave_group, without_member, without_lapsed, is_lapsed, is_unmanaged, commit_refusal, commit_group, stage_refusal, stage_group, with_event};
+ghost use Rattle.group_offsets.specs.Group.{fresh_group, is_member, member_refusal, heard_at, given_to, sync_group, beat_group, leave_group, without_member, without_lapsed, is_lapsed, commit_refusal, commit_group, stage_refusal, stage_group, with_event};
 
 use crate::event::{OffsetEvent, PartitionOffset};
+use crate::group_metadata::GroupMetadata;
 use crate::member::Member;
 use crate::offsets::Offsets;
 use msg_group::{HeartbeatRequest, LeaveGroupRequest, MemberAssignment, SyncGroupRequest};
@@ -13,20 +14,20 @@ use record_batch::TransactionResult;
 use std::alloc::{AllocError, Global};
 use wire_types::{Bytes, ErrorCode, Text};
 
-/// A group: its member, and what happened to its offsets.
+/// A consumer group of at most one member, with its offsets.
 #[derive(Drop)]
 pub struct Group {
     pub name: Text,
     pub member: Option<Member>,
-    /// How many members have joined so far, each time that one came back included.
+    /// The generation: 0 at first, and one more with each JoinGroup that is answered without an error.
     pub generation: i32,
-    /// The member's assignment; none where the member is to bring it with its next SyncGroup.
+    /// The member's assignment. `None` if its next SyncGroup is to bring it.
     pub assignment: Option<Bytes>,
     pub offsets: Offsets,
 }
 
 impl Group {
-    /// A group that nobody joined yet.
+    /// A new group of this name, without member and offsets.
     pub(crate) fn fresh(alloc: Global, name: &Text) -> Result<Group, AllocError>
         ensures { IfOk result (λ group. group ≡ fresh_group name.now) }
     {
@@ -39,6 +40,7 @@ impl Group {
         })
     }
 
+    /// Whether the group has a member, and this is its id.
     pub(crate) fn is_member(&self, id: &Text) -> bool
         ensures { result ≡ is_member self.now id.now }
     {
@@ -48,7 +50,8 @@ impl Group {
         }
     }
 
-    /// Why a call of this member of this generation is refused.
+    /// Why a call with this generation and member id is refused: UNKNOWN_MEMBER_ID or ILLEGAL_GENERATION. `None` if they are the
+    /// group's.
     fn member_refusal(&self, generation: i32, member: &Text) -> Option<ErrorCode>
         ensures { result ≡ member_refusal self.now generation member.now }
     {
@@ -61,6 +64,7 @@ impl Group {
         None
     }
 
+    /// Notes that the member was heard of at `moment`, in milliseconds. Its session timeout begins anew.
     fn hear(&mut self, moment: u64)
         ensures { self.new ≡ heard_at moment self.old }
     {
@@ -69,7 +73,8 @@ impl Group {
         }
     }
 
-    /// Gives the member its assignment, the one that it brings where that is awaited.
+    /// Does a SyncGroup at `moment`, in milliseconds: gives the member its assignment, and keeps the one it brings if that is
+    /// awaited. Errors: INVALID_GROUP_ID, UNKNOWN_MEMBER_ID, ILLEGAL_GENERATION. An allocation failure changes nothing.
     pub(crate) fn sync(
         &mut self,
         request: &SyncGroupRequest,
@@ -98,7 +103,8 @@ impl Group {
         Ok(Ok(answer))
     }
 
-    /// Hears from the member.
+    /// Does a Heartbeat at `moment`, in milliseconds: the member's session timeout begins anew. Errors: INVALID_GROUP_ID,
+    /// UNKNOWN_MEMBER_ID, ILLEGAL_GENERATION.
     pub(crate) fn beat(&mut self, request: &HeartbeatRequest, moment: u64) -> Result<(), ErrorCode>
         ensures group { self.new ≡ group_after self.old (beat_group self.old request.now moment) }
         ensures answer { result ≡ answer_of (beat_group self.old request.now moment) }
@@ -114,7 +120,7 @@ impl Group {
         Ok(())
     }
 
-    /// Lets the member go.
+    /// Does a LeaveGroup: removes the member. Errors: INVALID_GROUP_ID, UNKNOWN_MEMBER_ID.
     pub(crate) fn leave(&mut self, request: &LeaveGroupRequest) -> Result<(), ErrorCode>
         ensures group { self.new ≡ group_after self.old (leave_group self.old request.now) }
         ensures answer { result ≡ answer_of (leave_group self.old request.now) }
@@ -130,7 +136,7 @@ impl Group {
         Ok(())
     }
 
-    /// Lets the member go that was not heard of for longer than its session timeout.
+    /// Removes the member if its session timeout is over at `moment`, in milliseconds.
     pub(crate) fn expire(&mut self, moment: u64)
         ensures group { self.new ≡ without_lapsed moment self.old }
         ensures name { self.new.name ≡ self.old.name }
@@ -140,75 +146,83 @@ impl Group {
         }
     }
 
-    /// Nobody is left. The generation stays.
+    /// Removes the member. The generation stays.
     fn let_go(&mut self)
         ensures { self.new ≡ without_member self.old }
     {
         self.member = None;
     }
 
-    /// Commits an offset for the member, or for nobody where there is none.
+    /// Commits an offset (OffsetCommit), as the member or as no member. Errors: UNKNOWN_MEMBER_ID, ILLEGAL_GENERATION,
+    /// REBALANCE_IN_PROGRESS. An allocation failure changes nothing.
     pub(crate) fn commit(
         &mut self,
-        generation: i32,
-        member: &Text,
+        metadata: &GroupMetadata,
         offset: PartitionOffset,
     ) -> Result<Result<(), ErrorCode>, AllocError>
         ensures group { OnOk result
-            (self.new ≡ group_after self.old (commit_group self.old generation member.now offset)) }
+            (self.new ≡ group_after self.old
+            (commit_group self.old metadata.now.generation metadata.now.member.now offset)) }
         ensures answer { IfOk result
-            (λ answer. answer ≡ answer_of (commit_group self.old generation member.now offset)) }
+            (λ answer. answer
+            ≡ answer_of
+            (commit_group self.old metadata.now.generation metadata.now.member.now offset)) }
         ensures err { OnErr result (self.new ≡ self.old) }
         ensures name { self.new.name ≡ self.old.name }
     {
-        if let Some(code) = self.commit_refusal(generation, member) {
+        if let Some(code) = self.commit_refusal(metadata) {
             return Ok(Err(code));
         }
         self.offsets.push(OffsetEvent::Put(offset))?;
         Ok(Ok(()))
     }
 
-    fn commit_refusal(&self, generation: i32, member: &Text) -> Option<ErrorCode>
-        ensures { result ≡ commit_refusal self.now generation member.now }
+    /// Why an OffsetCommit is refused: UNKNOWN_MEMBER_ID or ILLEGAL_GENERATION if its member or generation isn't the group's, or
+    /// it names none while the group has a member; REBALANCE_IN_PROGRESS if the member's SyncGroup is awaited. `None` if it isn't
+    /// refused.
+    fn commit_refusal(&self, metadata: &GroupMetadata) -> Option<ErrorCode>
+        ensures { result ≡ commit_refusal self.now metadata.now.generation metadata.now.member.now }
     {
-        if is_unmanaged(generation, member) {
+        if metadata.is_unmanaged() {
             return match &self.member {
                 Some(_) => Some(ErrorCode::UnknownMemberId),
                 None => None,
             };
         }
-        match (self.member_refusal(generation, member), &self.assignment) {
+        let refusal = self.member_refusal(metadata.generation, metadata.member);
+        match (refusal, &self.assignment) {
             (Some(code), _) => Some(code),
             (None, None) => Some(ErrorCode::RebalanceInProgress),
             (None, Some(_)) => None,
         }
     }
 
-    /// Stages an offset of a producer's transaction.
+    /// Stages an offset in a producer's transaction (TxnOffsetCommit), to be committed or dropped with it. Errors:
+    /// UNKNOWN_MEMBER_ID, ILLEGAL_GENERATION. An allocation failure changes nothing.
     pub(crate) fn stage(
         &mut self,
+        metadata: &GroupMetadata,
         producer: i64,
-        generation: i32,
-        member: &Text,
         offset: PartitionOffset,
     ) -> Result<Result<(), ErrorCode>, AllocError>
         ensures group { OnOk result
             (self.new ≡ group_after self.old
-            (stage_group self.old producer generation member.now offset)) }
+            (stage_group self.old producer metadata.now.generation metadata.now.member.now offset)) }
         ensures answer { IfOk result
             (λ answer. answer
-            ≡ answer_of (stage_group self.old producer generation member.now offset)) }
+            ≡ answer_of
+            (stage_group self.old producer metadata.now.generation metadata.now.member.now offset)) }
         ensures err { OnErr result (self.new ≡ self.old) }
         ensures name { self.new.name ≡ self.old.name }
     {
-        if let Some(code) = self.stage_refusal(generation, member) {
+        if let Some(code) = self.stage_refusal(metadata) {
             return Ok(Err(code));
         }
         self.offsets.push(OffsetEvent::Stage { producer, offset })?;
         Ok(Ok(()))
     }
 
-    /// What a producer staged is decided.
+    /// Commits or drops the offsets that the producer staged, as its transaction is over. An allocation failure changes nothing.
     pub(crate) fn decide(
         &mut self,
         producer: i64,
@@ -223,17 +237,19 @@ impl Group {
         Ok(())
     }
 
-    fn stage_refusal(&self, generation: i32, member: &Text) -> Option<ErrorCode>
-        ensures { result ≡ stage_refusal self.now generation member.now }
+    /// Why a TxnOffsetCommit is refused: UNKNOWN_MEMBER_ID or ILLEGAL_GENERATION if it names a generation or a member (KIP-447)
+    /// that aren't the group's. `None` if it isn't refused.
+    fn stage_refusal(&self, metadata: &GroupMetadata) -> Option<ErrorCode>
+        ensures { result ≡ stage_refusal self.now metadata.now.generation metadata.now.member.now }
     {
-        if is_unmanaged(generation, member) {
+        if metadata.is_unmanaged() {
             return None;
         }
-        self.member_refusal(generation, member)
+        self.member_refusal(metadata.generation, metadata.member)
     }
 }
 
-/// The first assignment for the member, or nothing at all.
+/// The first assignment for this member that a SyncGroup brings, empty if there is none.
 fn given_to(member: &Text, given: &[MemberAssignment]) -> Result<Bytes, AllocError>
     ensures { IfOk result (λ assignment. assignment ≡ given_to member.now given.now) }
 {
@@ -245,7 +261,7 @@ fn given_to(member: &Text, given: &[MemberAssignment]) -> Result<Bytes, AllocErr
     Ok(Bytes::new())
 }
 
-/// Whether a member was not heard of for longer than its session timeout.
+/// Whether the member's session timeout is over at `moment`, in milliseconds. It never is without a member.
 fn is_lapsed(moment: u64, member: &Option<Member>) -> bool
     ensures { result ≡ is_lapsed moment member.now }
 {
@@ -255,11 +271,4 @@ fn is_lapsed(moment: u64, member: &Option<Member>) -> bool
         }
         None => false,
     }
-}
-
-/// Whether offsets are meant for a group that is not managed by its members.
-fn is_unmanaged(generation: i32, member: &Text) -> bool
-    ensures { result ≡ is_unmanaged generation member.now }
-{
-    generation == -1 && member.as_bytes().is_empty()
 }

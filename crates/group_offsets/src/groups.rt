@@ -10,6 +10,7 @@ ghost use Rattle.group_offsets.specs.Permission.{MayUse};
 
 use crate::event::PartitionOffset;
 use crate::group::Group;
+use crate::group_metadata::GroupMetadata;
 use crate::member::Joined;
 use crate::offsets::Offsets;
 use authorizer::{Permit, Policy, Spent};
@@ -21,7 +22,7 @@ use std::hash::RandomState;
 use std::marker::Model;
 use wire_types::{Bytes, ErrorCode, Text};
 
-/// The groups in the order of their beginning, each under its name; seen as the list of groups.
+/// The consumer groups of the broker, found by name, in the order in which they began.
 pub struct Groups {
     table: IndexMap<String, Group, RandomState>,
     nothing: Offsets,
@@ -51,7 +52,7 @@ impl Drop for Groups {
 }
 
 impl Groups {
-    /// No group. Names are hashed by `hasher`; no answer depends on it. It takes no memory.
+    /// No groups. Names are hashed by `hasher`; no answer depends on it. It allocates nothing.
     pub fn new(alloc: Global, hasher: RandomState) -> Groups
         ensures { result ≡ [] }
     {
@@ -61,14 +62,14 @@ impl Groups {
         }
     }
 
-    /// The groups in the order of their beginning: for whoever runs the broker, past all bindings.
+    /// The groups in the order in which they began, without any permit: for whoever runs the broker.
     pub fn as_slice(&self) -> &[Group]
         ensures { result.now ≡ self.now }
     {
         self.table.values().as_slice()
     }
 
-    /// Whether a new generation may begin in the group of this name.
+    /// Whether a JoinGroup may begin a new generation in the group of this name: the last one isn't the greatest `i32`.
     pub fn may_begin(&self, name: &Text) -> bool
         ensures { IsTrue result ↔ ((group_of self.now name.now).generation <ℤ pos 2147483647) }
     {
@@ -78,7 +79,9 @@ impl Groups {
         }
     }
 
-    /// A member joins by the event at this place. It needs a permit of READ.
+    /// Does a JoinGroup by a permit to READ the group, at `moment`, in milliseconds, as event number `place`. A new group begins
+    /// with its first member. Errors: INVALID_GROUP_ID, INVALID_SESSION_TIMEOUT, INCONSISTENT_GROUP_PROTOCOL, UNKNOWN_MEMBER_ID,
+    /// GROUP_MAX_SIZE_REACHED. An allocation failure changes nothing.
     pub fn join(
         &mut self,
         alloc: Global,
@@ -104,7 +107,8 @@ impl Groups {
         (spent, self.join_first(alloc, request, place, moment))
     }
 
-    /// A group begins with its first member.
+    /// Does a JoinGroup of a group that doesn't exist: it begins, unless the call is refused. An allocation failure changes
+    /// nothing.
     fn join_first(
         &mut self,
         alloc: Global,
@@ -125,7 +129,9 @@ impl Groups {
         Ok(answer)
     }
 
-    /// The member asks for its assignment, or brings it where that is awaited. It needs a permit of READ.
+    /// Does a SyncGroup by a permit to READ the group, at `moment`, in milliseconds: gives the member its assignment, and keeps
+    /// the one it brings if that is awaited. Errors: INVALID_GROUP_ID, UNKNOWN_MEMBER_ID, ILLEGAL_GENERATION. An allocation
+    /// failure changes nothing.
     pub fn sync(
         &mut self,
         policy: &Policy,
@@ -148,7 +154,8 @@ impl Groups {
         (spent, group.sync(request, moment))
     }
 
-    /// The member tells that it is there. It needs a permit of READ.
+    /// Does a Heartbeat by a permit to READ the group, at `moment`, in milliseconds: the member's session timeout begins anew.
+    /// Errors: INVALID_GROUP_ID, UNKNOWN_MEMBER_ID, ILLEGAL_GENERATION.
     pub fn beat(
         &mut self,
         policy: &Policy,
@@ -168,7 +175,7 @@ impl Groups {
         (spent, group.beat(request, moment))
     }
 
-    /// The member leaves. It needs a permit of READ.
+    /// Does a LeaveGroup by a permit to READ the group: removes the member. Errors: INVALID_GROUP_ID, UNKNOWN_MEMBER_ID.
     pub fn leave(
         &mut self,
         policy: &Policy,
@@ -187,117 +194,122 @@ impl Groups {
         (spent, group.leave(request))
     }
 
-    /// An offset is committed for a group. It needs a permit of READ.
+    /// Commits an offset (OffsetCommit) by a permit to READ the group. A new group begins with its first offset. Errors:
+    /// UNKNOWN_MEMBER_ID, ILLEGAL_GENERATION, REBALANCE_IN_PROGRESS. An allocation failure changes nothing.
     pub fn commit(
         &mut self,
         alloc: Global,
         policy: &Policy,
         permit: Permit,
-        name: &Text,
-        generation: i32,
-        member: &Text,
+        metadata: &GroupMetadata,
         offset: PartitionOffset,
     ) -> (Spent, Result<Result<(), ErrorCode>, AllocError>)
-        requires { MayUse policy.now operations.Read name.now permit }
+        requires { MayUse policy.now operations.Read metadata.now.group.now permit }
         ensures spent { result.0 ≡ permit.question }
         ensures groups { OnOk result.1
             (self.new ≡ groups_after self.old
-            (commit self.old name.now generation member.now offset)) }
+            (commit self.old metadata.now.group.now metadata.now.generation metadata.now.member.now
+            offset)) }
         ensures answer { IfOk result.1
-            (λ answer. answer ≡ answer_of (commit self.old name.now generation member.now offset)) }
+            (λ answer. answer
+            ≡ answer_of
+            (commit self.old metadata.now.group.now metadata.now.generation metadata.now.member.now
+            offset)) }
         ensures err { OnErr result.1 (self.new ≡ self.old) }
     {
         let spent: Spent = permit.spend(policy);
-        if let Some(group) = self.table.get_mut(name.as_str()) {
-            return (spent, group.commit(generation, member, offset));
+        if let Some(group) = self.table.get_mut(metadata.group.as_str()) {
+            return (spent, group.commit(metadata, offset));
         }
-        (
-            spent,
-            self.commit_first(alloc, name, generation, member, offset),
-        )
+        (spent, self.commit_first(alloc, metadata, offset))
     }
 
-    /// A group begins with its first offset.
+    /// Commits an offset for a group that doesn't exist: it begins, unless the call is refused. An allocation failure changes
+    /// nothing.
     fn commit_first(
         &mut self,
         alloc: Global,
-        name: &Text,
-        generation: i32,
-        member: &Text,
+        metadata: &GroupMetadata,
         offset: PartitionOffset,
     ) -> Result<Result<(), ErrorCode>, AllocError>
-        requires { place_of self.old name.now ≡ None }
+        requires { place_of self.old metadata.now.group.now ≡ None }
         ensures groups { OnOk result
             (self.new ≡ groups_after self.old
-            (commit self.old name.now generation member.now offset)) }
+            (commit self.old metadata.now.group.now metadata.now.generation metadata.now.member.now
+            offset)) }
         ensures answer { IfOk result
-            (λ answer. answer ≡ answer_of (commit self.old name.now generation member.now offset)) }
+            (λ answer. answer
+            ≡ answer_of
+            (commit self.old metadata.now.group.now metadata.now.generation metadata.now.member.now
+            offset)) }
         ensures err { OnErr result (self.new ≡ self.old) }
     {
-        let mut group = Group::fresh(alloc, name)?;
-        let answer = group.commit(generation, member, offset)?;
+        let mut group = Group::fresh(alloc, metadata.group)?;
+        let answer = group.commit(metadata, offset)?;
         self.keep(group, &answer)?;
         Ok(answer)
     }
 
-    /// A producer commits an offset for a group with its transaction. It needs a permit of READ.
+    /// Stages an offset in a producer's transaction (TxnOffsetCommit) by a permit to READ the group. A new group begins with its
+    /// first offset. Errors: UNKNOWN_MEMBER_ID, ILLEGAL_GENERATION. An allocation failure changes nothing.
     pub fn stage(
         &mut self,
         alloc: Global,
         policy: &Policy,
         permit: Permit,
-        name: &Text,
+        metadata: &GroupMetadata,
         producer: i64,
-        generation: i32,
-        member: &Text,
         offset: PartitionOffset,
     ) -> (Spent, Result<Result<(), ErrorCode>, AllocError>)
-        requires { MayUse policy.now operations.Read name.now permit }
+        requires { MayUse policy.now operations.Read metadata.now.group.now permit }
         ensures spent { result.0 ≡ permit.question }
         ensures groups { OnOk result.1
             (self.new ≡ groups_after self.old
-            (stage self.old name.now producer generation member.now offset)) }
+            (stage self.old metadata.now.group.now producer metadata.now.generation
+            metadata.now.member.now offset)) }
         ensures answer { IfOk result.1
             (λ answer. answer
-            ≡ answer_of (stage self.old name.now producer generation member.now offset)) }
+            ≡ answer_of
+            (stage self.old metadata.now.group.now producer metadata.now.generation
+            metadata.now.member.now offset)) }
         ensures err { OnErr result.1 (self.new ≡ self.old) }
     {
         let spent = permit.spend(policy);
-        if let Some(group) = self.table.get_mut(name.as_str()) {
-            return (spent, group.stage(producer, generation, member, offset));
+        if let Some(group) = self.table.get_mut(metadata.group.as_str()) {
+            return (spent, group.stage(metadata, producer, offset));
         }
-        (
-            spent,
-            self.stage_first(alloc, name, producer, generation, member, offset),
-        )
+        (spent, self.stage_first(alloc, metadata, producer, offset))
     }
 
-    /// A group begins with the first offset that is staged for it.
+    /// Stages an offset for a group that doesn't exist: it begins, unless the call is refused. An allocation failure changes
+    /// nothing.
     fn stage_first(
         &mut self,
         alloc: Global,
-        name: &Text,
+        metadata: &GroupMetadata,
         producer: i64,
-        generation: i32,
-        member: &Text,
         offset: PartitionOffset,
     ) -> Result<Result<(), ErrorCode>, AllocError>
-        requires { place_of self.old name.now ≡ None }
+        requires { place_of self.old metadata.now.group.now ≡ None }
         ensures groups { OnOk result
             (self.new ≡ groups_after self.old
-            (stage self.old name.now producer generation member.now offset)) }
+            (stage self.old metadata.now.group.now producer metadata.now.generation
+            metadata.now.member.now offset)) }
         ensures answer { IfOk result
             (λ answer. answer
-            ≡ answer_of (stage self.old name.now producer generation member.now offset)) }
+            ≡ answer_of
+            (stage self.old metadata.now.group.now producer metadata.now.generation
+            metadata.now.member.now offset)) }
         ensures err { OnErr result (self.new ≡ self.old) }
     {
-        let mut group = Group::fresh(alloc, name)?;
-        let answer = group.stage(producer, generation, member, offset)?;
+        let mut group = Group::fresh(alloc, metadata.group)?;
+        let answer = group.stage(metadata, producer, offset)?;
         self.keep(group, &answer)?;
         Ok(answer)
     }
 
-    /// A producer's transaction is over, and what it staged for a group is decided.
+    /// Commits or drops the offsets that a producer staged for the group, as its transaction is over: this is the transaction's
+    /// marker to a group. An allocation failure changes nothing.
     pub fn decide(
         &mut self,
         alloc: Global,
@@ -317,7 +329,7 @@ impl Groups {
         self.begin(group)
     }
 
-    /// What is committed and staged for a group. It needs a permit of DESCRIBE.
+    /// The committed and staged offsets of a group, none if it doesn't exist, by a permit to DESCRIBE it.
     pub fn fetch(&self, policy: &Policy, permit: Permit, name: &Text) -> (Spent, &Offsets)
         requires { MayUse policy.now operations.Describe name.now permit }
         ensures spent { result.0 ≡ permit.question }
@@ -326,6 +338,7 @@ impl Groups {
         (permit.spend(policy), self.offsets_of(name))
     }
 
+    /// The offsets of the group of this name, none if it doesn't exist.
     fn offsets_of(&self, name: &Text) -> &Offsets
         ensures { result.now ≡ (group_of self.now name.now).offsets }
     {
@@ -335,7 +348,7 @@ impl Groups {
         }
     }
 
-    /// Keeps a group that begins, where its first call wasn't refused.
+    /// Keeps a new group, unless its first call was refused. An allocation failure changes nothing.
     fn keep<A>(&mut self, group: Group, answer: &Result<A, ErrorCode>) -> Result<(), AllocError>
         requires { find_group self.old group.name ≡ None }
         ensures ok { OnOk result
@@ -348,7 +361,7 @@ impl Groups {
         Ok(())
     }
 
-    /// A group begins. All that may fail comes before the first change.
+    /// Adds a new group, whose name no group has. An allocation failure changes nothing.
     fn begin(&mut self, group: Group) -> Result<(), AllocError>
         requires { find_group self.old group.name ≡ None }
         ensures ok { OnOk result (self.new ≡ self.old ++ group ∷ []) }
@@ -359,7 +372,7 @@ impl Groups {
         Ok(())
     }
 
-    /// Lets each member go that was not heard of for longer than its session timeout.
+    /// Removes each member whose session timeout is over at `moment`, in milliseconds.
     pub fn expire(&mut self, moment: u64)
         ensures { self.new ≡ map (without_lapsed moment) self.old }
     {
@@ -367,7 +380,7 @@ impl Groups {
     }
 }
 
-/// Lets the members of all groups go that were not heard of in time. Each group stays under its name.
+/// Removes each member whose session timeout is over at `moment`, in milliseconds. Its group stays.
 fn expire_all(groups: &mut IndexMap<String, Group, RandomState>, moment: u64)
     ensures { groups.new.entries ≡ all_expired moment groups.old.entries }
 {
@@ -376,7 +389,7 @@ fn expire_all(groups: &mut IndexMap<String, Group, RandomState>, moment: u64)
     }
 }
 
-/// Why a group that nobody joined yet refuses its member's calls.
+/// How a member's call is refused if its group doesn't exist: INVALID_GROUP_ID for the empty name, else UNKNOWN_MEMBER_ID.
 fn unknown_group_error(name: &Text) -> ErrorCode
     ensures { result ≡ unknown_group_error name.now }
 {

@@ -11,14 +11,16 @@ use msg_group::{JoinGroupRequest, OfferedProtocol};
 use std::alloc::{AllocError, Global};
 use wire_types::{ErrorCode, Text};
 
-/// The least session timeout, in milliseconds.
+/// The least session timeout that a member may ask for, in milliseconds.
 const LEAST_TIMEOUT: u32 = 6_000;
 
-/// The greatest session timeout, in milliseconds.
+/// The greatest session timeout that a member may ask for, in milliseconds.
 const GREATEST_TIMEOUT: u32 = 1_800_000;
 
 impl Group {
-    /// Lets a member in by the event at this place, and begins a new generation.
+    /// Does a JoinGroup at `moment`, in milliseconds, as event number `place`: the member is in, and a new generation begins.
+    /// Errors: INVALID_GROUP_ID, INVALID_SESSION_TIMEOUT, INCONSISTENT_GROUP_PROTOCOL, UNKNOWN_MEMBER_ID, and
+    /// GROUP_MAX_SIZE_REACHED for a second member. An allocation failure changes nothing.
     pub(crate) fn join(
         &mut self,
         alloc: Global,
@@ -51,14 +53,14 @@ impl Group {
         Ok(Ok(joined))
     }
 
-    /// Whether a new generation may begin.
+    /// Whether a new generation may begin: the generation isn't the greatest `i32`.
     pub(crate) fn may_begin(&self) -> bool
         ensures { IsTrue result ↔ (self.now.generation <ℤ pos 2147483647) }
     {
         self.generation < i32::MAX
     }
 
-    /// What a member is told that joins by the event at this place.
+    /// The answer to a member that joins by event number `place`: its id, the new generation and the chosen protocol.
     fn welcome(
         &self,
         alloc: Global,
@@ -76,7 +78,8 @@ impl Group {
         })
     }
 
-    /// The member is in, and its sync is awaited.
+    /// Makes this the group's member, which was heard of at `moment`, in milliseconds. A new generation begins, and its
+    /// assignment is awaited. `session_timeout` is in milliseconds.
     fn enter(&mut self, id: Text, session_timeout: u32, moment: u64)
         requires { self.old.generation <ℤ pos 2147483647 }
         ensures { self.new ≡ with_member id session_timeout self.old moment }
@@ -90,7 +93,8 @@ impl Group {
         self.assignment = None;
     }
 
-    /// Why a member with this id may not come in.
+    /// Why a member with this id may not join: UNKNOWN_MEMBER_ID if it has an id that isn't the member's, GROUP_MAX_SIZE_REACHED
+    /// if it has none and the group has its member. `None` if it may.
     fn entry_refusal(&self, member: &Text) -> Option<ErrorCode>
         ensures { result ≡ entry_refusal self.now member.now }
     {
@@ -108,7 +112,7 @@ impl Group {
     }
 }
 
-/// A session timeout that may be had.
+/// The session timeout that a JoinGroup asks for, in milliseconds, `None` if it isn't from 6,000 to 1,800,000.
 fn session_timeout(asked: i32) -> Option<u32>
     ensures { result ≡ session_timeout asked }
 {
@@ -120,7 +124,7 @@ fn session_timeout(asked: i32) -> Option<u32>
     }
 }
 
-/// The protocol that is chosen: the first one, if there is one and its type is told.
+/// The protocol of the new generation: the first that the member offers. `None` if it offers none, or names no protocol type.
 fn chosen(request: &JoinGroupRequest) -> Option<&OfferedProtocol>
     ensures { option_copied result ≡ chosen_protocol request.now }
 {
@@ -130,7 +134,8 @@ fn chosen(request: &JoinGroupRequest) -> Option<&OfferedProtocol>
     request.protocols.get(0)
 }
 
-/// The id of a member that joins by the event at this place.
+/// The id of the member that joins: the one that it sends, or a new id made of the event number `place` if it sends the empty
+/// one.
 fn member_id(alloc: Global, member: &Text, place: u64) -> Result<Text, AllocError>
     ensures { IfOk result (λ id. id ≡ member_id member.now place) }
 {

@@ -9,6 +9,7 @@
 
 mod event;
 mod group;
+mod group_metadata;
 mod groups;
 mod joining;
 mod laws;
@@ -21,6 +22,7 @@ mod table;
 
 pub use event::{OffsetEvent, PartitionOffset};
 pub use group::Group;
+pub use group_metadata::GroupMetadata;
 pub use groups::Groups;
 pub use laws::{
     answers_are_apart, committed_goes_on, groups_are_apart, pending_goes_on, staged_is_pending,

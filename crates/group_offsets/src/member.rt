@@ -3,22 +3,22 @@
 use msg_group::OfferedProtocol;
 use wire_types::Text;
 
-/// The one member of a group.
+/// The member of a group, which has one at most.
 #[derive(Drop)]
 pub struct Member {
     pub id: Text,
-    /// In milliseconds.
+    /// How long the member may be silent, in milliseconds.
     pub session_timeout: u32,
     /// The moment of the last JoinGroup, SyncGroup or Heartbeat that was answered without an error, in milliseconds.
     pub heard: u64,
 }
 
-/// What a member is told that has joined.
+/// The answer to a member that has joined.
 #[derive(Drop)]
 pub struct Joined {
     pub generation: i32,
-    /// The member's id. The member is the group's leader too.
+    /// The member's id. It is the leader's too.
     pub member: Text,
-    /// The protocol that is chosen, with what the member told under it.
+    /// The chosen protocol, with the metadata that the member sent for it.
     pub protocol: OfferedProtocol,
 }

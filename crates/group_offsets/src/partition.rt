@@ -8,14 +8,14 @@ use indexmap::Equivalent;
 use std::alloc::{AllocError, Global};
 use std::hash::Hash;
 
-/// A partition: a topic's name and an index.
+/// A partition as a key of the table: its topic's name and its index.
 #[derive(Drop, PartialEq, Eq, Hash)]
 pub struct Partition {
     pub topic: String,
     pub index: i32,
 }
 
-/// The same, as it is looked up.
+/// A partition to look up in the table, by a borrowed name.
 #[derive(Clone, Copy, PartialEq, Eq, Hash)]
 pub struct Wanted<'a> {
     pub topic: &'a str,
@@ -23,7 +23,7 @@ pub struct Wanted<'a> {
 }
 
 impl Partition {
-    /// The partition of an offset.
+    /// The partition that the offset is of.
     pub(crate) fn of(alloc: Global, offset: &PartitionOffset) -> Result<Partition, AllocError>
         ensures topic { IfOk result (λ p. string_bytes p.topic ≡ offset.now.topic) }
         ensures index { IfOk result (λ p. p.index ≡ offset.now.index) }
@@ -46,6 +46,7 @@ impl<'a> Equivalent<Partition> for Wanted<'a> {
 
     ghost respects_eq = { Prim.search (comparing, hashing, rules) };
 
+    /// Whether the key has this topic and this index.
     fn equivalent(&self, key: &Partition) -> bool {
         self.topic == key.topic.as_str() && self.index == key.index
     }

@@ -8,17 +8,17 @@ use record_batch::TransactionResult;
 use std::alloc::{AllocError, Global};
 use std::collections::HashMap;
 
-/// The places of the events that count for a partition.
+/// What is known of one partition's offsets: the places, in the group's list of events, of those that count.
 #[derive(Drop)]
 pub struct Row {
-    /// Where its committed offset is told.
+    /// The place of the event with the committed offset, `None` if there is none.
     pub committed: Option<usize>,
-    /// Of each producer whose offset waits for a decision, where that is told.
+    /// By producer id, the place of the last event that staged an offset, while its transaction is undecided.
     pub waiting: HashMap<i64, usize>,
 }
 
 impl Row {
-    /// Nothing is committed, and nobody waits. It takes no memory.
+    /// A row without a committed or staged offset. It allocates nothing.
     pub(crate) fn new(alloc: Global) -> Row
         ensures committed { result.committed ≡ None }
         ensures waiting { result.waiting.entries ≡ [] }
@@ -29,7 +29,7 @@ impl Row {
         }
     }
 
-    /// Room for one more producer.
+    /// Reserves memory for one producer more, so that staging an offset can't fail. It changes nothing else.
     pub(crate) fn reserve(&mut self) -> Result<(), AllocError>
         ensures same { IsSameRow self.old self.new }
         ensures ok { OnOk result (0 < spare self.new.waiting) }
@@ -37,7 +37,7 @@ impl Row {
         self.waiting.reserve(1)
     }
 
-    /// The event at this place commits its offset.
+    /// Makes the offset of the event at this place the committed one.
     pub(crate) fn commit(&mut self, place: usize)
         ensures committed { self.new.committed ≡ Some place }
         ensures waiting { self.new.waiting.entries ≡ self.old.waiting.entries }
@@ -45,7 +45,8 @@ impl Row {
         self.committed = Some(place);
     }
 
-    /// The event at this place stages an offset of the producer, the last one of which counts. It takes no memory.
+    /// Stages the offset of the event at this place for a producer, instead of one that it staged before. It allocates nothing:
+    /// `reserve` came first.
     pub(crate) fn stage(&mut self, producer: i64, place: usize)
         requires { 0 < spare self.old.waiting }
         ensures { IsStaged self.old self.new producer place }
@@ -53,7 +54,7 @@ impl Row {
         let _entered = self.waiting.insert(producer, place);
     }
 
-    /// What the producer waits with is decided.
+    /// Ends a producer's transaction: a commit makes its staged offset the committed one, an abort drops it.
     pub(crate) fn decide(&mut self, producer: i64, outcome: TransactionResult)
         ensures { IsDecided self.old self.new producer outcome }
     {
@@ -64,14 +65,14 @@ impl Row {
         }
     }
 
-    /// Whether this producer waits.
+    /// Whether this producer staged an offset that is still undecided.
     pub(crate) fn waits(&self, producer: i64) -> bool
         ensures { result ≡ is_some (waits self.now producer) }
     {
         self.waiting.contains_key(&producer)
     }
 
-    /// Whether some producer waits.
+    /// Whether any producer staged an offset that is still undecided.
     pub(crate) fn is_staged(&self) -> bool
         ensures { result ≡ has_some self.now.waiting.entries }
     {

@@ -7,10 +7,11 @@ use crate::row::Row;
 use std::alloc::{AllocError, Global};
 use std::collections::HashMap;
 
-/// Of each producer the places of the rows in which it waits.
+/// By producer id, the places of the rows in which it has a staged offset that is undecided.
 pub(crate) type Staged = HashMap<i64, Vec<usize>>;
 
-/// The producer has the row that stands at this place, which it may have already.
+/// Lists the row at this place under the producer, unless the producer already has an undecided offset in it. An allocation
+/// failure lists nothing.
 pub(crate) fn enter(
     staged: &mut Staged,
     alloc: Global,
@@ -30,7 +31,7 @@ pub(crate) fn enter(
     add(staged, alloc, producer, at)
 }
 
-/// The producer has the row at this place after its others.
+/// Lists the row at this place under the producer, after its others. An allocation failure lists nothing.
 fn add(staged: &mut Staged, alloc: Global, producer: i64, at: usize) -> Result<(), AllocError>
     ensures ok { OnOk result (HasLast staged.old.entries staged.new.entries producer at) }
     ensures err { OnErr result

@@ -17,18 +17,19 @@ use std::alloc::{AllocError, Global};
 use std::collections::HashMap;
 use wire_types::Text;
 
-/// A row for each partition of which an offset was committed or staged, and the rows in which each producer waits.
+/// What the events come to for each partition of which an offset was committed or staged: a row for each, and the rows in which
+/// each producer has staged offsets. Events are named by their places in the group's list of events.
 #[derive(Drop)]
 pub struct Table {
-    /// The rows by their partitions, in the order in which these came.
+    /// The rows by their partitions, in the order of the partitions' first events.
     pub rows: IndexMap<Partition, Row>,
-    /// Of each producer the places of the rows in which it waits.
+    /// By producer id, the places of the rows in which it has an undecided offset.
     pub staged: Staged,
     pub alloc: Global,
 }
 
 impl Table {
-    /// No rows. It takes no memory.
+    /// A table without rows. It allocates nothing.
     pub(crate) fn new(alloc: Global) -> Table
         ensures { IsKept result [] }
     {
@@ -39,6 +40,7 @@ impl Table {
         }
     }
 
+    /// The place of a partition's row, `None` if it has none.
     fn place_of(&self, topic: &Text, index: i32) -> Option<usize>
         ensures { result ≡ place_in self.now.rows.entries topic.now index }
     {
@@ -48,6 +50,7 @@ impl Table {
         })
     }
 
+    /// The row of a partition, `None` if it has none.
     fn row(&self, topic: &Text, index: i32) -> Option<&Row>
         ensures { option_copied result ≡ row_in (place_in self.now.rows.entries)
             (values self.now.rows) topic.now index }
@@ -58,7 +61,7 @@ impl Table {
         })
     }
 
-    /// The place of the event that tells a partition's committed offset.
+    /// The place of the event with the partition's committed offset, `None` if there is none.
     pub(crate) fn committed(&self, topic: &Text, index: i32) -> Option<usize>
         ensures { result ≡ committed_in (place_in self.now.rows.entries) (values self.now.rows)
             topic.now index }
@@ -66,7 +69,7 @@ impl Table {
         self.row(topic, index)?.committed
     }
 
-    /// Whether some producer waits with an offset of the partition.
+    /// Whether any producer has staged an offset of the partition that is still undecided.
     pub(crate) fn is_staged(&self, topic: &Text, index: i32) -> bool
         ensures { result
             ≡ some_waits (row_in (place_in self.now.rows.entries) (values self.now.rows) topic.now
@@ -78,7 +81,7 @@ impl Table {
         }
     }
 
-    /// Notes the event at this place, after those before it. All that may fail comes before the first change.
+    /// Notes the next event, which stands at this place. An allocation failure changes no partition's offsets.
     pub(crate) fn note(&mut self, event: &OffsetEvent, place: usize) -> Result<(), AllocError>
         requires { IsTable self.old }
         ensures table { IsTable self.new }
@@ -95,6 +98,7 @@ impl Table {
         }
     }
 
+    /// Notes that the event at this place commits the offset. An allocation failure changes no partition's offsets.
     fn commit(&mut self, offset: &PartitionOffset, place: usize) -> Result<(), AllocError>
         requires { IsTable self.old }
         ensures table { IsTable self.new }
@@ -106,6 +110,7 @@ impl Table {
         Ok(())
     }
 
+    /// Notes that the event at this place stages the offset for a producer. An allocation failure changes no partition's offsets.
     fn stage(
         &mut self,
         producer: i64,
@@ -126,6 +131,7 @@ impl Table {
         Ok(())
     }
 
+    /// Commits or drops all that the producer has staged in the group. It allocates nothing.
     fn decide(&mut self, producer: i64, outcome: TransactionResult)
         requires { IsTable self.old }
         ensures table { IsTable self.new }
@@ -137,7 +143,7 @@ impl Table {
         }
     }
 
-    /// The place of the row of an offset's partition, which begins where there is none.
+    /// The place of the row of the offset's partition; a partition that has none gets an empty one.
     fn row_for(&mut self, offset: &PartitionOffset) -> Result<usize, AllocError>
         requires { IsTable self.old }
         ensures table { IsTable self.new }
@@ -155,7 +161,7 @@ impl Table {
     }
 }
 
-/// What the producer waits with in the rows at these places is decided.
+/// Commits or drops what the producer has staged, in the rows at these places.
 fn decide_rows(
     rows: &mut IndexMap<Partition, Row>,
     places: &[usize],

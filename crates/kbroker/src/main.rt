@@ -49,7 +49,8 @@ fn texts<'a>(alloc: Global, words: &'a [String]) -> Result<Vec<&'a str>, AllocEr
     words.iter().map(|word| word.as_str()).collect(alloc)
 }
 
-/// How long open connections are served after a stop. Where lines steer the broker and nothing is said of it, to their end.
+/// How long connections stay open after a stop: as long as `--grace` says, or else 5 seconds. `None`, to their end, with
+/// `--control` and no `--grace`.
 fn grace_of(serving: Serving<'_>) -> Option<Duration> {
     let ShutdownOptions { grace_seconds, .. } = serving.ending;
     match grace_seconds {
@@ -59,8 +60,8 @@ fn grace_of(serving: Serving<'_>) -> Option<Duration> {
     }
 }
 
-/// How connections are served by settings with so many bindings, with times in place of numbers, and whether a time stands before
-/// each line that is told.
+/// How connections are served, by the options of `serve`. The settings have so many ACL bindings; `log_times` says that a time
+/// stands before each line of the log.
 fn options_of(serving: Serving<'_>, bindings: usize, log_times: bool) -> ServeOptions {
     let (listed, patience) = if serving.librdkafka {
         (
@@ -97,7 +98,7 @@ fn options_of(serving: Serving<'_>, bindings: usize, log_times: bool) -> ServeOp
     }
 }
 
-/// Says why nothing is done, and gives the exit status.
+/// Prints this line, says why nothing is done, and gives the exit status 1.
 fn fail<W: Write, E: Write>(
     alloc: Global,
     writer: &mut W,
@@ -111,7 +112,7 @@ fn fail<W: Write, E: Write>(
     FAILED
 }
 
-/// The same, with the system's reason.
+/// Prints this line, says why nothing is done, with the system's reason, and gives the exit status 1.
 fn fail_by<W: Write, E: Write>(
     alloc: Global,
     writer: &mut W,
@@ -126,7 +127,7 @@ fn fail_by<W: Write, E: Write>(
     FAILED
 }
 
-/// Says why the input of this name can't be read, where a read of it failed.
+/// Says why the input of this name can't be read, where its last read failed.
 fn explain_read<R: Read, E: Write>(alloc: Global, errors: &mut E, name: &str, reader: &Noted<R>) {
     let Some(reason) = reader.reason() else {
         return;
@@ -136,7 +137,7 @@ fn explain_read<R: Read, E: Write>(alloc: Global, errors: &mut E, name: &str, re
     }
 }
 
-/// Says why the words of the command line can't be read, where that is their own fault, and gives the exit status.
+/// Says that an argument is not UTF-8, and gives the exit status 2. Any other error is given back.
 fn misread<E: Write>(alloc: Global, errors: &mut E, error: io::Error) -> io::Result<ExitCode> {
     if error.kind() != ErrorKind::InvalidData {
         return Err(error);
@@ -145,7 +146,7 @@ fn misread<E: Write>(alloc: Global, errors: &mut E, error: io::Error) -> io::Res
     Ok(ExitCode::from(MISUSED))
 }
 
-/// Tells whoever sits at a terminal what this job waits for, if it reads standard input to its end.
+/// Tells whoever sits at a terminal that this job waits for standard input, if it reads that to its end.
 fn prompt<E: Write>(alloc: Global, errors: &mut E, job: Job<'_>) {
     let why = match job {
         Job::Replay(None) | Job::Show(Showing { file: None, .. }) => {
@@ -171,7 +172,7 @@ enum Task<'a> {
 }
 
 impl Task<'_> {
-    /// Does it with the text that is read from an input of this name, and gives the exit status.
+    /// Does the task with the text that is read from an input of this name, and gives the exit status.
     fn run<T: Files, R: Read + Drop, W: Write, E: Write>(
         self,
         rt: &T,
@@ -193,7 +194,7 @@ impl Task<'_> {
         status
     }
 
-    /// Does it with the text of the file that is named, or else of standard input, and gives the exit status.
+    /// Does the task with the text of this file, or else of standard input, and gives the exit status.
     fn run_on<T: Input + Files, W: Write, E: Write>(
         self,
         rt: &T,
@@ -215,7 +216,7 @@ impl Task<'_> {
     }
 }
 
-/// Says that the settings' file can't be opened, and gives the exit status.
+/// Says that the settings' file can't be opened, and gives the exit status 1.
 fn fail_to_open<W: Write, E: Write>(
     alloc: Global,
     writer: &mut W,
@@ -227,7 +228,8 @@ fn fail_to_open<W: Write, E: Write>(
     fail_by(alloc, writer, errors, "open failed\n", path, why, error)
 }
 
-/// Serves the connections of a listener by the settings that are read, by the clock or as lines steer it.
+/// Opens a broker with the settings that `reader` gives, listens, and serves connections, by the clock or as lines steer it.
+/// Gives the exit status.
 fn serve_connections<
     T: Net<Listener = TcpListener, Stream = TcpStream>
         + Threads
@@ -300,7 +302,7 @@ fn serve_connections<
     serve(rt, alloc, core, server, writer, errors)
 }
 
-/// Serves connections by the settings in the file that is named, or else in standard input.
+/// Runs `serve` with the settings in the file that is named, or else in standard input, and gives the exit status.
 fn serve_by<
     T: Net<Listener = TcpListener, Stream = TcpStream>
         + Threads
@@ -341,7 +343,7 @@ where
     serve_connections(rt, alloc, serving, file, steering, writer, errors)
 }
 
-/// Does what the command line asks for, and ends with its status.
+/// Does what the command line asks for, and ends with its exit status.
 fn main(rt: HostRuntime) -> io::Result<ExitCode> {
     let alloc = rt.alloc();
     let mut errors = rt.stderr();

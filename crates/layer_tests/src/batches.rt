@@ -30,7 +30,7 @@ const THOUSAND: &str =
     "0000000000000000000023190000000002a71c3b260000000003e700000000000000000000000000000000ffffffffff\
     ffffffffffffffffff000003e8";
 
-/// The batch that the digits are.
+/// The record batch that hexadecimal digits spell; an error where they spell none.
 fn batch_of(alloc: Global, digits: &str) -> Result<Batch, Fail> {
     let bytes = Bytes::from_vec(hex::decode(alloc, digits)?)?;
     match Batch::check(bytes, 10_000) {
@@ -39,6 +39,7 @@ fn batch_of(alloc: Global, digits: &str) -> Result<Batch, Fail> {
     }
 }
 
+/// All header fields of two batches that another encoder made are read.
 #[test]
 fn fields(rt: HostRuntime) -> Result<(), Fail> {
     let one = batch_of(rt.alloc(), ONE)?;
@@ -78,6 +79,7 @@ fn fields(rt: HostRuntime) -> Result<(), Fail> {
     Ok(())
 }
 
+/// The records of a batch, each with its offset; none where offsets are out of range.
 fn records_of(alloc: Global, batch: &Batch) -> Result<Items<RecordAt>, AllocError> {
     if batch.has_offsets() {
         batch.recs(alloc)
@@ -89,6 +91,7 @@ fn records_of(alloc: Global, batch: &Batch) -> Result<Items<RecordAt>, AllocErro
 /// Offset, time after the batch's, key, value, and how many headers.
 type Told<'a> = (i64, i64, Option<&'a [u8]>, Option<&'a [u8]>, usize);
 
+/// The bytes, if there are some; `None` for null.
 fn slice_of(bytes: &Option<Bytes>) -> Option<&[u8]> {
     match bytes {
         Some(bytes) => Some(bytes.as_slice()),
@@ -96,6 +99,7 @@ fn slice_of(bytes: &Option<Bytes>) -> Option<&[u8]> {
     }
 }
 
+/// What a test compares of a record.
 fn told(record: &RecordAt) -> Told<'_> {
     let rec = &record.rec;
     (
@@ -107,6 +111,7 @@ fn told(record: &RecordAt) -> Told<'_> {
     )
 }
 
+/// The offsets, timestamps, keys, values and headers of three records are read, null and empty ones among them.
 #[test]
 fn three_records(rt: HostRuntime) -> Result<(), Fail> {
     let records = records_of(rt.alloc(), &batch_of(rt.alloc(), RICH)?)?;
@@ -122,7 +127,8 @@ fn three_records(rt: HostRuntime) -> Result<(), Fail> {
     Ok(())
 }
 
-// 1,000 records of the value `x` each, as another encoder has them but for the numbers, which are written here.
+/// A batch of 1,000 records with the value `x`: the header is another encoder's, the records' lengths and offsets are written
+/// here.
 fn thousand(alloc: Global) -> Result<Vec<u8>, Fail> {
     let mut out = hex::decode(alloc, THOUSAND)?;
     for place in 0..1_000i32 {
@@ -135,6 +141,7 @@ fn thousand(alloc: Global) -> Result<Vec<u8>, Fail> {
     Ok(out)
 }
 
+/// A batch of 1,000 records is read to its last one.
 #[test]
 fn thousand_records(rt: HostRuntime) -> Result<(), Fail> {
     let bytes = Bytes::from_vec(thousand(rt.alloc())?)?;
@@ -147,14 +154,20 @@ fn thousand_records(rt: HostRuntime) -> Result<(), Fail> {
     Ok(())
 }
 
-/// The bytes of a batch, which may be in two pieces.
+/// The bytes of a batch, one after the other, though they may be in two pieces.
 fn written(alloc: Global, batch: &Batch) -> Result<Vec<u8>, AllocError> {
     let mut out = Vec::new(alloc);
     batch.bytes().push_to(&mut out)?;
     Ok(out)
 }
 
-/// Of producer 7 in epoch 1 at the moment 1000.
+/// The bytes of a batch as it is stored at an offset.
+fn stored_at(alloc: Global, batch: &Batch, offset: i64) -> Result<Vec<u8>, AllocError> {
+    written(alloc, &batch.write_at(offset)?)
+}
+
+/// A control batch is written byte for byte as another encoder has it, for a commit and for an abort: of producer 7 in epoch 1 at
+/// the moment 1000.
 #[test]
 fn markers(rt: HostRuntime) -> Result<(), Fail> {
     for (outcome, digits) in [
@@ -169,12 +182,11 @@ fn markers(rt: HostRuntime) -> Result<(), Fail> {
     Ok(())
 }
 
-/// The same batch at offset 5: its bytes 0 to 7 alone are others, and it is a batch again, as its leader epoch was 0.
+/// Moved to offset 5, a batch differs in bytes 0 to 7 alone, and passes the check again.
 #[test]
 fn at_another_offset(rt: HostRuntime) -> Result<(), Fail> {
     let bytes = hex::decode(rt.alloc(), ONE)?;
-    let moved = batch_of(rt.alloc(), ONE)?.write_at(5)?;
-    let written = written(rt.alloc(), &moved)?;
+    let written = stored_at(rt.alloc(), &batch_of(rt.alloc(), ONE)?, 5)?;
     assert!(rt; bytes.len() == 69 && written.len() == 69);
     let (front, rest) = bytes.as_slice().split_at(8);
     let (moved_front, moved_rest) = written.as_slice().split_at(8);
@@ -188,8 +200,7 @@ fn at_another_offset(rt: HostRuntime) -> Result<(), Fail> {
     Ok(())
 }
 
-/// A batch of another encoder's leader epoch, at its own offset and at another: the epoch is 0 in both, and all else but the
-/// offset stays.
+/// A batch that is stored gets the leader epoch 0, at its own offset and at another, and all else but the offset stays.
 #[test]
 fn leader_epoch_of_a_stored_batch(rt: HostRuntime) -> Result<(), Fail> {
     let batch = batch_of(rt.alloc(), RICH)?;
@@ -203,7 +214,7 @@ fn leader_epoch_of_a_stored_batch(rt: HostRuntime) -> Result<(), Fail> {
             b"\x00\x00\x00\x00\x00\x00\x01\x02\x00\x00\x00\x53\x00\x00\x00\x00",
         ),
     ] {
-        let written = written(rt.alloc(), &batch.write_at(offset)?)?;
+        let written = stored_at(rt.alloc(), &batch, offset)?;
         let sent = hex::decode(rt.alloc(), RICH)?;
         assert!(rt; written.len() == 95 && sent.len() == 95);
         let (_, rest) = sent.as_slice().split_at(16);
@@ -213,12 +224,13 @@ fn leader_epoch_of_a_stored_batch(rt: HostRuntime) -> Result<(), Fail> {
     Ok(())
 }
 
-/// The fault of bytes that may be at most so many.
+/// The fault of bytes as a batch that may have at most so many; `None` where they are one.
 fn fault_of(bytes: Vec<u8>, max: u32) -> Result<Option<BatchFault>, AllocError> {
     Ok(Batch::check(Bytes::from_vec(bytes)?, max).err())
 }
 
-/// The batch of 69 bytes with its last byte changed, with that one cut off, and where a batch may have one byte less.
+/// A batch with its last byte changed has a wrong checksum, one with that cut off a wrong length, and one is too large where one
+/// byte less is allowed.
 #[test]
 fn faults_of_one_byte(rt: HostRuntime) -> Result<(), Fail> {
     let alloc = rt.alloc();
@@ -235,7 +247,7 @@ fn faults_of_one_byte(rt: HostRuntime) -> Result<(), Fail> {
     Ok(())
 }
 
-/// Each fault's number, and the code that a producer is answered.
+/// Each fault of a batch has its number, and the error code that its producer is answered.
 #[test]
 fn numbers_and_codes_of_faults(rt: HostRuntime) {
     for (fault, number, code) in [

@@ -17,6 +17,7 @@ const READ_COMMAND: &str =
     "01c0000000000000000000000000000014000000000004000000001400000018280000000000000002000000\
     00000000";
 
+/// CRC-32C has the values that RFC 3720 lists (appendix B.4), and 0xe3069283 for `123456789`.
 #[test]
 fn known_checksums(rt: HostRuntime) -> Result<(), Fail> {
     for (digits, checksum) in [
@@ -34,7 +35,7 @@ fn known_checksums(rt: HostRuntime) -> Result<(), Fail> {
     Ok(())
 }
 
-/// CRC-32C bit by bit, with no table.
+/// CRC-32C, computed bit by bit without a table.
 fn bit_by_bit(bytes: &[u8]) -> u32 {
     let mut remainder: u32 = 0xffff_ffff;
     for byte in bytes {
@@ -50,7 +51,8 @@ fn bit_by_bit(bytes: &[u8]) -> u32 {
     remainder ^ 0xffff_ffff
 }
 
-/// Up to eight triples of words, with each number of words and of bytes after them.
+/// The checksum is that of the plain computation for each length up to 200: up to eight triples of words, with each number of
+/// words and of bytes after them.
 #[test]
 fn checksums_of_all_lengths(rt: HostRuntime) -> Result<(), Fail> {
     let mut bytes = Vec::new(rt.alloc());

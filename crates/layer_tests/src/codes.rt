@@ -2,6 +2,7 @@
 
 use wire_types::ErrorCode;
 
+/// An error code has the number of the protocol guide, and is found by it; unknown numbers aren't.
 #[test]
 fn code_numbers(rt: HostRuntime) {
     assert_eq!(rt; ErrorCode::ProducerFenced.number(), 90);

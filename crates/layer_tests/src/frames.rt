@@ -10,7 +10,7 @@ use wire_types::{Bytes, Items, Malformed, ReadFault};
 const ALL_TOPICS: &[u8] =
     b"\x00\x00\x00\x0e\x00\x03\x00\x01\x00\x00\x00\x01\xff\xff\xff\xff\xff\xff";
 
-/// The header of the frame, and whether what is read of it is written as the same frame.
+/// The header of a request's frame, and whether the request is written as the same frame; `None` where it can't be read.
 fn comes_back(alloc: Global, frame: &[u8]) -> Option<(Header, bool)> {
     let (_size, bytes) = frame.split_at(frame.len().min(4));
     let bytes = Bytes::copy_from_slice(alloc, bytes).ok()?;
@@ -23,19 +23,21 @@ fn comes_back(alloc: Global, frame: &[u8]) -> Option<(Header, bool)> {
     Some((header, is))
 }
 
+/// The header of a Metadata is read, and the request is written as the frame that came.
 #[test]
 fn a_header(rt: HostRuntime) {
     let header = Header::new(Api::in_last_version(ApiKey::Metadata), 1, None);
     assert!(rt; comes_back(rt.alloc(), ALL_TOPICS) == Some((header, true)));
 }
 
-/// Whether nothing is sent for the reply.
+/// Whether nothing is sent for a reply; `None` where it can't be written.
 fn is_silent(alloc: Global, reply: Reply) -> Option<bool> {
     let written = write_reply(alloc, 9, &reply);
     drop(reply);
     Some(written.ok()?.is_empty())
 }
 
+/// Nothing is sent for a Produce with acks 0, a mark and a tick.
 #[test]
 fn silent_replies(rt: HostRuntime) {
     let alloc = rt.alloc();
@@ -49,6 +51,7 @@ fn silent_replies(rt: HostRuntime) {
     assert!(rt; is_silent(alloc, Reply::Ticked { left: 3 }) == Some(true));
 }
 
+/// Each api is found by its key in the versions that are served, and in no others.
 #[test]
 fn apis(rt: HostRuntime) {
     for (number, version, key) in [
@@ -76,14 +79,14 @@ fn apis(rt: HostRuntime) {
     assert_eq!(rt; Api::in_last_version(ApiKey::Metadata).version(), 1);
 }
 
-/// The fault of a frame without its size field, in hexadecimal digits.
+/// The fault of a frame without its size field, in hexadecimal digits; `None` where it is a request that is served.
 fn fault_of(alloc: Global, digits: &str) -> Result<Option<ReadFault>, Fail> {
     let frame = Bytes::from_vec(hex::decode(alloc, digits)?)?;
     Ok(read_request(alloc, &frame).err())
 }
 
-/// Metadata that counts more topics than there are bytes, or has a byte after its body, or ends before its client's name; and
-/// a key of no api.
+/// A Metadata is refused that counts more topics than it has bytes, has a byte after its body, ends before its client's id, or is
+/// of a version that isn't served; and so is a key of no api.
 #[test]
 fn frames_that_are_no_requests(rt: HostRuntime) -> Result<(), Fail> {
     for (digits, fault) in [

@@ -4,6 +4,7 @@ use msg_login::{SaslAuthenticateReply, SaslHandshakeReply};
 use std::test::Fail;
 use wire_types::ErrorCode;
 
+/// The answer to a SaslHandshake offers PLAIN alone, and that to a failed login holds no message and no bytes.
 #[test]
 fn what_is_told_at_a_login(rt: HostRuntime) -> Result<(), Fail> {
     let offered = SaslHandshakeReply::telling(rt.alloc(), ErrorCode::IllegalSaslState)?;

@@ -9,7 +9,7 @@ use std::hash::RandomState;
 use std::test::Fail;
 use wire_types::{Items, Text};
 
-/// Lets Ann write to the topic of this name, or to those whose names begin so, or forbids it.
+/// Adds an ACL that allows Ann to write to the topic of this name, or to those whose names begin so, or forbids it.
 fn bind(
     alloc: Global,
     policy: &mut Policy,
@@ -36,7 +36,7 @@ fn bind(
     Ok(())
 }
 
-/// Root may do everything; Ann may write to what begins with `pay.`, but not to `pay.x`, and to `zoë`.
+/// A policy in which Root may do everything, and Ann may write to what begins with `pay.`, but not to `pay.x`, and to `zoë`.
 fn policy_of(alloc: Global, hasher: RandomState) -> Result<Policy, Fail> {
     let supers = vec![in alloc; Text::of(alloc, "User:root")?]?;
     let mut policy = Policy::new(alloc, Items::from(supers), hasher);
@@ -64,7 +64,7 @@ fn policy_of(alloc: Global, hasher: RandomState) -> Result<Policy, Fail> {
     Ok(policy)
 }
 
-/// Whether somebody may write to a topic.
+/// The question whether somebody may write to a topic.
 fn asked(alloc: Global, who: &str, topic: &str) -> Result<Question, AllocError> {
     let caller = Caller {
         who: Text::of(alloc, who)?,
@@ -73,13 +73,13 @@ fn asked(alloc: Global, who: &str, topic: &str) -> Result<Question, AllocError> 
     caller.asks(Operation::Write, Kind::Topic, &Text::of(alloc, topic)?)
 }
 
-/// How often names are looked up where Ann asks for this topic.
+/// How often names are looked up where Ann asks to write to this topic.
 fn looked(alloc: Global, policy: &Policy, topic: &str) -> Result<u64, AllocError> {
     Ok(policy.verdict_counted(&asked(alloc, "User:ann", topic)?).1)
 }
 
-/// Two look-ups and one for each beginning of the name that is no longer than `pay.`, the longest prefix: `zoë` has three in four
-/// bytes. None for a super user.
+/// A verdict takes two look-ups, and one for each beginning of the name that is no longer than `pay.`, the longest prefix: `zoë`
+/// has three in four bytes. For a super user it takes none.
 #[test]
 fn few_look_ups(rt: HostRuntime) -> Result<(), Fail> {
     let policy = policy_of(rt.alloc(), RandomState::new(&rt)?)?;
@@ -102,7 +102,7 @@ fn few_look_ups(rt: HostRuntime) -> Result<(), Fail> {
     Ok(())
 }
 
-/// A name as long as a frame bears costs no look-up more than a short one.
+/// A name as long as a frame can bear takes no look-up more than a short one.
 #[test]
 fn long_name_is_looked_up_as_a_short_one(rt: HostRuntime) -> Result<(), Fail> {
     let alloc = rt.alloc();

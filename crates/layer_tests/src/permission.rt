@@ -7,7 +7,7 @@ use wire_types::Text;
 
 const ANN: &str = "User:ann";
 
-/// Whether Ann may do something with the topic `a`.
+/// The question whether Ann may do something with the topic `a`.
 fn asked(alloc: Global, operation: Operation) -> Result<Question, AllocError> {
     let caller = Caller {
         who: Text::of(alloc, ANN)?,
@@ -16,7 +16,7 @@ fn asked(alloc: Global, operation: Operation) -> Result<Question, AllocError> {
     caller.asks(operation, Kind::Topic, &Text::of(alloc, "a")?)
 }
 
-/// An ALLOW of any host for Ann, on the topic `a`.
+/// A binding that allows Ann an operation on the topic `a`, from any host.
 fn allow(alloc: Global, operation: Operation) -> Result<Binding, AllocError> {
     Ok(Binding {
         kind: Kind::Topic,
@@ -29,7 +29,7 @@ fn allow(alloc: Global, operation: Operation) -> Result<Binding, AllocError> {
     })
 }
 
-/// What an ALLOW of one operation answers to another.
+/// What a book in which one operation is allowed says to another one.
 fn verdict(alloc: Global, own: Operation, operation: Operation) -> Result<Verdict, AllocError> {
     let question = asked(alloc, operation)?;
     let binding = allow(alloc, own)?;
@@ -38,7 +38,7 @@ fn verdict(alloc: Global, own: Operation, operation: Operation) -> Result<Verdic
     Ok(book.verdict(&question))
 }
 
-/// ALTER_CONFIGS allows DESCRIBE_CONFIGS too, and nothing but ALL allows all.
+/// To allow ALTER_CONFIGS allows DESCRIBE_CONFIGS too, and only to allow ALL allows ALL.
 #[test]
 fn operations_that_nothing_is_asked_for(rt: HostRuntime) -> Result<(), Fail> {
     for (own, operation, answer) in [

@@ -9,15 +9,17 @@ use msg_acl::{
 };
 use std::alloc::AllocError;
 
+/// Appends a resource type: its number and its name, such as `2 TOPIC`.
 fn push_resource_type(sheet: &mut Sheet, field: &str, kind: i8) -> Result<(), AllocError> {
     sheet.push_coded(field, kind, resource_type_name(kind))
 }
 
+/// Appends a pattern type: its number and its name, such as `3 LITERAL`.
 fn push_pattern_type(sheet: &mut Sheet, field: &str, pattern: i8) -> Result<(), AllocError> {
     sheet.push_coded(field, pattern, pattern_type_name(pattern))
 }
 
-/// What is done, and whether that is denied or allowed.
+/// Appends the fields `operation` and `permission_type`, each with its number and its name, such as `3 READ` and `3 ALLOW`.
 fn push_permission(sheet: &mut Sheet, operation: i8, permission: i8) -> Result<(), AllocError> {
     sheet.push_coded("operation", operation, operation_name(operation))?;
     sheet.push_coded(
@@ -28,6 +30,7 @@ fn push_permission(sheet: &mut Sheet, operation: i8, permission: i8) -> Result<(
 }
 
 impl Fields for FilterEntry {
+    /// Appends an ACL filter: which bindings a DescribeAcls or a DeleteAcls is about.
     fn push_fields(&self, sheet: &mut Sheet) -> Result<(), AllocError> {
         push_resource_type(sheet, "resource_type_filter", self.kind)?;
         sheet.push_nullable("resource_name_filter", &self.name)?;
@@ -38,7 +41,7 @@ impl Fields for FilterEntry {
     }
 }
 
-/// A binding, whose pattern's field has another name where it is created.
+/// Appends the fields of an ACL binding. The name of the pattern type's field is given, since CreateAcls has another one for it.
 fn push_binding(
     sheet: &mut Sheet,
     binding: &BindingEntry,
@@ -54,18 +57,21 @@ fn push_binding(
 
 /// A binding that is to be created.
 impl Fields for BindingEntry {
+    /// Appends an ACL binding that a CreateAcls request asks for.
     fn push_fields(&self, sheet: &mut Sheet) -> Result<(), AllocError> {
         push_binding(sheet, self, "resource_pattern_type")
     }
 }
 
 impl Fields for DescribeAclsRequest {
+    /// Appends the request's only part, its filter.
     fn push_fields(&self, sheet: &mut Sheet) -> Result<(), AllocError> {
         self.filter.push_fields(sheet)
     }
 }
 
 impl Fields for DescribedAcl {
+    /// Appends a binding of a resource in a DescribeAcls response: who may or may not do what, and from where.
     fn push_fields(&self, sheet: &mut Sheet) -> Result<(), AllocError> {
         sheet.push_text("principal", &self.principal)?;
         sheet.push_text("host", &self.host)?;
@@ -74,6 +80,7 @@ impl Fields for DescribedAcl {
 }
 
 impl Fields for DescribedResource {
+    /// Appends a resource of a DescribeAcls response, and its bindings.
     fn push_fields(&self, sheet: &mut Sheet) -> Result<(), AllocError> {
         push_resource_type(sheet, "resource_type", self.kind)?;
         sheet.push_text("resource_name", &self.name)?;
@@ -83,6 +90,7 @@ impl Fields for DescribedResource {
 }
 
 impl Fields for DescribeAclsReply {
+    /// Appends the response: its error, and the resources with the bindings that were found.
     fn push_fields(&self, sheet: &mut Sheet) -> Result<(), AllocError> {
         sheet.push("throttle_time_ms", self.throttle)?;
         sheet.push_error("error_code", self.error)?;
@@ -92,12 +100,14 @@ impl Fields for DescribeAclsReply {
 }
 
 impl Fields for CreateAclsRequest {
+    /// Appends the bindings that are to be created.
     fn push_fields(&self, sheet: &mut Sheet) -> Result<(), AllocError> {
         sheet.push_list("creations", self.creations.as_slice())
     }
 }
 
 impl Fields for CreatedAcl {
+    /// Appends how the creation of one binding went.
     fn push_fields(&self, sheet: &mut Sheet) -> Result<(), AllocError> {
         sheet.push_error("error_code", self.error)?;
         sheet.push_nullable("error_message", &self.message)
@@ -105,6 +115,7 @@ impl Fields for CreatedAcl {
 }
 
 impl Fields for CreateAclsReply {
+    /// Appends the response: how the creation of each binding went.
     fn push_fields(&self, sheet: &mut Sheet) -> Result<(), AllocError> {
         sheet.push("throttle_time_ms", self.throttle)?;
         sheet.push_list("results", self.results.as_slice())
@@ -112,12 +123,14 @@ impl Fields for CreateAclsReply {
 }
 
 impl Fields for DeleteAclsRequest {
+    /// Appends the filters of the bindings that are to be deleted.
     fn push_fields(&self, sheet: &mut Sheet) -> Result<(), AllocError> {
         sheet.push_list("filters", self.filters.as_slice())
     }
 }
 
 impl Fields for DeletedAcl {
+    /// Appends a binding that a filter of a DeleteAcls request deleted.
     fn push_fields(&self, sheet: &mut Sheet) -> Result<(), AllocError> {
         sheet.push_error("error_code", self.error)?;
         sheet.push_nullable("error_message", &self.message)?;
@@ -126,6 +139,7 @@ impl Fields for DeletedAcl {
 }
 
 impl Fields for DeletedAcls {
+    /// Appends the result of one filter of a DeleteAcls request: its error, and the bindings that were deleted.
     fn push_fields(&self, sheet: &mut Sheet) -> Result<(), AllocError> {
         sheet.push_error("error_code", self.error)?;
         sheet.push_nullable("error_message", &self.message)?;
@@ -134,6 +148,7 @@ impl Fields for DeletedAcls {
 }
 
 impl Fields for DeleteAclsReply {
+    /// Appends the response: the result of each filter.
     fn push_fields(&self, sheet: &mut Sheet) -> Result<(), AllocError> {
         sheet.push("throttle_time_ms", self.throttle)?;
         sheet.push_list("filter_results", self.results.as_slice())

@@ -1,6 +1,6 @@
 //! What numbers in messages stand for: the names of the protocol guide and of its documentation of access control.
 
-/// How many acknowledgments a Produce waits for.
+/// What the acks of a Produce wait for: -1, 0 or 1; `None` for any other number.
 pub(crate) fn acks_name(acks: i16) -> Option<&'static str> {
     match acks {
         -1 => Some("full ISR"),
@@ -10,7 +10,7 @@ pub(crate) fn acks_name(acks: i16) -> Option<&'static str> {
     }
 }
 
-/// Which offset a timestamp of a ListOffsets asks for, where it is no time.
+/// Which offset a timestamp of ListOffsets asks for, where it is no time: -1 the latest, -2 the earliest; else `None`.
 pub(crate) fn timestamp_name(timestamp: i64) -> Option<&'static str> {
     match timestamp {
         -1 => Some("latest"),
@@ -19,7 +19,7 @@ pub(crate) fn timestamp_name(timestamp: i64) -> Option<&'static str> {
     }
 }
 
-/// What a coordinator's key names.
+/// What the key of a FindCoordinator names, by its key type; `None` for an unknown number.
 pub(crate) fn key_type_name(key_type: i8) -> Option<&'static str> {
     match key_type {
         0 => Some("GROUP"),
@@ -29,6 +29,7 @@ pub(crate) fn key_type_name(key_type: i8) -> Option<&'static str> {
     }
 }
 
+/// The name of an ACL's resource type, as Kafka's `ResourceType` has it; `None` for an unknown number.
 pub(crate) fn resource_type_name(resource_type: i8) -> Option<&'static str> {
     match resource_type {
         0 => Some("UNKNOWN"),
@@ -43,6 +44,7 @@ pub(crate) fn resource_type_name(resource_type: i8) -> Option<&'static str> {
     }
 }
 
+/// The name of an ACL's pattern type, as Kafka's `PatternType` has it; `None` for an unknown number.
 pub(crate) fn pattern_type_name(pattern_type: i8) -> Option<&'static str> {
     match pattern_type {
         0 => Some("UNKNOWN"),
@@ -54,6 +56,7 @@ pub(crate) fn pattern_type_name(pattern_type: i8) -> Option<&'static str> {
     }
 }
 
+/// The name of an ACL's operation, as Kafka's `AclOperation` has it; `None` for an unknown number.
 pub(crate) fn operation_name(operation: i8) -> Option<&'static str> {
     match operation {
         0 => Some("UNKNOWN"),
@@ -75,6 +78,7 @@ pub(crate) fn operation_name(operation: i8) -> Option<&'static str> {
     }
 }
 
+/// The name of an ACL's permission type, as Kafka's `AclPermissionType` has it; `None` for an unknown number.
 pub(crate) fn permission_type_name(permission_type: i8) -> Option<&'static str> {
     match permission_type {
         0 => Some("UNKNOWN"),
@@ -85,7 +89,7 @@ pub(crate) fn permission_type_name(permission_type: i8) -> Option<&'static str> 
     }
 }
 
-/// The compression that a batch's attributes tell.
+/// The codec that the lowest three bits of a batch's attributes name, such as `gzip`; `unknown` for a number without one.
 pub(crate) fn compression_name(compression: u16) -> &'static str {
     match compression {
         0 => "none",

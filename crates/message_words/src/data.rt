@@ -14,6 +14,7 @@ use std::alloc::AllocError;
 use wire_types::Text;
 
 impl Fields for ProducedRecords {
+    /// Appends a partition of a Produce request, and its record batches.
     fn push_fields(&self, sheet: &mut Sheet) -> Result<(), AllocError> {
         sheet.push("index", self.index)?;
         match &self.records {
@@ -24,6 +25,7 @@ impl Fields for ProducedRecords {
 }
 
 impl Fields for ProduceRequest {
+    /// Appends the request: its acks, and the record batches of each partition.
     fn push_fields(&self, sheet: &mut Sheet) -> Result<(), AllocError> {
         let names = TopicNames {
             list: "topic_data",
@@ -38,6 +40,7 @@ impl Fields for ProduceRequest {
 }
 
 impl Fields for ProducedOffset {
+    /// Appends a partition of a Produce response: its error, and the offset of its first record.
     fn push_fields(&self, sheet: &mut Sheet) -> Result<(), AllocError> {
         sheet.push("index", self.index)?;
         sheet.push_error("error_code", self.error)?;
@@ -47,6 +50,7 @@ impl Fields for ProducedOffset {
 }
 
 impl Fields for ProduceReply {
+    /// Appends the response: the result of each partition.
     fn push_fields(&self, sheet: &mut Sheet) -> Result<(), AllocError> {
         let names = TopicNames {
             list: "responses",
@@ -58,6 +62,7 @@ impl Fields for ProduceReply {
     }
 }
 
+/// Appends the field `isolation_level`: its number and its name.
 fn push_isolation(sheet: &mut Sheet, isolation: Isolation) -> Result<(), AllocError> {
     match isolation {
         Isolation::ReadUncommitted => sheet.push("isolation_level", "0 read_uncommitted"),
@@ -66,6 +71,7 @@ fn push_isolation(sheet: &mut Sheet, isolation: Isolation) -> Result<(), AllocEr
 }
 
 impl Fields for FetchPartition {
+    /// Appends a partition of a Fetch request: from which offset it is read, and how much.
     fn push_fields(&self, sheet: &mut Sheet) -> Result<(), AllocError> {
         sheet.push("partition", self.index)?;
         sheet.push("fetch_offset", self.offset)?;
@@ -74,6 +80,7 @@ impl Fields for FetchPartition {
 }
 
 impl Fields for FetchRequest {
+    /// Appends the request: its limits, its isolation level, and its partitions.
     fn push_fields(&self, sheet: &mut Sheet) -> Result<(), AllocError> {
         let names = TopicNames {
             list: "topics",
@@ -90,6 +97,7 @@ impl Fields for FetchRequest {
 }
 
 impl Fields for AbortedTransaction {
+    /// Appends an aborted transaction of a Fetch response: its producer id, and its first offset.
     fn push_fields(&self, sheet: &mut Sheet) -> Result<(), AllocError> {
         sheet.push("producer_id", self.producer)?;
         sheet.push("first_offset", self.first_offset)
@@ -97,6 +105,7 @@ impl Fields for AbortedTransaction {
 }
 
 impl Fields for FetchedRecords {
+    /// Appends a partition of a Fetch response: its error, its offsets, its aborted transactions and its record batches.
     fn push_fields(&self, sheet: &mut Sheet) -> Result<(), AllocError> {
         sheet.push("partition_index", self.index)?;
         sheet.push_error("error_code", self.error)?;
@@ -109,6 +118,7 @@ impl Fields for FetchedRecords {
 }
 
 impl Fields for FetchReply {
+    /// Appends the response: what was fetched of each partition.
     fn push_fields(&self, sheet: &mut Sheet) -> Result<(), AllocError> {
         let names = TopicNames {
             list: "responses",
@@ -121,6 +131,7 @@ impl Fields for FetchReply {
 }
 
 impl Fields for WantedOffset {
+    /// Appends a partition of a ListOffsets request, and the timestamp whose offset is asked for.
     fn push_fields(&self, sheet: &mut Sheet) -> Result<(), AllocError> {
         sheet.push("partition_index", self.index)?;
         sheet.push_coded("timestamp", self.timestamp, timestamp_name(self.timestamp))
@@ -128,6 +139,7 @@ impl Fields for WantedOffset {
 }
 
 impl Fields for ListOffsetsRequest {
+    /// Appends the request: its isolation level, and its partitions.
     fn push_fields(&self, sheet: &mut Sheet) -> Result<(), AllocError> {
         sheet.push("replica_id", self.replica)?;
         push_isolation(sheet, self.isolation)?;
@@ -136,6 +148,7 @@ impl Fields for ListOffsetsRequest {
 }
 
 impl Fields for FoundOffset {
+    /// Appends a partition of a ListOffsets response: its error, and the offset that was found.
     fn push_fields(&self, sheet: &mut Sheet) -> Result<(), AllocError> {
         sheet.push("partition_index", self.index)?;
         sheet.push_error("error_code", self.error)?;
@@ -145,6 +158,7 @@ impl Fields for FoundOffset {
 }
 
 impl Fields for ListOffsetsReply {
+    /// Appends the response: the offset of each partition.
     fn push_fields(&self, sheet: &mut Sheet) -> Result<(), AllocError> {
         sheet.push("throttle_time_ms", self.throttle)?;
         push_topics(sheet, TopicNames::USUAL, self.topics.as_slice())
@@ -153,18 +167,21 @@ impl Fields for ListOffsetsReply {
 
 /// The name of a topic that is asked for.
 impl Fields for Text {
+    /// Appends the topic's name.
     fn push_fields(&self, sheet: &mut Sheet) -> Result<(), AllocError> {
         sheet.push_text("name", self)
     }
 }
 
 impl Fields for MetadataRequest {
+    /// Appends the names of the topics that are asked for; `null` asks for all of them.
     fn push_fields(&self, sheet: &mut Sheet) -> Result<(), AllocError> {
         sheet.push_nullable_list("topics", &self.topics)
     }
 }
 
 impl Fields for BrokerInfo {
+    /// Appends a broker of a Metadata response: its node id and its address.
     fn push_fields(&self, sheet: &mut Sheet) -> Result<(), AllocError> {
         sheet.push("node_id", self.node)?;
         sheet.push_text("host", &self.host)?;
@@ -174,6 +191,7 @@ impl Fields for BrokerInfo {
 }
 
 impl Fields for PartitionInfo {
+    /// Appends a partition of a Metadata response: its leader, its replicas, and those in sync.
     fn push_fields(&self, sheet: &mut Sheet) -> Result<(), AllocError> {
         sheet.push_error("error_code", self.error)?;
         sheet.push("partition_index", self.index)?;
@@ -184,6 +202,7 @@ impl Fields for PartitionInfo {
 }
 
 impl Fields for TopicInfo {
+    /// Appends a topic of a Metadata response, and its partitions.
     fn push_fields(&self, sheet: &mut Sheet) -> Result<(), AllocError> {
         sheet.push_error("error_code", self.error)?;
         sheet.push_text("name", &self.name)?;
@@ -193,6 +212,7 @@ impl Fields for TopicInfo {
 }
 
 impl Fields for MetadataReply {
+    /// Appends the response: the brokers, the controller and the topics.
     fn push_fields(&self, sheet: &mut Sheet) -> Result<(), AllocError> {
         sheet.push_list("brokers", self.brokers.as_slice())?;
         sheet.push("controller_id", self.controller)?;

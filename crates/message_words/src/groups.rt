@@ -11,6 +11,7 @@ use msg_group::{
 use std::alloc::AllocError;
 
 impl Fields for OfferedProtocol {
+    /// Appends a protocol that a member offers in a JoinGroup request, such as `range`, with its metadata.
     fn push_fields(&self, sheet: &mut Sheet) -> Result<(), AllocError> {
         sheet.push_text("name", &self.name)?;
         sheet.push_bytes("metadata", self.metadata.as_slice())
@@ -18,6 +19,7 @@ impl Fields for OfferedProtocol {
 }
 
 impl Fields for JoinGroupRequest {
+    /// Appends the request: the group and the member, its timeouts, and the protocols that it offers.
     fn push_fields(&self, sheet: &mut Sheet) -> Result<(), AllocError> {
         sheet.push_text("group_id", &self.group)?;
         sheet.push("session_timeout_ms", self.session_timeout)?;
@@ -29,6 +31,7 @@ impl Fields for JoinGroupRequest {
 }
 
 impl Fields for JoinedMember {
+    /// Appends a member of the group, as a JoinGroup response names it to the leader.
     fn push_fields(&self, sheet: &mut Sheet) -> Result<(), AllocError> {
         sheet.push_text("member_id", &self.member)?;
         sheet.push_bytes("metadata", self.metadata.as_slice())
@@ -36,6 +39,7 @@ impl Fields for JoinedMember {
 }
 
 impl Fields for JoinGroupReply {
+    /// Appends the response: the generation, the protocol, the leader, and the members.
     fn push_fields(&self, sheet: &mut Sheet) -> Result<(), AllocError> {
         sheet.push("throttle_time_ms", self.throttle)?;
         sheet.push_error("error_code", self.error)?;
@@ -48,6 +52,7 @@ impl Fields for JoinGroupReply {
 }
 
 impl Fields for MemberAssignment {
+    /// Appends what the leader assigns to one member in a SyncGroup request.
     fn push_fields(&self, sheet: &mut Sheet) -> Result<(), AllocError> {
         sheet.push_text("member_id", &self.member)?;
         sheet.push_bytes("assignment", self.assignment.as_slice())
@@ -55,6 +60,7 @@ impl Fields for MemberAssignment {
 }
 
 impl Fields for SyncGroupRequest {
+    /// Appends the request: the group, the member and its generation, and the assignments, if it comes from the leader.
     fn push_fields(&self, sheet: &mut Sheet) -> Result<(), AllocError> {
         sheet.push_text("group_id", &self.group)?;
         sheet.push("generation_id", self.generation)?;
@@ -64,6 +70,7 @@ impl Fields for SyncGroupRequest {
 }
 
 impl Fields for SyncGroupReply {
+    /// Appends the response: the member's assignment.
     fn push_fields(&self, sheet: &mut Sheet) -> Result<(), AllocError> {
         sheet.push("throttle_time_ms", self.throttle)?;
         sheet.push_error("error_code", self.error)?;
@@ -72,6 +79,7 @@ impl Fields for SyncGroupReply {
 }
 
 impl Fields for HeartbeatRequest {
+    /// Appends the request: the group, the member and its generation.
     fn push_fields(&self, sheet: &mut Sheet) -> Result<(), AllocError> {
         sheet.push_text("group_id", &self.group)?;
         sheet.push("generation_id", self.generation)?;
@@ -80,6 +88,7 @@ impl Fields for HeartbeatRequest {
 }
 
 impl Fields for HeartbeatReply {
+    /// Appends the response: its error.
     fn push_fields(&self, sheet: &mut Sheet) -> Result<(), AllocError> {
         sheet.push("throttle_time_ms", self.throttle)?;
         sheet.push_error("error_code", self.error)
@@ -87,6 +96,7 @@ impl Fields for HeartbeatReply {
 }
 
 impl Fields for LeaveGroupRequest {
+    /// Appends the request: the group, and the member that leaves it.
     fn push_fields(&self, sheet: &mut Sheet) -> Result<(), AllocError> {
         sheet.push_text("group_id", &self.group)?;
         sheet.push_text("member_id", &self.member)
@@ -94,6 +104,7 @@ impl Fields for LeaveGroupRequest {
 }
 
 impl Fields for LeaveGroupReply {
+    /// Appends the response: its error.
     fn push_fields(&self, sheet: &mut Sheet) -> Result<(), AllocError> {
         sheet.push("throttle_time_ms", self.throttle)?;
         sheet.push_error("error_code", self.error)
@@ -101,6 +112,7 @@ impl Fields for LeaveGroupReply {
 }
 
 impl Fields for OffsetToCommit {
+    /// Appends a partition of an OffsetCommit request, and the offset to commit.
     fn push_fields(&self, sheet: &mut Sheet) -> Result<(), AllocError> {
         sheet.push("partition_index", self.index)?;
         sheet.push("committed_offset", self.offset)?;
@@ -109,6 +121,7 @@ impl Fields for OffsetToCommit {
 }
 
 impl Fields for OffsetCommitRequest {
+    /// Appends the request: the group, the member and its generation, and the offset to commit for each partition.
     fn push_fields(&self, sheet: &mut Sheet) -> Result<(), AllocError> {
         sheet.push_text("group_id", &self.group)?;
         sheet.push("generation_id_or_member_epoch", self.generation)?;
@@ -119,6 +132,7 @@ impl Fields for OffsetCommitRequest {
 }
 
 impl Fields for CommittedOffset {
+    /// Appends a partition of an OffsetCommit response: its error.
     fn push_fields(&self, sheet: &mut Sheet) -> Result<(), AllocError> {
         sheet.push("partition_index", self.index)?;
         sheet.push_error("error_code", self.error)
@@ -126,12 +140,14 @@ impl Fields for CommittedOffset {
 }
 
 impl Fields for OffsetCommitReply {
+    /// Appends the response: the result of each partition.
     fn push_fields(&self, sheet: &mut Sheet) -> Result<(), AllocError> {
         push_topics(sheet, TopicNames::USUAL, self.topics.as_slice())
     }
 }
 
 impl Fields for OffsetFetchRequest {
+    /// Appends the request: the group, and the partitions whose offsets are asked for; `null` asks for all of them.
     fn push_fields(&self, sheet: &mut Sheet) -> Result<(), AllocError> {
         let names = TopicNames {
             list: "topics",
@@ -148,6 +164,7 @@ impl Fields for OffsetFetchRequest {
 }
 
 impl Fields for FetchedOffset {
+    /// Appends a partition of an OffsetFetch response: its committed offset, or -1, and its error.
     fn push_fields(&self, sheet: &mut Sheet) -> Result<(), AllocError> {
         sheet.push("partition_index", self.index)?;
         sheet.push("committed_offset", self.offset)?;
@@ -158,6 +175,7 @@ impl Fields for FetchedOffset {
 }
 
 impl Fields for OffsetFetchReply {
+    /// Appends the response: the committed offset of each partition.
     fn push_fields(&self, sheet: &mut Sheet) -> Result<(), AllocError> {
         sheet.push("throttle_time_ms", self.throttle)?;
         push_topics(sheet, TopicNames::USUAL, self.topics.as_slice())?;

@@ -9,6 +9,7 @@ use msg_login::{
 use std::alloc::AllocError;
 
 impl Fields for ServedVersions {
+    /// Appends an api of an ApiVersions response, and the versions of it that are served.
     fn push_fields(&self, sheet: &mut Sheet) -> Result<(), AllocError> {
         sheet.push_coded("api_key", self.key, key_name(self.key))?;
         sheet.push("min_version", self.min)?;
@@ -17,6 +18,7 @@ impl Fields for ServedVersions {
 }
 
 impl Fields for ApiVersionsReply {
+    /// Appends the response: its error, and the versions of each api.
     fn push_fields(&self, sheet: &mut Sheet) -> Result<(), AllocError> {
         sheet.push_error("error_code", self.error)?;
         sheet.push_list("api_keys", self.apis.as_slice())
@@ -24,12 +26,14 @@ impl Fields for ApiVersionsReply {
 }
 
 impl Fields for SaslHandshakeRequest {
+    /// Appends the SASL mechanism that is asked for, such as `PLAIN`.
     fn push_fields(&self, sheet: &mut Sheet) -> Result<(), AllocError> {
         sheet.push_text("mechanism", &self.mechanism)
     }
 }
 
 impl Fields for SaslHandshakeReply {
+    /// Appends the response: its error, and the mechanisms that are served.
     fn push_fields(&self, sheet: &mut Sheet) -> Result<(), AllocError> {
         sheet.push_error("error_code", self.error)?;
         sheet.push_texts("mechanisms", self.mechanisms.as_slice())
@@ -38,6 +42,7 @@ impl Fields for SaslHandshakeReply {
 
 /// Only the length of what is told to log in, since a password is in it.
 impl Fields for SaslAuthenticateRequest {
+    /// Appends how many bytes are sent to log in, not the bytes: a password is among them.
     fn push_fields(&self, sheet: &mut Sheet) -> Result<(), AllocError> {
         let count = self.auth.len();
         let told = format!(in sheet.alloc(); "{count} bytes, which are not shown")?;
@@ -46,6 +51,7 @@ impl Fields for SaslAuthenticateRequest {
 }
 
 impl Fields for SaslAuthenticateReply {
+    /// Appends the response: whether the login failed, and why.
     fn push_fields(&self, sheet: &mut Sheet) -> Result<(), AllocError> {
         sheet.push_error("error_code", self.error)?;
         sheet.push_nullable("error_message", &self.message)?;

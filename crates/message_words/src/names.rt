@@ -3,7 +3,7 @@
 use msg_admin::{Api, ApiKey};
 use wire_types::ErrorCode;
 
-/// The api's name.
+/// The name that the protocol guide gives an api key, such as `Fetch`.
 fn name_of(key: ApiKey) -> &'static str {
     match key {
         ApiKey::Produce => "Produce",
@@ -31,17 +31,17 @@ fn name_of(key: ApiKey) -> &'static str {
     }
 }
 
-/// The api's name, whatever its version.
+/// The name that the protocol guide gives an api, such as `Fetch`, whatever its version.
 pub fn api_name(api: Api) -> &'static str {
     name_of(api.key())
 }
 
-/// The name of the api that a number stands for, if it is served in some version.
+/// The name of the api with this key; `None` where no version of it is served.
 pub fn key_name(number: i16) -> Option<&'static str> {
     Some(name_of(ApiKey::of(number)?))
 }
 
-/// The error code's name.
+/// The name that the protocol guide gives an error code, such as `OFFSET_OUT_OF_RANGE`.
 pub(crate) fn error_name(error: ErrorCode) -> &'static str {
     match error {
         ErrorCode::None => "NONE",

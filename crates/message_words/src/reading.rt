@@ -15,7 +15,8 @@ use msg_txn::EndTxnReply;
 use std::alloc::Global;
 use wire_types::{Bytes, Cursor, Malformed, ReadFault, Wire};
 
-/// The correlation id, in a header of a flexible version or a plain one.
+/// Reads a response's header, and gives its correlation id: a flexible version (KIP-482) has tagged fields after that, which are
+/// skipped.
 fn read_correlation(flexible: bool, cursor: &mut Cursor<'_>) -> Result<i32, ReadFault>
     ensures { Reads ((with_header_tags flexible int32).reading cursor.old) result cursor.new }
 {
@@ -26,7 +27,7 @@ fn read_correlation(flexible: bool, cursor: &mut Cursor<'_>) -> Result<i32, Read
     Ok(correlation)
 }
 
-/// The answer of an api, in the form of a version.
+/// Reads the body of an api's response in the form of this version.
 fn read_form(
     alloc: Global,
     key: ApiKey,
@@ -61,7 +62,7 @@ fn read_form(
     })
 }
 
-/// The answer of an api.
+/// Reads the body of an api's response.
 #[tactic(auto, unfolding(msg_admin::specs::Bodies::reply_body))]
 fn read_body(alloc: Global, api: Api, cursor: &mut Cursor<'_>) -> Result<Reply, ReadFault>
     ensures { Reads ((reply_body api).reading cursor.old) result cursor.new }
@@ -69,6 +70,7 @@ fn read_body(alloc: Global, api: Api, cursor: &mut Cursor<'_>) -> Result<Reply, 
     read_form(alloc, api.key(), api.version(), cursor)
 }
 
+/// Reads a response to its end, its header and its body. Bytes after the body are the fault `Rest`.
 #[tactic(auto, unfolding(crate::specs::Reading::response_at))]
 fn read_whole(alloc: Global, api: Api, response: &Bytes) -> Result<(i32, Reply), ReadFault>
     ensures { Answers (response_at api response.now) result }
@@ -82,7 +84,8 @@ fn read_whole(alloc: Global, api: Api, response: &Bytes) -> Result<(i32, Reply),
     Ok((correlation, reply))
 }
 
-/// The correlation id and the reply of an api's response, which is given without its size field.
+/// Reads an api's response, given without its size field, as a client does: its correlation id and its reply. The fault says what
+/// is malformed, or that an allocation failed.
 ///
 /// Blobs of the reply share the response's bytes.
 pub fn read_reply(alloc: Global, api: Api, response: &Bytes) -> Result<(i32, Reply), ReadFault>

@@ -24,6 +24,7 @@ struct FirstBatch {
 }
 
 impl Fields for Header {
+    /// Appends a record's header: its key and its value.
     fn push_fields(&self, sheet: &mut Sheet) -> Result<(), AllocError> {
         sheet.push_bytes("key", self.key.as_slice())?;
         sheet.push_nullable_bytes("value", &self.value)
@@ -31,6 +32,7 @@ impl Fields for Header {
 }
 
 impl Fields for RecordAt {
+    /// Appends a record: its offset, its timestamp, its key, its value and its headers.
     fn push_fields(&self, sheet: &mut Sheet) -> Result<(), AllocError> {
         sheet.push("offset", self.offset)?;
         sheet.push("timestamp_delta", self.rec.timestamp_delta)?;
@@ -40,7 +42,7 @@ impl Fields for RecordAt {
     }
 }
 
-/// The fields before a batch's records.
+/// Reads the header of a record batch (message format version 2), from its base offset to its record count.
 fn read_header(cursor: &mut Cursor<'_>) -> Result<BatchHeader, Malformed> {
     let base_offset = cursor.read_i64()?;
     let batch_length = cursor.read_i32()?;
@@ -72,7 +74,8 @@ fn read_header(cursor: &mut Cursor<'_>) -> Result<BatchHeader, Malformed> {
     })
 }
 
-/// The attributes as a number, and a word for each one that is set.
+/// A batch's attributes as a number, and a word for each one that is set: transactional, control, log_append_time, its
+/// compression.
 fn attributes_text(alloc: Global, header: &BatchHeader) -> Result<String, AllocError> {
     let number = header.attributes;
     let mut text = format!(in alloc; "{number}")?;
@@ -94,6 +97,8 @@ fn attributes_text(alloc: Global, header: &BatchHeader) -> Result<String, AllocE
 
 /// The fields before the records, but those that only tell how the batch is read.
 impl Fields for BatchHeader {
+    /// Appends a batch header's fields. The lengths, the checksum and the like, which only tell how a batch is read, are left
+    /// out.
     fn push_fields(&self, sheet: &mut Sheet) -> Result<(), AllocError> {
         let attributes = attributes_text(sheet.alloc(), self)?;
         sheet.push("base_offset", self.base_offset)?;
@@ -108,7 +113,8 @@ impl Fields for BatchHeader {
     }
 }
 
-/// The type in the key of a control batch's only record.
+/// Reads the record of a control batch, and gives the type in its key: 0 for an abort, 1 for a commit. The fault says what is
+/// malformed, or that an allocation failed.
 fn read_marker(alloc: Global, cursor: &mut Cursor<'_>) -> Result<i16, ReadFault> {
     cursor.read_varint_count()?;
     cursor.read_i8()?;
@@ -125,7 +131,7 @@ fn read_marker(alloc: Global, cursor: &mut Cursor<'_>) -> Result<i16, ReadFault>
     Ok(key.read_i16()?)
 }
 
-/// How a transaction ended, as the type in a control record's key tells it.
+/// Appends the field `marker`: how a transaction ended, `abort` or `commit`, or the number of another type of control record.
 fn push_outcome(sheet: &mut Sheet, kind: i16) -> Result<(), AllocError> {
     match kind {
         0 => sheet.push("marker", "abort"),
@@ -134,7 +140,7 @@ fn push_outcome(sheet: &mut Sheet, kind: i16) -> Result<(), AllocError> {
     }
 }
 
-/// Bytes that no records are read from, and why.
+/// Appends a field `records` that says why so many bytes of records can't be read.
 fn push_unread<D: Display + Drop>(
     sheet: &mut Sheet,
     count: usize,
@@ -144,7 +150,7 @@ fn push_unread<D: Display + Drop>(
     sheet.push("records", text)
 }
 
-/// The record of a control batch.
+/// Appends the record of a control batch, the marker that ends a transaction, or why it can't be read.
 fn push_marker(
     sheet: &mut Sheet,
     header: &BatchHeader,
@@ -165,7 +171,7 @@ fn push_marker(
     Ok(())
 }
 
-/// The records of a batch that is none of control, or why there are none.
+/// Appends the records of a batch that is no control batch, or why the `count` bytes after its header can't be read.
 fn push_data(sheet: &mut Sheet, batch: &Bytes, count: usize) -> Result<(), AllocError> {
     match Batch::check(batch.clone()?, u32::MAX) {
         Ok(batch) => {
@@ -180,6 +186,7 @@ fn push_data(sheet: &mut Sheet, batch: &Bytes, count: usize) -> Result<(), Alloc
     }
 }
 
+/// Appends a record batch: the fields of its header, and its records.
 fn push_batch(sheet: &mut Sheet, batch: &Bytes) -> Result<(), AllocError> {
     let mut cursor = Cursor::over(batch);
     let Ok(header) = read_header(&mut cursor) else {
@@ -196,14 +203,14 @@ fn push_batch(sheet: &mut Sheet, batch: &Bytes) -> Result<(), AllocError> {
     }
 }
 
-/// Bytes that are no batch, and why.
+/// Appends a line that says why bytes are no record batch.
 fn push_no_batch(sheet: &mut Sheet, bytes: &Bytes, fault: BatchFault) -> Result<(), AllocError> {
     let count = bytes.len();
     let line = format!(in sheet.alloc(); "{count} bytes that are no batch: {fault}")?;
     sheet.push_line(line.as_str())
 }
 
-/// How many bytes the first batch has, if there are as many.
+/// How many bytes the first of these batches has by its length field; `None` where that is too small, or fewer bytes are left.
 fn first_length(bytes: &Bytes) -> Option<usize> {
     let mut cursor = Cursor::over(bytes);
     cursor.read_i64().ok()?;
@@ -215,7 +222,7 @@ fn first_length(bytes: &Bytes) -> Option<usize> {
     if end <= bytes.len() { Some(end) } else { None }
 }
 
-/// Cuts off the first batch.
+/// Cuts off the first batch; `None` where the bytes begin with none.
 fn split_first(bytes: &Bytes) -> Result<Option<FirstBatch>, AllocError> {
     let Some(end) = first_length(bytes) else {
         return Ok(None);
@@ -227,7 +234,7 @@ fn split_first(bytes: &Bytes) -> Result<Option<FirstBatch>, AllocError> {
     }))
 }
 
-/// An entry for the first batch, and what stands after it.
+/// Appends an entry for the first batch, and gives the bytes after it: none, if it isn't whole.
 fn push_first(sheet: &mut Sheet, bytes: &Bytes) -> Result<Bytes, AllocError> {
     sheet.begin_entry();
     let rest = match split_first(bytes)? {
@@ -244,7 +251,7 @@ fn push_first(sheet: &mut Sheet, bytes: &Bytes) -> Result<Bytes, AllocError> {
     Ok(rest)
 }
 
-/// The field `records`: an entry for each batch.
+/// Appends the field `records`: an entry for each record batch, with its records.
 pub(crate) fn push_records(sheet: &mut Sheet, records: &Bytes) -> Result<(), AllocError> {
     if records.is_empty() {
         return sheet.push("records", "[]");

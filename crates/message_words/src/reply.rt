@@ -6,6 +6,7 @@ use std::alloc::AllocError;
 
 /// A reply that isn't sent has none.
 impl Fields for Reply {
+    /// Appends the fields of the body that the reply has by its api.
     fn push_fields(&self, sheet: &mut Sheet) -> Result<(), AllocError> {
         match self {
             Reply::Produce(body) => body.push_fields(sheet),
@@ -36,7 +37,7 @@ impl Fields for Reply {
     }
 }
 
-/// Appends the fields of a reply's body.
+/// Appends the fields of a reply's body, by their names in the protocol guide. A reply that isn't sent has none.
 pub fn push_reply(sheet: &mut Sheet, reply: &Reply) -> Result<(), AllocError> {
     reply.push_fields(sheet)
 }

@@ -5,6 +5,7 @@ use msg_admin::{Header, Request};
 use std::alloc::AllocError;
 
 impl Fields for Request {
+    /// Appends the fields of the body that the request has by its api. ApiVersions has none.
     fn push_fields(&self, sheet: &mut Sheet) -> Result<(), AllocError> {
         match self {
             Request::Produce(body) => body.value().push_fields(sheet),
@@ -33,7 +34,7 @@ impl Fields for Request {
     }
 }
 
-/// Appends the fields of a request: its correlation id, the client's name, and those of its body.
+/// Appends the fields of a request: its correlation id, the client's id, and those of its body.
 pub fn push_request(
     sheet: &mut Sheet,
     header: &Header,

@@ -6,9 +6,9 @@ use std::fmt::Display;
 use std::str::from_utf8;
 use wire_types::{Bytes, ErrorCode, Items, Text};
 
-/// What has fields.
+/// A message, or a part of one, that can be shown field by field.
 pub(crate) trait Fields {
-    /// Appends each field, in the order of the wire.
+    /// Appends each field to the sheet, in the order of the wire, by its name in the protocol guide.
     fn push_fields(&self, sheet: &mut Sheet) -> Result<(), AllocError>;
 }
 
@@ -23,7 +23,7 @@ pub struct Sheet {
 }
 
 impl Sheet {
-    /// No line yet.
+    /// A sheet without a line.
     pub fn new(alloc: Global) -> Sheet {
         Sheet {
             alloc,
@@ -33,40 +33,41 @@ impl Sheet {
         }
     }
 
-    /// The lines.
+    /// The lines so far, each with its line end.
     pub fn as_str(&self) -> &str {
         self.text.as_str()
     }
 
-    /// What the lines are allocated by.
+    /// The allocator of the lines.
     pub fn alloc(&self) -> Global {
         self.alloc
     }
 
-    /// Forgets the lines.
+    /// Forgets the lines; what was begun stays begun.
     pub fn clear(&mut self) {
         self.text.clear();
     }
 
-    /// The lines that follow are an entry of a list, up to `end`.
+    /// Begins an entry of a list: the first line that follows gets a dash, and all are indented by a step more, up to `end`.
     pub(crate) fn begin_entry(&mut self) {
         self.depth = self.depth.saturating_add(1);
         self.is_entry = true;
     }
 
-    /// Appends a line below which the lines that follow stand, up to `end`.
+    /// Appends a line, and indents the lines that follow by a step more, up to `end`.
     pub fn begin(&mut self, line: &str) -> Result<(), AllocError> {
         self.push_line(line)?;
         self.depth = self.depth.saturating_add(1);
         Ok(())
     }
 
-    /// Ends what was begun last.
+    /// Ends what `begin` or `begin_entry` began last.
     pub fn end(&mut self) {
         self.depth = self.depth.saturating_sub(1);
         self.is_entry = false;
     }
 
+    /// Appends the blanks of so many steps of indentation, two for each.
     fn push_steps(&mut self, count: usize) -> Result<(), AllocError> {
         for _ in 0..count {
             self.text.push_str("  ")?;
@@ -74,7 +75,7 @@ impl Sheet {
         Ok(())
     }
 
-    /// What stands before a line: blanks, and `- ` at the first line of an entry.
+    /// Appends what stands before a line: its indentation, and `- ` at the first line of an entry.
     fn push_margin(&mut self) -> Result<(), AllocError> {
         let depth = self.depth;
         if self.is_entry {
@@ -85,7 +86,7 @@ impl Sheet {
         self.push_steps(depth)
     }
 
-    /// Appends a line.
+    /// Appends a line, indented as what was begun says.
     pub fn push_line(&mut self, line: &str) -> Result<(), AllocError> {
         self.push_margin()?;
         self.text.push_str(line)?;
@@ -97,13 +98,13 @@ impl Sheet {
         self.text.push_str("\n")
     }
 
-    /// Appends a field and its value.
+    /// Appends a line with a field's name and its value.
     pub fn push<D: Display + Drop>(&mut self, field: &str, value: D) -> Result<(), AllocError> {
         let line = format!(in self.alloc; "{field} {value}")?;
         self.push_line(line.as_str())
     }
 
-    /// A number, and what it stands for, if it stands for something.
+    /// Appends a field that is a number, and the name of what that stands for; the number alone where it has no name.
     pub fn push_coded<D: Display + Drop>(
         &mut self,
         field: &str,
@@ -117,17 +118,19 @@ impl Sheet {
         self.push_line(line.as_str())
     }
 
+    /// Appends an error code: its number and its name.
     pub(crate) fn push_error(&mut self, field: &str, error: ErrorCode) -> Result<(), AllocError> {
         self.push_coded(field, error.number(), Some(error_name(error)))
     }
 
-    /// A text in double quotes, with escapes.
+    /// Appends a text in double quotes, with escapes.
     pub(crate) fn push_text(&mut self, field: &str, value: &Text) -> Result<(), AllocError> {
         let text = value.as_str();
         let line = format!(in self.alloc; "{field} {text:?}")?;
         self.push_line(line.as_str())
     }
 
+    /// Appends a text in double quotes, or `null`.
     pub(crate) fn push_nullable(
         &mut self,
         field: &str,
@@ -139,7 +142,7 @@ impl Sheet {
         }
     }
 
-    /// Bytes as a text, or in hexadecimal digits where they are none that can be printed.
+    /// Appends bytes as a text in double quotes, or in hexadecimal digits where they are no text that can be printed.
     pub fn push_bytes(&mut self, field: &str, bytes: &[u8]) -> Result<(), AllocError> {
         match printable(bytes) {
             Some(text) => {
@@ -154,6 +157,7 @@ impl Sheet {
         }
     }
 
+    /// Appends bytes as `push_bytes` does, or `null`.
     pub(crate) fn push_nullable_bytes(
         &mut self,
         field: &str,
@@ -165,13 +169,13 @@ impl Sheet {
         }
     }
 
-    /// Numbers on one line.
+    /// Appends a list of numbers on one line.
     pub(crate) fn push_numbers(&mut self, field: &str, numbers: &[i32]) -> Result<(), AllocError> {
         let line = format!(in self.alloc; "{field} {numbers:?}")?;
         self.push_line(line.as_str())
     }
 
-    /// Texts on one line.
+    /// Appends a list of texts on one line.
     pub(crate) fn push_texts(&mut self, field: &str, texts: &[Text]) -> Result<(), AllocError> {
         let mut list = String::new(self.alloc);
         for text in texts {
@@ -183,7 +187,7 @@ impl Sheet {
         self.push_line(line.as_str())
     }
 
-    /// A list, an entry for each of its items.
+    /// Appends a list, with an entry for each of its items.
     pub(crate) fn push_list<T: Fields>(
         &mut self,
         field: &str,
@@ -202,6 +206,7 @@ impl Sheet {
         Ok(())
     }
 
+    /// Appends a list, with an entry for each of its items, or `null`.
     pub(crate) fn push_nullable_list<T: Fields>(
         &mut self,
         field: &str,
@@ -214,7 +219,7 @@ impl Sheet {
     }
 }
 
-/// Whether a text holds the byte only as an escape of several digits.
+/// Whether a byte is a control character for which a quoted text has no short escape: any but tab, line feed and carriage return.
 fn is_control(byte: u8) -> bool {
     match byte {
         b'\t' | b'\n' | b'\r' => false,
@@ -222,7 +227,7 @@ fn is_control(byte: u8) -> bool {
     }
 }
 
-/// The bytes as a text, if they are one that can be printed.
+/// The bytes as a text, if they are UTF-8 without control characters but tab, line feed and carriage return.
 fn printable(bytes: &[u8]) -> Option<&str> {
     if bytes.iter().any(|byte| is_control(*byte)) {
         return None;

@@ -21,7 +21,7 @@ impl TopicNames {
     };
 }
 
-/// A list of topics, and in each a list of its partitions.
+/// Appends a list of topics, and in each of them the list of its partitions with their fields.
 pub(crate) fn push_topics<P: Fields>(
     sheet: &mut Sheet,
     names: TopicNames,
@@ -41,7 +41,7 @@ pub(crate) fn push_topics<P: Fields>(
     Ok(())
 }
 
-/// A list of topics, and in each the numbers of its partitions.
+/// Appends a list of topics, and in each of them the numbers of its partitions.
 pub(crate) fn push_numbered_topics(
     sheet: &mut Sheet,
     names: TopicNames,

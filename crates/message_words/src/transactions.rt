@@ -13,6 +13,7 @@ use msg_txn::{
 use std::alloc::AllocError;
 
 impl Fields for FindCoordinatorRequest {
+    /// Appends the request: the group or the transactional id whose coordinator is asked for.
     fn push_fields(&self, sheet: &mut Sheet) -> Result<(), AllocError> {
         sheet.push_text("key", &self.key)?;
         sheet.push_coded("key_type", self.key_type, key_type_name(self.key_type))
@@ -20,6 +21,7 @@ impl Fields for FindCoordinatorRequest {
 }
 
 impl Fields for FindCoordinatorReply {
+    /// Appends the response: its error, and the broker that is the coordinator.
     fn push_fields(&self, sheet: &mut Sheet) -> Result<(), AllocError> {
         sheet.push("throttle_time_ms", self.throttle)?;
         sheet.push_error("error_code", self.error)?;
@@ -31,6 +33,7 @@ impl Fields for FindCoordinatorReply {
 }
 
 impl Fields for InitProducerIdRequest {
+    /// Appends the request: the transactional id, or `null`, and the timeout of its transactions.
     fn push_fields(&self, sheet: &mut Sheet) -> Result<(), AllocError> {
         sheet.push_nullable("transactional_id", &self.transactional_id)?;
         sheet.push("transaction_timeout_ms", self.timeout)
@@ -38,6 +41,7 @@ impl Fields for InitProducerIdRequest {
 }
 
 impl Fields for InitProducerIdReply {
+    /// Appends the response: its error, and the producer's id and epoch.
     fn push_fields(&self, sheet: &mut Sheet) -> Result<(), AllocError> {
         sheet.push("throttle_time_ms", self.throttle)?;
         sheet.push_error("error_code", self.error)?;
@@ -47,6 +51,7 @@ impl Fields for InitProducerIdReply {
 }
 
 impl Fields for AddPartitionsToTxnRequest {
+    /// Appends the request: the producer, and the partitions that its transaction takes in.
     fn push_fields(&self, sheet: &mut Sheet) -> Result<(), AllocError> {
         let names = TopicNames {
             list: "v3_and_below_topics",
@@ -60,6 +65,7 @@ impl Fields for AddPartitionsToTxnRequest {
 }
 
 impl Fields for AddedPartition {
+    /// Appends a partition of an AddPartitionsToTxn response: its error.
     fn push_fields(&self, sheet: &mut Sheet) -> Result<(), AllocError> {
         sheet.push("partition_index", self.index)?;
         sheet.push_error("partition_error_code", self.error)
@@ -67,6 +73,7 @@ impl Fields for AddedPartition {
 }
 
 impl Fields for AddPartitionsToTxnReply {
+    /// Appends the response: the result of each partition.
     fn push_fields(&self, sheet: &mut Sheet) -> Result<(), AllocError> {
         let names = TopicNames {
             list: "results_by_topic_v3_and_below",
@@ -79,6 +86,7 @@ impl Fields for AddPartitionsToTxnReply {
 }
 
 impl Fields for AddOffsetsToTxnRequest {
+    /// Appends the request: the producer, and the group whose offsets its transaction takes in.
     fn push_fields(&self, sheet: &mut Sheet) -> Result<(), AllocError> {
         sheet.push_text("transactional_id", &self.transactional_id)?;
         sheet.push("producer_id", self.producer)?;
@@ -88,6 +96,7 @@ impl Fields for AddOffsetsToTxnRequest {
 }
 
 impl Fields for AddOffsetsToTxnReply {
+    /// Appends the response: its error.
     fn push_fields(&self, sheet: &mut Sheet) -> Result<(), AllocError> {
         sheet.push("throttle_time_ms", self.throttle)?;
         sheet.push_error("error_code", self.error)
@@ -95,6 +104,7 @@ impl Fields for AddOffsetsToTxnReply {
 }
 
 impl Fields for EndTxnRequest {
+    /// Appends the request: the producer, and whether its transaction commits or aborts.
     fn push_fields(&self, sheet: &mut Sheet) -> Result<(), AllocError> {
         let asked = self.asked();
         sheet.push_text("transactional_id", &asked.transactional_id)?;
@@ -105,6 +115,7 @@ impl Fields for EndTxnRequest {
 }
 
 impl Fields for Ended {
+    /// Appends an EndTxn response of version 0 to 2: its error.
     fn push_fields(&self, sheet: &mut Sheet) -> Result<(), AllocError> {
         sheet.push("throttle_time_ms", self.throttle)?;
         sheet.push_error("error_code", self.error)
@@ -112,6 +123,7 @@ impl Fields for Ended {
 }
 
 impl Fields for FlexibleEnded {
+    /// Appends an EndTxn response of version 3 or 4: its error.
     fn push_fields(&self, sheet: &mut Sheet) -> Result<(), AllocError> {
         sheet.push("throttle_time_ms", self.throttle)?;
         sheet.push_error("error_code", self.error)
@@ -119,6 +131,7 @@ impl Fields for FlexibleEnded {
 }
 
 impl Fields for EndedWithPair {
+    /// Appends an EndTxn response of version 5: its error, and the producer's id and epoch to go on with (KIP-890).
     fn push_fields(&self, sheet: &mut Sheet) -> Result<(), AllocError> {
         sheet.push("throttle_time_ms", self.throttle)?;
         sheet.push_error("error_code", self.error)?;
@@ -128,6 +141,7 @@ impl Fields for EndedWithPair {
 }
 
 impl Fields for EndTxnReply {
+    /// Appends the response, in the form of its version.
     fn push_fields(&self, sheet: &mut Sheet) -> Result<(), AllocError> {
         match self {
             EndTxnReply::Version0(body) => body.push_fields(sheet),
@@ -141,6 +155,7 @@ impl Fields for EndTxnReply {
 }
 
 impl Fields for OffsetToStage {
+    /// Appends a partition of a TxnOffsetCommit request, and the offset that is committed with the transaction.
     fn push_fields(&self, sheet: &mut Sheet) -> Result<(), AllocError> {
         sheet.push("partition_index", self.index)?;
         sheet.push("committed_offset", self.offset)?;
@@ -150,6 +165,7 @@ impl Fields for OffsetToStage {
 }
 
 impl Fields for TxnOffsetCommitRequest {
+    /// Appends the request: the producer, the group and its member, and the offset for each partition.
     fn push_fields(&self, sheet: &mut Sheet) -> Result<(), AllocError> {
         sheet.push_text("transactional_id", &self.transactional_id)?;
         sheet.push_text("group_id", &self.group)?;
@@ -163,6 +179,7 @@ impl Fields for TxnOffsetCommitRequest {
 }
 
 impl Fields for StagedOffset {
+    /// Appends a partition of a TxnOffsetCommit response: its error.
     fn push_fields(&self, sheet: &mut Sheet) -> Result<(), AllocError> {
         sheet.push("partition_index", self.index)?;
         sheet.push_error("error_code", self.error)
@@ -170,6 +187,7 @@ impl Fields for StagedOffset {
 }
 
 impl Fields for TxnOffsetCommitReply {
+    /// Appends the response: the result of each partition.
     fn push_fields(&self, sheet: &mut Sheet) -> Result<(), AllocError> {
         sheet.push("throttle_time_ms", self.throttle)?;
         push_topics(sheet, TopicNames::USUAL, self.topics.as_slice())

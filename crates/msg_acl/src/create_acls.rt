@@ -3,24 +3,24 @@
 use crate::entries::BindingEntry;
 use std::alloc::Global;
 use wire_types::{
-    Cursor, ErrorCode, Items, ReadFault, Text, Wire, WriteFault, array_room, nullable_room,
-    read_array, room_after, write_array, write_i32, write_nullable,
+    Cursor, ErrorCode, Items, ReadFault, Text, Wire, WriteFault, deduct, deduct_array,
+    deduct_nullable, read_array, write_array, write_i32, write_nullable,
 };
 
-/// Asks for bindings to be created.
+/// Asks for bindings (ACLs) to be created.
 #[derive(Drop, PartialEq, Eq)]
 pub struct CreateAclsRequest {
     pub creations: Items<BindingEntry>,
 }
 
-/// What came of one of them.
+/// What became of one binding of the request: error code 0 where it was created, else the error with its message.
 #[derive(Drop, PartialEq, Eq)]
 pub struct CreatedAcl {
     pub error: ErrorCode,
     pub message: Option<Text>,
 }
 
-/// What came of each, in the order of the request.
+/// What became of each binding, in the order of the request.
 #[derive(Drop, PartialEq, Eq)]
 pub struct CreateAclsReply {
     pub throttle: i32,
@@ -42,8 +42,8 @@ impl Wire for CreateAclsRequest {
         Ok(())
     }
 
-    fn room_left(&self, room: usize) -> Option<usize> {
-        array_room(&self.creations, room)
+    fn deduct_from(&self, budget: usize) -> Option<usize> {
+        deduct_array(&self.creations, budget)
     }
 }
 
@@ -64,9 +64,9 @@ impl Wire for CreatedAcl {
         Ok(())
     }
 
-    fn room_left(&self, room: usize) -> Option<usize> {
-        let room = self.error.room_left(room)?;
-        nullable_room(&self.message, room)
+    fn deduct_from(&self, budget: usize) -> Option<usize> {
+        let budget = self.error.deduct_from(budget)?;
+        deduct_nullable(&self.message, budget)
     }
 }
 
@@ -87,8 +87,8 @@ impl Wire for CreateAclsReply {
         Ok(())
     }
 
-    fn room_left(&self, room: usize) -> Option<usize> {
-        let room = room_after(4, room)?;
-        array_room(&self.results, room)
+    fn deduct_from(&self, budget: usize) -> Option<usize> {
+        let budget = deduct(4, budget)?;
+        deduct_array(&self.results, budget)
     }
 }

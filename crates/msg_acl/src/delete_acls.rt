@@ -3,17 +3,17 @@
 use crate::entries::{BindingEntry, FilterEntry};
 use std::alloc::Global;
 use wire_types::{
-    Cursor, ErrorCode, Items, ReadFault, Text, Wire, WriteFault, array_room, nullable_room,
-    read_array, room_after, write_array, write_i32, write_nullable,
+    Cursor, ErrorCode, Items, ReadFault, Text, Wire, WriteFault, deduct, deduct_array,
+    deduct_nullable, read_array, write_array, write_i32, write_nullable,
 };
 
-/// Asks for the bindings that the filters pick to be deleted.
+/// Asks for all bindings (ACLs) that match one of the filters to be deleted.
 #[derive(Drop, PartialEq, Eq)]
 pub struct DeleteAclsRequest {
     pub filters: Items<FilterEntry>,
 }
 
-/// A binding that was deleted.
+/// A binding that matched the filter: error code 0 where it was deleted, else the error with its message.
 #[derive(Drop, PartialEq, Eq)]
 pub struct DeletedAcl {
     pub error: ErrorCode,
@@ -21,7 +21,7 @@ pub struct DeletedAcl {
     pub binding: BindingEntry,
 }
 
-/// What came of one filter.
+/// What became of one filter: an error with its message, or the bindings that it matched and that were deleted.
 #[derive(Drop, PartialEq, Eq)]
 pub struct DeletedAcls {
     pub error: ErrorCode,
@@ -29,7 +29,7 @@ pub struct DeletedAcls {
     pub matches: Items<DeletedAcl>,
 }
 
-/// What came of each filter, in the order of the request.
+/// What became of each filter, in the order of the request.
 #[derive(Drop, PartialEq, Eq)]
 pub struct DeleteAclsReply {
     pub throttle: i32,
@@ -51,8 +51,8 @@ impl Wire for DeleteAclsRequest {
         Ok(())
     }
 
-    fn room_left(&self, room: usize) -> Option<usize> {
-        array_room(&self.filters, room)
+    fn deduct_from(&self, budget: usize) -> Option<usize> {
+        deduct_array(&self.filters, budget)
     }
 }
 
@@ -79,10 +79,10 @@ impl Wire for DeletedAcl {
         Ok(())
     }
 
-    fn room_left(&self, room: usize) -> Option<usize> {
-        let room = self.error.room_left(room)?;
-        let room = nullable_room(&self.message, room)?;
-        self.binding.room_left(room)
+    fn deduct_from(&self, budget: usize) -> Option<usize> {
+        let budget = self.error.deduct_from(budget)?;
+        let budget = deduct_nullable(&self.message, budget)?;
+        self.binding.deduct_from(budget)
     }
 }
 
@@ -109,10 +109,10 @@ impl Wire for DeletedAcls {
         Ok(())
     }
 
-    fn room_left(&self, room: usize) -> Option<usize> {
-        let room = self.error.room_left(room)?;
-        let room = nullable_room(&self.message, room)?;
-        array_room(&self.matches, room)
+    fn deduct_from(&self, budget: usize) -> Option<usize> {
+        let budget = self.error.deduct_from(budget)?;
+        let budget = deduct_nullable(&self.message, budget)?;
+        deduct_array(&self.matches, budget)
     }
 }
 
@@ -133,8 +133,8 @@ impl Wire for DeleteAclsReply {
         Ok(())
     }
 
-    fn room_left(&self, room: usize) -> Option<usize> {
-        let room = room_after(4, room)?;
-        array_room(&self.results, room)
+    fn deduct_from(&self, budget: usize) -> Option<usize> {
+        let budget = deduct(4, budget)?;
+        deduct_array(&self.results, budget)
     }
 }

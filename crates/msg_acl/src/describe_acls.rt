@@ -3,18 +3,19 @@
 use crate::entries::FilterEntry;
 use std::alloc::Global;
 use wire_types::{
-    Cursor, ErrorCode, Items, ReadFault, Text, Wire, WriteFault, array_room, nullable_room,
-    read_array, room_after, string_room, write_array, write_i8, write_i32, write_nullable,
+    Cursor, ErrorCode, Items, ReadFault, Text, Wire, WriteFault, deduct, deduct_array,
+    deduct_nullable, deduct_string, read_array, write_array, write_i8, write_i32, write_nullable,
     write_string,
 };
 
-/// Asks for the bindings that a filter picks.
+/// Asks for the bindings (ACLs) that match a filter.
 #[derive(Drop, PartialEq, Eq)]
 pub struct DescribeAclsRequest {
     pub filter: FilterEntry,
 }
 
-/// A binding of a resource.
+/// A binding in the list of its resource: who may or may not do what, from which host. Operation and permission are the
+/// protocol's numbers.
 #[derive(Drop, PartialEq, Eq)]
 pub struct DescribedAcl {
     pub principal: Text,
@@ -23,7 +24,7 @@ pub struct DescribedAcl {
     pub permission: i8,
 }
 
-/// A resource, and its bindings.
+/// A resource pattern (kind, name and pattern type, by the protocol's numbers) with its bindings.
 #[derive(Drop, PartialEq, Eq)]
 pub struct DescribedResource {
     pub kind: i8,
@@ -32,7 +33,7 @@ pub struct DescribedResource {
     pub acls: Items<DescribedAcl>,
 }
 
-/// The bindings that were picked, by resource.
+/// The bindings that match the filter, by resource pattern; or an error with its message.
 #[derive(Drop, PartialEq, Eq)]
 pub struct DescribeAclsReply {
     pub throttle: i32,
@@ -56,8 +57,8 @@ impl Wire for DescribeAclsRequest {
         Ok(())
     }
 
-    fn room_left(&self, room: usize) -> Option<usize> {
-        self.filter.room_left(room)
+    fn deduct_from(&self, budget: usize) -> Option<usize> {
+        self.filter.deduct_from(budget)
     }
 }
 
@@ -87,11 +88,11 @@ impl Wire for DescribedAcl {
         Ok(())
     }
 
-    fn room_left(&self, room: usize) -> Option<usize> {
-        let room = string_room(&self.principal, room)?;
-        let room = string_room(&self.host, room)?;
-        let room = room_after(1, room)?;
-        room_after(1, room)
+    fn deduct_from(&self, budget: usize) -> Option<usize> {
+        let budget = deduct_string(&self.principal, budget)?;
+        let budget = deduct_string(&self.host, budget)?;
+        let budget = deduct(1, budget)?;
+        deduct(1, budget)
     }
 }
 
@@ -121,11 +122,11 @@ impl Wire for DescribedResource {
         Ok(())
     }
 
-    fn room_left(&self, room: usize) -> Option<usize> {
-        let room = room_after(1, room)?;
-        let room = string_room(&self.name, room)?;
-        let room = room_after(1, room)?;
-        array_room(&self.acls, room)
+    fn deduct_from(&self, budget: usize) -> Option<usize> {
+        let budget = deduct(1, budget)?;
+        let budget = deduct_string(&self.name, budget)?;
+        let budget = deduct(1, budget)?;
+        deduct_array(&self.acls, budget)
     }
 }
 
@@ -155,10 +156,10 @@ impl Wire for DescribeAclsReply {
         Ok(())
     }
 
-    fn room_left(&self, room: usize) -> Option<usize> {
-        let room = room_after(4, room)?;
-        let room = self.error.room_left(room)?;
-        let room = nullable_room(&self.message, room)?;
-        array_room(&self.resources, room)
+    fn deduct_from(&self, budget: usize) -> Option<usize> {
+        let budget = deduct(4, budget)?;
+        let budget = self.error.deduct_from(budget)?;
+        let budget = deduct_nullable(&self.message, budget)?;
+        deduct_array(&self.resources, budget)
     }
 }

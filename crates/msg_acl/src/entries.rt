@@ -2,11 +2,11 @@
 
 use std::alloc::Global;
 use wire_types::{
-    Cursor, ReadFault, Text, Wire, WriteFault, nullable_room, room_after, string_room, write_i8,
+    Cursor, ReadFault, Text, Wire, WriteFault, deduct, deduct_nullable, deduct_string, write_i8,
     write_nullable, write_string,
 };
 
-/// A binding as it stands in a message, before its words are looked at.
+/// A binding (ACL) as it stands in a message: the words are still the protocol's numbers, of which some may be unknown.
 #[derive(Clone, Drop, PartialEq, Eq)]
 pub struct BindingEntry {
     pub kind: i8,
@@ -18,7 +18,7 @@ pub struct BindingEntry {
     pub permission: i8,
 }
 
-/// A filter as it stands in a message. A null text stands for any.
+/// A filter of bindings as it stands in a message: the words are still the protocol's numbers. A null text matches any.
 #[derive(Drop, PartialEq, Eq)]
 pub struct FilterEntry {
     pub kind: i8,
@@ -65,14 +65,14 @@ impl Wire for BindingEntry {
         Ok(())
     }
 
-    fn room_left(&self, room: usize) -> Option<usize> {
-        let room = room_after(1, room)?;
-        let room = string_room(&self.name, room)?;
-        let room = room_after(1, room)?;
-        let room = string_room(&self.principal, room)?;
-        let room = string_room(&self.host, room)?;
-        let room = room_after(1, room)?;
-        room_after(1, room)
+    fn deduct_from(&self, budget: usize) -> Option<usize> {
+        let budget = deduct(1, budget)?;
+        let budget = deduct_string(&self.name, budget)?;
+        let budget = deduct(1, budget)?;
+        let budget = deduct_string(&self.principal, budget)?;
+        let budget = deduct_string(&self.host, budget)?;
+        let budget = deduct(1, budget)?;
+        deduct(1, budget)
     }
 }
 
@@ -111,13 +111,13 @@ impl Wire for FilterEntry {
         Ok(())
     }
 
-    fn room_left(&self, room: usize) -> Option<usize> {
-        let room = room_after(1, room)?;
-        let room = nullable_room(&self.name, room)?;
-        let room = room_after(1, room)?;
-        let room = nullable_room(&self.principal, room)?;
-        let room = nullable_room(&self.host, room)?;
-        let room = room_after(1, room)?;
-        room_after(1, room)
+    fn deduct_from(&self, budget: usize) -> Option<usize> {
+        let budget = deduct(1, budget)?;
+        let budget = deduct_nullable(&self.name, budget)?;
+        let budget = deduct(1, budget)?;
+        let budget = deduct_nullable(&self.principal, budget)?;
+        let budget = deduct_nullable(&self.host, budget)?;
+        let budget = deduct(1, budget)?;
+        deduct(1, budget)
     }
 }

@@ -1,4 +1,4 @@
--- The size of what is written, told by the room that it leaves.
+-- The size of what is written, told by what it leaves of a budget.
 use Rattle.std.proofs.Common.{◌≡◌, ℕ, pos, ◌-◌, ◌≤◌, ◌^◌, Bool, true, false, ◌&&◌, ltb, leb, List, ◌++◌, length, Option, Some, None, Result, Ok, Err, refl, sym, ap, subst, ◌∙◌, arith, inl, inr}
 use Rattle.std.proofs.lemmas.Bool.{lt-ltb, le-ltb, le-leb, lt-leb, cases_lt}
 use Rattle.std.specs.Result.{IsErrAnd}
@@ -6,24 +6,24 @@ use Rattle.std.specs.Prelude.{IsSome, ◌↔◌}
 use Rattle.wire_types.specs.declared.fault.WriteFault.{WriteFault}
 use Rattle.wire_types.specs.declared.fault.WriteFault.TheVariants as faults
 use Rattle.wire_types.specs.Grammar.{Grammar, Body}
-use Rattle.wire_types.specs.Spelling.{room_left}
+use Rattle.wire_types.specs.Spelling.{left_after}
 use Rattle.wire_types.specs.Writing.{Writes}
 use Rattle.wire_types.specs.Combinators.{◌⨟◌}
 use Rattle.wire_types.specs.Schema.{int32}
 use Rattle.msg_admin.specs.Frame.{frame_bytes, frame_fits, GivesFrame, TellsSize}
 
-some_where : (fits : Bool) (n room : ℕ) → IsSome (room_left fits n room) ↔ ((fits ≡ true) × (n ≤ room))
-unfolding room_left
-some_where false n room = (λ some. absurd cc, λ h. absurd cc)
-some_where true n room =
-    elim (cases_lt room n) [
-      | inl long ↦ let f : leb n room ≡ false = lt-leb n room long in rw f (λ some. absurd cc, λ h. absurd (omega (arith, h.1)))
-      | inr short ↦ let t : leb n room ≡ true = le-leb n room short in rw t (λ some. (refl, short), λ h. refl)
+some_where : (fits : Bool) (n budget : ℕ) → IsSome (left_after fits n budget) ↔ ((fits ≡ true) × (n ≤ budget))
+unfolding left_after
+some_where false n budget = (λ some. absurd cc, λ h. absurd cc)
+some_where true n budget =
+    elim (cases_lt budget n) [
+      | inl long ↦ let f : leb n budget ≡ false = lt-leb n budget long in rw f (λ some. absurd cc, λ h. absurd (omega (arith, h.1)))
+      | inr short ↦ let t : leb n budget ≡ true = le-leb n budget short in rw t (λ some. (refl, short), λ h. refl)
     ]
 
--- what a body leaves of a room tells whether it fits there
-pub room_told : {A : Type 0} (g : Body A) (x : A) (limit : ℕ) (o : Option ℕ) → o ≡ g.left x limit → IsSome o ↔ ((g.fits x ≡ true) × (length (g.written x) ≤ limit))
-room_told g x limit o e = subst (λ (r : Option ℕ). IsSome r ↔ ((g.fits x ≡ true) × (length (g.written x) ≤ limit))) (sym (e ∙ g.lefts x limit)) (some_where (g.fits x) (length (g.written x)) limit)
+-- what a body leaves of a budget tells whether it fits there
+pub fits_where_left : {A : Type 0} (g : Body A) (x : A) (limit : ℕ) (o : Option ℕ) → o ≡ g.left x limit → IsSome o ↔ ((g.fits x ≡ true) × (length (g.written x) ≤ limit))
+fits_where_left g x limit o e = subst (λ (r : Option ℕ). IsSome r ↔ ((g.fits x ≡ true) × (length (g.written x) ≤ limit))) (sym (e ∙ g.lefts x limit)) (some_where (g.fits x) (length (g.written x)) limit)
 
 abbrev greatest : ℕ
 greatest = 2147483647
@@ -42,10 +42,10 @@ never : (a b c : Bool) → b ≡ false → ((a && b) && c) ≡ false
 never true b c e = rw e refl
 never false b c e = refl
 
-some_room : (fits : Bool) (n left : ℕ) → Some left ≡ room_left fits n greatest → ((fits && ltb n (2 ^ 31)) ≡ true) × (n ≤ greatest) × (left ≡ greatest - n)
-unfolding room_left
-some_room false n left e = absurd cc
-some_room true n left e =
+some_left : (fits : Bool) (n left : ℕ) → Some left ≡ left_after fits n greatest → ((fits && ltb n (2 ^ 31)) ≡ true) × (n ≤ greatest) × (left ≡ greatest - n)
+unfolding left_after
+some_left false n left e = absurd cc
+some_left true n left e =
     elim (cases_lt greatest n) [
       | inl long ↦ let f : leb n greatest ≡ false = lt-leb n greatest long in absurd (no_some left (e ∙ rw f refl))
       | inr short ↦
@@ -54,27 +54,27 @@ some_room true n left e =
           (below, short, same_some left (greatest - n) (e ∙ rw t refl))
     ]
 
-no_room : (fits : Bool) (n : ℕ) → None ≡ room_left fits n greatest → (fits && ltb n (2 ^ 31)) ≡ false
-unfolding room_left
-no_room false n e = refl
-no_room true n e =
+none_left : (fits : Bool) (n : ℕ) → None ≡ left_after fits n greatest → (fits && ltb n (2 ^ 31)) ≡ false
+unfolding left_after
+none_left false n e = refl
+none_left true n e =
     elim (cases_lt greatest n) [
       | inl long ↦ le-ltb n (2 ^ 31) (omega arith)
       | inr short ↦ let t : leb n greatest ≡ true = le-leb n greatest short in absurd (no_some (greatest - n) (sym (e ∙ rw t refl)))
     ]
 
 pub left_bounded : {A : Type 0} (g : Grammar A) (x : A) (left : ℕ) → Some left ≡ g.left x greatest → left ≤ greatest
-left_bounded g x left e = let p = some_room (g.fits x) (length (g.written x)) left (e ∙ g.lefts x greatest) in omega (arith, p.2)
+left_bounded g x left e = let p = some_left (g.fits x) (length (g.written x)) left (e ∙ g.lefts x greatest) in omega (arith, p.2)
 
 pub tells_some : {A : Type 0} (g : Grammar A) (x : A) (left : ℕ) → Some left ≡ g.left x greatest → TellsSize g x (Some (greatest - left))
 unfolding frame_fits
 tells_some g x left e =
-    let p = some_room (g.fits x) (length (g.written x)) left (e ∙ g.lefts x greatest) in
+    let p = some_left (g.fits x) (length (g.written x)) left (e ∙ g.lefts x greatest) in
     (p.0, omega (arith, p.1, p.2), omega arith)
 
 pub tells_none : {A : Type 0} (g : Grammar A) (x : A) → None ≡ g.left x greatest → frame_fits g x ≡ false
 unfolding frame_fits
-tells_none g x e = no_room (g.fits x) (length (g.written x)) (e ∙ g.lefts x greatest)
+tells_none g x e = none_left (g.fits x) (length (g.written x)) (e ∙ g.lefts x greatest)
 
 -- what can not be written is too long
 refused : (fits both : Bool) (e : WriteFault) (whole new : List ℕ) → (fits ≡ false → both ≡ false) → Writes {T = Unit {0}} fits whole (Err e) new → Refuses both e

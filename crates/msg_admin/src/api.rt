@@ -28,7 +28,7 @@ impl Model for Api {
 }
 
 impl Api {
-    /// The api that is served under a number in a version, if one is.
+    /// The api with this key on the wire, in this version. `None` if it isn't served, or not in this version.
     #[tactic(auto, unfolding(crate::specs::Api::api_at))]
     pub fn of(number: i16, version: i16) -> Option<Api>
         ensures { result ≡ api_at number version }
@@ -39,7 +39,7 @@ impl Api {
         }
     }
 
-    /// An api in a version, if it is served in that.
+    /// The api in this version, `None` if it isn't served in it.
     pub fn in_version(key: ApiKey, version: i16) -> Option<Api>
         ensures { result ≡ api_if_served key version }
     {
@@ -50,7 +50,7 @@ impl Api {
         }
     }
 
-    /// An api in the last version that is served.
+    /// The api in the last version that is served.
     pub fn in_last_version(key: ApiKey) -> Api
         ensures { result ≡ in_last_version key }
     {
@@ -60,14 +60,14 @@ impl Api {
         }
     }
 
-    /// Which api it is.
+    /// Which api it is, whatever the version.
     pub fn key(self) -> ApiKey
         ensures { result ≡ self.key }
     {
         self.key
     }
 
-    /// The version.
+    /// The version, which is one that is served.
     pub fn version(self) -> i16
         ensures value { result ≡ self.version }
         ensures served { is_served self.key result ≡ true }
@@ -75,7 +75,7 @@ impl Api {
         self.version
     }
 
-    /// Whether the version is a flexible one, whose headers end in a tagged section.
+    /// Whether the version is flexible (KIP-482): its headers end with tagged fields.
     #[tactic(auto, unfolding(crate::specs::Api::is_flexible))]
     pub fn is_flexible(self) -> bool
         ensures { result ≡ is_flexible self }

@@ -44,6 +44,7 @@ pub struct ServedApi {
     pub flexible_from: Option<i16>,
 }
 
+/// A row of the table of served apis.
 fn row(number: i16, first: i16, last: i16, flexible_from: Option<i16>) -> ServedApi
     ensures { result ≡ row number first last flexible_from }
 {
@@ -82,7 +83,8 @@ impl ApiKey {
         ApiKey::SaslAuthenticate,
     ];
 
-    /// The table: number, first and last version, and the first flexible one.
+    /// The api's row in the table: its key on the wire, the first and last version that are served, and the first flexible
+    /// one.
     pub fn served(self) -> ServedApi
         ensures { result ≡ served_api self }
     {
@@ -112,14 +114,14 @@ impl ApiKey {
         }
     }
 
-    /// The number under which a request names the api.
+    /// The api's key on the wire.
     pub fn number(self) -> i16
         ensures { result ≡ number_of self }
     {
         self.served().number
     }
 
-    /// Whether the api is served in a version.
+    /// Whether the api is served in this version.
     pub fn serves(self, version: i16) -> bool
         ensures { result ≡ is_served self version }
     {
@@ -127,7 +129,7 @@ impl ApiKey {
         served.first <= version && version <= served.last
     }
 
-    /// The api of a number, if it is served in some version.
+    /// The api with this key on the wire, `None` if none is served.
     #[tactic(auto, unfolding(crate::specs::ApiKey::key_at, crate::specs::ApiKey::all_keys))]
     pub fn of(number: i16) -> Option<ApiKey>
         ensures { result ≡ key_at number }
@@ -136,6 +138,7 @@ impl ApiKey {
     }
 }
 
+/// The first of these apis that has this key on the wire.
 fn first_numbered(keys: &[ApiKey], number: i16) -> Option<ApiKey>
     ensures { result ≡ find (λ key. int_eq (number_of key) number) keys.now }
 {

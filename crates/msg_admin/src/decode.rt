@@ -25,6 +25,8 @@ pub enum Frame {
     Malformed(Malformed),
 }
 
+/// Tells what a frame is: ApiVersions in a version that isn't served, a served request, or malformed bytes. `decode_frame`
+/// is its public form.
 fn decode(alloc: Global, frame: &Bytes) -> Result<Frame, AllocError>
     ensures exact { IfOk result (λ f. f ≡ frame_at frame.now) }
     ensures fits { IfOk result (FitsWithin (length frame.now)) }
@@ -39,7 +41,8 @@ fn decode(alloc: Global, frame: &Bytes) -> Result<Frame, AllocError>
     }
 }
 
-/// Takes a frame apart, which is given without its size field. Blobs of a request share the frame's bytes.
+/// Decodes a frame, given without its size field: a served request with its header, ApiVersions in a version that isn't
+/// served, or malformed bytes. Byte fields of the request share the frame's bytes. An `AllocError` is an allocation failure.
 pub fn decode_frame(alloc: Global, frame: &Bytes) -> Result<Frame, AllocError>
     ensures exact { IfOk result (λ f. f ≡ frame_at frame.now) }
     // A request is read as one.

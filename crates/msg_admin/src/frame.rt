@@ -5,14 +5,15 @@ ghost use Rattle.wire_types.specs.Combinators.{◌⨟◌};
 ghost use Rattle.msg_admin.specs.Header.{with_header_tags};
 ghost use Rattle.msg_admin.specs.Frame.{GivesFrame, TellsSize};
 
-use crate::header::{header_room, write_header};
+use crate::header::{deduct_header, write_header};
 use std::alloc::Global;
 use wire_types::{Bytes, Wire, WriteFault, write_i32};
 
-/// The greatest size that a frame's size field can tell.
+/// The greatest size that a frame's size field can tell: 2^31 - 1.
 const GREATEST: usize = 2_147_483_647;
 
-/// The size of a header and a body, and the two.
+/// The frame of a header and a body, with its size field before them. `TooLong` if a part of it or the whole is longer than
+/// its size field can tell; `NoMemory` on an allocation failure.
 pub(crate) fn write_frame<H: Wire, B: Wire>(
     alloc: Global,
     flexible: bool,
@@ -32,32 +33,34 @@ pub(crate) fn write_frame<H: Wire, B: Wire>(
     Ok(Bytes::from_vec(out)?)
 }
 
-/// What the size field tells of a header and a body, if it can.
+/// How many bytes a header and a body have, which is what the frame's size field tells. `None` if they have no frame, since
+/// they are too long.
 fn frame_size<H: Wire, B: Wire>(flexible: bool, header: &H, body: &B) -> Option<usize>
     ensures { TellsSize (with_header_tags flexible H.grammar ⨟ B.grammar) (header.now, body.now)
         result }
 {
-    match room_after_both(flexible, header, body, GREATEST) {
+    match deduct_both(flexible, header, body, GREATEST) {
         Some(left) => Some(GREATEST - left),
         None => None,
     }
 }
 
-/// What a header and a body leave of a room.
-fn room_after_both<H: Wire, B: Wire>(
+/// How many of `budget` bytes a header and a body leave, `None` if these bytes don't suffice.
+fn deduct_both<H: Wire, B: Wire>(
     flexible: bool,
     header: &H,
     body: &B,
-    room: usize,
+    budget: usize,
 ) -> Option<usize>
     ensures { result ≡ (with_header_tags flexible H.grammar ⨟ B.grammar).left (header.now, body.now)
-        room }
+        budget }
 {
-    let room = header_room(flexible, header, room)?;
-    body.room_left(room)
+    let budget = deduct_header(flexible, header, budget)?;
+    body.deduct_from(budget)
 }
 
-/// The size of a header alone, and the header: a request whose body is empty.
+/// The frame of a header alone, for a request whose body is empty, with its size field before it. `TooLong` if the client id
+/// is too long; `NoMemory` on an allocation failure.
 pub(crate) fn write_header_frame<H: Wire>(
     alloc: Global,
     flexible: bool,
@@ -74,12 +77,13 @@ pub(crate) fn write_header_frame<H: Wire>(
     Ok(Bytes::from_vec(out)?)
 }
 
-/// What the size field tells of a header alone, if it can.
+/// How many bytes a header has, which is what the size field of a frame with an empty body tells. `None` if the header is
+/// too long for a frame.
 fn header_size<H: Wire>(flexible: bool, header: &H) -> Option<usize>
     ensures { TellsSize (with_header_tags flexible H.grammar) header.now result }
 {
-    match header_room(flexible, header, GREATEST) {
-        Some(room) => Some(GREATEST - room),
+    match deduct_header(flexible, header, GREATEST) {
+        Some(budget) => Some(GREATEST - budget),
         None => None,
     }
 }

@@ -8,11 +8,11 @@ ghost use Rattle.msg_admin.specs.Header.{with_header_tags, sender, least_header}
 use crate::api::Api;
 use std::alloc::Global;
 use wire_types::{
-    Cursor, ReadFault, Text, Wire, WriteFault, nullable_room, room_after, write_i16, write_i32,
+    Cursor, ReadFault, Text, Wire, WriteFault, deduct, deduct_nullable, write_i16, write_i32,
     write_no_tags, write_nullable,
 };
 
-/// A request's api, the number that its answer carries again, and the name that the client goes by.
+/// A request's header: api key and version, the correlation id that the response carries again, and the client id.
 #[derive(Drop, PartialEq, Eq)]
 pub struct Header {
     pub key: i16,
@@ -25,7 +25,7 @@ impl Header {
     ghost use Rattle.msg_admin.specs.ApiKey.{number_of};
     ghost use Rattle.msg_admin.specs.Api.{api_at};
 
-    /// The header of a request to an api.
+    /// The header of a request to this api in its version.
     pub fn new(api: Api, correlation: i32, client: Option<Text>) -> Header
         ensures fields { result ≡ record {
           key = number_of api.key;
@@ -70,22 +70,23 @@ impl Wire for Header {
         Ok(())
     }
 
-    fn room_left(&self, room: usize) -> Option<usize> {
-        let room = room_after(2, room)?;
-        let room = room_after(2, room)?;
-        let room = room_after(4, room)?;
-        nullable_room(&self.client, room)
+    fn deduct_from(&self, budget: usize) -> Option<usize> {
+        let budget = deduct(2, budget)?;
+        let budget = deduct(2, budget)?;
+        let budget = deduct(4, budget)?;
+        deduct_nullable(&self.client, budget)
     }
 }
 
-/// The bytes of a request's header whose client is null.
+/// How many bytes a request's header has where the client id is null: one more where the version is flexible.
 pub(crate) fn least_header(flexible: bool) -> usize
     ensures { result ≡ least_header flexible }
 {
     if flexible { 11 } else { 10 }
 }
 
-/// What stands after key and version: the correlation id and the client.
+/// Reads the rest of a request's header, after key and version: the correlation id and the nullable client id. Tagged fields
+/// of a flexible header are skipped.
 pub(crate) fn read_sender(
     alloc: Global,
     flexible: bool,
@@ -101,7 +102,7 @@ pub(crate) fn read_sender(
     Ok((correlation, client))
 }
 
-/// Puts a header after what is there.
+/// Appends a header of a request or of a response. Where the version is flexible, an empty list of tagged fields ends it.
 pub(crate) fn write_header<H: Wire>(
     out: &mut Vec<u8>,
     flexible: bool,
@@ -117,14 +118,15 @@ pub(crate) fn write_header<H: Wire>(
     Ok(())
 }
 
-/// What a header leaves of a room.
-pub(crate) fn header_room<H: Wire>(flexible: bool, header: &H, room: usize) -> Option<usize>
-    ensures { result ≡ (with_header_tags flexible H.grammar).left header.now room }
+/// How many of `budget` bytes a header leaves, with its empty tagged fields where the version is flexible. `None` if these
+/// bytes don't suffice.
+pub(crate) fn deduct_header<H: Wire>(flexible: bool, header: &H, budget: usize) -> Option<usize>
+    ensures { result ≡ (with_header_tags flexible H.grammar).left header.now budget }
 {
-    let room = header.room_left(room)?;
+    let budget = header.deduct_from(budget)?;
     if flexible {
-        room_after(1, room)
+        deduct(1, budget)
     } else {
-        Some(room)
+        Some(budget)
     }
 }

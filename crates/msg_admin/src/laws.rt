@@ -2,47 +2,47 @@
 
 ghost use Rattle.msg_admin.specs.Laws.{OneRequest, FoundIsRequest, WrittenIsRead, SpellsFitting, FitsIsWritable, OneReply, OneResponse, WrittenReplyIsRead, SendableIsShort};
 
-/// Bytes are one request at most.
+/// A frame's bytes are at most one request: they determine header and request.
 pub fn one_request()
     ensures { OneRequest }
 {}
 
-/// What is found is the request that the bytes are.
+/// Reading a frame finds a request exactly where the frame's bytes follow the grammar of that request.
 pub fn found_is_request()
     ensures { FoundIsRequest }
 {}
 
-/// What is written is read back.
+/// Reading what was written of a request gives the same header and request.
 pub fn written_is_read()
     ensures { WrittenIsRead }
 {}
 
-/// What a frame within the limit spells can be written in one.
+/// A request that was read from a frame within `FRAME_LIMIT` fits into such a frame when it is written.
 pub fn read_fits(frame: &[u8])
     ensures { SpellsFitting frame.now }
 {}
 
-/// What fits can be written after a header without a client.
+/// A request that fits within `FRAME_LIMIT` can be written after a header whose client id is null.
 pub fn fits_is_writable()
     ensures { FitsIsWritable }
 {}
 
-/// The bytes of a response, its api known, fix the reply.
+/// Two responses of the same api with the same bytes have the same correlation id and the same reply.
 pub fn one_reply()
     ensures { OneReply }
 {}
 
-/// Bytes are one response of an api at most.
+/// Bytes follow the grammar of at most one response of an api: they determine correlation id and reply.
 pub fn one_response()
     ensures { OneResponse }
 {}
 
-/// What is written of a reply is read back.
+/// Reading what was written of a reply gives the same correlation id and reply.
 pub fn written_reply_is_read()
     ensures { WrittenReplyIsRead }
 {}
 
-/// A reply can be sent exactly where it isn't too long.
+/// A reply can be sent exactly where its response isn't too long for a frame.
 pub fn sendable_is_short()
     ensures { SendableIsShort }
 {}

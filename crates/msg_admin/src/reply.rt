@@ -94,7 +94,8 @@ impl Drop for Reply {
     }
 }
 
-/// The whole response, with its size field; no bytes for a reply that isn't sent.
+/// The whole frame of a response with this correlation id, with its size field; no bytes for a reply that isn't sent.
+/// `TooLong` if a frame can't hold it; `NoMemory` on an allocation failure.
 pub fn write_reply(alloc: Global, correlation: i32, reply: &Reply) -> Result<Bytes, WriteFault>
     ensures written { IfOk result (λ bytes. bytes ≡ response correlation reply.now) }
     ensures within { OnOk result (¬ IsTooLong correlation reply.now) }
@@ -105,7 +106,7 @@ pub fn write_reply(alloc: Global, correlation: i32, reply: &Reply) -> Result<Byt
     write_response(alloc, correlation, reply)
 }
 
-/// The whole response of an api, but of EndTxn, whose answers tell their version.
+/// The whole frame of a response of this api, which is served in one form only (all but EndTxn).
 fn write_as<B: Wire>(
     alloc: Global,
     key: ApiKey,
@@ -119,7 +120,7 @@ fn write_as<B: Wire>(
     write_frame(alloc, flexible, correlation, answer)
 }
 
-/// EndTxn in the version of an answer.
+/// EndTxn in the version of this reply.
 fn ended_api(answer: &EndTxnReply) -> Api
     ensures { result ≡ api_in ApiKey.EndTxn (version_answered answer.now) }
 {
@@ -129,7 +130,7 @@ fn ended_api(answer: &EndTxnReply) -> Api
     }
 }
 
-/// The whole response of EndTxn, in the version of the answer.
+/// The whole frame of an EndTxn response in the version of the reply.
 #[tactic(auto, unfolding(crate::specs::Response::is_sendable, crate::specs::Bodies::reply_body, crate::specs::Frame::frame_fits))]
 fn write_ended(alloc: Global, correlation: i32, answer: &EndTxnReply) -> Result<Bytes, WriteFault>
     ensures { GivesReply correlation (Reply.EndTxn answer.now) result }
@@ -145,6 +146,8 @@ fn write_ended(alloc: Global, correlation: i32, answer: &EndTxnReply) -> Result<
     }
 }
 
+/// Writes the response of whichever api the reply is of; no bytes for a reply that isn't sent. `write_reply` is its public
+/// form.
 #[tactic(auto, unfolding(crate::specs::Response::is_sendable, crate::specs::Bodies::reply_body, crate::specs::Frame::frame_fits))]
 fn write_response(alloc: Global, correlation: i32, reply: &Reply) -> Result<Bytes, WriteFault>
     ensures { GivesReply correlation reply.now result }

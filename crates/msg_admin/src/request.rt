@@ -26,7 +26,7 @@ use msg_txn::{
     InitProducerIdRequest, TxnOffsetCommitRequest,
 };
 use std::alloc::Global;
-use wire_types::{Boxed, Bytes, Cursor, Malformed, ReadFault, Wire, WriteFault, room_after};
+use wire_types::{Boxed, Bytes, Cursor, Malformed, ReadFault, Wire, WriteFault, deduct};
 
 /// The greatest size that a request's frame may tell of itself.
 pub const FRAME_LIMIT: usize = 104_857_600;
@@ -88,7 +88,7 @@ impl Drop for Request {
     }
 }
 
-/// EndTxn in the version of a request.
+/// EndTxn in the version of this request.
 fn ending_api(request: &EndTxnRequest) -> Api
     ensures { result ≡ api_in ApiKey.EndTxn (version_asked request.now) }
 {
@@ -98,24 +98,24 @@ fn ending_api(request: &EndTxnRequest) -> Api
     }
 }
 
-/// What an EndTxn's body leaves of a room.
+/// How many of `budget` bytes the body of an EndTxn request leaves in its version. `None` if these bytes don't suffice.
 #[tactic(auto, unfolding(crate::specs::Bodies::request_body))]
-fn ending_room(request: &EndTxnRequest, room: usize) -> Option<usize>
+fn deduct_ending(request: &EndTxnRequest, budget: usize) -> Option<usize>
     ensures { result ≡ (request_body (api_of (Request.EndTxn request.now))).left
-        (Request.EndTxn request.now) room }
+        (Request.EndTxn request.now) budget }
 {
     match request {
-        EndTxnRequest::Version0(body) => body.room_left(room),
-        EndTxnRequest::Version1(body) => body.room_left(room),
-        EndTxnRequest::Version2(body) => body.room_left(room),
-        EndTxnRequest::Version3(body) => body.room_left(room),
-        EndTxnRequest::Version4(body) => body.room_left(room),
-        EndTxnRequest::Version5(body) => body.room_left(room),
+        EndTxnRequest::Version0(body) => body.deduct_from(budget),
+        EndTxnRequest::Version1(body) => body.deduct_from(budget),
+        EndTxnRequest::Version2(body) => body.deduct_from(budget),
+        EndTxnRequest::Version3(body) => body.deduct_from(budget),
+        EndTxnRequest::Version4(body) => body.deduct_from(budget),
+        EndTxnRequest::Version5(body) => body.deduct_from(budget),
     }
 }
 
 impl Request {
-    /// The api that is asked.
+    /// The api that is asked, in the version of the request.
     pub fn api(&self) -> Api
         ensures { result ≡ api_of self.now }
     {
@@ -145,48 +145,48 @@ impl Request {
         }
     }
 
-    /// Whether the request can be written, after a header whose client is null in a frame
-    /// whose size is within `FRAME_LIMIT`.
+    /// Whether the request can be written in a frame of at most `FRAME_LIMIT` bytes, with a header whose client id is null.
     pub fn fits(&self) -> bool
         ensures { IsTrue result ↔ Fits self.now }
     {
         let header = least_header(self.api().is_flexible());
-        self.room_left(FRAME_LIMIT - header).is_some()
+        self.deduct_from(FRAME_LIMIT - header).is_some()
     }
 
-    /// What the request's body leaves of a room.
+    /// How many of `budget` bytes the request's body leaves. `None` if these bytes don't suffice or the body can't be
+    /// written.
     #[tactic(auto, unfolding(crate::specs::Bodies::request_body))]
-    fn room_left(&self, room: usize) -> Option<usize>
-        ensures { result ≡ (request_body (api_of self.now)).left self.now room }
+    fn deduct_from(&self, budget: usize) -> Option<usize>
+        ensures { result ≡ (request_body (api_of self.now)).left self.now budget }
     {
         match self {
-            Request::Produce(body) => body.room_left(room),
-            Request::Fetch(body) => body.room_left(room),
-            Request::ListOffsets(body) => body.room_left(room),
-            Request::Metadata(body) => body.room_left(room),
-            Request::OffsetCommit(body) => body.room_left(room),
-            Request::OffsetFetch(body) => body.room_left(room),
-            Request::FindCoordinator(body) => body.room_left(room),
-            Request::JoinGroup(body) => body.room_left(room),
-            Request::Heartbeat(body) => body.room_left(room),
-            Request::LeaveGroup(body) => body.room_left(room),
-            Request::SyncGroup(body) => body.room_left(room),
-            Request::SaslHandshake(body) => body.room_left(room),
-            Request::ApiVersions => room_after(0, room),
-            Request::InitProducerId(body) => body.room_left(room),
-            Request::AddPartitionsToTxn(body) => body.room_left(room),
-            Request::AddOffsetsToTxn(body) => body.room_left(room),
-            Request::EndTxn(body) => ending_room(body.value(), room),
-            Request::TxnOffsetCommit(body) => body.room_left(room),
-            Request::DescribeAcls(body) => body.room_left(room),
-            Request::CreateAcls(body) => body.room_left(room),
-            Request::DeleteAcls(body) => body.room_left(room),
-            Request::SaslAuthenticate(body) => body.room_left(room),
+            Request::Produce(body) => body.deduct_from(budget),
+            Request::Fetch(body) => body.deduct_from(budget),
+            Request::ListOffsets(body) => body.deduct_from(budget),
+            Request::Metadata(body) => body.deduct_from(budget),
+            Request::OffsetCommit(body) => body.deduct_from(budget),
+            Request::OffsetFetch(body) => body.deduct_from(budget),
+            Request::FindCoordinator(body) => body.deduct_from(budget),
+            Request::JoinGroup(body) => body.deduct_from(budget),
+            Request::Heartbeat(body) => body.deduct_from(budget),
+            Request::LeaveGroup(body) => body.deduct_from(budget),
+            Request::SyncGroup(body) => body.deduct_from(budget),
+            Request::SaslHandshake(body) => body.deduct_from(budget),
+            Request::ApiVersions => deduct(0, budget),
+            Request::InitProducerId(body) => body.deduct_from(budget),
+            Request::AddPartitionsToTxn(body) => body.deduct_from(budget),
+            Request::AddOffsetsToTxn(body) => body.deduct_from(budget),
+            Request::EndTxn(body) => deduct_ending(body.value(), budget),
+            Request::TxnOffsetCommit(body) => body.deduct_from(budget),
+            Request::DescribeAcls(body) => body.deduct_from(budget),
+            Request::CreateAcls(body) => body.deduct_from(budget),
+            Request::DeleteAcls(body) => body.deduct_from(budget),
+            Request::SaslAuthenticate(body) => body.deduct_from(budget),
         }
     }
 }
 
-/// The body of a request to an api, in the form of a version.
+/// Reads the body of a request to this api. The version matters to EndTxn alone, since each other api is served in one.
 fn read_form(
     alloc: Global,
     key: ApiKey,
@@ -224,7 +224,7 @@ fn read_form(
     })
 }
 
-/// The body of a request to an api.
+/// Reads the body of a request to this api in its version. Bytes after the body are left to the caller.
 #[tactic(auto, unfolding(crate::specs::Bodies::request_body))]
 fn read_body(alloc: Global, api: Api, cursor: &mut Cursor<'_>) -> Result<Request, ReadFault>
     ensures { Reads ((request_body api).reading cursor.old) result cursor.new }
@@ -232,6 +232,7 @@ fn read_body(alloc: Global, api: Api, cursor: &mut Cursor<'_>) -> Result<Request
     read_form(alloc, api.key(), api.version(), cursor)
 }
 
+/// Reads a frame's header and request, and refuses bytes after them. `read_request` is its public form.
 #[tactic(auto, unfolding(crate::specs::Request::request_at))]
 fn read_whole(alloc: Global, frame: &Bytes) -> Result<(Header, Request), ReadFault>
     ensures { Answers (request_at frame.now) result }
@@ -256,9 +257,11 @@ fn read_whole(alloc: Global, frame: &Bytes) -> Result<(Header, Request), ReadFau
     Ok((header, request))
 }
 
-/// The header and the request of a frame, which is given without its size field.
+/// Reads a frame, given without its size field: the header and the request. Byte fields of the request share the frame's
+/// bytes.
 ///
-/// Blobs of the request share the frame's bytes.
+/// `Malformed::Unknown` if the api or its version isn't served, `Malformed::Rest` if bytes follow the body, and else the
+/// first fault from left to right; `NoMemory` on an allocation failure.
 pub fn read_request(alloc: Global, frame: &Bytes) -> Result<(Header, Request), ReadFault>
     // What is read is spelled by the bytes.
     ensures found { IfOk result (λ read. IsRequest frame.now read.0 read.1) }
@@ -278,7 +281,7 @@ pub fn read_request(alloc: Global, frame: &Bytes) -> Result<(Header, Request), R
     read_whole(alloc, frame)
 }
 
-/// The whole frame of an EndTxn in its version, with its size field.
+/// The whole frame of an EndTxn request in its version, with its size field.
 #[tactic(auto, unfolding(crate::specs::Request::is_writable, crate::specs::Bodies::request_body, crate::specs::Frame::frame_fits))]
 fn write_ending(
     alloc: Global,
@@ -300,7 +303,8 @@ fn write_ending(
     }
 }
 
-/// The whole frame of a request, with its size field.
+/// The whole frame of a request, with its size field. The header is one of the request's api. `TooLong` if a frame can't
+/// hold it; `NoMemory` on an allocation failure.
 #[tactic(auto, unfolding(crate::specs::Request::is_writable, crate::specs::Bodies::request_body, crate::specs::Frame::frame_fits))]
 pub fn write_request(alloc: Global, header: &Header, request: &Request) -> Result<Bytes, WriteFault>
     requires { api_at header.now.key header.now.version ≡ Some (api_of request.now) }

@@ -15,7 +15,7 @@ use msg_login::{ApiVersionsReply, ServedVersions};
 use std::alloc::{AllocError, Global};
 use wire_types::{Bytes, Cursor, ErrorCode, Items, Malformed, WriteFault};
 
-/// An api with the versions in which it is served.
+/// The entry of an api in the reply to ApiVersions: its key and its first and last version.
 fn served_in(key: ApiKey) -> ServedVersions
     ensures { result ≡ served_in key }
 {
@@ -27,7 +27,7 @@ fn served_in(key: ApiKey) -> ServedVersions
     }
 }
 
-/// Each api with its versions.
+/// The entries of these apis in the reply to ApiVersions.
 fn all_served(alloc: Global, keys: &[ApiKey]) -> Result<Items<ServedVersions>, AllocError>
     ensures { IfOk result (λ served. served ≡ map served_in keys.now) }
 {
@@ -38,7 +38,7 @@ fn all_served(alloc: Global, keys: &[ApiKey]) -> Result<Items<ServedVersions>, A
     Ok(served)
 }
 
-/// What ApiVersions is answered in version 0: each api with its versions, in rising order of keys.
+/// The reply to ApiVersions in version 0: each api with its versions, by rising keys.
 #[tactic(auto, unfolding(crate::specs::ApiKey::all_keys))]
 pub fn versions_reply(alloc: Global) -> Result<ApiVersionsReply, AllocError>
     ensures { IfOk result (λ answer. answer ≡ versions_reply) }
@@ -49,7 +49,7 @@ pub fn versions_reply(alloc: Global) -> Result<ApiVersionsReply, AllocError>
     })
 }
 
-/// Key, version and correlation id.
+/// Reads what every request header starts with: api key, version and correlation id.
 fn read_start(cursor: &mut Cursor<'_>) -> Result<((i16, i16), i32), Malformed>
     ensures { Takes (header_start.reading cursor.old) result cursor.new }
 {
@@ -59,6 +59,8 @@ fn read_start(cursor: &mut Cursor<'_>) -> Result<((i16, i16), i32), Malformed>
     Ok(((key, version), correlation))
 }
 
+/// The correlation id of a frame that asks ApiVersions in a version that isn't served, else `None`. `unsupported_versions`
+/// is its public form.
 #[tactic(auto, unfolding(crate::specs::Versions::unsupported_at))]
 fn asked_in_another(frame: &Bytes) -> Option<i32>
     ensures { result ≡ unsupported_at frame.now }
@@ -72,8 +74,8 @@ fn asked_in_another(frame: &Bytes) -> Option<i32>
     }
 }
 
-/// The correlation id of a frame that asks ApiVersions in a version that isn't served. The frame is given
-/// without its size field, and only its first eight bytes are read.
+/// The correlation id of a frame that asks ApiVersions in a version that isn't served (KIP-511); `None` for any other frame.
+/// The frame is given without its size field, and only its first eight bytes are read.
 pub fn unsupported_versions(frame: &Bytes) -> Option<i32>
     ensures found { IfSome result (λ correlation. AsksUnsupported frame.now correlation) }
     ensures only { (correlation : ℤ) → AsksUnsupported frame.now correlation
@@ -86,6 +88,8 @@ pub fn unsupported_versions(frame: &Bytes) -> Option<i32>
     asked_in_another(frame)
 }
 
+/// The reply to ApiVersions in a version that isn't served: UNSUPPORTED_VERSION, and which versions of ApiVersions are
+/// (KIP-511).
 fn unsupported_reply(alloc: Global) -> Result<ApiVersionsReply, AllocError>
     ensures { IfOk result (λ answer. answer ≡ unsupported_reply) }
 {
@@ -96,7 +100,8 @@ fn unsupported_reply(alloc: Global) -> Result<ApiVersionsReply, AllocError>
     })
 }
 
-/// The whole response, with its size field, that tells a client which version of ApiVersions is served.
+/// The whole frame, with its size field, that answers ApiVersions in a version that isn't served (KIP-511):
+/// UNSUPPORTED_VERSION, and which versions of ApiVersions are. An `AllocError` is an allocation failure.
 pub fn write_unsupported_versions(alloc: Global, correlation: i32) -> Result<Bytes, AllocError>
     ensures { IfOk result (λ bytes. bytes ≡ unsupported_response correlation) }
 {

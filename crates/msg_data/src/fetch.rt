@@ -3,12 +3,12 @@
 use crate::isolation::Isolation;
 use std::alloc::Global;
 use wire_types::{
-    Cursor, ErrorCode, Items, Pieces, ReadFault, Topic, Wire, WriteFault, array_room,
-    nullable_array_room, pieces_room, read_array, read_nullable_array, room_after, write_array,
-    write_i32, write_i64, write_nullable_array, write_pieces,
+    Cursor, ErrorCode, Items, Pieces, ReadFault, Topic, Wire, WriteFault, deduct, deduct_array,
+    deduct_nullable_array, deduct_pieces, read_array, read_nullable_array, write_array, write_i32,
+    write_i64, write_nullable_array, write_pieces,
 };
 
-/// A partition, and the offset and the number of bytes that are wanted.
+/// A partition to fetch from: the first offset that is wanted, and at most how many bytes.
 #[derive(Drop, PartialEq, Eq)]
 pub struct FetchPartition {
     pub index: i32,
@@ -16,7 +16,7 @@ pub struct FetchPartition {
     pub max_bytes: i32,
 }
 
-/// Asks for records.
+/// Asks for records of partitions.
 #[derive(Drop, PartialEq, Eq)]
 pub struct FetchRequest {
     /// Read and not looked at.
@@ -30,14 +30,15 @@ pub struct FetchRequest {
     pub topics: Items<Topic<FetchPartition>>,
 }
 
-/// A producer whose transaction from an offset on was aborted.
+/// A producer whose transaction was aborted, and the offset at which that transaction began.
 #[derive(Clone, Copy, Debug, PartialEq, Eq)]
 pub struct AbortedTransaction {
     pub producer: i64,
     pub first_offset: i64,
 }
 
-/// The records of a partition, and how far its log goes.
+/// What a partition answers to a Fetch: an error, or its records, its high watermark and its last stable offset. The aborted
+/// transactions are listed for read_committed, and null otherwise.
 #[derive(Drop, PartialEq, Eq)]
 pub struct FetchedRecords {
     pub index: i32,
@@ -48,7 +49,7 @@ pub struct FetchedRecords {
     pub records: Pieces,
 }
 
-/// The records, in the request's order.
+/// What each partition answers, in the request's order.
 #[derive(Drop, PartialEq, Eq)]
 pub struct FetchReply {
     pub throttle: i32,
@@ -78,10 +79,10 @@ impl Wire for FetchPartition {
         Ok(())
     }
 
-    fn room_left(&self, room: usize) -> Option<usize> {
-        let room = room_after(4, room)?;
-        let room = room_after(8, room)?;
-        room_after(4, room)
+    fn deduct_from(&self, budget: usize) -> Option<usize> {
+        let budget = deduct(4, budget)?;
+        let budget = deduct(8, budget)?;
+        deduct(4, budget)
     }
 }
 
@@ -117,13 +118,13 @@ impl Wire for FetchRequest {
         Ok(())
     }
 
-    fn room_left(&self, room: usize) -> Option<usize> {
-        let room = room_after(4, room)?;
-        let room = room_after(4, room)?;
-        let room = room_after(4, room)?;
-        let room = room_after(4, room)?;
-        let room = self.isolation.room_left(room)?;
-        array_room(&self.topics, room)
+    fn deduct_from(&self, budget: usize) -> Option<usize> {
+        let budget = deduct(4, budget)?;
+        let budget = deduct(4, budget)?;
+        let budget = deduct(4, budget)?;
+        let budget = deduct(4, budget)?;
+        let budget = self.isolation.deduct_from(budget)?;
+        deduct_array(&self.topics, budget)
     }
 }
 
@@ -147,9 +148,9 @@ impl Wire for AbortedTransaction {
         Ok(())
     }
 
-    fn room_left(&self, room: usize) -> Option<usize> {
-        let room = room_after(8, room)?;
-        room_after(8, room)
+    fn deduct_from(&self, budget: usize) -> Option<usize> {
+        let budget = deduct(8, budget)?;
+        deduct(8, budget)
     }
 }
 
@@ -185,13 +186,13 @@ impl Wire for FetchedRecords {
         Ok(())
     }
 
-    fn room_left(&self, room: usize) -> Option<usize> {
-        let room = room_after(4, room)?;
-        let room = self.error.room_left(room)?;
-        let room = room_after(8, room)?;
-        let room = room_after(8, room)?;
-        let room = nullable_array_room(&self.aborted, room)?;
-        pieces_room(&self.records, room)
+    fn deduct_from(&self, budget: usize) -> Option<usize> {
+        let budget = deduct(4, budget)?;
+        let budget = self.error.deduct_from(budget)?;
+        let budget = deduct(8, budget)?;
+        let budget = deduct(8, budget)?;
+        let budget = deduct_nullable_array(&self.aborted, budget)?;
+        deduct_pieces(&self.records, budget)
     }
 }
 
@@ -212,8 +213,8 @@ impl Wire for FetchReply {
         Ok(())
     }
 
-    fn room_left(&self, room: usize) -> Option<usize> {
-        let room = room_after(4, room)?;
-        array_room(&self.topics, room)
+    fn deduct_from(&self, budget: usize) -> Option<usize> {
+        let budget = deduct(4, budget)?;
+        deduct_array(&self.topics, budget)
     }
 }

@@ -1,9 +1,9 @@
 //! Which records a reader may see.
 
 use std::alloc::Global;
-use wire_types::{Cursor, Malformed, ReadFault, Wire, WriteFault, room_after, write_i8};
+use wire_types::{Cursor, Malformed, ReadFault, Wire, WriteFault, deduct, write_i8};
 
-/// How far a read goes into transactions that may yet be aborted.
+/// The isolation level of a reader: whether it is shown records of transactions that are still open.
 #[derive(Clone, Copy, Debug, PartialEq, Eq)]
 pub enum Isolation {
     ReadUncommitted = 0,
@@ -29,7 +29,7 @@ impl Wire for Isolation {
         Ok(())
     }
 
-    fn room_left(&self, room: usize) -> Option<usize> {
-        room_after(1, room)
+    fn deduct_from(&self, budget: usize) -> Option<usize> {
+        deduct(1, budget)
     }
 }

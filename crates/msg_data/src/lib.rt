@@ -1,6 +1,8 @@
 //! The messages about topics and their data: what each api is asked and what it answers.
 //!
 //! One file for each api, with the fields in their order on the wire; `specs/` has the grammar of each.
+//! Each message and each part of one is a `Wire`: `read` reads it from bytes, `put` appends its bytes, and `deduct_from`
+//! tells how many of a budget of bytes they leave.
 #![tactic(auto)]
 
 mod fetch;

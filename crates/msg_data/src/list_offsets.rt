@@ -3,11 +3,12 @@
 use crate::isolation::Isolation;
 use std::alloc::Global;
 use wire_types::{
-    Cursor, ErrorCode, Items, ReadFault, Topic, Wire, WriteFault, array_room, read_array,
-    room_after, write_array, write_i32, write_i64,
+    Cursor, ErrorCode, Items, ReadFault, Topic, Wire, WriteFault, deduct, deduct_array, read_array,
+    write_array, write_i32, write_i64,
 };
 
-/// A partition, and the time of the offset that is wanted, or -1 for the end and -2 for the start.
+/// A partition and the timestamp whose offset is asked for, in milliseconds; -1 asks for the end of the log and -2 for its
+/// start.
 #[derive(Drop, PartialEq, Eq)]
 pub struct WantedOffset {
     pub index: i32,
@@ -23,7 +24,7 @@ pub struct ListOffsetsRequest {
     pub topics: Items<Topic<WantedOffset>>,
 }
 
-/// The offset that was found in a partition.
+/// What a partition answers: an error, or the offset that was found with its timestamp, each -1 where there is none.
 #[derive(Drop, PartialEq, Eq)]
 pub struct FoundOffset {
     pub index: i32,
@@ -32,7 +33,7 @@ pub struct FoundOffset {
     pub offset: i64,
 }
 
-/// The offsets, in the request's order.
+/// What each partition answers, in the request's order.
 #[derive(Drop, PartialEq, Eq)]
 pub struct ListOffsetsReply {
     pub throttle: i32,
@@ -56,9 +57,9 @@ impl Wire for WantedOffset {
         Ok(())
     }
 
-    fn room_left(&self, room: usize) -> Option<usize> {
-        let room = room_after(4, room)?;
-        room_after(8, room)
+    fn deduct_from(&self, budget: usize) -> Option<usize> {
+        let budget = deduct(4, budget)?;
+        deduct(8, budget)
     }
 }
 
@@ -85,10 +86,10 @@ impl Wire for ListOffsetsRequest {
         Ok(())
     }
 
-    fn room_left(&self, room: usize) -> Option<usize> {
-        let room = room_after(4, room)?;
-        let room = self.isolation.room_left(room)?;
-        array_room(&self.topics, room)
+    fn deduct_from(&self, budget: usize) -> Option<usize> {
+        let budget = deduct(4, budget)?;
+        let budget = self.isolation.deduct_from(budget)?;
+        deduct_array(&self.topics, budget)
     }
 }
 
@@ -118,11 +119,11 @@ impl Wire for FoundOffset {
         Ok(())
     }
 
-    fn room_left(&self, room: usize) -> Option<usize> {
-        let room = room_after(4, room)?;
-        let room = self.error.room_left(room)?;
-        let room = room_after(8, room)?;
-        room_after(8, room)
+    fn deduct_from(&self, budget: usize) -> Option<usize> {
+        let budget = deduct(4, budget)?;
+        let budget = self.error.deduct_from(budget)?;
+        let budget = deduct(8, budget)?;
+        deduct(8, budget)
     }
 }
 
@@ -143,8 +144,8 @@ impl Wire for ListOffsetsReply {
         Ok(())
     }
 
-    fn room_left(&self, room: usize) -> Option<usize> {
-        let room = room_after(4, room)?;
-        array_room(&self.topics, room)
+    fn deduct_from(&self, budget: usize) -> Option<usize> {
+        let budget = deduct(4, budget)?;
+        deduct_array(&self.topics, budget)
     }
 }

@@ -3,12 +3,12 @@
 use crate::shared_items::SharedItems;
 use std::alloc::Global;
 use wire_types::{
-    Cursor, ErrorCode, Items, ReadFault, Text, Wire, WriteFault, array_room, nullable_array_room,
-    nullable_room, read_array, read_nullable_array, room_after, string_room, write_array,
-    write_bool, write_i32, write_nullable, write_nullable_array, write_string,
+    Cursor, ErrorCode, Items, ReadFault, Text, Wire, WriteFault, deduct, deduct_array,
+    deduct_nullable, deduct_nullable_array, deduct_string, read_array, read_nullable_array,
+    write_array, write_bool, write_i32, write_nullable, write_nullable_array, write_string,
 };
 
-/// Asks for topics, or for all of them.
+/// Asks for the metadata of these topics; of all of them where the list is null.
 #[derive(Drop, PartialEq, Eq)]
 pub struct MetadataRequest {
     pub topics: Option<Items<Text>>,
@@ -23,7 +23,7 @@ pub struct BrokerInfo {
     pub rack: Option<Text>,
 }
 
-/// A partition, its leader, and the nodes that keep it.
+/// A partition of a topic: its leader, its replicas and those of them that are in sync, each by its node id.
 #[derive(Drop, PartialEq, Eq)]
 pub struct PartitionInfo {
     pub error: ErrorCode,
@@ -33,7 +33,7 @@ pub struct PartitionInfo {
     pub in_sync: SharedItems<i32>,
 }
 
-/// A topic with its partitions, or why it has none.
+/// A topic with its partitions, or with an error and none.
 #[derive(Drop, PartialEq, Eq)]
 pub struct TopicInfo {
     pub error: ErrorCode,
@@ -42,7 +42,7 @@ pub struct TopicInfo {
     pub partitions: SharedItems<PartitionInfo>,
 }
 
-/// What the cluster consists of.
+/// The brokers of the cluster, which of them is the controller, and the topics that were asked for.
 #[derive(Drop, PartialEq, Eq)]
 pub struct MetadataReply {
     pub brokers: SharedItems<BrokerInfo>,
@@ -65,8 +65,8 @@ impl Wire for MetadataRequest {
         Ok(())
     }
 
-    fn room_left(&self, room: usize) -> Option<usize> {
-        nullable_array_room(&self.topics, room)
+    fn deduct_from(&self, budget: usize) -> Option<usize> {
+        deduct_nullable_array(&self.topics, budget)
     }
 }
 
@@ -96,11 +96,11 @@ impl Wire for BrokerInfo {
         Ok(())
     }
 
-    fn room_left(&self, room: usize) -> Option<usize> {
-        let room = room_after(4, room)?;
-        let room = string_room(&self.host, room)?;
-        let room = room_after(4, room)?;
-        nullable_room(&self.rack, room)
+    fn deduct_from(&self, budget: usize) -> Option<usize> {
+        let budget = deduct(4, budget)?;
+        let budget = deduct_string(&self.host, budget)?;
+        let budget = deduct(4, budget)?;
+        deduct_nullable(&self.rack, budget)
     }
 }
 
@@ -133,12 +133,12 @@ impl Wire for PartitionInfo {
         Ok(())
     }
 
-    fn room_left(&self, room: usize) -> Option<usize> {
-        let room = self.error.room_left(room)?;
-        let room = room_after(4, room)?;
-        let room = room_after(4, room)?;
-        let room = self.replicas.room_left(room)?;
-        self.in_sync.room_left(room)
+    fn deduct_from(&self, budget: usize) -> Option<usize> {
+        let budget = self.error.deduct_from(budget)?;
+        let budget = deduct(4, budget)?;
+        let budget = deduct(4, budget)?;
+        let budget = self.replicas.deduct_from(budget)?;
+        self.in_sync.deduct_from(budget)
     }
 }
 
@@ -168,11 +168,11 @@ impl Wire for TopicInfo {
         Ok(())
     }
 
-    fn room_left(&self, room: usize) -> Option<usize> {
-        let room = self.error.room_left(room)?;
-        let room = string_room(&self.name, room)?;
-        let room = room_after(1, room)?;
-        self.partitions.room_left(room)
+    fn deduct_from(&self, budget: usize) -> Option<usize> {
+        let budget = self.error.deduct_from(budget)?;
+        let budget = deduct_string(&self.name, budget)?;
+        let budget = deduct(1, budget)?;
+        self.partitions.deduct_from(budget)
     }
 }
 
@@ -199,9 +199,9 @@ impl Wire for MetadataReply {
         Ok(())
     }
 
-    fn room_left(&self, room: usize) -> Option<usize> {
-        let room = self.brokers.room_left(room)?;
-        let room = room_after(4, room)?;
-        array_room(&self.topics, room)
+    fn deduct_from(&self, budget: usize) -> Option<usize> {
+        let budget = self.brokers.deduct_from(budget)?;
+        let budget = deduct(4, budget)?;
+        deduct_array(&self.topics, budget)
     }
 }

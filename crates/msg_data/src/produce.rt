@@ -9,19 +9,19 @@ ghost use Rattle.wire_types.specs.Writing.{Puts};
 use record_batch::SentBatch;
 use std::alloc::Global;
 use wire_types::{
-    Cursor, ErrorCode, Items, ReadFault, Text, Topic, Wire, WriteFault, array_room, bytes_room,
-    nullable_bytes_room, nullable_room, read_array, room_after, write_array, write_bytes,
+    Cursor, ErrorCode, Items, ReadFault, Text, Topic, Wire, WriteFault, deduct, deduct_array,
+    deduct_bytes, deduct_nullable, deduct_nullable_bytes, read_array, write_array, write_bytes,
     write_i16, write_i32, write_i64, write_nullable, write_nullable_bytes,
 };
 
-/// A partition, and the batch that is to be appended, which was looked at when it was read.
+/// A partition and the batch to append there, `None` where the records are null. The batch was checked when it was read.
 #[derive(Drop, PartialEq, Eq)]
 pub struct ProducedRecords {
     pub index: i32,
     pub records: Option<SentBatch>,
 }
 
-/// Asks for batches to be appended.
+/// Asks for batches of records to be appended to partitions.
 #[derive(Drop, PartialEq, Eq)]
 pub struct ProduceRequest {
     pub transactional_id: Option<Text>,
@@ -30,7 +30,7 @@ pub struct ProduceRequest {
     pub topics: Items<Topic<ProducedRecords>>,
 }
 
-/// Where a partition's batch was put.
+/// What became of a partition's batch: the offset of its first record, or an error and -1.
 #[derive(Drop, PartialEq, Eq)]
 pub struct ProducedOffset {
     pub index: i32,
@@ -39,14 +39,15 @@ pub struct ProducedOffset {
     pub log_append_time: i64,
 }
 
-/// Where the batches were put, in the request's order.
+/// What became of each batch, in the request's order.
 #[derive(Drop, PartialEq, Eq)]
 pub struct ProduceReply {
     pub topics: Items<Topic<ProducedOffset>>,
     pub throttle: i32,
 }
 
-/// The batch for a partition, if there is one. This is where its bytes are looked at.
+/// Reads the nullable records of a partition, checks the batch and keeps its first fault; `None` for null records. A faulty
+/// batch is no `ReadFault`: that is only for bytes that end too early or a length below -1, or for an allocation failure.
 fn read_records(alloc: Global, cursor: &mut Cursor<'_>) -> Result<Option<SentBatch>, ReadFault>
     ensures { Reads (nullable_bytes.reading cursor.old) result cursor.new }
 {
@@ -56,6 +57,7 @@ fn read_records(alloc: Global, cursor: &mut Cursor<'_>) -> Result<Option<SentBat
     }
 }
 
+/// Writes the records of a partition after their length of 32 bits, or the length -1 for `None`.
 #[tactic(auto, unfolding(wire_types::specs::Spelling::after_count_fits, wire_types::specs::Spelling::after_null_count_fits, wire_types::specs::Spelling::after_null_count_put, wire_types::specs::Spelling::null_count_fits))]
 fn write_records(out: &mut Vec<u8>, records: &Option<SentBatch>) -> Result<(), WriteFault>
     ensures spelled { Puts nullable_bytes records.now out.old.items result out.new.items }
@@ -68,13 +70,14 @@ fn write_records(out: &mut Vec<u8>, records: &Option<SentBatch>) -> Result<(), W
     }
 }
 
+/// How many of `budget` bytes the records of a partition leave with their length. `None` if these bytes don't suffice.
 #[tactic(auto, unfolding(wire_types::specs::Spelling::after_null_count_left, wire_types::specs::Spelling::null_count_fits))]
-fn records_room(records: &Option<SentBatch>, room: usize) -> Option<usize>
-    ensures { result ≡ nullable_bytes.left records.now room }
+fn deduct_records(records: &Option<SentBatch>, budget: usize) -> Option<usize>
+    ensures { result ≡ nullable_bytes.left records.now budget }
 {
     match records {
-        Some(records) => bytes_room(records.bytes(), room),
-        None => nullable_bytes_room(&None, room),
+        Some(records) => deduct_bytes(records.bytes(), budget),
+        None => deduct_nullable_bytes(&None, budget),
     }
 }
 
@@ -95,9 +98,9 @@ impl Wire for ProducedRecords {
         Ok(())
     }
 
-    fn room_left(&self, room: usize) -> Option<usize> {
-        let room = room_after(4, room)?;
-        records_room(&self.records, room)
+    fn deduct_from(&self, budget: usize) -> Option<usize> {
+        let budget = deduct(4, budget)?;
+        deduct_records(&self.records, budget)
     }
 }
 
@@ -127,11 +130,11 @@ impl Wire for ProduceRequest {
         Ok(())
     }
 
-    fn room_left(&self, room: usize) -> Option<usize> {
-        let room = nullable_room(&self.transactional_id, room)?;
-        let room = room_after(2, room)?;
-        let room = room_after(4, room)?;
-        array_room(&self.topics, room)
+    fn deduct_from(&self, budget: usize) -> Option<usize> {
+        let budget = deduct_nullable(&self.transactional_id, budget)?;
+        let budget = deduct(2, budget)?;
+        let budget = deduct(4, budget)?;
+        deduct_array(&self.topics, budget)
     }
 }
 
@@ -161,11 +164,11 @@ impl Wire for ProducedOffset {
         Ok(())
     }
 
-    fn room_left(&self, room: usize) -> Option<usize> {
-        let room = room_after(4, room)?;
-        let room = self.error.room_left(room)?;
-        let room = room_after(8, room)?;
-        room_after(8, room)
+    fn deduct_from(&self, budget: usize) -> Option<usize> {
+        let budget = deduct(4, budget)?;
+        let budget = self.error.deduct_from(budget)?;
+        let budget = deduct(8, budget)?;
+        deduct(8, budget)
     }
 }
 
@@ -186,8 +189,8 @@ impl Wire for ProduceReply {
         Ok(())
     }
 
-    fn room_left(&self, room: usize) -> Option<usize> {
-        let room = array_room(&self.topics, room)?;
-        room_after(4, room)
+    fn deduct_from(&self, budget: usize) -> Option<usize> {
+        let budget = deduct_array(&self.topics, budget)?;
+        deduct(4, budget)
     }
 }

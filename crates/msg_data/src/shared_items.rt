@@ -5,10 +5,10 @@ ghost use Rattle.std.specs.Prelude.{◌≡◌, IfOk};
 use std::alloc::{AllocError, Global};
 use std::marker::Model;
 use wire_types::{
-    Cursor, Items, ReadFault, Shared, Wire, WriteFault, array_room, read_array, write_array,
+    Cursor, Items, ReadFault, Shared, Wire, WriteFault, deduct_array, read_array, write_array,
 };
 
-/// One owner of a list, seen as the list.
+/// A list with several owners, of whom this is one.
 pub struct SharedItems<T> {
     list: Shared<Items<T>>,
 }
@@ -28,7 +28,7 @@ impl<T: Drop> Drop for SharedItems<T> {
 }
 
 impl<T> SharedItems<T> {
-    /// The first owner of a list.
+    /// Makes a list that may be shared; what it gives is the first owner. An `AllocError` is an allocation failure.
     pub fn of(alloc: Global, items: Items<T>) -> Result<SharedItems<T>, AllocError>
     where
         T: Drop,
@@ -39,7 +39,7 @@ impl<T> SharedItems<T> {
         })
     }
 
-    /// One more owner; it is refused only where the count of owners is full.
+    /// One more owner of the same list, without a copy. It fails only where the count of owners is full.
     pub fn share(&self) -> Result<SharedItems<T>, AllocError>
         ensures { IfOk result (λ s. s ≡ self.now) }
     {
@@ -48,7 +48,7 @@ impl<T> SharedItems<T> {
         })
     }
 
-    /// The list.
+    /// The items of the list.
     pub fn as_slice(&self) -> &[T]
         ensures { result.now ≡ self.now }
     {
@@ -63,6 +63,7 @@ impl<T: PartialEq> PartialEq for SharedItems<T> {
 
     ghost laws = { lists_per T.laws };
 
+    /// Whether both lists have equal items in the same order, whoever owns them.
     fn eq(&self, other: &SharedItems<T>) -> bool {
         self.as_slice() == other.as_slice()
     }
@@ -88,7 +89,7 @@ impl<T: Wire> Wire for SharedItems<T> {
         write_array(out, self.list.value())
     }
 
-    fn room_left(&self, room: usize) -> Option<usize> {
-        array_room(self.list.value(), room)
+    fn deduct_from(&self, budget: usize) -> Option<usize> {
+        deduct_array(self.list.value(), budget)
     }
 }

@@ -2,11 +2,11 @@
 
 use std::alloc::Global;
 use wire_types::{
-    Cursor, ErrorCode, ReadFault, Text, Wire, WriteFault, room_after, string_room, write_i32,
+    Cursor, ErrorCode, ReadFault, Text, Wire, WriteFault, deduct, deduct_string, write_i32,
     write_string,
 };
 
-/// Tells that the member is there.
+/// Tells that a group's member is alive.
 #[derive(Drop, PartialEq, Eq)]
 pub struct HeartbeatRequest {
     pub group: Text,
@@ -14,7 +14,7 @@ pub struct HeartbeatRequest {
     pub member: Text,
 }
 
-/// Whether the member is one of that generation.
+/// Whether the group has that member in that generation: error code 0, or why not.
 #[derive(Drop, PartialEq, Eq)]
 pub struct HeartbeatReply {
     pub throttle: i32,
@@ -44,10 +44,10 @@ impl Wire for HeartbeatRequest {
         Ok(())
     }
 
-    fn room_left(&self, room: usize) -> Option<usize> {
-        let room = string_room(&self.group, room)?;
-        let room = room_after(4, room)?;
-        string_room(&self.member, room)
+    fn deduct_from(&self, budget: usize) -> Option<usize> {
+        let budget = deduct_string(&self.group, budget)?;
+        let budget = deduct(4, budget)?;
+        deduct_string(&self.member, budget)
     }
 }
 
@@ -68,8 +68,8 @@ impl Wire for HeartbeatReply {
         Ok(())
     }
 
-    fn room_left(&self, room: usize) -> Option<usize> {
-        let room = room_after(4, room)?;
-        self.error.room_left(room)
+    fn deduct_from(&self, budget: usize) -> Option<usize> {
+        let budget = deduct(4, budget)?;
+        self.error.deduct_from(budget)
     }
 }

@@ -2,18 +2,18 @@
 
 use std::alloc::Global;
 use wire_types::{
-    Bytes, Cursor, ErrorCode, Items, ReadFault, Text, Wire, WriteFault, array_room, bytes_room,
-    read_array, room_after, string_room, write_array, write_bytes, write_i32, write_string,
+    Bytes, Cursor, ErrorCode, Items, ReadFault, Text, Wire, WriteFault, deduct, deduct_array,
+    deduct_bytes, deduct_string, read_array, write_array, write_bytes, write_i32, write_string,
 };
 
-/// A protocol that a member speaks, and what it tells the group under it.
+/// An assignment protocol that a member supports, and its metadata for that protocol, such as its subscription.
 #[derive(Clone, Drop, PartialEq, Eq)]
 pub struct OfferedProtocol {
     pub name: Text,
     pub metadata: Bytes,
 }
 
-/// Asks to be a member, a new one where the member's id is empty.
+/// Asks to join a group: as a new member where the member id is empty. Timeouts are in milliseconds.
 #[derive(Drop, PartialEq, Eq)]
 pub struct JoinGroupRequest {
     pub group: Text,
@@ -25,14 +25,14 @@ pub struct JoinGroupRequest {
     pub protocols: Items<OfferedProtocol>,
 }
 
-/// A member, and what it told the group under the chosen protocol.
+/// A member of the group, and its metadata for the chosen protocol.
 #[derive(Drop, PartialEq, Eq)]
 pub struct JoinedMember {
     pub member: Text,
     pub metadata: Bytes,
 }
 
-/// The group's generation with its protocol, its leader and its members.
+/// The group's generation, its protocol and leader, and the member's own id. Only a leader is given the members.
 #[derive(Drop, PartialEq, Eq)]
 pub struct JoinGroupReply {
     pub throttle: i32,
@@ -61,9 +61,9 @@ impl Wire for OfferedProtocol {
         Ok(())
     }
 
-    fn room_left(&self, room: usize) -> Option<usize> {
-        let room = string_room(&self.name, room)?;
-        bytes_room(&self.metadata, room)
+    fn deduct_from(&self, budget: usize) -> Option<usize> {
+        let budget = deduct_string(&self.name, budget)?;
+        deduct_bytes(&self.metadata, budget)
     }
 }
 
@@ -99,13 +99,13 @@ impl Wire for JoinGroupRequest {
         Ok(())
     }
 
-    fn room_left(&self, room: usize) -> Option<usize> {
-        let room = string_room(&self.group, room)?;
-        let room = room_after(4, room)?;
-        let room = room_after(4, room)?;
-        let room = string_room(&self.member, room)?;
-        let room = string_room(&self.protocol_type, room)?;
-        array_room(&self.protocols, room)
+    fn deduct_from(&self, budget: usize) -> Option<usize> {
+        let budget = deduct_string(&self.group, budget)?;
+        let budget = deduct(4, budget)?;
+        let budget = deduct(4, budget)?;
+        let budget = deduct_string(&self.member, budget)?;
+        let budget = deduct_string(&self.protocol_type, budget)?;
+        deduct_array(&self.protocols, budget)
     }
 }
 
@@ -126,9 +126,9 @@ impl Wire for JoinedMember {
         Ok(())
     }
 
-    fn room_left(&self, room: usize) -> Option<usize> {
-        let room = string_room(&self.member, room)?;
-        bytes_room(&self.metadata, room)
+    fn deduct_from(&self, budget: usize) -> Option<usize> {
+        let budget = deduct_string(&self.member, budget)?;
+        deduct_bytes(&self.metadata, budget)
     }
 }
 
@@ -167,13 +167,13 @@ impl Wire for JoinGroupReply {
         Ok(())
     }
 
-    fn room_left(&self, room: usize) -> Option<usize> {
-        let room = room_after(4, room)?;
-        let room = self.error.room_left(room)?;
-        let room = room_after(4, room)?;
-        let room = string_room(&self.protocol, room)?;
-        let room = string_room(&self.leader, room)?;
-        let room = string_room(&self.member, room)?;
-        array_room(&self.members, room)
+    fn deduct_from(&self, budget: usize) -> Option<usize> {
+        let budget = deduct(4, budget)?;
+        let budget = self.error.deduct_from(budget)?;
+        let budget = deduct(4, budget)?;
+        let budget = deduct_string(&self.protocol, budget)?;
+        let budget = deduct_string(&self.leader, budget)?;
+        let budget = deduct_string(&self.member, budget)?;
+        deduct_array(&self.members, budget)
     }
 }

@@ -2,18 +2,18 @@
 
 use std::alloc::Global;
 use wire_types::{
-    Cursor, ErrorCode, ReadFault, Text, Wire, WriteFault, room_after, string_room, write_i32,
+    Cursor, ErrorCode, ReadFault, Text, Wire, WriteFault, deduct, deduct_string, write_i32,
     write_string,
 };
 
-/// Asks to be a member no longer.
+/// Asks to take a member out of its group.
 #[derive(Drop, PartialEq, Eq)]
 pub struct LeaveGroupRequest {
     pub group: Text,
     pub member: Text,
 }
 
-/// Whether the member has left.
+/// Whether the member has left: error code 0, or why not.
 #[derive(Drop, PartialEq, Eq)]
 pub struct LeaveGroupReply {
     pub throttle: i32,
@@ -37,9 +37,9 @@ impl Wire for LeaveGroupRequest {
         Ok(())
     }
 
-    fn room_left(&self, room: usize) -> Option<usize> {
-        let room = string_room(&self.group, room)?;
-        string_room(&self.member, room)
+    fn deduct_from(&self, budget: usize) -> Option<usize> {
+        let budget = deduct_string(&self.group, budget)?;
+        deduct_string(&self.member, budget)
     }
 }
 
@@ -60,8 +60,8 @@ impl Wire for LeaveGroupReply {
         Ok(())
     }
 
-    fn room_left(&self, room: usize) -> Option<usize> {
-        let room = room_after(4, room)?;
-        self.error.room_left(room)
+    fn deduct_from(&self, budget: usize) -> Option<usize> {
+        let budget = deduct(4, budget)?;
+        self.error.deduct_from(budget)
     }
 }

@@ -2,12 +2,12 @@
 
 use std::alloc::Global;
 use wire_types::{
-    Cursor, ErrorCode, Items, ReadFault, Text, Topic, Wire, WriteFault, array_room, nullable_room,
-    read_array, room_after, string_room, write_array, write_i32, write_i64, write_nullable,
+    Cursor, ErrorCode, Items, ReadFault, Text, Topic, Wire, WriteFault, deduct, deduct_array,
+    deduct_nullable, deduct_string, read_array, write_array, write_i32, write_i64, write_nullable,
     write_string,
 };
 
-/// A partition, and the offset that is to be committed there.
+/// A partition and the offset to commit there, with the client's metadata.
 #[derive(Drop, PartialEq, Eq)]
 pub struct OffsetToCommit {
     pub index: i32,
@@ -15,7 +15,7 @@ pub struct OffsetToCommit {
     pub metadata: Option<Text>,
 }
 
-/// Asks to commit offsets, for a member or (generation -1 and an empty member) for no member.
+/// Asks to commit offsets of a group, as a member of a generation or, with generation -1 and an empty member id, as none.
 #[derive(Drop, PartialEq, Eq)]
 pub struct OffsetCommitRequest {
     pub group: Text,
@@ -26,14 +26,14 @@ pub struct OffsetCommitRequest {
     pub topics: Items<Topic<OffsetToCommit>>,
 }
 
-/// Whether the offset of a partition is committed.
+/// Whether the partition's offset was committed: error code 0, or why not.
 #[derive(Drop, PartialEq, Eq)]
 pub struct CommittedOffset {
     pub index: i32,
     pub error: ErrorCode,
 }
 
-/// The partitions, in the request's order.
+/// Whether each partition's offset was committed, in the request's order.
 #[derive(Drop, PartialEq, Eq)]
 pub struct OffsetCommitReply {
     pub topics: Items<Topic<CommittedOffset>>,
@@ -62,10 +62,10 @@ impl Wire for OffsetToCommit {
         Ok(())
     }
 
-    fn room_left(&self, room: usize) -> Option<usize> {
-        let room = room_after(4, room)?;
-        let room = room_after(8, room)?;
-        nullable_room(&self.metadata, room)
+    fn deduct_from(&self, budget: usize) -> Option<usize> {
+        let budget = deduct(4, budget)?;
+        let budget = deduct(8, budget)?;
+        deduct_nullable(&self.metadata, budget)
     }
 }
 
@@ -98,12 +98,12 @@ impl Wire for OffsetCommitRequest {
         Ok(())
     }
 
-    fn room_left(&self, room: usize) -> Option<usize> {
-        let room = string_room(&self.group, room)?;
-        let room = room_after(4, room)?;
-        let room = string_room(&self.member, room)?;
-        let room = room_after(8, room)?;
-        array_room(&self.topics, room)
+    fn deduct_from(&self, budget: usize) -> Option<usize> {
+        let budget = deduct_string(&self.group, budget)?;
+        let budget = deduct(4, budget)?;
+        let budget = deduct_string(&self.member, budget)?;
+        let budget = deduct(8, budget)?;
+        deduct_array(&self.topics, budget)
     }
 }
 
@@ -124,9 +124,9 @@ impl Wire for CommittedOffset {
         Ok(())
     }
 
-    fn room_left(&self, room: usize) -> Option<usize> {
-        let room = room_after(4, room)?;
-        self.error.room_left(room)
+    fn deduct_from(&self, budget: usize) -> Option<usize> {
+        let budget = deduct(4, budget)?;
+        self.error.deduct_from(budget)
     }
 }
 
@@ -145,7 +145,7 @@ impl Wire for OffsetCommitReply {
         Ok(())
     }
 
-    fn room_left(&self, room: usize) -> Option<usize> {
-        array_room(&self.topics, room)
+    fn deduct_from(&self, budget: usize) -> Option<usize> {
+        deduct_array(&self.topics, budget)
     }
 }

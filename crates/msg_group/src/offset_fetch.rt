@@ -2,14 +2,15 @@
 
 use std::alloc::Global;
 use wire_types::{
-    Cursor, ErrorCode, Items, ReadFault, Text, Topic, Wire, WriteFault, compact_nullable_room,
-    compact_string_room, flexible_topics_room, nullable_flexible_topics_room, read_flexible_topics,
-    read_nullable_flexible_topics, room_after, write_bool, write_compact_nullable,
-    write_compact_string, write_flexible_topics, write_i32, write_i64, write_no_tags,
-    write_nullable_flexible_topics,
+    Cursor, ErrorCode, Items, ReadFault, Text, Topic, Wire, WriteFault, deduct,
+    deduct_compact_nullable, deduct_compact_string, deduct_flexible_topics,
+    deduct_nullable_flexible_topics, read_flexible_topics, read_nullable_flexible_topics,
+    write_bool, write_compact_nullable, write_compact_string, write_flexible_topics, write_i32,
+    write_i64, write_no_tags, write_nullable_flexible_topics,
 };
 
-/// Asks for the offsets of partitions, or of all that have one.
+/// Asks for a group's committed offsets of these partitions, or of all that have one where the list is null. With
+/// `require_stable` an offset isn't given while a transaction may yet change it (KIP-447).
 #[derive(Drop, PartialEq, Eq)]
 pub struct OffsetFetchRequest {
     pub group: Text,
@@ -17,7 +18,7 @@ pub struct OffsetFetchRequest {
     pub require_stable: bool,
 }
 
-/// The committed offset of a partition, or -1.
+/// What a partition answers: its committed offset with the client's metadata, offset -1 where there is none, or an error.
 #[derive(Drop, PartialEq, Eq)]
 pub struct FetchedOffset {
     pub index: i32,
@@ -27,7 +28,7 @@ pub struct FetchedOffset {
     pub error: ErrorCode,
 }
 
-/// The offsets, in the request's order.
+/// What each partition answers; in the request's order, where it named partitions. `error` is that of the whole request.
 #[derive(Drop, PartialEq, Eq)]
 pub struct OffsetFetchReply {
     pub throttle: i32,
@@ -60,11 +61,11 @@ impl Wire for OffsetFetchRequest {
         Ok(())
     }
 
-    fn room_left(&self, room: usize) -> Option<usize> {
-        let room = compact_string_room(&self.group, room)?;
-        let room = nullable_flexible_topics_room(&self.topics, room)?;
-        let room = room_after(1, room)?;
-        room_after(1, room)
+    fn deduct_from(&self, budget: usize) -> Option<usize> {
+        let budget = deduct_compact_string(&self.group, budget)?;
+        let budget = deduct_nullable_flexible_topics(&self.topics, budget)?;
+        let budget = deduct(1, budget)?;
+        deduct(1, budget)
     }
 }
 
@@ -99,13 +100,13 @@ impl Wire for FetchedOffset {
         Ok(())
     }
 
-    fn room_left(&self, room: usize) -> Option<usize> {
-        let room = room_after(4, room)?;
-        let room = room_after(8, room)?;
-        let room = room_after(4, room)?;
-        let room = compact_nullable_room(&self.metadata, room)?;
-        let room = self.error.room_left(room)?;
-        room_after(1, room)
+    fn deduct_from(&self, budget: usize) -> Option<usize> {
+        let budget = deduct(4, budget)?;
+        let budget = deduct(8, budget)?;
+        let budget = deduct(4, budget)?;
+        let budget = deduct_compact_nullable(&self.metadata, budget)?;
+        let budget = self.error.deduct_from(budget)?;
+        deduct(1, budget)
     }
 }
 
@@ -134,10 +135,10 @@ impl Wire for OffsetFetchReply {
         Ok(())
     }
 
-    fn room_left(&self, room: usize) -> Option<usize> {
-        let room = room_after(4, room)?;
-        let room = flexible_topics_room(&self.topics, room)?;
-        let room = self.error.room_left(room)?;
-        room_after(1, room)
+    fn deduct_from(&self, budget: usize) -> Option<usize> {
+        let budget = deduct(4, budget)?;
+        let budget = deduct_flexible_topics(&self.topics, budget)?;
+        let budget = self.error.deduct_from(budget)?;
+        deduct(1, budget)
     }
 }

@@ -2,18 +2,18 @@
 
 use std::alloc::Global;
 use wire_types::{
-    Bytes, Cursor, ErrorCode, Items, ReadFault, Text, Wire, WriteFault, array_room, bytes_room,
-    read_array, room_after, string_room, write_array, write_bytes, write_i32, write_string,
+    Bytes, Cursor, ErrorCode, Items, ReadFault, Text, Wire, WriteFault, deduct, deduct_array,
+    deduct_bytes, deduct_string, read_array, write_array, write_bytes, write_i32, write_string,
 };
 
-/// A member, and what it is assigned.
+/// A member of the group, and what the leader assigns to it.
 #[derive(Drop, PartialEq, Eq)]
 pub struct MemberAssignment {
     pub member: Text,
     pub assignment: Bytes,
 }
 
-/// Asks for the member's assignment; a leader tells those of all members.
+/// Asks for the member's own assignment. The leader also tells the assignments of all members.
 #[derive(Drop, PartialEq, Eq)]
 pub struct SyncGroupRequest {
     pub group: Text,
@@ -22,7 +22,7 @@ pub struct SyncGroupRequest {
     pub assignments: Items<MemberAssignment>,
 }
 
-/// What the member is assigned.
+/// What is assigned to the member, or an error.
 #[derive(Drop, PartialEq, Eq)]
 pub struct SyncGroupReply {
     pub throttle: i32,
@@ -47,9 +47,9 @@ impl Wire for MemberAssignment {
         Ok(())
     }
 
-    fn room_left(&self, room: usize) -> Option<usize> {
-        let room = string_room(&self.member, room)?;
-        bytes_room(&self.assignment, room)
+    fn deduct_from(&self, budget: usize) -> Option<usize> {
+        let budget = deduct_string(&self.member, budget)?;
+        deduct_bytes(&self.assignment, budget)
     }
 }
 
@@ -79,11 +79,11 @@ impl Wire for SyncGroupRequest {
         Ok(())
     }
 
-    fn room_left(&self, room: usize) -> Option<usize> {
-        let room = string_room(&self.group, room)?;
-        let room = room_after(4, room)?;
-        let room = string_room(&self.member, room)?;
-        array_room(&self.assignments, room)
+    fn deduct_from(&self, budget: usize) -> Option<usize> {
+        let budget = deduct_string(&self.group, budget)?;
+        let budget = deduct(4, budget)?;
+        let budget = deduct_string(&self.member, budget)?;
+        deduct_array(&self.assignments, budget)
     }
 }
 
@@ -110,9 +110,9 @@ impl Wire for SyncGroupReply {
         Ok(())
     }
 
-    fn room_left(&self, room: usize) -> Option<usize> {
-        let room = room_after(4, room)?;
-        let room = self.error.room_left(room)?;
-        bytes_room(&self.assignment, room)
+    fn deduct_from(&self, budget: usize) -> Option<usize> {
+        let budget = deduct(4, budget)?;
+        let budget = self.error.deduct_from(budget)?;
+        deduct_bytes(&self.assignment, budget)
     }
 }

@@ -2,11 +2,11 @@
 
 use std::alloc::Global;
 use wire_types::{
-    Cursor, ErrorCode, Items, ReadFault, Wire, WriteFault, array_room, read_array, room_after,
+    Cursor, ErrorCode, Items, ReadFault, Wire, WriteFault, deduct, deduct_array, read_array,
     write_array, write_i16,
 };
 
-/// An api by its key, and the versions in which it is served.
+/// An api by its key, with the first and the last version in which it is served.
 #[derive(Drop, PartialEq, Eq)]
 pub struct ServedVersions {
     pub key: i16,
@@ -14,7 +14,7 @@ pub struct ServedVersions {
     pub max: i16,
 }
 
-/// The apis that are served.
+/// The apis that are served, with their versions.
 #[derive(Drop, PartialEq, Eq)]
 pub struct ApiVersionsReply {
     pub error: ErrorCode,
@@ -40,10 +40,10 @@ impl Wire for ServedVersions {
         Ok(())
     }
 
-    fn room_left(&self, room: usize) -> Option<usize> {
-        let room = room_after(2, room)?;
-        let room = room_after(2, room)?;
-        room_after(2, room)
+    fn deduct_from(&self, budget: usize) -> Option<usize> {
+        let budget = deduct(2, budget)?;
+        let budget = deduct(2, budget)?;
+        deduct(2, budget)
     }
 }
 
@@ -64,8 +64,8 @@ impl Wire for ApiVersionsReply {
         Ok(())
     }
 
-    fn room_left(&self, room: usize) -> Option<usize> {
-        let room = self.error.room_left(room)?;
-        array_room(&self.apis, room)
+    fn deduct_from(&self, budget: usize) -> Option<usize> {
+        let budget = self.error.deduct_from(budget)?;
+        deduct_array(&self.apis, budget)
     }
 }

@@ -5,17 +5,17 @@ ghost use Rattle.msg_login.specs.SaslAuthenticate.{authenticate_reply};
 
 use std::alloc::Global;
 use wire_types::{
-    Bytes, Cursor, ErrorCode, ReadFault, Text, Wire, WriteFault, bytes_room, nullable_room,
+    Bytes, Cursor, ErrorCode, ReadFault, Text, Wire, WriteFault, deduct_bytes, deduct_nullable,
     write_bytes, write_nullable,
 };
 
-/// What the client tells by its mechanism, such as its name and password.
+/// What the client sends for its SASL mechanism; with PLAIN its name and password (RFC 4616).
 #[derive(Drop, PartialEq, Eq)]
 pub struct SaslAuthenticateRequest {
     pub auth: Bytes,
 }
 
-/// Whether the client is logged in, and what the mechanism has the broker tell.
+/// Whether the client is logged in (error code 0), and what the broker sends for the SASL mechanism.
 #[derive(Drop, PartialEq, Eq)]
 pub struct SaslAuthenticateReply {
     pub error: ErrorCode,
@@ -24,7 +24,7 @@ pub struct SaslAuthenticateReply {
 }
 
 impl SaslAuthenticateReply {
-    /// Tells the error and no more. So it is with PLAIN, which has the broker tell nothing.
+    /// The reply with this error code, no message and empty SASL bytes: with PLAIN the broker has nothing more to send.
     pub fn telling(error: ErrorCode) -> SaslAuthenticateReply
         ensures { result ≡ authenticate_reply error }
     {
@@ -51,8 +51,8 @@ impl Wire for SaslAuthenticateRequest {
         Ok(())
     }
 
-    fn room_left(&self, room: usize) -> Option<usize> {
-        bytes_room(&self.auth, room)
+    fn deduct_from(&self, budget: usize) -> Option<usize> {
+        deduct_bytes(&self.auth, budget)
     }
 }
 
@@ -79,9 +79,9 @@ impl Wire for SaslAuthenticateReply {
         Ok(())
     }
 
-    fn room_left(&self, room: usize) -> Option<usize> {
-        let room = self.error.room_left(room)?;
-        let room = nullable_room(&self.message, room)?;
-        bytes_room(&self.auth, room)
+    fn deduct_from(&self, budget: usize) -> Option<usize> {
+        let budget = self.error.deduct_from(budget)?;
+        let budget = deduct_nullable(&self.message, budget)?;
+        deduct_bytes(&self.auth, budget)
     }
 }

@@ -5,8 +5,8 @@ ghost use Rattle.msg_login.specs.SaslHandshake.{handshake_reply};
 
 use std::alloc::{AllocError, Global};
 use wire_types::{
-    Cursor, ErrorCode, Items, ReadFault, Text, Wire, WriteFault, array_room, read_array,
-    string_room, write_array, write_string,
+    Cursor, ErrorCode, Items, ReadFault, Text, Wire, WriteFault, deduct_array, deduct_string,
+    read_array, write_array, write_string,
 };
 
 /// Names the mechanism that the client chose.
@@ -15,7 +15,7 @@ pub struct SaslHandshakeRequest {
     pub mechanism: Text,
 }
 
-/// Whether the mechanism is one of those that are offered, and these.
+/// Whether the chosen mechanism is served (error code 0), and the list of those that are.
 #[derive(Drop, PartialEq, Eq)]
 pub struct SaslHandshakeReply {
     pub error: ErrorCode,
@@ -23,7 +23,7 @@ pub struct SaslHandshakeReply {
 }
 
 impl SaslHandshakeReply {
-    /// Tells the error, and lists what is offered.
+    /// The reply with this error code and the list of served mechanisms, which is PLAIN alone.
     pub fn telling(alloc: Global, error: ErrorCode) -> Result<SaslHandshakeReply, AllocError>
         ensures { IfOk result (λ reply. reply ≡ handshake_reply error) }
     {
@@ -50,8 +50,8 @@ impl Wire for SaslHandshakeRequest {
         Ok(())
     }
 
-    fn room_left(&self, room: usize) -> Option<usize> {
-        string_room(&self.mechanism, room)
+    fn deduct_from(&self, budget: usize) -> Option<usize> {
+        deduct_string(&self.mechanism, budget)
     }
 }
 
@@ -72,8 +72,8 @@ impl Wire for SaslHandshakeReply {
         Ok(())
     }
 
-    fn room_left(&self, room: usize) -> Option<usize> {
-        let room = self.error.room_left(room)?;
-        array_room(&self.mechanisms, room)
+    fn deduct_from(&self, budget: usize) -> Option<usize> {
+        let budget = self.error.deduct_from(budget)?;
+        deduct_array(&self.mechanisms, budget)
     }
 }

@@ -2,11 +2,11 @@
 
 use std::alloc::Global;
 use wire_types::{
-    Cursor, ErrorCode, ReadFault, Text, Wire, WriteFault, room_after, string_room, write_i16,
+    Cursor, ErrorCode, ReadFault, Text, Wire, WriteFault, deduct, deduct_string, write_i16,
     write_i32, write_i64, write_string,
 };
 
-/// Asks to add a group to a producer's transaction.
+/// Asks to add a consumer group to a producer's transaction, before offsets of the group are committed in it.
 #[derive(Drop, PartialEq, Eq)]
 pub struct AddOffsetsToTxnRequest {
     pub transactional_id: Text,
@@ -15,7 +15,7 @@ pub struct AddOffsetsToTxnRequest {
     pub group: Text,
 }
 
-/// How the adding went.
+/// Whether the group was added: error code 0, or why not.
 #[derive(Drop, PartialEq, Eq)]
 pub struct AddOffsetsToTxnReply {
     pub throttle: i32,
@@ -48,11 +48,11 @@ impl Wire for AddOffsetsToTxnRequest {
         Ok(())
     }
 
-    fn room_left(&self, room: usize) -> Option<usize> {
-        let room = string_room(&self.transactional_id, room)?;
-        let room = room_after(8, room)?;
-        let room = room_after(2, room)?;
-        string_room(&self.group, room)
+    fn deduct_from(&self, budget: usize) -> Option<usize> {
+        let budget = deduct_string(&self.transactional_id, budget)?;
+        let budget = deduct(8, budget)?;
+        let budget = deduct(2, budget)?;
+        deduct_string(&self.group, budget)
     }
 }
 
@@ -73,8 +73,8 @@ impl Wire for AddOffsetsToTxnReply {
         Ok(())
     }
 
-    fn room_left(&self, room: usize) -> Option<usize> {
-        let room = room_after(4, room)?;
-        self.error.room_left(room)
+    fn deduct_from(&self, budget: usize) -> Option<usize> {
+        let budget = deduct(4, budget)?;
+        self.error.deduct_from(budget)
     }
 }

@@ -2,11 +2,11 @@
 
 use std::alloc::Global;
 use wire_types::{
-    Cursor, ErrorCode, Items, ReadFault, Text, Topic, Wire, WriteFault, array_room, read_array,
-    room_after, string_room, write_array, write_i16, write_i32, write_i64, write_string,
+    Cursor, ErrorCode, Items, ReadFault, Text, Topic, Wire, WriteFault, deduct, deduct_array,
+    deduct_string, read_array, write_array, write_i16, write_i32, write_i64, write_string,
 };
 
-/// Asks to add partitions to a producer's transaction.
+/// Asks to add partitions to a producer's transaction, before records are produced there in it.
 #[derive(Drop, PartialEq, Eq)]
 pub struct AddPartitionsToTxnRequest {
     pub transactional_id: Text,
@@ -15,14 +15,14 @@ pub struct AddPartitionsToTxnRequest {
     pub topics: Items<Topic<i32>>,
 }
 
-/// How the adding of a partition went.
+/// Whether a partition was added: error code 0, or why not.
 #[derive(Drop, PartialEq, Eq)]
 pub struct AddedPartition {
     pub index: i32,
     pub error: ErrorCode,
 }
 
-/// The partitions, in the request's order.
+/// Whether each partition was added, in the request's order.
 #[derive(Drop, PartialEq, Eq)]
 pub struct AddPartitionsToTxnReply {
     pub throttle: i32,
@@ -58,11 +58,11 @@ impl Wire for AddPartitionsToTxnRequest {
         Ok(())
     }
 
-    fn room_left(&self, room: usize) -> Option<usize> {
-        let room = string_room(&self.transactional_id, room)?;
-        let room = room_after(8, room)?;
-        let room = room_after(2, room)?;
-        array_room(&self.topics, room)
+    fn deduct_from(&self, budget: usize) -> Option<usize> {
+        let budget = deduct_string(&self.transactional_id, budget)?;
+        let budget = deduct(8, budget)?;
+        let budget = deduct(2, budget)?;
+        deduct_array(&self.topics, budget)
     }
 }
 
@@ -83,9 +83,9 @@ impl Wire for AddedPartition {
         Ok(())
     }
 
-    fn room_left(&self, room: usize) -> Option<usize> {
-        let room = room_after(4, room)?;
-        self.error.room_left(room)
+    fn deduct_from(&self, budget: usize) -> Option<usize> {
+        let budget = deduct(4, budget)?;
+        self.error.deduct_from(budget)
     }
 }
 
@@ -106,8 +106,8 @@ impl Wire for AddPartitionsToTxnReply {
         Ok(())
     }
 
-    fn room_left(&self, room: usize) -> Option<usize> {
-        let room = room_after(4, room)?;
-        array_room(&self.topics, room)
+    fn deduct_from(&self, budget: usize) -> Option<usize> {
+        let budget = deduct(4, budget)?;
+        deduct_array(&self.topics, budget)
     }
 }

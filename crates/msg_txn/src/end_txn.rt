@@ -7,12 +7,12 @@ ghost use Rattle.msg_txn.specs.EndTxn.{end_txn_of, error_of, version_asked, vers
 
 use std::alloc::Global;
 use wire_types::{
-    Cursor, ErrorCode, ReadFault, Text, Wire, WriteFault, compact_string_room, room_after,
-    string_room, write_bool, write_compact_string, write_i16, write_i32, write_i64, write_no_tags,
-    write_string,
+    Cursor, ErrorCode, ReadFault, Text, Wire, WriteFault, deduct, deduct_compact_string,
+    deduct_string, write_bool, write_compact_string, write_i16, write_i32, write_i64,
+    write_no_tags, write_string,
 };
 
-/// What is asked, in each version.
+/// The request's fields, which are the same in all versions.
 #[derive(Drop, PartialEq, Eq)]
 pub struct EndTxn {
     pub transactional_id: Text,
@@ -21,13 +21,13 @@ pub struct EndTxn {
     pub committed: bool,
 }
 
-/// What is asked, in the form of versions 3 to 5.
+/// The request's fields in the flexible form of versions 3 to 5 (KIP-482).
 #[derive(Drop, PartialEq, Eq)]
 pub struct FlexibleEndTxn {
     pub asked: EndTxn,
 }
 
-/// Asks to end a producer's transaction.
+/// Asks to commit or abort a producer's transaction, in one of the versions 0 to 5.
 #[derive(Drop, PartialEq, Eq)]
 pub enum EndTxnRequest {
     Version0(EndTxn),
@@ -38,21 +38,22 @@ pub enum EndTxnRequest {
     Version5(FlexibleEndTxn),
 }
 
-/// How the ending went.
+/// Whether the transaction is ended (error code 0), in the form of versions 0 to 2.
 #[derive(Drop, PartialEq, Eq)]
 pub struct Ended {
     pub throttle: i32,
     pub error: ErrorCode,
 }
 
-/// How the ending went, in the form of versions 3 and 4.
+/// Whether the transaction is ended (error code 0), in the flexible form of versions 3 and 4 (KIP-482).
 #[derive(Drop, PartialEq, Eq)]
 pub struct FlexibleEnded {
     pub throttle: i32,
     pub error: ErrorCode,
 }
 
-/// How the ending went, in the form of version 5: with an error code the pair is -1 and -1.
+/// Whether the transaction is ended (error code 0), in the form of version 5, which also gives the producer id and epoch to
+/// go on with (KIP-890). With an error both are -1.
 #[derive(Drop, PartialEq, Eq)]
 pub struct EndedWithPair {
     pub throttle: i32,
@@ -61,7 +62,7 @@ pub struct EndedWithPair {
     pub epoch: i16,
 }
 
-/// How the ending went, in the version that asked for it.
+/// Whether the transaction is ended, in the version of the request.
 #[derive(Drop, PartialEq, Eq)]
 pub enum EndTxnReply {
     Version0(Ended),
@@ -73,7 +74,7 @@ pub enum EndTxnReply {
 }
 
 impl EndTxnRequest {
-    /// The body of a request in a version from 0 to 5.
+    /// Reads the body of an EndTxn request in this version, which is 0 to 5. Bytes after the body are left to the caller.
     pub fn read(
         alloc: Global,
         version: i16,
@@ -91,7 +92,7 @@ impl EndTxnRequest {
         })
     }
 
-    /// The version in which it is asked.
+    /// The request's version, 0 to 5.
     pub fn version(&self) -> i16
         ensures { result ≡ version_asked self.now }
     {
@@ -105,7 +106,7 @@ impl EndTxnRequest {
         }
     }
 
-    /// What is asked, whatever the version.
+    /// The request's fields, whatever its version.
     pub fn asked(&self) -> &EndTxn
         ensures { result.now ≡ end_txn_of self.now }
     {
@@ -121,7 +122,7 @@ impl EndTxnRequest {
 }
 
 impl EndTxnReply {
-    /// The body of an answer in a version from 0 to 5.
+    /// Reads the body of an EndTxn reply in this version, which is 0 to 5. Bytes after the body are left to the caller.
     pub fn read(
         alloc: Global,
         version: i16,
@@ -139,7 +140,7 @@ impl EndTxnReply {
         })
     }
 
-    /// The version in which it is answered.
+    /// The reply's version, 0 to 5.
     pub fn version(&self) -> i16
         ensures { result ≡ version_answered self.now }
     {
@@ -153,7 +154,7 @@ impl EndTxnReply {
         }
     }
 
-    /// The error code, whatever the version.
+    /// The reply's error code, whatever its version.
     pub fn error(&self) -> ErrorCode
         ensures { result ≡ error_of self.now }
     {
@@ -194,11 +195,11 @@ impl Wire for EndTxn {
         Ok(())
     }
 
-    fn room_left(&self, room: usize) -> Option<usize> {
-        let room = string_room(&self.transactional_id, room)?;
-        let room = room_after(8, room)?;
-        let room = room_after(2, room)?;
-        room_after(1, room)
+    fn deduct_from(&self, budget: usize) -> Option<usize> {
+        let budget = deduct_string(&self.transactional_id, budget)?;
+        let budget = deduct(8, budget)?;
+        let budget = deduct(2, budget)?;
+        deduct(1, budget)
     }
 }
 
@@ -232,12 +233,12 @@ impl Wire for FlexibleEndTxn {
         Ok(())
     }
 
-    fn room_left(&self, room: usize) -> Option<usize> {
-        let room = compact_string_room(&self.asked.transactional_id, room)?;
-        let room = room_after(8, room)?;
-        let room = room_after(2, room)?;
-        let room = room_after(1, room)?;
-        room_after(1, room)
+    fn deduct_from(&self, budget: usize) -> Option<usize> {
+        let budget = deduct_compact_string(&self.asked.transactional_id, budget)?;
+        let budget = deduct(8, budget)?;
+        let budget = deduct(2, budget)?;
+        let budget = deduct(1, budget)?;
+        deduct(1, budget)
     }
 }
 
@@ -258,9 +259,9 @@ impl Wire for Ended {
         Ok(())
     }
 
-    fn room_left(&self, room: usize) -> Option<usize> {
-        let room = room_after(4, room)?;
-        self.error.room_left(room)
+    fn deduct_from(&self, budget: usize) -> Option<usize> {
+        let budget = deduct(4, budget)?;
+        self.error.deduct_from(budget)
     }
 }
 
@@ -283,10 +284,10 @@ impl Wire for FlexibleEnded {
         Ok(())
     }
 
-    fn room_left(&self, room: usize) -> Option<usize> {
-        let room = room_after(4, room)?;
-        let room = self.error.room_left(room)?;
-        room_after(1, room)
+    fn deduct_from(&self, budget: usize) -> Option<usize> {
+        let budget = deduct(4, budget)?;
+        let budget = self.error.deduct_from(budget)?;
+        deduct(1, budget)
     }
 }
 
@@ -318,11 +319,11 @@ impl Wire for EndedWithPair {
         Ok(())
     }
 
-    fn room_left(&self, room: usize) -> Option<usize> {
-        let room = room_after(4, room)?;
-        let room = self.error.room_left(room)?;
-        let room = room_after(8, room)?;
-        let room = room_after(2, room)?;
-        room_after(1, room)
+    fn deduct_from(&self, budget: usize) -> Option<usize> {
+        let budget = deduct(4, budget)?;
+        let budget = self.error.deduct_from(budget)?;
+        let budget = deduct(8, budget)?;
+        let budget = deduct(2, budget)?;
+        deduct(1, budget)
     }
 }

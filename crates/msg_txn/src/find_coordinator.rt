@@ -2,7 +2,7 @@
 
 use std::alloc::Global;
 use wire_types::{
-    Cursor, ErrorCode, ReadFault, Text, Wire, WriteFault, nullable_room, room_after, string_room,
+    Cursor, ErrorCode, ReadFault, Text, Wire, WriteFault, deduct, deduct_nullable, deduct_string,
     write_i8, write_i32, write_nullable, write_string,
 };
 
@@ -14,7 +14,7 @@ pub struct FindCoordinatorRequest {
     pub key_type: i8,
 }
 
-/// The coordinator, or node -1.
+/// The broker that coordinates the group or the transactional id; or an error, node -1, an empty host and port -1.
 #[derive(Drop, PartialEq, Eq)]
 pub struct FindCoordinatorReply {
     pub throttle: i32,
@@ -42,9 +42,9 @@ impl Wire for FindCoordinatorRequest {
         Ok(())
     }
 
-    fn room_left(&self, room: usize) -> Option<usize> {
-        let room = string_room(&self.key, room)?;
-        room_after(1, room)
+    fn deduct_from(&self, budget: usize) -> Option<usize> {
+        let budget = deduct_string(&self.key, budget)?;
+        deduct(1, budget)
     }
 }
 
@@ -80,12 +80,12 @@ impl Wire for FindCoordinatorReply {
         Ok(())
     }
 
-    fn room_left(&self, room: usize) -> Option<usize> {
-        let room = room_after(4, room)?;
-        let room = self.error.room_left(room)?;
-        let room = nullable_room(&self.message, room)?;
-        let room = room_after(4, room)?;
-        let room = string_room(&self.host, room)?;
-        room_after(4, room)
+    fn deduct_from(&self, budget: usize) -> Option<usize> {
+        let budget = deduct(4, budget)?;
+        let budget = self.error.deduct_from(budget)?;
+        let budget = deduct_nullable(&self.message, budget)?;
+        let budget = deduct(4, budget)?;
+        let budget = deduct_string(&self.host, budget)?;
+        deduct(4, budget)
     }
 }

@@ -2,18 +2,19 @@
 
 use std::alloc::Global;
 use wire_types::{
-    Cursor, ErrorCode, ReadFault, Text, Wire, WriteFault, nullable_room, room_after, write_i16,
+    Cursor, ErrorCode, ReadFault, Text, Wire, WriteFault, deduct, deduct_nullable, write_i16,
     write_i32, write_i64, write_nullable,
 };
 
-/// Asks for the producer of a transactional id, or for one without transactions.
+/// Asks for a producer id and epoch: those of this transactional id, or new ones for an idempotent producer where it is
+/// null. The timeout of the transaction is in milliseconds.
 #[derive(Drop, PartialEq, Eq)]
 pub struct InitProducerIdRequest {
     pub transactional_id: Option<Text>,
     pub timeout: i32,
 }
 
-/// The producer id with its epoch, or -1 for both.
+/// The producer id and its epoch, or an error and -1 for both.
 #[derive(Drop, PartialEq, Eq)]
 pub struct InitProducerIdReply {
     pub throttle: i32,
@@ -42,9 +43,9 @@ impl Wire for InitProducerIdRequest {
         Ok(())
     }
 
-    fn room_left(&self, room: usize) -> Option<usize> {
-        let room = nullable_room(&self.transactional_id, room)?;
-        room_after(4, room)
+    fn deduct_from(&self, budget: usize) -> Option<usize> {
+        let budget = deduct_nullable(&self.transactional_id, budget)?;
+        deduct(4, budget)
     }
 }
 
@@ -74,10 +75,10 @@ impl Wire for InitProducerIdReply {
         Ok(())
     }
 
-    fn room_left(&self, room: usize) -> Option<usize> {
-        let room = room_after(4, room)?;
-        let room = self.error.room_left(room)?;
-        let room = room_after(8, room)?;
-        room_after(2, room)
+    fn deduct_from(&self, budget: usize) -> Option<usize> {
+        let budget = deduct(4, budget)?;
+        let budget = self.error.deduct_from(budget)?;
+        let budget = deduct(8, budget)?;
+        deduct(2, budget)
     }
 }

@@ -2,13 +2,13 @@
 
 use std::alloc::Global;
 use wire_types::{
-    Cursor, ErrorCode, Items, ReadFault, Text, Topic, Wire, WriteFault, compact_nullable_room,
-    compact_string_room, flexible_topics_room, read_flexible_topics, room_after,
+    Cursor, ErrorCode, Items, ReadFault, Text, Topic, Wire, WriteFault, deduct,
+    deduct_compact_nullable, deduct_compact_string, deduct_flexible_topics, read_flexible_topics,
     write_compact_nullable, write_compact_string, write_flexible_topics, write_i16, write_i32,
     write_i64, write_no_tags,
 };
 
-/// A partition, and the offset that is to be committed there.
+/// A partition and the offset to commit there, with the client's metadata.
 #[derive(Drop, PartialEq, Eq)]
 pub struct OffsetToStage {
     pub index: i32,
@@ -18,7 +18,7 @@ pub struct OffsetToStage {
     pub metadata: Option<Text>,
 }
 
-/// Asks to commit offsets of a group with a producer's transaction.
+/// Asks to commit offsets of a consumer group as part of a producer's transaction.
 #[derive(Drop, PartialEq, Eq)]
 pub struct TxnOffsetCommitRequest {
     pub transactional_id: Text,
@@ -32,14 +32,14 @@ pub struct TxnOffsetCommitRequest {
     pub topics: Items<Topic<OffsetToStage>>,
 }
 
-/// Whether the offset of a partition waits for the transaction's end.
+/// Whether the partition's offset is staged until the transaction ends: error code 0, or why not.
 #[derive(Drop, PartialEq, Eq)]
 pub struct StagedOffset {
     pub index: i32,
     pub error: ErrorCode,
 }
 
-/// The partitions, in the request's order.
+/// Whether each partition's offset is staged, in the request's order.
 #[derive(Drop, PartialEq, Eq)]
 pub struct TxnOffsetCommitReply {
     pub throttle: i32,
@@ -74,12 +74,12 @@ impl Wire for OffsetToStage {
         Ok(())
     }
 
-    fn room_left(&self, room: usize) -> Option<usize> {
-        let room = room_after(4, room)?;
-        let room = room_after(8, room)?;
-        let room = room_after(4, room)?;
-        let room = compact_nullable_room(&self.metadata, room)?;
-        room_after(1, room)
+    fn deduct_from(&self, budget: usize) -> Option<usize> {
+        let budget = deduct(4, budget)?;
+        let budget = deduct(8, budget)?;
+        let budget = deduct(4, budget)?;
+        let budget = deduct_compact_nullable(&self.metadata, budget)?;
+        deduct(1, budget)
     }
 }
 
@@ -123,16 +123,16 @@ impl Wire for TxnOffsetCommitRequest {
         Ok(())
     }
 
-    fn room_left(&self, room: usize) -> Option<usize> {
-        let room = compact_string_room(&self.transactional_id, room)?;
-        let room = compact_string_room(&self.group, room)?;
-        let room = room_after(8, room)?;
-        let room = room_after(2, room)?;
-        let room = room_after(4, room)?;
-        let room = compact_string_room(&self.member, room)?;
-        let room = compact_nullable_room(&self.instance, room)?;
-        let room = flexible_topics_room(&self.topics, room)?;
-        room_after(1, room)
+    fn deduct_from(&self, budget: usize) -> Option<usize> {
+        let budget = deduct_compact_string(&self.transactional_id, budget)?;
+        let budget = deduct_compact_string(&self.group, budget)?;
+        let budget = deduct(8, budget)?;
+        let budget = deduct(2, budget)?;
+        let budget = deduct(4, budget)?;
+        let budget = deduct_compact_string(&self.member, budget)?;
+        let budget = deduct_compact_nullable(&self.instance, budget)?;
+        let budget = deduct_flexible_topics(&self.topics, budget)?;
+        deduct(1, budget)
     }
 }
 
@@ -155,10 +155,10 @@ impl Wire for StagedOffset {
         Ok(())
     }
 
-    fn room_left(&self, room: usize) -> Option<usize> {
-        let room = room_after(4, room)?;
-        let room = self.error.room_left(room)?;
-        room_after(1, room)
+    fn deduct_from(&self, budget: usize) -> Option<usize> {
+        let budget = deduct(4, budget)?;
+        let budget = self.error.deduct_from(budget)?;
+        deduct(1, budget)
     }
 }
 
@@ -181,9 +181,9 @@ impl Wire for TxnOffsetCommitReply {
         Ok(())
     }
 
-    fn room_left(&self, room: usize) -> Option<usize> {
-        let room = room_after(4, room)?;
-        let room = flexible_topics_room(&self.topics, room)?;
-        room_after(1, room)
+    fn deduct_from(&self, budget: usize) -> Option<usize> {
+        let budget = deduct(4, budget)?;
+        let budget = deduct_flexible_topics(&self.topics, budget)?;
+        deduct(1, budget)
     }
 }

@@ -27,7 +27,7 @@ pub struct BatchMetadata {
 }
 
 impl BatchMetadata {
-    /// What is kept of a data batch that stands at this offset.
+    /// The metadata of a data batch that stands at this offset.
     fn of(batch: &Batch, offset: i64) -> BatchMetadata
         ensures { result ≡ written_of (written_at offset batch.now) }
     {
@@ -39,7 +39,7 @@ impl BatchMetadata {
         }
     }
 
-    /// Whether a batch has the same first and the same last sequence number.
+    /// Whether the batch has the same first and the same last sequence number.
     fn has_sequences_of(&self, batch: &Batch) -> bool
         ensures { result ≡ has_sequences_of batch.now self.now }
     {
@@ -72,7 +72,8 @@ impl Model for ProducerEntry {
 }
 
 impl ProducerEntry {
-    /// A producer that has written nothing in this epoch.
+    /// A producer with no data batch in this epoch: sequence number 0 is expected next. An `AllocError` is an allocation
+    /// failure.
     pub(crate) fn fresh(alloc: Global, epoch: i16) -> Result<ProducerEntry, AllocError>
         ensures { IfOk result (λ k. k ≡ fresh_state epoch) }
     {
@@ -84,7 +85,8 @@ impl ProducerEntry {
         })
     }
 
-    /// Once something of the producer tells an epoch, the greatest one counts.
+    /// Goes to this epoch if it is newer than the producer's. Then sequence numbers begin at 0 again, and no batch of the
+    /// old epoch is kept.
     pub(crate) fn update_epoch(&mut self, epoch: i16)
         ensures { self.new ≡ state_in_epoch (Some self.old) epoch }
     {
@@ -95,7 +97,8 @@ impl ProducerEntry {
         }
     }
 
-    /// Notes a batch or marker of the producer that stands at this offset.
+    /// Keeps what a batch of the producer, which was appended at this offset, tells: its sequence numbers, if it is a data
+    /// batch of the producer's epoch. A marker or another epoch changes nothing.
     pub(crate) fn note(&mut self, batch: &Batch, offset: i64)
         ensures { self.new ≡ state_with_batch_if
             (is_data batch.now && int_eq self.old.epoch batch.now.header.producer_epoch)
@@ -107,7 +110,9 @@ impl ProducerEntry {
         }
     }
 
-    /// How a batch of this producer is judged.
+    /// Judges a batch of this producer: an older epoch is refused (INVALID_PRODUCER_EPOCH), one of the last five data
+    /// batches is a `Repeat`, the expected sequence number is `Next`, and any other is refused
+    /// (OUT_OF_ORDER_SEQUENCE_NUMBER). The first batch of a newer epoch has to begin at 0.
     pub(crate) fn judge(&self, batch: &Batch) -> Judgment
         ensures { result ≡ judgment_by_state (Some self.now) batch.now }
     {
@@ -125,7 +130,8 @@ impl ProducerEntry {
     }
 }
 
-/// How a producer's first batch of an epoch is judged.
+/// Judges a producer's first batch of an epoch: sequence number 0 is `Next`, and any other is refused
+/// (OUT_OF_ORDER_SEQUENCE_NUMBER).
 pub(crate) fn begun(batch: &Batch) -> Judgment
     ensures { result ≡ first_judgment batch.now }
 {
@@ -136,7 +142,7 @@ pub(crate) fn begun(batch: &Batch) -> Judgment
     }
 }
 
-/// The latest of the batches that has the same sequence numbers.
+/// The latest of the kept batches that has the first and last sequence numbers of this one, `None` if there is none.
 fn find_repeat(latest: &HeapCircularBuffer<BatchMetadata>, batch: &Batch) -> Option<BatchMetadata>
     ensures { result ≡ find (has_sequences_of batch.now) latest.now.items }
 {

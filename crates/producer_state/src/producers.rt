@@ -29,7 +29,7 @@ impl Model for Producers {
 }
 
 impl Producers {
-    /// The producers of an empty log: none. It takes no memory.
+    /// The producers of an empty log: none. It allocates nothing.
     pub fn new(alloc: Global) -> Producers
         ensures empty { result ≡ [] }
         ensures describes { Describes result [] }
@@ -40,7 +40,8 @@ impl Producers {
         }
     }
 
-    /// How a log that is described judges a batch. It takes no memory.
+    /// Judges a batch that is sent to the log whose producers these are: whether it is next, was sent before, or is refused.
+    /// A batch without a producer id is always `Next`. It allocates nothing.
     pub fn judge(&self, batch: &Batch) -> Judgment
         ensures { (log : List BatchData) → Describes self.now log → result
             ≡ judgment_of log batch.now }
@@ -55,7 +56,8 @@ impl Producers {
         }
     }
 
-    /// Notes a batch or marker that was appended to the log at this offset.
+    /// Keeps what a batch or marker that was appended at this offset tells of its producer. An allocation failure changes
+    /// nothing, and comes only for a producer of whom nothing was kept.
     pub fn note(&mut self, batch: &Batch, offset: i64) -> Result<(), AllocError>
         ensures ok { OnOk result ((log : List BatchData) → Describes self.old log →
             Describes self.new (log ++ written_at offset batch.now ∷ [])) }
@@ -80,7 +82,8 @@ impl Producers {
         Ok(())
     }
 
-    /// Notes that the marker of a transaction of this producer and epoch was appended to the log.
+    /// Keeps what an appended transaction marker tells of this producer: its epoch. An allocation failure changes nothing,
+    /// and comes only for a producer of whom nothing was kept.
     pub fn note_marker(&mut self, producer: i64, epoch: i16) -> Result<(), AllocError>
         ensures ok { OnOk result ((log : List BatchData) (marker : BatchData) →
             IsMarkerOf producer epoch marker → Describes self.old log →

@@ -46,8 +46,8 @@ impl Drop for Batch {
 }
 
 impl Batch {
-    /// The batch that a producer sent as these bytes, of at most so many, or the first fault. It
-    /// copies nothing and takes no memory.
+    /// Checks bytes that a producer sent as one record batch, of at most `max` bytes. Gives the batch or the first fault. It
+    /// copies nothing and allocates nothing.
     pub fn check(bytes: Bytes, max: u32) -> Result<Batch, BatchFault>
         ensures fault { fault_in result ≡ first_fault max bytes }
         ensures batch { IfOk result (λ b. (b.bytes ≡ bytes) × (b.marker ≡ None) × IsBatch b) }
@@ -55,7 +55,7 @@ impl Batch {
         SentBatch::of(bytes).batch(max)
     }
 
-    /// The batch of a header and the bytes that it was read from, which have no fault.
+    /// The data batch that these bytes are, whose header was read from them and in which no fault was found.
     pub(crate) fn faultless(header: BatchHeader, bytes: Bytes) -> Batch
         requires header { batch_header.reading bytes ≡ Ok (header, drop 61 bytes) }
         requires fault { fault_at_any_size bytes ≡ None }
@@ -68,7 +68,8 @@ impl Batch {
         }
     }
 
-    /// The control batch that marks how a producer's transaction ended.
+    /// The control batch that marks that a producer's transaction was committed or aborted, with this timestamp in
+    /// milliseconds. An `AllocError` is an allocation failure.
     pub fn control(
         alloc: Global,
         outcome: TransactionResult,
@@ -88,7 +89,7 @@ impl Batch {
         })
     }
 
-    /// The batch's bytes.
+    /// The batch's bytes, header and records, as they are stored and served.
     pub fn bytes(&self) -> &Piece
         ensures bytes { result.now ≡ self.now.bytes }
         ensures batch { IsBatch self.now }
@@ -96,21 +97,21 @@ impl Batch {
         &self.bytes
     }
 
-    /// The header, as it was read.
+    /// The batch's header, as it was read from the bytes.
     pub fn header(&self) -> &BatchHeader
         ensures { result.now ≡ self.now.header }
     {
         &self.header
     }
 
-    /// The outcome that a control batch marks.
+    /// What a control batch marks: commit or abort. `None` for a data batch.
     pub fn marker(&self) -> Option<TransactionResult>
         ensures { result ≡ self.now.marker }
     {
         self.marker
     }
 
-    /// One more owner of the same bytes; it is refused only where the count of owners is full.
+    /// One more owner of the same bytes, without a copy. It fails only where the count of owners is full.
     pub fn share(&self) -> Result<Batch, AllocError>
         ensures { IfOk result (λ b. b ≡ self.now) }
     {
@@ -121,14 +122,15 @@ impl Batch {
         })
     }
 
-    /// Whether each record's offset, and the one after them, is a number of 64 bits.
+    /// Whether the offset after the last record fits in an `i64`, and so that of each record too.
     pub fn has_offsets(&self) -> bool
         ensures { IsTrue result ↔ HasOffsets self.now }
     {
         self.header.has_offsets()
     }
 
-    /// The records with their offsets, which share the batch's bytes.
+    /// The records with their offsets. Keys, values and headers share the batch's bytes. An `AllocError` is an allocation
+    /// failure.
     pub fn recs(&self, alloc: Global) -> Result<Items<RecordAt>, AllocError>
         requires { HasOffsets self.now }
         ensures { IfOk result (λ recs.
@@ -144,7 +146,7 @@ impl Batch {
         }
     }
 
-    /// The offset after the last record.
+    /// The offset after the last record's.
     pub fn next_offset(&self) -> i64
         requires { HasOffsets self.now }
         ensures { result ≡ next_offset self.now }
@@ -152,10 +154,11 @@ impl Batch {
         self.header.next_offset()
     }
 
-    /// The same batch at another offset, with the leader epoch 0, which shares the bytes after them. The checksum, which
-    /// covers neither, is still right.
+    /// The same batch with its first record at this offset, and with the partition leader epoch 0. All bytes after these two
+    /// fields are shared. The checksum covers neither, so it is still right. An `AllocError` is an allocation failure.
     pub fn write_at(&self, offset: i64) -> Result<Batch, AllocError>
-        ensures { IfOk result (λ b. b ≡ written_at offset self.now) }
+        ensures value { IfOk result (λ b. b ≡ written_at offset self.now) }
+        ensures batch { IfOk result IsBatch }
     {
         let front = front_at(offset, &self.bytes.front());
         let bytes = self.bytes.with_front(front)?;
@@ -168,7 +171,7 @@ impl Batch {
     }
 }
 
-/// A batch's first 16 bytes with another base offset, and with the leader epoch 0.
+/// A batch's first 16 bytes (base offset, length, partition leader epoch) with this base offset and with the leader epoch 0.
 #[tactic(auto, unfolding(wire_types::specs::Spelling::int_written))]
 fn front_at(offset: i64, front: &[u8; 16]) -> [u8; 16]
     ensures { result ≡ int64.written offset

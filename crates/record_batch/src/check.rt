@@ -10,14 +10,16 @@ use crate::header::BatchHeader;
 use crate::walk::are_records;
 
 impl BatchHeader {
-    /// Whether the length is that of a batch at the front of so many bytes.
+    /// Whether the header's batch length is at least 49, so that it takes in the rest of the header, and the batch ends
+    /// within `total` bytes.
     fn has_length(&self, total: usize) -> bool
         ensures { result ≡ has_length total self.now.batch_length }
     {
         self.batch_length >= 49 && self.batch_length as usize + 12 <= total
     }
 
-    /// Where the batch ends.
+    /// How many bytes the batch has by its header's batch length, with the 12 bytes before and in that field; 0 for a
+    /// negative length.
     fn end(&self) -> usize
         ensures { result ≡ end_of self.now.batch_length }
     {
@@ -27,6 +29,8 @@ impl BatchHeader {
         self.batch_length as usize + 12
     }
 
+    /// Whether the producer's fields fit together: either no producer (id -1) and no transaction, or an id, an epoch and a
+    /// base sequence of which none is negative.
     fn has_producer(&self) -> bool
         ensures { result ≡ has_producer self.now }
     {
@@ -37,12 +41,14 @@ impl BatchHeader {
         }
     }
 
+    /// Whether there is at least one record, and the last offset delta is one less than the record count.
     fn has_count(&self) -> bool
         ensures { result ≡ has_count self.now }
     {
         0 < self.record_count && self.record_count - 1 == self.last_offset_delta
     }
 
+    /// Whether `body`, the bytes after the header, is exactly as many well-formed records as the header counts.
     #[tactic(auto, unfolding(crate::specs::Faults::has_records))]
     fn has_records(&self, body: &[u8]) -> bool
         ensures { result ≡ has_records self.now body.now }
@@ -50,7 +56,7 @@ impl BatchHeader {
         are_records(body, self.count())
     }
 
-    /// Whether all the bytes are data of a producer, or of none.
+    /// Whether `bytes`, with `body` after the header, are exactly one data batch whose fields and records fit together.
     #[tactic(auto, unfolding(crate::specs::Faults::is_valid))]
     fn is_valid(&self, body: &[u8], bytes: &[u8]) -> bool
         ensures { result ≡ is_valid self.now body.now bytes.now }
@@ -62,7 +68,8 @@ impl BatchHeader {
             && self.has_records(body)
     }
 
-    /// Whether a producer may send the batch, its format being right, whatever its size.
+    /// The last faults that are looked for, after those of the format: `Invalid` where the fields or records don't fit
+    /// together, `Timestamp` where the timestamp type is LogAppendTime.
     fn check_data(&self, body: &[u8], bytes: &[u8]) -> Result<(), BatchFault>
         ensures { fault_in result
             ≡ first_found (data_tests (length bytes.now) bytes.now self.now body.now) }
@@ -76,6 +83,8 @@ impl BatchHeader {
         Ok(())
     }
 
+    /// Looks for the first fault of `bytes`, with `body` after this header, in the order of `BatchFault`; but not for
+    /// `TooLarge`.
     fn check_all(&self, body: &[u8], bytes: &[u8]) -> Result<(), BatchFault>
         requires { 61 ≤ length bytes.now }
         ensures { fault_in result
@@ -97,7 +106,7 @@ impl BatchHeader {
     }
 }
 
-/// The first fault of bytes as a batch, whatever its size.
+/// The first fault of bytes that a producer sent as a batch, whatever their number; `None` if there is none.
 #[tactic(auto, unfolding(crate::specs::Faults::first_fault))]
 pub(crate) fn fault_of(bytes: &[u8]) -> Option<BatchFault>
     ensures { result ≡ fault_at_any_size bytes.now }

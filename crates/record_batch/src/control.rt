@@ -11,7 +11,8 @@ use std::alloc::{AllocError, Global};
 use wire_types::{write_i8, write_i16, write_i32, write_i64, write_u32};
 
 impl BatchHeader {
-    /// The header of a control batch whose checksum is not known yet.
+    /// The header of a control batch with one record at offset 0, and with the checksum 0 until that is known. `moment` is
+    /// its timestamp in milliseconds.
     fn of_control(producer: i64, epoch: i16, moment: i64) -> BatchHeader
         ensures { result ≡ control_header producer epoch moment 0 }
     {
@@ -32,13 +33,14 @@ impl BatchHeader {
         }
     }
 
+    /// The same header with this checksum.
     fn with_crc(&self, crc: u32) -> BatchHeader
         ensures { result ≡ record self.now { crc = crc } }
     {
         BatchHeader { crc, ..*self }
     }
 
-    /// Puts the header's bytes after what is there.
+    /// Appends the header's 61 bytes. On an allocation failure a part of them may stand there.
     fn write(&self, out: &mut Vec<u8>) -> Result<(), AllocError>
         ensures { OnOk result (out.new.items ≡ batch_header.put out.old.items self.now) }
     {
@@ -58,7 +60,8 @@ impl BatchHeader {
     }
 }
 
-/// The record of a control batch, after its length.
+/// The 17 bytes of a control batch's one record, with its length before it: the key holds version 0 and the type (0 abort, 1
+/// commit), the value version 0 and coordinator epoch 0.
 const fn marker_text(outcome: TransactionResult) -> [u8; 17]
     ensures { result ≡ marker_text outcome }
 {
@@ -68,7 +71,7 @@ const fn marker_text(outcome: TransactionResult) -> [u8; 17]
     ]
 }
 
-/// A control batch's bytes.
+/// The 78 bytes of a control batch: this header, and its one record.
 fn control_text(
     alloc: Global,
     outcome: TransactionResult,
@@ -82,7 +85,8 @@ fn control_text(
     Ok(out)
 }
 
-/// The header and the bytes of the control batch that marks how a producer's transaction ended.
+/// The header and the bytes of the control batch that marks that a producer's transaction was committed or aborted. `moment`
+/// is its timestamp in milliseconds.
 pub(crate) fn control_batch(
     alloc: Global,
     outcome: TransactionResult,

@@ -7,7 +7,7 @@ ghost use Rattle.record_batch.specs.Crc.{crc_step, crc_after, crc32c, bit_shift_
 use crate::far_table::far_byte_remainder;
 use crate::table::byte_remainder;
 
-/// The remainder of eight bytes, the first one lowest.
+/// The CRC remainder of a word's eight bytes, the lowest one first.
 #[inline(always)]
 #[tactic(auto, using(crate::proofs::Chunks::word_by_bytes))]
 fn word_remainder(word: u64) -> u32
@@ -23,7 +23,7 @@ fn word_remainder(word: u64) -> u32
         ^ byte_remainder((word >> 56) as u8, 0)
 }
 
-/// The remainder of eight bytes with 16 zero bytes after them, the first one lowest.
+/// The CRC remainder of a word's eight bytes, the lowest one first, with 16 zero bytes after them.
 #[inline(always)]
 #[tactic(auto, using(crate::proofs::Chunks::far_word_by_bytes))]
 fn far_word_remainder(word: u64) -> u32
@@ -39,7 +39,7 @@ fn far_word_remainder(word: u64) -> u32
         ^ far_byte_remainder((word >> 56) as u8, 0)
 }
 
-/// Eight bytes as one word, the first one lowest. Added to a remainder, it brings them all in at once.
+/// Eight bytes as one word, the first byte lowest. XORed with a remainder, it takes in all eight at once.
 #[inline(always)]
 fn word_of(bytes: &[u8; 8]) -> u64
     ensures { (crc : ℕ) → bit_shift_by 64 (bit_xor crc result) ≡ crc_after crc bytes.now }
@@ -47,7 +47,7 @@ fn word_of(bytes: &[u8; 8]) -> u64
     u64::from_le_bytes(*bytes)
 }
 
-/// The remainder after eight more bytes.
+/// The CRC remainder after eight more bytes, where it was `crc` before them.
 #[inline(always)]
 fn after_chunk(crc: u32, chunk: &[u8; 8]) -> u32
     ensures { result ≡ crc_after crc chunk.now }
@@ -55,6 +55,7 @@ fn after_chunk(crc: u32, chunk: &[u8; 8]) -> u32
     word_remainder(crc as u64 ^ word_of(chunk))
 }
 
+/// The CRC remainder after more chunks of eight bytes, where it was `crc` before them.
 fn after_chunks(crc: u32, chunks: &[[u8; 8]]) -> u32
     ensures { result ≡ crc_after crc (concat chunks.now) }
 {
@@ -65,7 +66,7 @@ fn after_chunks(crc: u32, chunks: &[[u8; 8]]) -> u32
     remainder
 }
 
-/// The remainder after one more byte.
+/// The CRC remainder after one more byte, where it was `crc` before it.
 #[inline(always)]
 #[tactic(auto, using(crate::proofs::Bits::step_by_table))]
 fn after_byte(crc: u32, byte: u8) -> u32
@@ -74,6 +75,7 @@ fn after_byte(crc: u32, byte: u8) -> u32
     byte_remainder(((crc ^ byte as u32) & 0xff) as u8, 0) ^ (crc >> 8)
 }
 
+/// The CRC remainder after more bytes, taken one by one, where it was `crc` before them.
 fn after_bytes(crc: u32, bytes: &[u8]) -> u32
     ensures { result ≡ crc_after crc bytes.now }
 {
@@ -84,8 +86,9 @@ fn after_bytes(crc: u32, bytes: &[u8]) -> u32
     remainder
 }
 
-/// The remainder after triples of words. It keeps a sum of the first words of all triples, one of the second and one of
-/// the third, so that no look-up waits for those of another sum. In the end the three are joined word by word.
+/// The CRC remainder after more triples of eight-byte words, where it was `crc` before them. It keeps three sums, of the
+/// first, second and third words, so that no look-up waits for those of another sum. In the end the three are joined word by
+/// word.
 fn after_triples(crc: u32, triples: &[[[u8; 8]; 3]]) -> u32
     ensures { result ≡ crc_after crc (flat_map concat triples.now) }
 {
@@ -105,7 +108,7 @@ fn after_triples(crc: u32, triples: &[[[u8; 8]; 3]]) -> u32
     word_remainder(remainder as u64 ^ third)
 }
 
-/// The CRC-32C of some bytes, word by word.
+/// The CRC-32C of bytes, taken in words of eight bytes and the rest one by one.
 #[inline(always)]
 fn crc32c_by_words(bytes: &[u8]) -> u32
     ensures { result ≡ crc32c bytes.now }
@@ -114,8 +117,8 @@ fn crc32c_by_words(bytes: &[u8]) -> u32
     after_bytes(after_chunks(0xffff_ffff, chunks), rest) ^ 0xffff_ffff
 }
 
-/// The CRC-32C of some bytes, by triples of words as far as they go. It isn't inlined, so that fewer bytes don't pay for the
-/// registers that it saves.
+/// The CRC-32C of bytes, taken in triples of words, then in words, and the rest one by one. It isn't inlined, so that fewer
+/// bytes don't pay for the registers that it saves.
 #[inline(never)]
 fn crc32c_by_triples(bytes: &[u8]) -> u32
     ensures { result ≡ crc32c bytes.now }
@@ -126,7 +129,7 @@ fn crc32c_by_triples(bytes: &[u8]) -> u32
     after_bytes(after_chunks(remainder, chunks), rest) ^ 0xffff_ffff
 }
 
-/// The CRC-32C of some bytes.
+/// The CRC-32C of bytes (RFC 3720), which is the checksum of a record batch.
 #[inline]
 pub fn crc32c(bytes: &[u8]) -> u32
     ensures { result ≡ crc32c bytes.now }

@@ -318,7 +318,7 @@ static FAR_REMAINDERS: [[u32; 256]; 8] = [
     ],
 ];
 
-/// The remainder of a byte with 16 zero bytes and `zeros` more after it.
+/// The CRC remainder of a byte with 16 zero bytes and `zeros` more after it, where `zeros` is at most 7.
 #[inline(always)]
 pub(crate) fn far_byte_remainder(byte: u8, zeros: usize) -> u32
     requires { zeros < 8 }

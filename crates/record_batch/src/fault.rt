@@ -34,7 +34,7 @@ pub enum BatchFault {
 }
 
 impl BatchFault {
-    /// The error code that a producer is answered.
+    /// The error code that Produce answers for a batch with this fault.
     pub fn code(self) -> ErrorCode
         ensures { result ≡ code_of self }
     {

@@ -21,6 +21,7 @@ impl Batch {
         self.header().batch_length
     }
 
+    /// The epoch of the partition's leader when the batch was appended; 0 once this broker stores it.
     pub fn partition_leader_epoch(&self) -> i32
         ensures { result ≡ self.now.header.partition_leader_epoch }
     {
@@ -41,6 +42,7 @@ impl Batch {
         self.header().crc
     }
 
+    /// The attribute bits: compression type (0 to 2), timestamp type (3), transactional (4), control batch (5).
     pub fn attributes(&self) -> i16
         ensures { result ≡ self.now.header.attributes }
     {
@@ -54,50 +56,56 @@ impl Batch {
         self.header().last_offset_delta
     }
 
+    /// The timestamp in milliseconds that the records' timestamp deltas count from.
     pub fn base_timestamp(&self) -> i64
         ensures { result ≡ self.now.header.base_timestamp }
     {
         self.header().base_timestamp
     }
 
+    /// The greatest timestamp of a record, in milliseconds, as the header tells it.
     pub fn max_timestamp(&self) -> i64
         ensures { result ≡ self.now.header.max_timestamp }
     {
         self.header().max_timestamp
     }
 
-    /// The producer, or -1 where there is none.
+    /// The producer id, or -1 where the producer is not idempotent.
     pub fn producer_id(&self) -> i64
         ensures { result ≡ self.now.header.producer_id }
     {
         self.header().producer_id
     }
 
+    /// The producer's epoch, or -1 where the producer is not idempotent.
     pub fn producer_epoch(&self) -> i16
         ensures { result ≡ self.now.header.producer_epoch }
     {
         self.header().producer_epoch
     }
 
-    /// The producer's number of the first record.
+    /// The sequence number of the first record, or -1 where the batch has none.
     pub fn base_sequence(&self) -> i32
         ensures { result ≡ self.now.header.base_sequence }
     {
         self.header().base_sequence
     }
 
+    /// The number of records.
     pub fn record_count(&self) -> i32
         ensures { result ≡ self.now.header.record_count }
     {
         self.header().record_count
     }
 
+    /// Whether the batch is part of a transaction.
     pub fn is_transactional(&self) -> bool
         ensures { result ≡ is_transactional self.now.header }
     {
         self.header().is_transactional()
     }
 
+    /// Whether the batch is a control batch: a transaction marker and no data.
     pub fn is_control(&self) -> bool
         ensures { result ≡ is_control self.now.header }
     {

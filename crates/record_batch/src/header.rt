@@ -28,7 +28,7 @@ pub struct BatchHeader {
 }
 
 impl BatchHeader {
-    /// The header at the front of the bytes that are left.
+    /// Reads the header's 61 bytes. `Malformed::Short` if fewer are left. No field is checked.
     pub(crate) fn read(cursor: &mut Cursor<'_>) -> Result<BatchHeader, Malformed>
         ensures { Takes (batch_header.reading cursor.old) result cursor.new }
     {
@@ -62,7 +62,7 @@ impl BatchHeader {
         })
     }
 
-    /// The header at the front of bytes, if they are enough for one.
+    /// The header in the first 61 bytes, `None` if there are fewer. No field is checked.
     pub(crate) fn first_of(bytes: &[u8]) -> Option<BatchHeader>
         ensures none { IfNone result ((e : Malformed) × (batch_header.reading bytes.now ≡ Err e)) }
         ensures some { IfSome result (λ h.
@@ -76,6 +76,7 @@ impl BatchHeader {
         }
     }
 
+    /// Whether this bit of the attributes is set, where bit 0 is the lowest of 16.
     fn has_bit(&self, bit: u32) -> bool
         requires { bit < 16 }
         ensures { result ≡ has_bit bit self.now }
@@ -83,33 +84,35 @@ impl BatchHeader {
         (self.attributes.cast_unsigned() >> bit) % 2 == 1
     }
 
-    /// Whether the records stand as they are.
+    /// Whether the compression type is none: the attributes' three lowest bits are 0.
     pub fn is_uncompressed(&self) -> bool
         ensures { result ≡ is_uncompressed self.now }
     {
         self.attributes.cast_unsigned() % 8 == 0
     }
 
-    /// Whether the timestamps are those of the append, and not of the records' making.
+    /// Whether the timestamp type is LogAppendTime (attribute bit 3) instead of CreateTime.
     pub fn has_append_time(&self) -> bool
         ensures { result ≡ has_append_time self.now }
     {
         self.has_bit(3)
     }
 
+    /// Whether the batch is part of a transaction (attribute bit 4).
     pub fn is_transactional(&self) -> bool
         ensures { result ≡ is_transactional self.now }
     {
         self.has_bit(4)
     }
 
+    /// Whether the batch is a control batch (attribute bit 5).
     pub fn is_control(&self) -> bool
         ensures { result ≡ is_control self.now }
     {
         self.has_bit(5)
     }
 
-    /// How many records are told.
+    /// The record count, or 0 where it is negative.
     pub(crate) fn count(&self) -> u32
         ensures { result ≡ count_of self.now.record_count }
     {
@@ -119,7 +122,7 @@ impl BatchHeader {
         self.record_count as u32
     }
 
-    /// Whether the offset after the last record is a number of 64 bits.
+    /// Whether the offset after the last record fits in an `i64`.
     pub(crate) fn has_offsets(&self) -> bool
         ensures { IsTrue result ↔ FitsSigned w64 (header_next_offset self.now) }
     {
@@ -130,7 +133,7 @@ impl BatchHeader {
         }
     }
 
-    /// The offset after the last record.
+    /// The offset after the last record's, which fits in an `i64`.
     pub(crate) fn next_offset(&self) -> i64
         requires { FitsSigned w64 (header_next_offset self.now) }
         ensures { result ≡ header_next_offset self.now }
@@ -138,7 +141,7 @@ impl BatchHeader {
         self.base_offset + (i64::from(self.last_offset_delta) + 1)
     }
 
-    /// The header of the same batch at another offset.
+    /// The header of the same batch with this base offset, and with the partition leader epoch 0.
     pub(crate) fn at(&self, offset: i64) -> BatchHeader
         ensures { result ≡ header_at offset self.now }
     {

@@ -11,8 +11,9 @@ ghost use Rattle.record_batch.specs.Batch.{placed_if_found, record_at_place};
 use crate::header::BatchHeader;
 use std::alloc::Global;
 use wire_types::{
-    Bytes, Cursor, Items, Malformed, ReadFault, Wire, WriteFault, read_varint_array,
-    varint_bytes_room, varint_nullable_bytes_room, write_varint_bytes, write_varint_nullable_bytes,
+    Bytes, Cursor, Items, Malformed, ReadFault, Wire, WriteFault, deduct_varint_bytes,
+    deduct_varint_nullable_bytes, read_varint_array, write_varint_bytes,
+    write_varint_nullable_bytes,
 };
 
 /// A key and a value beside a record. Keys are kept as bytes and need not be text.
@@ -55,20 +56,21 @@ impl Wire for Header {
         Ok(())
     }
 
-    fn room_left(&self, room: usize) -> Option<usize> {
-        let room = varint_bytes_room(&self.key, room)?;
-        varint_nullable_bytes_room(&self.value, room)
+    fn deduct_from(&self, budget: usize) -> Option<usize> {
+        let budget = deduct_varint_bytes(&self.key, budget)?;
+        deduct_varint_nullable_bytes(&self.value, budget)
     }
 }
 
-/// Whether an offset delta is a record's place.
+/// Whether a record's offset delta is its place in the batch, where the first record's place is 0.
 fn is_place(delta: i32, place: u32) -> bool
     ensures { result ≡ int_eq delta (pos place) }
 {
     i64::from(delta) == i64::from(place)
 }
 
-/// What stands before a record's key: its timestamp's delta.
+/// Reads what stands between a record's length and its key, and gives the timestamp delta. `Malformed::Range` if the offset
+/// delta isn't `place`, the record's place in the batch.
 #[tactic(auto, unfolding(crate::specs::CombinatorLaws::fixed_at))]
 pub(crate) fn read_head(cursor: &mut Cursor<'_>, place: u32) -> Result<i64, Malformed>
     ensures { Takes ((record_head place).reading cursor.old) result cursor.new }
@@ -82,7 +84,7 @@ pub(crate) fn read_head(cursor: &mut Cursor<'_>, place: u32) -> Result<i64, Malf
     Ok(timestamp_delta)
 }
 
-/// What follows a record's length.
+/// Reads a record without the length before it, at this place in its batch.
 fn read_parts(alloc: Global, cursor: &mut Cursor<'_>, place: u32) -> Result<Rec, ReadFault>
     ensures { Reads ((record_parts place).reading cursor.old) result cursor.new }
 {
@@ -98,7 +100,7 @@ fn read_parts(alloc: Global, cursor: &mut Cursor<'_>, place: u32) -> Result<Rec,
     })
 }
 
-/// What follows a record's length, which is so many bytes.
+/// Reads a record of `len` bytes at this place in its batch; `Malformed::Rest` if it doesn't fill all of them.
 #[tactic(auto, unfolding(crate::specs::CombinatorLaws::whole_value))]
 fn read_filled(
     alloc: Global,
@@ -117,7 +119,7 @@ fn read_filled(
     Ok(rec)
 }
 
-/// A record after its length.
+/// Reads a record with the length before it, at this place in its batch.
 #[tactic(auto, using(crate::proofs::Sized::sized_after, crate::proofs::Sized::sized_refused))]
 fn read_record(alloc: Global, cursor: &mut Cursor<'_>, place: u32) -> Result<Rec, ReadFault>
     ensures { Reads (record_at place cursor.old) result cursor.new }
@@ -127,7 +129,7 @@ fn read_record(alloc: Global, cursor: &mut Cursor<'_>, place: u32) -> Result<Rec
 }
 
 impl Rec {
-    /// The record with its offset.
+    /// The record with its offset, which is its batch's base offset and its place in the batch.
     fn at(self, header: &BatchHeader, place: u32) -> RecordAt
         requires { FitsSigned w64 (header.now.base_offset +ℤ pos place) }
         ensures { result ≡ record_at_place header.now.base_offset place self }
@@ -139,7 +141,7 @@ impl Rec {
     }
 }
 
-/// So many records from the first place on, with their offsets.
+/// Reads the `count` records of a batch, which stand one after the other, and gives them with their offsets.
 pub(crate) fn read_records(
     alloc: Global,
     cursor: &mut Cursor<'_>,

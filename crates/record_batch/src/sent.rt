@@ -40,7 +40,8 @@ impl Drop for SentBatch {
 }
 
 impl SentBatch {
-    /// Looks for the first fault of bytes. It copies nothing and takes no memory.
+    /// Checks bytes that a producer sent as a batch, and keeps the first fault with them. It copies nothing and allocates
+    /// nothing.
     pub fn of(bytes: Bytes) -> SentBatch
         ensures { result ≡ bytes }
     {
@@ -62,7 +63,8 @@ impl SentBatch {
         self.bytes.len()
     }
 
-    /// The batch of at most so many bytes, or the first fault. It takes as long for large batches as for small ones.
+    /// The batch, if it has no fault and at most `max` bytes; else the first fault. It doesn't look at the bytes again, so
+    /// it takes as long for large batches as for small ones.
     pub fn batch(self, max: u32) -> Result<Batch, BatchFault>
         ensures fault { fault_in result ≡ first_fault max self }
         ensures batch { IfOk result (λ b. (b.bytes ≡ self) × (b.marker ≡ None) × IsBatch b) }
@@ -90,6 +92,7 @@ impl PartialEq for SentBatch {
 
     ghost laws = { partial_equiv_from_equiv nat_list_eq_equiv };
 
+    /// Whether both were sent as the same bytes.
     fn eq(&self, other: &SentBatch) -> bool {
         self.bytes == other.bytes
     }

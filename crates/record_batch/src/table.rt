@@ -318,7 +318,7 @@ static BYTE_REMAINDERS: [[u32; 256]; 8] = [
     ],
 ];
 
-/// The remainder of a byte with `zeros` zero bytes after it.
+/// The CRC remainder of a byte with `zeros` zero bytes after it, where `zeros` is at most 7.
 #[inline(always)]
 pub(crate) fn byte_remainder(byte: u8, zeros: usize) -> u32
     requires { zeros < 8 }

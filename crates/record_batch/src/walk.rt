@@ -9,7 +9,7 @@ ghost use Rattle.record_batch.specs.Record.{header, record_parts, record_at, rec
 use crate::record::read_head;
 use wire_types::{Cursor, Malformed};
 
-/// Bytes after their number.
+/// Reads bytes with their length before them, as a header's key has it: a varint that isn't negative.
 #[tactic(auto, using(wire_types::proofs::Announced::content_after, wire_types::proofs::Announced::front_refused))]
 fn read_bytes<'a>(cursor: &mut Cursor<'a>) -> Result<&'a [u8], Malformed>
     ensures { MatchResult result (λ x. varint_bytes.reading cursor.old ≡ Ok (x.now, cursor.new))
@@ -19,7 +19,7 @@ fn read_bytes<'a>(cursor: &mut Cursor<'a>) -> Result<&'a [u8], Malformed>
     cursor.read_front(len as usize)
 }
 
-/// Bytes after their number, or nothing for -1.
+/// Passes over bytes with their length before them, as a varint; length -1 is null. `Malformed::Range` for a lesser length.
 #[tactic(auto, unfolding(wire_types::specs::Reading::after_null_count_at, wire_types::specs::Reading::null_or, wire_types::specs::Reading::null_count_at, wire_types::specs::Reading::null_or_count))]
 fn skip_nullable_bytes(cursor: &mut Cursor<'_>) -> Result<(), Malformed>
     ensures { Takes (skipped_if_found (varint_nullable_bytes.reading cursor.old)) result
@@ -35,6 +35,7 @@ fn skip_nullable_bytes(cursor: &mut Cursor<'_>) -> Result<(), Malformed>
     Ok(())
 }
 
+/// Passes over one header of a record: its key and its nullable value.
 fn skip_header(cursor: &mut Cursor<'_>) -> Result<(), Malformed>
     ensures { Takes (skipped_if_found (header.reading cursor.old)) result cursor.new }
 {
@@ -42,6 +43,7 @@ fn skip_header(cursor: &mut Cursor<'_>) -> Result<(), Malformed>
     skip_nullable_bytes(cursor)
 }
 
+/// Passes over `count` headers of a record.
 fn skip_some_headers(cursor: &mut Cursor<'_>, count: u32) -> Result<(), Malformed>
     ensures { Takes (skipped_if_found (many_at header.reading count cursor.old)) result cursor.new }
 {
@@ -51,6 +53,7 @@ fn skip_some_headers(cursor: &mut Cursor<'_>, count: u32) -> Result<(), Malforme
     Ok(())
 }
 
+/// Passes over a record's headers with their count before them.
 #[tactic(auto, using(wire_types::proofs::Announced::many_after, wire_types::proofs::Announced::many_refused))]
 fn skip_headers(cursor: &mut Cursor<'_>) -> Result<(), Malformed>
     ensures { Takes (skipped_if_found ((varint_array header).reading cursor.old)) result
@@ -60,7 +63,7 @@ fn skip_headers(cursor: &mut Cursor<'_>) -> Result<(), Malformed>
     skip_some_headers(cursor, count)
 }
 
-/// What follows a record's length.
+/// Passes over a record without the length before it, at this place in its batch.
 fn skip_parts(cursor: &mut Cursor<'_>, place: u32) -> Result<(), Malformed>
     ensures { Takes (skipped_if_found ((record_parts place).reading cursor.old)) result cursor.new }
 {
@@ -70,7 +73,7 @@ fn skip_parts(cursor: &mut Cursor<'_>, place: u32) -> Result<(), Malformed>
     skip_headers(cursor)
 }
 
-/// What follows a record's length, which is so many bytes.
+/// Passes over a record of `len` bytes at this place in its batch; `Malformed::Rest` if it doesn't fill all of them.
 #[tactic(auto, unfolding(crate::specs::CombinatorLaws::whole_value))]
 fn skip_filled(cursor: &mut Cursor<'_>, place: u32, len: u32) -> Result<(), Malformed>
     ensures { Takes (skipped_if_found (filled_at (record_parts place).reading len cursor.old))
@@ -84,7 +87,7 @@ fn skip_filled(cursor: &mut Cursor<'_>, place: u32, len: u32) -> Result<(), Malf
     Ok(())
 }
 
-/// A record after its length.
+/// Passes over a record with the length before it, at this place in its batch.
 #[tactic(auto, using(crate::proofs::Sized::sized_after, crate::proofs::Sized::sized_refused))]
 fn skip_record(cursor: &mut Cursor<'_>, place: u32) -> Result<(), Malformed>
     ensures { Takes (skipped_if_found (record_at place cursor.old)) result cursor.new }
@@ -93,6 +96,7 @@ fn skip_record(cursor: &mut Cursor<'_>, place: u32) -> Result<(), Malformed>
     skip_filled(cursor, place, len)
 }
 
+/// Passes over the `count` records of a batch, of which the first has place 0.
 fn skip_records(cursor: &mut Cursor<'_>, count: u32) -> Result<(), Malformed>
     ensures { Takes (skipped_if_found (records_at 0 count cursor.old)) result cursor.new }
 {
@@ -102,7 +106,7 @@ fn skip_records(cursor: &mut Cursor<'_>, count: u32) -> Result<(), Malformed>
     Ok(())
 }
 
-/// Whether bytes are so many records.
+/// Whether the bytes are exactly `count` well-formed records of a batch.
 #[tactic(auto, unfolding(crate::specs::CombinatorLaws::whole_value))]
 pub(crate) fn are_records(bytes: &[u8], count: u32) -> bool
     ensures { result ≡ is_ok (all_records count bytes.now) }

@@ -10,7 +10,7 @@ mod session;
 
 ghost use Rattle.std.specs.Prelude.{IfSome};
 ghost use Rattle.std.specs.List.{AllByRecursion};
-ghost use Rattle.api_dispatch.specs.Bounds.{EventFits};
+ghost use Rattle.request_handlers.specs.Bounds.{EventFits};
 
 use crate::session::Script;
 use acl_binding::Caller;
@@ -28,7 +28,7 @@ use wire_types::{Boxed, Bytes, Shared, Text};
 /// The exit status where the core was never opened, or the script can't be read.
 const NOT_BEGUN: u8 = 3;
 
-/// A client's name, if one was told, in a block of its own.
+/// A client's id in a block of its own, or none. The outer `None` is an allocation failure.
 fn boxed(alloc: Global, client: Option<Text>) -> Option<Option<Boxed<Text>>> {
     match client {
         Some(client) => Some(Some(Boxed::new(alloc, client).ok()?)),
@@ -36,7 +36,8 @@ fn boxed(alloc: Global, client: Option<Text>) -> Option<Option<Boxed<Text>>> {
     }
 }
 
-/// The request of a frame, and who asks it.
+/// The event of a request, as asked by this user at this host: its frame comes in hexadecimal digits. `None` where it is no
+/// request that is served, or after an allocation failure.
 fn asked(alloc: Global, user: &str, host: &str, digits: &str) -> Option<Event>
     ensures { IfSome result EventFits }
 {
@@ -58,7 +59,8 @@ fn asked(alloc: Global, user: &str, host: &str, digits: &str) -> Option<Event>
     })
 }
 
-/// The event of a line.
+/// The event of a script's line: `mark`, `tick N`, or `USER HOST FRAME`. `None` where the line is none of these, or after an
+/// allocation failure.
 fn event_of(alloc: Global, line: &str) -> Option<Event>
     ensures { IfSome result EventFits }
 {
@@ -73,7 +75,7 @@ fn event_of(alloc: Global, line: &str) -> Option<Event>
     asked(alloc, first, host, digits)
 }
 
-/// The events of a script.
+/// The events of all lines of a script. `None` where a line is no event, or after an allocation failure.
 #[tactic(auto, using(crate::proofs::Fits::fits_more))]
 fn events_of(alloc: Global, script: &str) -> Option<Vec<Event>>
     ensures { IfSome result (λ events. AllByRecursion EventFits events.items) }
@@ -91,7 +93,8 @@ fn events_of(alloc: Global, script: &str) -> Option<Vec<Event>>
     Some(events)
 }
 
-/// The event at a place of a script.
+/// The event of the script's line at this place, counted from 0. `None` where there is no such line, or after an allocation
+/// failure.
 fn event_at(alloc: Global, script: &str, place: usize) -> Option<Event>
     ensures { IfSome result EventFits }
 {
@@ -104,7 +107,7 @@ fn event_at(alloc: Global, script: &str, place: usize) -> Option<Event>
     event_of(alloc, line)
 }
 
-/// Takes so many events of a script one by one, up to the first stop.
+/// Hands so many events of a script to the core one by one, up to the first stop. Gives the receipts, and the stop.
 fn step_each(
     alloc: Global,
     core: &mut Core,
@@ -124,7 +127,7 @@ fn step_each(
     Ok((receipts, None))
 }
 
-/// The line for an event that was taken or stopped.
+/// The line that is printed for an event: its place in the trail and its response, or `stop N`.
 fn told(alloc: Global, outcome: &Result<Receipt, Stop>) -> Result<String, AllocError> {
     match outcome {
         Ok(receipt) => match write_reply(alloc, 0, receipt.reply()) {
@@ -141,7 +144,7 @@ fn told(alloc: Global, outcome: &Result<Receipt, Stop>) -> Result<String, AllocE
     }
 }
 
-/// Whether the trail has an entry for each of these receipts and no other, of its event and its reply.
+/// Whether the trail has an entry for each of these receipts, with its event and its reply, and no others.
 fn is_history(core: &Core, receipts: &[Receipt]) -> bool {
     let trail = core.trail();
     for (place, receipt) in receipts.iter().enumerate() {
@@ -155,8 +158,8 @@ fn is_history(core: &Core, receipts: &[Receipt]) -> bool {
     trail.len() == receipts.len()
 }
 
-/// Prints what came of the events, how many the trail has where it has just those, and what the one that was stopped comes to
-/// now.
+/// Prints a line for each receipt and for the stop, and how long the trail is, if it has just these entries. The event that was
+/// stopped is then handed in once more, and its line printed.
 fn tell<W: Write>(
     alloc: Global,
     core: &mut Core,
@@ -188,13 +191,14 @@ fn tell<W: Write>(
     Ok(())
 }
 
-/// A core of the settings.
+/// A core opened with the settings in this text. `None` where they have a fault, or after an allocation failure.
 fn open(alloc: Global, settings: &str) -> Option<Core> {
     let document = document_of_text(alloc, settings.as_bytes()).ok()?;
     Core::open_checked(alloc, document.settings).ok()
 }
 
-/// Hands the events of a script to a core, all at once or one by one.
+/// Hands the events of a script to a core, all in one call or one by one, and prints what came of them. The exit status is 3
+/// where the core can't be opened, or a line is no event.
 fn hand_in<W: Write>(
     alloc: Global,
     settings: &str,
@@ -214,6 +218,8 @@ fn hand_in<W: Write>(
     Ok(ExitCode::SUCCESS)
 }
 
+/// Reads the settings and the script from standard input, and runs the script as the arguments say: `run`, `step` or `session`.
+/// The exit status is 3 where that can't begin.
 fn main(rt: HostRuntime) -> io::Result<ExitCode> {
     let alloc = rt.alloc();
     let words: Vec<String> = std::env::args(&rt)?.collect(alloc)?;

@@ -37,7 +37,8 @@ struct Came {
     output: Vec<u8>,
 }
 
-/// The bytes of lines of hexadecimal digits.
+/// The bytes that lines of hexadecimal digits spell, one after the other. `None` where they spell none, or after an allocation
+/// failure.
 fn bytes_of(alloc: Global, lines: &str) -> Option<Vec<u8>> {
     let mut bytes = Vec::new(alloc);
     for line in lines.lines() {
@@ -48,7 +49,8 @@ fn bytes_of(alloc: Global, lines: &str) -> Option<Vec<u8>> {
 }
 
 impl Script {
-    /// The script of these settings and these frames.
+    /// The script of a session: a core and users by these settings, and the frames that are sent, a line of hexadecimal digits
+    /// each. `None` where they can't be read, or after an allocation failure.
     pub(crate) fn of(alloc: Global, settings: &str, frames: &str) -> Option<Script>
         ensures { IfSome result (λ script. script.core.trail ≡ []) }
     {
@@ -63,7 +65,7 @@ impl Script {
     }
 }
 
-/// Serves the session at a desk of these seats.
+/// Serves the session at a desk with the blank's seats, and tells what came of it; `None` where no seat is left.
 fn serve_at<L: DeskLedger, R: Wait + Drop>(
     rt: R,
     alloc: Global,
@@ -104,13 +106,14 @@ fn serve_at<L: DeskLedger, R: Wait + Drop>(
     })
 }
 
+/// Serves the session at a desk of its own, and tells what came of it.
 fn serve<R: Wait + Drop>(rt: R, alloc: Global, script: Script) -> Option<Came>
     requires { script.core.trail ≡ [] }
 {
     serve_at::<Brand, R>(rt, alloc, Blank::new(MOST_SEATS + 1), script)
 }
 
-/// Serves the session, and prints how many receipts it has, what was written to it and why it ended.
+/// Serves the session, and prints how many receipts it has, what was written to it, and why it ended.
 pub(crate) fn tell<R: Wait + Drop, W: Write>(
     rt: R,
     alloc: Global,

@@ -3,3 +3,7 @@ pub mod Core
 pub mod Headline
 pub mod Seats
 pub mod Stop
+pub use Rattle.api_dispatch.specs.Bounds
+pub use Rattle.api_dispatch.specs.Step
+pub use Rattle.broker_world.specs.HandlerResult
+pub use Rattle.plain_broker.specs.Events

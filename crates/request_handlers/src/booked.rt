@@ -18,7 +18,8 @@ use std::sync::ledger::{Blank, Book, Ledger, Share};
 /// How many seats a core gives.
 pub const MOST_SEATS: u64 = 1_048_576;
 
-/// Counts the calls made with it that were answered, and keeps the receipt of the latest. It fits the core that gave it.
+/// A session's place at a core: how many of its events were answered, and the receipt of the latest. It fits the core that
+/// gave it.
 #[derive(Drop)]
 pub struct Seat<L: Ledger> {
     count: u64,
@@ -35,14 +36,14 @@ impl<L: Ledger> Model for Seat<L> {
 }
 
 impl<L: Ledger> Seat<L> {
-    /// How many calls with this seat were answered.
+    /// How many events were answered with this seat.
     pub fn count(&self) -> u64
         ensures { result ≡ self.now.count }
     {
         self.count
     }
 
-    /// The receipt of the latest of them.
+    /// The receipt of the latest event that was answered with this seat, `None` before the first.
     pub fn last(&self) -> Option<&Receipt>
         ensures { MatchOption result (self.now.last ≡ None) (λ r. self.now.last ≡ Some r.now) }
     {
@@ -50,7 +51,7 @@ impl<L: Ledger> Seat<L> {
     }
 }
 
-/// A core, and the book of its seats.
+/// A core, with a book of how many events were answered with each of its seats.
 #[derive(Drop)]
 pub struct Booked<L: Ledger> {
     core: Core,
@@ -68,7 +69,8 @@ impl<L: Ledger> Model for Booked<L> {
 }
 
 impl<L: Ledger> Booked<L> {
-    /// A core that has answered nothing, and has given no seat yet.
+    /// A core that has answered nothing, with a new ledger (`blank`) in which the counts of its seats will stand. No seat is
+    /// given yet.
     pub fn new(core: Core, blank: Blank) -> Booked<L>
         requires empty { core.trail ≡ [] }
         requires ledger { (blank.name ≡ L.name) × (blank.parts ≡ L.parts)
@@ -84,7 +86,7 @@ impl<L: Ledger> Booked<L> {
         }
     }
 
-    /// A new seat, unless all were given.
+    /// A new seat for a session, with which nothing was answered; `None` once all `MOST_SEATS` were given.
     pub fn seat(&mut self) -> Option<Seat<L>>
         ensures some { IfSome result
             (λ seat. (seat ≡ fresh_seat) × (self.old.given < most_seats)
@@ -103,14 +105,14 @@ impl<L: Ledger> Booked<L> {
         })
     }
 
-    /// The core.
+    /// The core, to be read.
     pub fn core(&self) -> &Core
         ensures { result.now ≡ self.now.core }
     {
         &self.core
     }
 
-    /// How many events were answered.
+    /// How many events the core has answered, with whatever seat.
     fn len(&self) -> u64
         ensures is { result ≡ length self.now.core.trail }
         ensures few { result ≤ most_events }
@@ -118,7 +120,8 @@ impl<L: Ledger> Booked<L> {
         self.core.trail().len() as u64
     }
 
-    /// The step of the core. Where it is answered, book and seat rise by one, and the seat keeps the receipt.
+    /// Has the core answer one event for this seat. The seat comes back: after an answer it counts one more event and keeps
+    /// the receipt, after a stop it is as it was.
     pub fn step(&mut self, seat: Seat<L>, event: Event) -> (Seat<L>, Result<Receipt, Stop>)
         requires { EventFits event }
 

@@ -8,6 +8,7 @@ use std::random::RandomSource;
 pub struct FixedSeed(pub u8);
 
 impl RandomSource for FixedSeed {
+    /// Fills the buffer with the one byte. It never fails.
     fn fill_bytes(&self, buf: &mut [u8]) -> io::Result<()> {
         buf.fill(self.0);
         Ok(())

@@ -20,7 +20,7 @@ pub enum Stop {
 }
 
 impl Stop {
-    /// The line that tells of it, with its line feed.
+    /// The line `stop N` that reports the stop, with its line feed; `N` is 1 to 3.
     pub fn line(self) -> &'static str
         ensures { result.now ≡ stop_line self }
     {

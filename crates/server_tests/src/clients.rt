@@ -52,7 +52,7 @@ pub(crate) struct End {
     pub(crate) count: u64,
 }
 
-/// Serves one session, of the number 7, at a desk of its own.
+/// Serves one session, of the number 7, at a desk of its own, and tells how it ended.
 fn serve_on<L: DeskLedger, R: Wait + Drop, Rd: Read + Drop, Wr: Write, G: Gate>(
     rt: R,
     alloc: Global,
@@ -88,7 +88,7 @@ fn serve_on<L: DeskLedger, R: Wait + Drop, Rd: Read + Drop, Wr: Write, G: Gate>(
     })
 }
 
-/// Serves one session of a peer at a host, and calls the gate round each of its frames.
+/// Serves one session of a peer at this host by `SETTINGS`, calls the gate round each of its frames, and tells how it ended.
 pub(crate) fn serve_gated<R: Wait + Drop, Rd: Read + Drop, Wr: Write, G: Gate>(
     rt: R,
     alloc: Global,
@@ -120,7 +120,7 @@ pub(crate) fn serve_gated<R: Wait + Drop, Rd: Read + Drop, Wr: Write, G: Gate>(
     )
 }
 
-/// Serves one session.
+/// Serves one session of a peer at 10.0.0.5 by `SETTINGS`, and tells how it ended.
 pub(crate) fn serve<R: Wait + Drop, Rd: Read + Drop, Wr: Write>(
     rt: R,
     alloc: Global,
@@ -133,7 +133,7 @@ pub(crate) fn serve<R: Wait + Drop, Rd: Read + Drop, Wr: Write>(
     serve_gated(rt, alloc, "10.0.0.5", reader, writer, limits, &())
 }
 
-/// The bytes of texts in hexadecimal digits, one after the other.
+/// The bytes that texts of hexadecimal digits spell, one after the other.
 pub(crate) fn bytes_of(alloc: Global, parts: &[&str]) -> Result<Vec<u8>, Fail> {
     let mut bytes = Vec::new(alloc);
     for part in parts {

@@ -23,6 +23,7 @@ struct Failing<'a> {
 impl Read for Failing<'_> {
     ghost remaining = { λ _. None };
 
+    /// Gives one byte, or fails where no more reads are left.
     fn read(&mut self, piece: &mut [u8]) -> io::Result<usize> {
         if self.reads == 0 || piece.is_empty() {
             return Err(ErrorKind::BrokenPipe.into());
@@ -40,6 +41,7 @@ struct Narrow {
 }
 
 impl Write for Narrow {
+    /// Takes one byte, or fails where no more writes are left.
     fn write(&mut self, bytes: &[u8]) -> io::Result<usize> {
         if self.writes == 0 || bytes.is_empty() {
             return Err(ErrorKind::StorageFull.into());
@@ -49,12 +51,13 @@ impl Write for Narrow {
         Ok(1)
     }
 
+    /// Does nothing.
     fn flush(&mut self) -> io::Result<()> {
         Ok(())
     }
 }
 
-/// Each read fails in turn: nothing is written.
+/// `replay` whose input fails at each of its reads in turn ends with the status 1 and writes nothing.
 #[test]
 fn failing_reads(rt: HostRuntime) -> Result<(), Fail> {
     for reads in 0..INPUT.len() + 2 {
@@ -70,7 +73,7 @@ fn failing_reads(rt: HostRuntime) -> Result<(), Fail> {
     Ok(())
 }
 
-/// Each write fails in turn: the answer's front is written.
+/// `replay` whose output fails at each of its writes in turn ends with the status 1, and the answer's front is written.
 #[test]
 fn failing_writes(rt: HostRuntime) -> Result<(), Fail> {
     for writes in 0..ANSWER.len() + 1 {

@@ -3,8 +3,8 @@
 use arguments::{Job, Serving, Showing, ShutdownOptions, arguments};
 use std::test::Fail;
 
-/// `serve` with an address alone: four workers, a million connections, ten seconds for a login and thirty for a frame, and nothing
-/// else that is asked for.
+/// `serve` with an address alone: four workers, a million connections, ten seconds for a login and thirty for a frame, and
+/// nothing else that is asked for.
 #[test]
 fn serve_with_an_address_alone(rt: HostRuntime) -> Result<(), Fail> {
     let usual = Serving {
@@ -35,7 +35,7 @@ fn serve_with_an_address_alone(rt: HostRuntime) -> Result<(), Fail> {
     Ok(())
 }
 
-/// A file is one word that is no flag, or one after `--`; it goes with the options of `show`.
+/// A command's FILE is one word that is no flag, or one after `--`; two are refused.
 #[test]
 fn a_file_is_named_once(rt: HostRuntime) {
     for (word, last, is_taken) in [
@@ -54,7 +54,7 @@ fn a_file_is_named_once(rt: HostRuntime) {
     }
 }
 
-/// `show` has a file and answers, in any order.
+/// `show` takes a file and `--answers`, in any order.
 #[test]
 fn show_has_a_file_and_answers(rt: HostRuntime) -> Result<(), Fail> {
     let showing = Showing {
@@ -140,7 +140,7 @@ fn endless_goes_without_a_number(rt: HostRuntime) {
     }
 }
 
-/// As many workers as there may be, and one too few and one too many, and the same of the other numbers.
+/// Each number of `serve` is taken at both ends of its range, and refused one below and one above.
 #[test]
 fn numbers_at_their_limits(rt: HostRuntime) {
     for (option, number, is_served) in [

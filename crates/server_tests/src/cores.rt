@@ -1,6 +1,6 @@
 //! What a core answers to one event after the other: how many markers are pending, and what it does when its trail is full.
 
-ghost use Rattle.api_dispatch.specs.Bounds.{EventFits};
+ghost use Rattle.request_handlers.specs.Bounds.{EventFits};
 
 use crate::talk::{core_of, event_by};
 use audit_trail::{Event, Trail, is_same_event, is_same_reply, push_audit_lines};
@@ -109,7 +109,7 @@ const FETCHED_MARKER: &str =
     ffff0000004e000000000000000000000042000000000215a1776500300000000000000000000003e9000000000000\
     03e900000000000000000001ffffffff000000012000000008000000000c00000000000000";
 
-/// What a core answers to somebody's frame, in hexadecimal digits, under the frame's correlation id, which is 7.
+/// What a core answers to somebody's frame of the correlation id 7: the response in hexadecimal digits.
 fn told(alloc: Global, core: &mut Core, who: &str, frame: &str) -> Result<String, Fail> {
     let event = event_by(alloc, who, frame).ok_or("event")?;
     let receipt = core.step(event).ok().ok_or("stopped")?;
@@ -117,7 +117,7 @@ fn told(alloc: Global, core: &mut Core, who: &str, frame: &str) -> Result<String
     Ok(hex::encode(alloc, written.as_slice())?)
 }
 
-/// Whether a step is answered by this reply, which isn't sent.
+/// Whether a step that nobody asked for gives this reply, which isn't sent.
 fn replies(core: &mut Core, event: Event, reply: Reply) -> bool
     requires { EventFits event }
 {
@@ -127,7 +127,7 @@ fn replies(core: &mut Core, event: Event, reply: Reply) -> bool
     }
 }
 
-/// A transaction of one partition and one group is committed; then its owner is denied the id.
+/// Commits a transaction of one partition and one group, and then denies its owner the transactional id.
 fn deny_owner(alloc: Global, core: &mut Core) -> Result<(), Fail> {
     for (who, frame, answer) in [
         (ANN, INIT, INIT_TOLD),
@@ -144,8 +144,8 @@ fn deny_owner(alloc: Global, core: &mut Core) -> Result<(), Fail> {
     Ok(())
 }
 
-/// The marker and then the decision of the transaction leave 1 and 0 owed and show what was committed, though its owner is
-/// denied the id; with none owed the core is idle.
+/// Two marks write what a committed transaction owes to its partition and its group, and show what was committed, though its
+/// owner is denied the id meanwhile; after them there is nothing to write.
 #[test]
 fn markers_owed_by_a_denied_owner(rt: HostRuntime) -> Result<(), Fail> {
     let alloc = rt.alloc();
@@ -164,14 +164,14 @@ fn markers_owed_by_a_denied_owner(rt: HostRuntime) -> Result<(), Fail> {
     Ok(())
 }
 
-/// A core whose tables hash by the keys of this seed.
+/// A core of `SETTINGS` whose tables hash by the keys of this seed.
 fn core_by(alloc: Global, seed: u8) -> Option<Core> {
     let document = document_of_text(alloc, SETTINGS.as_bytes()).ok()?;
     let hasher = RandomState::new(&FixedSeed(seed)).ok()?;
     Core::checked_with_hasher(alloc, document.settings, hasher).ok()
 }
 
-/// By whatever keys names are hashed, the answers are the same, and what is listed stands in the same order.
+/// By whatever keys names are hashed, the answers are the same, and what they list stands in the same order.
 #[test]
 fn no_answer_depends_on_the_seed(rt: HostRuntime) -> Result<(), Fail> {
     let alloc = rt.alloc();
@@ -206,7 +206,8 @@ fn no_answer_depends_on_the_seed(rt: HostRuntime) -> Result<(), Fail> {
     Ok(())
 }
 
-/// A second after its beginning a transaction isn't over; a millisecond later its marker is pending, and its producer fenced.
+/// A transaction isn't over a second after it began, by its timeout of a second; a millisecond later its marker is pending, and
+/// its producer fenced.
 #[test]
 fn a_marker_owed_when_time_is_over(rt: HostRuntime) -> Result<(), Fail> {
     let alloc = rt.alloc();
@@ -222,7 +223,7 @@ fn a_marker_owed_when_time_is_over(rt: HostRuntime) -> Result<(), Fail> {
     Ok(())
 }
 
-/// Whether a trail's entries are those of these receipts, in order.
+/// Whether a trail's entries are those of these receipts, in order, and no others.
 fn is_of(trail: &Trail, receipts: &[Receipt]) -> bool {
     for (place, receipt) in receipts.iter().enumerate() {
         match trail.entry(place) {
@@ -235,7 +236,7 @@ fn is_of(trail: &Trail, receipts: &[Receipt]) -> bool {
     trail.len() == receipts.len()
 }
 
-/// The lines that tell of a trail's refusals, entry by entry.
+/// The audit lines of all refusals in a trail.
 fn refused(alloc: Global, trail: &Trail) -> Result<String, Fail> {
     let mut text = String::new(alloc);
     for place in 0..trail.len() {
@@ -245,7 +246,7 @@ fn refused(alloc: Global, trail: &Trail) -> Result<String, Fail> {
     Ok(text)
 }
 
-/// The trail takes three events. The fourth is stopped, and whatever is asked after it, and the trail stays as it was.
+/// Where a trail takes three events, the fourth is stopped, and whatever is asked after it; and the trail stays as it was.
 #[test]
 fn a_full_trail(rt: HostRuntime) -> Result<(), Fail> {
     let alloc = rt.alloc();

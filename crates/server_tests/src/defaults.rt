@@ -9,6 +9,7 @@ use std::test::Fail;
 /// The three keys that must be there.
 const REQUIRED: &str = "node_id = 1\nhost = \"broker\"\nport = 9092\n";
 
+/// Settings of three keys have no users, super users, topics or ACLs, and the usual limits.
 #[test]
 fn what_is_left_out(rt: HostRuntime) -> Result<(), Fail> {
     let Document { users, settings } = document_of_text(rt.alloc(), REQUIRED.as_bytes())
@@ -31,7 +32,7 @@ fn what_is_left_out(rt: HostRuntime) -> Result<(), Fail> {
     Ok(())
 }
 
-/// Why no core is opened with settings of this port, if none is.
+/// Why no core is opened with settings of this port; `None` where one is.
 fn fault_of(alloc: Global, port: i64) -> Result<Option<OpenFault>, Fail> {
     let Document { settings, .. } = document_of_text(alloc, REQUIRED.as_bytes())
         .ok()
@@ -41,6 +42,7 @@ fn fault_of(alloc: Global, port: i64) -> Result<Option<OpenFault>, Fail> {
     Ok(Core::open(alloc, settings).err())
 }
 
+/// `Core::open` checks its settings: port 0 is out of range.
 #[test]
 fn plain_settings_are_checked(rt: HostRuntime) -> Result<(), Fail> {
     assert_eq!(rt; fault_of(rt.alloc(), 9_092)?, None);

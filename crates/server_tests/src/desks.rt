@@ -26,7 +26,8 @@ struct Counting {
 }
 
 impl Counting {
-    /// Calls before, of ann's login and after, the frames added up, and calls of other sessions than 7 or of other users.
+    /// How many calls came before a frame, for ann's login and after a frame; the sum of the frames' numbers; and how many calls
+    /// were of other sessions than 7, or of other users.
     fn counts(&self) -> [u64; 5] {
         [
             self.befores.load(Ordering::SeqCst),
@@ -39,6 +40,7 @@ impl Counting {
 }
 
 impl Gate for Counting {
+    /// Counts the call, and adds the frame's number.
     fn before(&self, session: u64, frame: u64) {
         self.befores.fetch_add(1, Ordering::SeqCst);
         self.frames.fetch_add(frame, Ordering::SeqCst);
@@ -46,12 +48,14 @@ impl Gate for Counting {
             .fetch_add(u64::from(session != 7), Ordering::SeqCst);
     }
 
+    /// Counts the call, if it is for ann.
     fn logged_in(&self, session: u64, who: &Text) {
         let is_ann = session == 7 && who.as_bytes() == b"User:ann".as_slice();
         self.logins.fetch_add(u64::from(is_ann), Ordering::SeqCst);
         self.others.fetch_add(u64::from(!is_ann), Ordering::SeqCst);
     }
 
+    /// Counts the call, and adds the frame's number.
     fn after(&self, session: u64, frame: u64) {
         self.afters.fetch_add(1, Ordering::SeqCst);
         self.frames.fetch_add(frame, Ordering::SeqCst);
@@ -60,7 +64,8 @@ impl Gate for Counting {
     }
 }
 
-/// Three frames, of which the second is a login, and the end of the input where a fourth would be.
+/// The gate is called before and after each of three frames, of which the second is a login, and where a fourth would be, at the
+/// end of the input.
 #[test]
 fn round_each_frame(rt: HostRuntime) -> Result<(), Fail> {
     let alloc = rt.alloc();
@@ -87,7 +92,7 @@ fn round_each_frame(rt: HostRuntime) -> Result<(), Fail> {
     Ok(())
 }
 
-/// How many seats a desk gives, asked for so many.
+/// How many seats a desk gives that is asked for so many.
 fn given_on<L: DeskLedger, R: Wait + Drop>(
     rt: R,
     core: Core,
@@ -107,6 +112,7 @@ fn given_on<L: DeskLedger, R: Wait + Drop>(
     Ok(given)
 }
 
+/// How many seats a new desk gives that is asked for so many.
 fn given<R: Wait + Drop>(rt: R, alloc: Global, asked: u64) -> Result<u64, Fail> {
     let text = b"node_id = 1\nhost = \"h\"\nport = 1\n".as_slice();
     let Document { settings, .. } = document_of_text(alloc, text).ok().ok_or("settings")?;

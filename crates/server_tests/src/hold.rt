@@ -21,6 +21,7 @@ pub(crate) struct Flags {
 }
 
 impl Flags {
+    /// Neither session has come to anything yet.
     pub(crate) fn new() -> Flags {
         Flags {
             held: AtomicU64::new(0),
@@ -29,7 +30,7 @@ impl Flags {
         }
     }
 
-    /// Waits for at most 10,000 turns of a millisecond.
+    /// Waits until a flag is set, for at most 10,000 turns of a millisecond; then `late` is set.
     fn wait<R: time::Clock>(&self, rt: &R, flag: &AtomicU64) {
         for _ in 0..10_000 {
             if flag.load(Ordering::SeqCst) != 0 {
@@ -67,6 +68,7 @@ pub(crate) struct Hold<R: time::Clock + Drop> {
 }
 
 impl<R: time::Clock + Drop> Gate for Hold<R> {
+    /// Holds session 1 before its first frame, if it is held there, and session 2 until session 1 is held.
     fn before(&self, session: u64, frame: u64) {
         let flags = self.flags.value();
         if frame != 0 {
@@ -79,8 +81,10 @@ impl<R: time::Clock + Drop> Gate for Hold<R> {
         }
     }
 
+    /// Does nothing.
     fn logged_in(&self, _session: u64, _who: &Text) {}
 
+    /// Notes that session 2 was served, after its last frame.
     fn after(&self, session: u64, frame: u64) {
         if session == 2 && frame == self.last {
             self.flags.value().served.store(1, Ordering::SeqCst);
@@ -98,6 +102,7 @@ pub(crate) struct Talk<R: time::Clock + Drop> {
 }
 
 impl<R: time::Clock + Drop> OpenStream for Talk<R> {
+    /// Does nothing: no read waits.
     fn set_read_timeout(&self, _time: Option<Duration>) -> io::Result<()> {
         Ok(())
     }
@@ -108,6 +113,7 @@ impl<R: time::Clock + Drop> Read for Talk<R> {
 
     ghost remaining = { λ _. None };
 
+    /// Holds session 1 at its first read, if it is held there, and reads its input.
     fn read(&mut self, piece: &mut [u8]) -> io::Result<usize> {
         if self.holds {
             self.holds = false;
@@ -125,17 +131,20 @@ pub(crate) struct Answers<R: Wait + Drop> {
 }
 
 impl<R: Wait + Drop> OpenStream for Answers<R> {
+    /// Does nothing: no write waits.
     fn set_write_timeout(&self, _time: Option<Duration>) -> io::Result<()> {
         Ok(())
     }
 }
 
 impl<R: Wait + Drop> Write for Answers<R> {
+    /// Keeps the bytes.
     fn write(&mut self, bytes: &[u8]) -> io::Result<usize> {
         self.bytes.value().lock(&self.rt).extend_from_slice(bytes)?;
         Ok(bytes.len())
     }
 
+    /// Does nothing.
     fn flush(&mut self) -> io::Result<()> {
         Ok(())
     }

@@ -12,7 +12,7 @@ use std::alloc::Global;
 use std::sync::Wait;
 use std::test::Fail;
 
-/// How a session ends that may be asked so much.
+/// How a session of these frames ends that may ask as much as the limits say.
 fn end_of<R: Wait + Drop>(
     rt: R,
     alloc: Global,
@@ -26,7 +26,7 @@ fn end_of<R: Wait + Drop>(
     serve(rt, alloc, input.as_slice(), &mut written, limits)
 }
 
-/// As many frames are served as the limit says, and the input isn't looked at after them.
+/// A session is served as many frames as its limit says, and its input isn't looked at after them.
 #[test]
 fn as_many_frames_as_are_served(rt: HostRuntime) -> Result<(), Fail> {
     for frames in 0..5u64 {
@@ -77,7 +77,7 @@ fn the_first_receipt(rt: HostRuntime) -> Result<(), Fail> {
     Ok(())
 }
 
-/// A frame as long as the limit is served.
+/// A frame as long as the limit is served, and one byte more is a fault.
 #[test]
 fn the_longest_frame(rt: HostRuntime) -> Result<(), Fail> {
     for frame in 15..19u32 {
@@ -92,6 +92,7 @@ fn the_longest_frame(rt: HostRuntime) -> Result<(), Fail> {
     Ok(())
 }
 
+/// A session may send 1,000,000 frames of up to 104,857,600 bytes each.
 #[test]
 fn what_is_served_by_default(rt: HostRuntime) -> Result<(), Fail> {
     let limits = Limits::default();

@@ -1,4 +1,4 @@
-//! The log for an operator: messages are written in their order, and those that find no room are counted, and told of.
+//! The log for an operator: messages are written in their order, and those that the full queue drops are counted, and told of.
 
 use admission::Doorman;
 use broker_keeping::OperatorLog;
@@ -15,7 +15,7 @@ use wire_types::Text;
 /// So many messages wait for the writer.
 const WAITING: u64 = 1_024;
 
-/// Says lines of these numbers until the queue is full, and three more, two of which are one message.
+/// Logs so many lines that the queue is full, and then three more, two of which are one message.
 fn fill<R: Wait + time::Clock>(alloc: Global, log: &OperatorLog<'_, R>) -> Result<(), Fail> {
     for number in 0..WAITING {
         log.info(format!(in alloc; "line {number}\n")?);
@@ -25,7 +25,7 @@ fn fill<R: Wait + time::Clock>(alloc: Global, log: &OperatorLog<'_, R>) -> Resul
     Ok(())
 }
 
-/// The lines that fill the queue, how many are told to be left out, and what comes after that.
+/// What the writer writes then: the lines that fill the queue, how many were left out, and these last words.
 fn due(alloc: Global, dropped: u64, last: &str) -> Result<String, Fail> {
     let mut text = String::new(alloc);
     for number in 0..WAITING {
@@ -37,7 +37,7 @@ fn due(alloc: Global, dropped: u64, last: &str) -> Result<String, Fail> {
     Ok(text)
 }
 
-/// Says a line until there is room for it, and gives how often it was left out.
+/// Says a line until the queue takes it, and gives how often it was left out.
 fn say_last<R: Wait + time::Clock>(
     rt: &R,
     alloc: Global,
@@ -53,6 +53,7 @@ fn say_last<R: Wait + time::Clock>(
     Err(Fail::from("no room"))
 }
 
+/// Messages that come while the queue is full are dropped, and their lines are counted and told at the end.
 #[test]
 fn what_has_no_room_is_counted(rt: HostRuntime) -> Result<(), Fail> {
     let alloc = rt.alloc();
@@ -66,6 +67,7 @@ fn what_has_no_room_is_counted(rt: HostRuntime) -> Result<(), Fail> {
     Ok(())
 }
 
+/// How many lines were dropped is told before the next message that goes into the queue.
 #[test]
 fn what_was_left_out_is_told_before_what_is_said_next(rt: HostRuntime) -> Result<(), Fail> {
     let alloc = rt.alloc();
@@ -86,7 +88,7 @@ fn what_was_left_out_is_told_before_what_is_said_next(rt: HostRuntime) -> Result
     Ok(())
 }
 
-/// Nothing is written after the writer has gone, and nobody waits for it.
+/// Where the writer of the log is gone, messages are dropped, and nobody waits for it.
 #[test]
 fn a_writer_that_is_gone_is_not_waited_for(rt: HostRuntime) -> Result<(), Fail> {
     let alloc = rt.alloc();
@@ -98,7 +100,7 @@ fn a_writer_that_is_gone_is_not_waited_for(rt: HostRuntime) -> Result<(), Fail> 
     Ok(())
 }
 
-/// Sessions of these numbers end inside a request.
+/// Logs that the sessions of these numbers ended inside a request.
 fn cut<R: Wait + time::Clock>(
     alloc: Global,
     log: &OperatorLog<'_, R>,
@@ -111,7 +113,7 @@ fn cut<R: Wait + time::Clock>(
     Ok(())
 }
 
-/// Of the first session it is told in full; of ten more at once, and of the last one at the end.
+/// Where the same is said of twelve sessions, the first is told in full, the next ten in one line, and the last at the end.
 #[test]
 fn the_same_of_further_sessions_is_counted(rt: HostRuntime) -> Result<(), Fail> {
     let alloc = rt.alloc();
@@ -128,7 +130,8 @@ kbroker: session 11 of nobody from 10.0.0.5: the connection was closed inside a 
     Ok(())
 }
 
-/// What was said four sayings ago is compared, and what was said before that isn't any more. Of what is forgotten it is told first.
+/// Messages about sessions are compared with the last four. Where one is forgotten, it is told first of how many more sessions it
+/// was said.
 #[test]
 fn the_latest_four_sayings_are_compared(rt: HostRuntime) -> Result<(), Fail> {
     let alloc = rt.alloc();
@@ -166,7 +169,7 @@ fn is_moment(text: &str) -> bool {
             || (*due == b'd' && byte.is_ascii_digit()))
 }
 
-/// What stands after the moment and this level, if a line begins with them.
+/// What stands after the moment and this level at a line's front; `None` where the line doesn't begin so.
 fn after_stamp<'a>(line: &'a str, level: &str) -> Option<&'a str> {
     let (moment, rest) = line.split_once(' ')?;
     let (told, rest) = rest.split_once(' ')?;
@@ -177,6 +180,7 @@ fn after_stamp<'a>(line: &'a str, level: &str) -> Option<&'a str> {
     }
 }
 
+/// With stamps each line of the log begins with its moment and its level, also each of two lines of one message.
 #[test]
 fn each_line_begins_with_its_moment_and_its_level(rt: HostRuntime) -> Result<(), Fail> {
     let alloc = rt.alloc();

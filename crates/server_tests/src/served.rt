@@ -1,5 +1,5 @@
-//! A server over a bound listener: two clients log in on loopback, and each asks for all topics. And what ends the rest of whoever
-//! keeps a core's time.
+//! A server over a bound listener: two clients log in on loopback, and each asks for all topics. And what ends the rest of
+//! whoever keeps a core's time.
 
 ghost use Rattle.std.specs.Prelude.{◌≡◌, ◌+◌, []};
 ghost use Rattle.request_handlers.specs.Seats.{most_seats};
@@ -38,16 +38,18 @@ pub(crate) const PATIENCE: u64 = 20;
 struct Gone;
 
 impl Write for Gone {
+    /// Fails, since nobody reads any more.
     fn write(&mut self, _bytes: &[u8]) -> io::Result<usize> {
         Err(ErrorKind::BrokenPipe.into())
     }
 
+    /// Does nothing.
     fn flush(&mut self) -> io::Result<()> {
         Ok(())
     }
 }
 
-/// Serves two connections, both at once, and gives the exit status and what was printed.
+/// Serves two connections of a listener, both at once, and gives the exit status and what was printed.
 fn serve_two<
     'x,
     R: Net<Listener = TcpListener, Stream = TcpStream> + Threads + Wait + time::Clock + Sync,
@@ -97,7 +99,7 @@ fn serve_two<
     (status, printed)
 }
 
-/// Connects, and says what a client says that logs in, asks for all topics and has nothing more to say.
+/// Connects, and sends all that a client sends that logs in, asks for all topics and has nothing more to say.
 fn begin<R: Net<Stream = TcpStream>>(
     rt: &R,
     alloc: Global,
@@ -110,14 +112,14 @@ fn begin<R: Net<Stream = TcpStream>>(
     Ok(stream)
 }
 
-/// All that a client is told.
+/// All that a client is sent, up to the end of the connection.
 fn told(alloc: Global, mut stream: TcpStream) -> Result<Vec<u8>, Fail> {
     let mut bytes = Vec::new(alloc);
     stream.read_to_end(&mut bytes)?;
     Ok(bytes)
 }
 
-/// What each of two clients is told, both of which have said all before the first is heard.
+/// What each of two clients is sent, where both have said all before the answers of the first are read.
 fn ask_twice<R: Net<Stream = TcpStream>>(
     rt: &R,
     alloc: Global,
@@ -128,6 +130,7 @@ fn ask_twice<R: Net<Stream = TcpStream>>(
     Ok((told(alloc, one)?, told(alloc, two)?))
 }
 
+/// Two clients over loopback are answered at once, and the server's last line tells of two sessions.
 #[test]
 fn two_clients_on_loopback(rt: HostRuntime) -> Result<(), Fail> {
     let alloc = rt.alloc();
@@ -154,7 +157,7 @@ fn two_clients_on_loopback(rt: HostRuntime) -> Result<(), Fail> {
     Ok(())
 }
 
-/// What a client is told after another one that was closed inside its first frame.
+/// What a client is sent that comes after another one, whose connection ended inside its first frame.
 fn ask_after_a_cut<R: Net<Stream = TcpStream>>(
     rt: &R,
     alloc: Global,
@@ -169,7 +172,7 @@ fn ask_after_a_cut<R: Net<Stream = TcpStream>>(
     told(alloc, client)
 }
 
-/// Whoever is told why a session ended has gone, and the next session is served all the same.
+/// Where nobody reads the log any more, the next session is served all the same.
 #[test]
 fn an_operator_that_has_gone(rt: HostRuntime) -> Result<(), Fail> {
     let alloc = rt.alloc();
@@ -206,7 +209,7 @@ const ADD: &str = "000000260018000000000004ffff000174000000000000000000000000000
 /// It commits.
 const COMMIT: &str = "00000018001a000000000005ffff0001740000000000000000000001";
 
-/// Whether a rest of 20 seconds ends in the first ten, where it comes after these requests of ann.
+/// Whether a rest of 20 seconds at a desk ends in the first ten, where it comes after these requests of ann.
 fn is_woken_on<L: DeskLedger, R: Wait + time::Clock + Copy>(
     rt: R,
     alloc: Global,
@@ -232,6 +235,7 @@ fn is_woken_on<L: DeskLedger, R: Wait + time::Clock + Copy>(
     Ok(start.elapsed(&rt)? < Duration::from_secs(10))
 }
 
+/// Whether a rest of 20 seconds at a new desk ends in the first ten, where it comes after these requests of ann.
 fn is_woken<R: Wait + time::Clock + Copy>(
     rt: R,
     alloc: Global,
@@ -244,7 +248,7 @@ fn is_woken<R: Wait + time::Clock + Copy>(
     is_woken_on::<Brand, R>(rt, alloc, core, Blank::new(MOST_SEATS + 1), frames)
 }
 
-/// The commit leaves a marker pending.
+/// The keeper's rest ends at once after a commit, which leaves a marker to be written.
 #[test]
 fn a_rest_ends_once_a_marker_is_owed(rt: HostRuntime) -> Result<(), Fail> {
     assert!(rt; is_woken(rt, rt.alloc(), &[INIT, ADD, COMMIT])?);

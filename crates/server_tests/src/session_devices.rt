@@ -23,6 +23,7 @@ struct Slow<'a> {
 }
 
 impl<'a> Slow<'a> {
+    /// A reader of these bytes that is interrupted so often before each, and fails after so many reads.
     fn new(bytes: &'a [u8], interruptions: u32, reads: usize) -> Slow<'a> {
         Slow {
             bytes,
@@ -36,6 +37,7 @@ impl<'a> Slow<'a> {
 impl Read for Slow<'_> {
     ghost remaining = { λ _. None };
 
+    /// Is interrupted as often as is due; then gives one byte, or fails where no more reads are left.
     fn read(&mut self, piece: &mut [u8]) -> io::Result<usize> {
         if self.interrupted < self.interruptions {
             self.interrupted += 1;
@@ -60,6 +62,7 @@ struct Counted<'a> {
 impl Read for Counted<'_> {
     ghost remaining = { λ _. None };
 
+    /// Counts the read, and reads.
     fn read(&mut self, piece: &mut [u8]) -> io::Result<usize> {
         self.reads.fetch_add(1, Ordering::SeqCst);
         self.bytes.read(piece)
@@ -74,6 +77,7 @@ struct Narrow {
 }
 
 impl Write for Narrow {
+    /// Takes one byte, or fails where no more writes are left.
     fn write(&mut self, bytes: &[u8]) -> io::Result<usize> {
         if self.writes == 0 || bytes.is_empty() {
             return Err(ErrorKind::StorageFull.into());
@@ -83,6 +87,7 @@ impl Write for Narrow {
         Ok(1)
     }
 
+    /// Does nothing.
     fn flush(&mut self) -> io::Result<()> {
         Ok(())
     }
@@ -95,17 +100,19 @@ struct Counting {
 }
 
 impl Write for Counting {
+    /// Counts the write, and takes all bytes.
     fn write(&mut self, bytes: &[u8]) -> io::Result<usize> {
         self.writes = self.writes.wrapping_add(1);
         Ok(bytes.len())
     }
 
+    /// Does nothing.
     fn flush(&mut self) -> io::Result<()> {
         Ok(())
     }
 }
 
-/// Why a session ended over a reader, and what it wrote.
+/// Why a session over a reader ended, and what was written to it.
 fn told<R: Wait + Drop, Rd: Read + Drop>(
     rt: R,
     alloc: Global,
@@ -116,7 +123,7 @@ fn told<R: Wait + Drop, Rd: Read + Drop>(
     Ok((end.why, written))
 }
 
-/// What comes at once and what comes a byte at a time, with an interruption before each, is answered the same.
+/// A session is answered the same whether its input comes at once or a byte at a time, with an interruption before each.
 #[test]
 fn one_byte_at_a_time(rt: HostRuntime) -> Result<(), Fail> {
     let input = bytes_of(rt.alloc(), &[HANDSHAKE, LOGIN, METADATA])?;
@@ -129,7 +136,7 @@ fn one_byte_at_a_time(rt: HostRuntime) -> Result<(), Fail> {
     Ok(())
 }
 
-/// Each read fails in turn: the whole frames before are answered as if none had failed, and nothing else is.
+/// Where each read of a session fails in turn, the whole frames before are answered, and nothing else is.
 #[test]
 fn failing_reads(rt: HostRuntime) -> Result<(), Fail> {
     let input = bytes_of(rt.alloc(), &[HANDSHAKE, LOGIN, METADATA])?;
@@ -152,7 +159,7 @@ fn failing_reads(rt: HostRuntime) -> Result<(), Fail> {
     Ok(())
 }
 
-/// A thousand interruptions in a row are none; one more is a fault.
+/// A thousand interruptions of a read in a row are passed over; one more is a failed read.
 #[test]
 fn interrupted_reads(rt: HostRuntime) -> Result<(), Fail> {
     let input = bytes_of(rt.alloc(), &[HANDSHAKE])?;
@@ -163,7 +170,7 @@ fn interrupted_reads(rt: HostRuntime) -> Result<(), Fail> {
     Ok(())
 }
 
-/// How a session ends whose writer takes so many writes, and what it takes.
+/// How a session ends whose writer takes so many writes, how many receipts it has, and what was written.
 fn cut_off<R: Wait + Drop>(
     rt: R,
     alloc: Global,
@@ -178,7 +185,7 @@ fn cut_off<R: Wait + Drop>(
     Ok((end.why, end.receipts, narrow.held))
 }
 
-/// Each write fails in turn: the answers' front is written, and the receipt is kept where its event was answered.
+/// Where each write of a session fails in turn, the answers' front is written, and the receipt of an answered event is kept.
 #[test]
 fn failing_writes(rt: HostRuntime) -> Result<(), Fail> {
     let input = bytes_of(rt.alloc(), &[HANDSHAKE, LOGIN, METADATA])?;
@@ -192,7 +199,7 @@ fn failing_writes(rt: HostRuntime) -> Result<(), Fail> {
     Ok(())
 }
 
-/// Each front of an input ends between frames or inside one, and the whole frames before are answered.
+/// An input that is cut off at any byte ends a session between frames or inside one, and the whole frames before are answered.
 #[test]
 fn each_front_of_an_input(rt: HostRuntime) -> Result<(), Fail> {
     let input = bytes_of(rt.alloc(), &[HANDSHAKE, LOGIN, METADATA])?;
@@ -213,7 +220,7 @@ fn each_front_of_an_input(rt: HostRuntime) -> Result<(), Fail> {
     Ok(())
 }
 
-/// Why a session ended, and how many reads it made.
+/// Why a session of these bytes ended, and how many reads it made.
 fn reads_of<R: Wait + Drop>(rt: R, alloc: Global, bytes: &[u8]) -> Result<(EndReason, u64), Fail> {
     let reads = AtomicU64::new(0);
     let counted = Counted {
@@ -224,7 +231,7 @@ fn reads_of<R: Wait + Drop>(rt: R, alloc: Global, bytes: &[u8]) -> Result<(EndRe
     Ok((why, reads.load(Ordering::SeqCst)))
 }
 
-/// Room is made for as much as has come, so a long frame comes in few reads after a login.
+/// Memory is taken for as much as has come, so a long frame comes in few reads after a login.
 #[test]
 fn a_long_frame_in_few_reads(rt: HostRuntime) -> Result<(), Fail> {
     let mut input = bytes_of(rt.alloc(), &[HANDSHAKE, LOGIN, "000f4240"])?;
@@ -234,7 +241,7 @@ fn a_long_frame_in_few_reads(rt: HostRuntime) -> Result<(), Fail> {
     Ok(())
 }
 
-/// Before a login it is read past, by pieces of 8,192 bytes.
+/// Before a login a frame of a megabyte isn't kept: it is read past, by pieces of 8,192 bytes.
 #[test]
 fn a_long_frame_before_a_login(rt: HostRuntime) -> Result<(), Fail> {
     let mut input = bytes_of(rt.alloc(), &["000f4240"])?;
@@ -244,7 +251,7 @@ fn a_long_frame_before_a_login(rt: HostRuntime) -> Result<(), Fail> {
     Ok(())
 }
 
-/// What comes at once is one read, and the end of the input another.
+/// Frames that come at once are read in one read; the end of the input is another.
 #[test]
 fn one_read_for_many_frames(rt: HostRuntime) -> Result<(), Fail> {
     let input = bytes_of(rt.alloc(), &[HANDSHAKE, LOGIN, METADATA])?;
@@ -252,7 +259,7 @@ fn one_read_for_many_frames(rt: HostRuntime) -> Result<(), Fail> {
     Ok(())
 }
 
-/// Each answer is one write.
+/// A session writes each of its answers in one write.
 #[test]
 fn one_write_for_each_answer(rt: HostRuntime) -> Result<(), Fail> {
     let input = bytes_of(rt.alloc(), &[HANDSHAKE, LOGIN, METADATA])?;

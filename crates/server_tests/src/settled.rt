@@ -22,7 +22,7 @@ struct Books<L: Ledger> {
     two: Vec<Receipt>,
 }
 
-/// Two receipts of one end.
+/// The receipts of two events in a list; an error where one of them was stopped.
 fn receipts_of(
     alloc: Global,
     first: Result<Receipt, Stop>,
@@ -34,8 +34,8 @@ fn receipts_of(
     }
 }
 
-/// Two seats take turns: ann asks for two topics of which none is hers, and for two of which one isn't, which makes three
-/// refusals; after each the other seat tells a tick.
+/// Two seats of a desk take turns: ann asks by the one for topics, of which three in all are refused, and the clock ticks by the
+/// other. Gives the receipts of both, and the core.
 fn keep_books<L: DeskLedger, R: Wait + Drop>(
     rt: R,
     alloc: Global,
@@ -74,7 +74,7 @@ struct Settling {
     with_another_desk: Result<Settled, SettleFault>,
 }
 
-/// The receipts of the first end.
+/// The receipts of the first seat, after all events of `keep_books` at a desk.
 fn first_receipts_at<L: DeskLedger, R: Wait + Drop>(
     rt: R,
     alloc: Global,
@@ -90,13 +90,14 @@ fn first_receipts_at<L: DeskLedger, R: Wait + Drop>(
     Ok(one)
 }
 
-/// The receipts of the first end at a desk of its own.
+/// The same receipts, of a desk of its own.
 fn first_receipts<R: Wait + Drop>(rt: R, alloc: Global, core: Core) -> Result<Vec<Receipt>, Fail>
     requires { core.trail ≡ [] }
 {
     first_receipts_at::<Brand, R>(rt, alloc, core, Blank::new(MOST_SEATS + 1))
 }
 
+/// Settles the books of a desk with each of four lists of receipts, right and wrong ones.
 fn settle_each_at<L: DeskLedger, R: Wait + Drop + Copy>(
     rt: R,
     alloc: Global,
@@ -120,11 +121,14 @@ fn settle_each_at<L: DeskLedger, R: Wait + Drop + Copy>(
     })
 }
 
+/// Settles the books of a desk of its own with each of four lists of receipts.
 fn settle_each<R: Wait + Drop + Copy>(rt: R, alloc: Global) -> Result<Settling, Fail> {
     let core = equal_core(alloc).ok_or("core")?;
     settle_each_at::<Brand, R>(rt, alloc, core, Blank::new(MOST_SEATS + 1))
 }
 
+/// The books are settled by the receipts of both ends. With one end alone receipts are `Missing`, with those of an equal desk a
+/// place is held `Twice`, and those of another desk are `Stray`.
 #[test]
 fn receipts_of_two_ends(rt: HostRuntime) -> Result<(), Fail> {
     let told = settle_each(rt, rt.alloc())?;

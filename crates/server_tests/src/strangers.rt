@@ -1,4 +1,5 @@
-//! A server to which strangers come: it goes on, keeps nothing of those that ask nothing, and lets in as many of a host as may be.
+//! A server to which strangers come: it goes on, keeps nothing of those that ask nothing, and lets in as many of a host as may
+//! be.
 
 ghost use Rattle.std.specs.Prelude.{◌≡◌, ◌+◌, []};
 ghost use Rattle.request_handlers.specs.Seats.{most_seats};
@@ -32,18 +33,23 @@ struct Counting {
 }
 
 impl Gate for Counting {
+    /// Does nothing.
     fn before(&self, _session: u64, _frame: u64) {}
 
+    /// Does nothing.
     fn logged_in(&self, _session: u64, _who: &Text) {}
 
+    /// Does nothing.
     fn after(&self, _session: u64, _frame: u64) {}
 }
 
 impl Doorman for Counting {
+    /// Counts the call.
     fn turned_away(&self, _host: &Text) {
         self.turned_away.fetch_add(1, Ordering::SeqCst);
     }
 
+    /// Counts the call.
     fn unseated(&self) {
         self.unseated.fetch_add(1, Ordering::SeqCst);
     }
@@ -70,6 +76,7 @@ struct Site {
 }
 
 impl Site {
+    /// A listener on a free port of 127.0.0.1, and who may log in there.
     fn open<R: Net<Listener = TcpListener, Stream = TcpStream>>(
         rt: &R,
         alloc: Global,
@@ -85,14 +92,15 @@ impl Site {
         })
     }
 
-    /// Closes it after its clients, and hands on what they make of it.
+    /// Has the server take no more connections, after its clients have said this, and hands that on.
     fn close_after(&self, said: Result<bool, Fail>) -> Result<bool, Fail> {
         self.closing.close();
         said
     }
 }
 
-/// Serves the connections of a site without an end until it is closed, by two workers, at a desk that has given so many seats.
+/// Serves the connections of a site until it is closed, by two workers, at a desk that has given so many seats before. `per_host`
+/// is how many connections a host may have at once. Gives what is left of the sessions.
 fn serve_at<
     L: DeskLedger + Send + Sync,
     R: Net<Listener = TcpListener, Stream = TcpStream> + Threads + Wait + time::Clock + Copy + Sync,
@@ -150,7 +158,7 @@ fn serve_at<
     })
 }
 
-/// The same with a ledger of its own.
+/// Serves the connections of a site as `serve_at` does, at a desk of its own.
 fn serve_site<
     R: Net<Listener = TcpListener, Stream = TcpStream> + Threads + Wait + time::Clock + Copy + Sync,
 >(rt: &R, alloc: Global, core: Core, given: u64, per_host: Option<u64>, site: &Site) -> Option<Left>
@@ -167,7 +175,7 @@ fn serve_site<
     )
 }
 
-/// All that is told over a connection, over which this is said, and where it is something, no more.
+/// All that comes over a connection over which this is said, and no more is; where nothing is said, it stays open.
 fn told(alloc: Global, mut stream: TcpStream, said: &[u8]) -> io::Result<Vec<u8>> {
     stream.set_read_timeout(Some(Duration::from_secs(PATIENCE)))?;
     stream.write_all(said)?;
@@ -179,19 +187,19 @@ fn told(alloc: Global, mut stream: TcpStream, said: &[u8]) -> io::Result<Vec<u8>
     Ok(bytes)
 }
 
-/// Whether a connection is closed that says nothing.
+/// Whether the server closes a connection over which nothing is said.
 fn is_closed(alloc: Global, stream: TcpStream) -> bool {
     told(alloc, stream, b"").is_ok_and(|bytes| bytes.is_empty())
 }
 
-/// Whether a client is told what is due.
+/// Whether a client that logs in and asks for all topics is sent just the answers to that.
 fn is_answered(alloc: Global, client: TcpStream) -> Result<bool, Fail> {
     let said = bytes_of(alloc, &[HANDSHAKE, LOGIN, METADATA])?;
     let due = bytes_of(alloc, &[HANDSHAKE_TOLD, LOGIN_TOLD, METADATA_TOLD])?;
     Ok(told(alloc, client, said.as_slice()).is_ok_and(|bytes| bytes == due))
 }
 
-/// So many connections that close at once, and then a client that is answered.
+/// Whether a client is answered that comes after so many connections that close at once.
 fn after_strangers<R: Net<Stream = TcpStream>>(
     rt: &R,
     alloc: Global,
@@ -204,6 +212,7 @@ fn after_strangers<R: Net<Stream = TcpStream>>(
     is_answered(alloc, TcpStream::connect(rt, address)?)
 }
 
+/// Of 300 connections that ask nothing only their number is kept, and the client after them is answered.
 #[test]
 fn strangers_leave_a_number(rt: HostRuntime) -> Result<(), Fail> {
     let alloc = rt.alloc();
@@ -224,7 +233,8 @@ fn strangers_leave_a_number(rt: HostRuntime) -> Result<(), Fail> {
     Ok(())
 }
 
-/// The desk has a seat for each worker beside the keeper's. They go from stranger to stranger, and one then to the client.
+/// Connections that ask nothing use up no seats: where a desk has one for each of two workers and one for the keeper, 300 of them
+/// are served, and then a client.
 #[test]
 fn strangers_use_up_no_seats(rt: HostRuntime) -> Result<(), Fail> {
     let alloc = rt.alloc();
@@ -248,7 +258,7 @@ fn strangers_use_up_no_seats(rt: HostRuntime) -> Result<(), Fail> {
     Ok(())
 }
 
-/// Whether each of two connections is closed that say nothing.
+/// Whether the server closes each of two connections over which nothing is said.
 fn two_are_closed<R: Net<Stream = TcpStream>>(
     rt: &R,
     alloc: Global,
@@ -259,7 +269,7 @@ fn two_are_closed<R: Net<Stream = TcpStream>>(
     Ok(first && second)
 }
 
-/// Where no seat is left, a connection is closed, and so is the next one.
+/// Where no seat is left, each connection is closed, and the doorman is told.
 #[test]
 fn where_no_seat_is_left(rt: HostRuntime) -> Result<(), Fail> {
     let alloc = rt.alloc();
@@ -283,7 +293,7 @@ fn where_no_seat_is_left(rt: HostRuntime) -> Result<(), Fail> {
     Ok(())
 }
 
-/// A connection that isn't closed at once.
+/// A connection that isn't closed at once, out of up to 1,000 tries; else `None`.
 fn let_in<R: Net<Stream = TcpStream> + time::Clock>(
     rt: &R,
     address: SocketAddr,
@@ -299,7 +309,8 @@ fn let_in<R: Net<Stream = TcpStream> + time::Clock>(
     Ok(None)
 }
 
-/// One connection of a host may be open. While one is, another is closed at once; once it has ended, the next is served.
+/// Whether a second connection of a host is closed at once while the first is open, and one that comes after the first is
+/// answered.
 fn one_at_a_time<R: Net<Stream = TcpStream> + time::Clock>(
     rt: &R,
     alloc: Global,
@@ -314,6 +325,7 @@ fn one_at_a_time<R: Net<Stream = TcpStream> + time::Clock>(
     }
 }
 
+/// Where a host may have one connection, another one is turned away while it is open, and the next one is served.
 #[test]
 fn one_connection_of_a_host(rt: HostRuntime) -> Result<(), Fail> {
     let alloc = rt.alloc();

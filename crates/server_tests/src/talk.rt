@@ -1,7 +1,7 @@
 //! What is said in a session: the frames that are sent, and the events that they are.
 
 ghost use Rattle.std.specs.Prelude.{◌≡◌, [], IfSome};
-ghost use Rattle.api_dispatch.specs.Bounds.{EventFits};
+ghost use Rattle.request_handlers.specs.Bounds.{EventFits};
 
 use acl_binding::Caller;
 use audit_trail::Event;
@@ -57,7 +57,7 @@ pub(crate) const FETCH_TOLD: &str =
     ff000000450000000000000000000000390000000002dbe9c87600000000000000000000000000000000000000000000\
     ffffffffffffffffffffffffffff000000010e00000001026100";
 
-/// A core of these settings.
+/// A core opened with the settings in this text; `None` where that fails.
 pub(crate) fn core_of(alloc: Global, settings: &str) -> Option<Core>
     ensures { IfSome result (λ core. core.trail ≡ []) }
 {
@@ -65,18 +65,21 @@ pub(crate) fn core_of(alloc: Global, settings: &str) -> Option<Core>
     Core::open_checked(alloc, settings).ok()
 }
 
+/// A core by `SETTINGS`.
 pub(crate) fn core(alloc: Global) -> Option<Core>
     ensures { IfSome result (λ core. core.trail ≡ []) }
 {
     core_of(alloc, SETTINGS)
 }
 
+/// A core by `OTHER_SETTINGS`, which are those of another node.
 pub(crate) fn other_core(alloc: Global) -> Option<Core>
     ensures { IfSome result (λ core. core.trail ≡ []) }
 {
     core_of(alloc, OTHER_SETTINGS)
 }
 
+/// The users of `SETTINGS`, of whom ann is the only one.
 pub(crate) fn users(alloc: Global) -> Result<Users, Fail> {
     let Document { users, .. } = document_of_text(alloc, SETTINGS.as_bytes())
         .ok()
@@ -84,14 +87,14 @@ pub(crate) fn users(alloc: Global) -> Result<Users, Fail> {
     Ok(Users::of_checked(users))
 }
 
-/// The event that ann's frame is, which is given with its size field in hexadecimal digits.
+/// The event of ann's frame, which comes with its size field in hexadecimal digits; `None` where that fails.
 pub(crate) fn event_of(alloc: Global, digits: &str) -> Option<Event>
     ensures { IfSome result EventFits }
 {
     event_by(alloc, "User:ann", digits)
 }
 
-/// A client's name, if one was told, in a block of its own.
+/// A client's id in a block of its own, or none. The outer `None` is an allocation failure.
 fn boxed(alloc: Global, client: Option<Text>) -> Option<Option<Boxed<Text>>> {
     match client {
         Some(client) => Some(Some(Boxed::new(alloc, client).ok()?)),
@@ -99,7 +102,7 @@ fn boxed(alloc: Global, client: Option<Text>) -> Option<Option<Boxed<Text>>> {
     }
 }
 
-/// The event that somebody's frame is.
+/// The event of this principal's frame, which comes with its size field in hexadecimal digits; `None` where that fails.
 pub(crate) fn event_by(alloc: Global, who: &str, digits: &str) -> Option<Event>
     ensures { IfSome result EventFits }
 {

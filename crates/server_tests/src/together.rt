@@ -40,6 +40,7 @@ impl<R: time::Clock + Drop> Clock for Ticks<R> {
     /// A moment until all workers have ended, and none then.
     ghost gives = { λ _ done moment _. is_some moment ≡ not done };
 
+    /// The next millisecond, after a sleep of one; `None` once all workers have ended.
     fn next(&mut self, done: bool) -> Option<u64> {
         if done {
             return None;
@@ -76,6 +77,7 @@ struct Written {
 }
 
 impl Written {
+    /// Nothing was written to either session yet.
     fn new(alloc: Global) -> Result<Written, Fail> {
         Ok(Written {
             one: nothing(alloc)?,
@@ -83,7 +85,7 @@ impl Written {
         })
     }
 
-    /// Whether session 1 was told of the topic, and session 2 that its record was produced at offset 0 and what it fetched.
+    /// Whether session 1 was told of the topic, and session 2 that its record was produced at offset 0, and what it fetched.
     fn is_due<R: Wait>(&self, rt: &R, alloc: Global) -> Result<bool, Fail> {
         let one = [HANDSHAKE_TOLD, LOGIN_TOLD, METADATA_TOLD];
         let two = [HANDSHAKE_TOLD, LOGIN_TOLD, PRODUCE_TOLD, FETCH_TOLD];
@@ -94,7 +96,7 @@ impl Written {
     }
 }
 
-/// Bytes to which nothing was written yet.
+/// Bytes to which nothing was written yet, which two may share.
 fn nothing(alloc: Global) -> Result<Shared<Mutex<Vec<u8>>>, Fail> {
     Ok(
         Shared::new(alloc, Mutex::new(Vec::new(alloc)))
@@ -103,12 +105,12 @@ fn nothing(alloc: Global) -> Result<Shared<Mutex<Vec<u8>>>, Fail> {
     )
 }
 
-/// Whether the written bytes are these.
+/// Whether these bytes were written, and no others.
 fn are<R: Wait>(rt: &R, written: &Shared<Mutex<Vec<u8>>>, due: &[u8]) -> bool {
     written.value().lock(rt).as_slice() == due
 }
 
-/// A session's input, which says these frames.
+/// A session's input of these frames; `holds` says that its first read is held.
 fn talk_of<R: Wait + time::Clock + Copy>(
     rt: R,
     alloc: Global,
@@ -124,7 +126,7 @@ fn talk_of<R: Wait + time::Clock + Copy>(
     })
 }
 
-/// The job of a session.
+/// The job of a session, for a worker to serve.
 fn job_of<R: Wait + time::Clock + Copy>(
     rt: R,
     alloc: Global,
@@ -153,7 +155,7 @@ fn job_of<R: Wait + time::Clock + Copy>(
     })
 }
 
-/// Hands over both jobs: session 1 asks for all topics, and session 2 produces a record and fetches it.
+/// Sends the jobs of both sessions to the workers: session 1 asks for all topics, and session 2 produces a record and fetches it.
 fn send_both<R: Wait + time::Clock + Copy>(
     rt: R,
     alloc: Global,
@@ -173,7 +175,7 @@ fn send_both<R: Wait + time::Clock + Copy>(
     Ok(())
 }
 
-/// Serves two sessions by so many workers.
+/// Serves both sessions at a desk by so many workers, and gives their ends.
 fn serve_both<L: DeskLedger + Send + Sync, R: Threads + Wait + time::Clock + Copy + Send + Sync>(
     rt: R,
     alloc: Global,
@@ -199,7 +201,7 @@ fn serve_both<L: DeskLedger + Send + Sync, R: Threads + Wait + time::Clock + Cop
     }
 }
 
-/// Whether a request is the frame's, by ann.
+/// Whether a request is that of this frame, and comes from ann.
 fn is_told(alloc: Global, caller: &Caller, request: &Request, frame: &str) -> bool {
     match event_of(alloc, frame) {
         Some(Event::Ask { request: sent, .. }) => {
@@ -209,7 +211,7 @@ fn is_told(alloc: Global, caller: &Caller, request: &Request, frame: &str) -> bo
     }
 }
 
-/// Whether the requests of a trail are these frames', by ann, in this order.
+/// Whether the requests in a trail are those of these frames of ann, in this order.
 fn are_told(alloc: Global, trail: &Trail, frames: &[&str]) -> bool {
     let mut found = 0usize;
     for place in 0..trail.len() {
@@ -233,6 +235,7 @@ fn are_told(alloc: Global, trail: &Trail, frames: &[&str]) -> bool {
     found == frames.len()
 }
 
+/// How many of these sessions ended since their input did.
 fn closed_in<L: Ledger>(ends: &[SessionEnd<Seat<L>>]) -> usize {
     let mut closed = 0usize;
     for end in ends {
@@ -241,7 +244,7 @@ fn closed_in<L: Ledger>(ends: &[SessionEnd<Seat<L>>]) -> usize {
     closed
 }
 
-/// The receipts of each end, and how many they are.
+/// The receipts of each end, and how many they are in all.
 fn receipts_of<L: Ledger>(
     alloc: Global,
     ends: Vec<SessionEnd<Seat<L>>>,
@@ -255,7 +258,7 @@ fn receipts_of<L: Ledger>(
     Ok((receipts, count))
 }
 
-/// What came of the sessions at a desk.
+/// What came of the sessions at a desk: how they ended, what they were answered, and whether the books are settled.
 fn came_of<L: Ledger>(
     alloc: Global,
     quiet: &Quiet<L>,
@@ -282,6 +285,7 @@ fn came_of<L: Ledger>(
     })
 }
 
+/// Serves both sessions at a desk with the blank's seats, and tells what came of them.
 fn run_at<L: DeskLedger + Send + Sync, R: Threads + Wait + time::Clock + Copy + Send + Sync>(
     rt: R,
     alloc: Global,
@@ -304,6 +308,7 @@ fn run_at<L: DeskLedger + Send + Sync, R: Threads + Wait + time::Clock + Copy + 
     came_of(alloc, &desk.close(), ends, late, answered)
 }
 
+/// Serves both sessions at a desk of its own, and tells what came of them.
 fn run<R: Threads + Wait + time::Clock + Copy + Send + Sync>(
     rt: R,
     alloc: Global,
@@ -314,6 +319,7 @@ fn run<R: Threads + Wait + time::Clock + Copy + Send + Sync>(
     run_at::<Brand, R>(rt, alloc, core, Blank::new(MOST_SEATS + 1), place, workers)
 }
 
+/// While session 1 is held before its first frame or in its first read, session 2 logs in, produces a record and fetches it.
 #[test]
 fn a_session_goes_on_while_another_is_held(rt: HostRuntime) -> Result<(), Fail> {
     for place in [Place::Frame, Place::Read] {

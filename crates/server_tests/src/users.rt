@@ -18,12 +18,12 @@ fn users_of(alloc: Global, users: &[(&str, &str)]) -> Result<Items<User>, AllocE
     Ok(list)
 }
 
-/// The fault of users of these names and passwords, if they have one.
+/// The fault of users of these names and passwords; `None` where they have none.
 fn fault_of(alloc: Global, users: &[(&str, &str)]) -> Result<Option<SettingsFault>, AllocError> {
     Ok(Users::new(alloc, users_of(alloc, users)?).err())
 }
 
-/// No name stands twice, whatever its password, and neither a name nor a password is empty or holds a NUL.
+/// No user's name may stand twice, whatever the passwords, and neither a name nor a password may be empty or hold a NUL.
 #[test]
 fn who_may_log_in(rt: HostRuntime) -> Result<(), Fail> {
     let fault = Some(SettingsFault::User);

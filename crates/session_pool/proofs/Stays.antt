@@ -1,7 +1,7 @@
 -- A step leaves the settings of a core.
 use Rattle.std.proofs.Common.{◌≡◌, Bool, true, false, Result, Ok, Err, IfErr, OnOk, refl, ap}
 use Rattle.audit_trail.specs.declared.event.Event.{Event}
-use Rattle.api_dispatch.specs.Step.{is_reading}
+use Rattle.request_handlers.specs.Step.{is_reading}
 use Rattle.request_handlers.specs.declared.stop.Stop.{Stop}
 use Rattle.request_handlers.specs.declared.stop.Stop.TheVariants.{NoMemory, TrailFull, Down}
 use Rattle.request_handlers.specs.Core.{CoreValue, AfterNoMemory, StoppedBy, core_after}

@@ -32,7 +32,7 @@ pub(crate) enum Begun {
     Whole,
 }
 
-/// The key and the version of an api, and the correlation id.
+/// Reads the start of a request header: the api key and the version, and the correlation id.
 fn read_start(cursor: &mut Cursor<'_>) -> Result<((i16, i16), i32), Malformed>
     ensures { Takes (header_start.reading cursor.old) result cursor.new }
 {
@@ -42,7 +42,8 @@ fn read_start(cursor: &mut Cursor<'_>) -> Result<((i16, i16), i32), Malformed>
     Ok(((key, version), correlation))
 }
 
-/// What each request header starts with.
+/// The start of a frame's request header: its api key and its version, and its correlation id. `None` where the frame is too
+/// short.
 fn start_of(bytes: &Bytes) -> Option<((i16, i16), i32)>
     ensures { result ≡ start_of bytes.now }
 {
@@ -50,7 +51,8 @@ fn start_of(bytes: &Bytes) -> Option<((i16, i16), i32)>
     read_start(&mut cursor).ok()
 }
 
-/// Whether an api is served in this state.
+/// Whether an api may be asked in this state: before a login ApiVersions, and first SaslHandshake, then SaslAuthenticate; after
+/// it any.
 fn is_served(state: &SessionState, key: i16) -> bool
     ensures { result ≡ is_served state.now key }
 {
@@ -61,7 +63,7 @@ fn is_served(state: &SessionState, key: i16) -> bool
     }
 }
 
-/// Whether this is a login, where one is served.
+/// Whether a request of this api key and version is a SaslAuthenticate of version 0, where a login is due.
 fn is_login(state: &SessionState, names: (i16, i16)) -> bool
     ensures { result ≡ is_login state.now names }
 {
@@ -71,7 +73,7 @@ fn is_login(state: &SessionState, names: (i16, i16)) -> bool
     }
 }
 
-/// What a frame leads to as far as its first bytes say it.
+/// What a frame leads to in this state, as far as its first bytes and its length say it.
 pub(crate) fn begin(state: &SessionState, came: &Came) -> Begun
     requires { length came.now.kept ≤ came.now.size }
     ensures { (g : Setting) (limit : ℕ) (frame : List ℕ) → CameOf g limit state.now came.now frame

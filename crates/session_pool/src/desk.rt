@@ -3,7 +3,7 @@
 ghost use Rattle.std.specs.Prelude.{◌≡◌, ◌+◌, ◌≤◌, Bool, true, IfOk, IfErr, OnOk, OnErr, Some};
 ghost use Rattle.settings.specs.declared.settings.Settings.{Settings};
 ghost use Rattle.audit_trail.specs.declared.event.Event.{Event};
-ghost use Rattle.api_dispatch.specs.Bounds.{EventFits};
+ghost use Rattle.request_handlers.specs.Bounds.{EventFits};
 ghost use Rattle.request_handlers.specs.declared.stop.Stop.{Stop};
 ghost use Rattle.request_handlers.specs.Seats.{SeatValue};
 ghost use Rattle.session_pool.specs.Desks.{no_settings};
@@ -31,7 +31,8 @@ pub trait Desk<S> {
     /// Whether it may answer an event by a stop.
     ghost may_stop: { Event → Stop → Bool };
 
-    /// The seat comes back, whether the event was answered or not.
+    /// Hands an event to the core by a seat, and gives its receipt, or the stop where the core doesn't take it. The seat comes
+    /// back either way.
     fn submit(&self, seat: S, event: Event) -> (S, Result<Receipt, Stop>)
         requires { EventFits event }
         ensures event { IfOk result.1 (λ r. r.event ≡ event) }

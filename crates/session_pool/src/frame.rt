@@ -20,10 +20,11 @@ const SIZE_FIELD: usize = 4;
 /// The bytes of the shortest frame: api key, version, and correlation id.
 const LEAST: u32 = 8;
 
-/// For how many of a frame's bytes room is taken before any of them came.
+/// For how many of a frame's bytes memory is taken before any of them came.
 const PIECE: usize = 8_192;
 
-/// One read, made again where it was interrupted.
+/// Reads once, and up to 1,000 times again where that was interrupted. Gives how many bytes came, 0 at the end of the input; the
+/// error is `ReadFault`.
 fn read_some<R: Read>(reader: &mut R, piece: &mut [u8]) -> Result<usize, EndReason>
     ensures few { IfOk result (λ n. n ≤ length piece.new) }
     ensures ok { IfOk result
@@ -45,7 +46,7 @@ fn read_some<R: Read>(reader: &mut R, piece: &mut [u8]) -> Result<usize, EndReas
     Err(EndReason::ReadFault)
 }
 
-/// Fills the piece as far as the input goes, and says how far.
+/// Reads until the piece is full or the input ends, and gives how many bytes came.
 fn fill<R: Read>(reader: &mut R, piece: &mut [u8]) -> Result<usize, EndReason>
     ensures few { IfOk result (λ n. n ≤ length piece.new) }
     ensures ok { IfOk result
@@ -66,7 +67,8 @@ fn fill<R: Read>(reader: &mut R, piece: &mut [u8]) -> Result<usize, EndReason>
     Ok(filled)
 }
 
-/// Reads the size field.
+/// Reads a frame's size field. The error is `Closed` where the input ends before it, `Cut` where it ends inside it, or
+/// `ReadFault`.
 #[tactic(auto, using(crate::proofs::Bytes::head_closed, crate::proofs::Bytes::head_cut, crate::proofs::Bytes::head_fault))]
 fn read_head<R: Read>(reader: &mut R) -> Result<[u8; SIZE_FIELD], EndReason>
     ensures ok { IfOk result
@@ -86,7 +88,7 @@ fn read_head<R: Read>(reader: &mut R) -> Result<[u8; SIZE_FIELD], EndReason>
     Ok(head)
 }
 
-/// Fills the piece.
+/// Reads until the piece is full. The error is `Cut` where the input ends before that, or `ReadFault`.
 #[tactic(auto, using(crate::proofs::Bytes::body_cut, crate::proofs::Bytes::body_fault))]
 fn read_piece<R: Read>(reader: &mut R, piece: &mut [u8]) -> Result<(), EndReason>
     ensures ok { IfOk result
@@ -102,7 +104,7 @@ fn read_piece<R: Read>(reader: &mut R, piece: &mut [u8]) -> Result<(), EndReason
     Ok(())
 }
 
-/// Takes room for exactly so many more bytes.
+/// Reserves memory for exactly so many more bytes. On an allocation failure the bytes stay as they are.
 #[tactic(auto, using(crate::proofs::Bytes::front_kept))]
 fn reserve_more(body: &mut Vec<u8>, more: usize) -> Result<(), EndReason>
     ensures len { OnOk result (length body.new.items ≡ length body.old.items + more) }
@@ -120,7 +122,7 @@ fn reserve_more(body: &mut Vec<u8>, more: usize) -> Result<(), EndReason>
     }
 }
 
-/// Reads what stands in the body from one place on.
+/// Fills the body from its byte `held` on. The error is `Cut` where the input ends before that, or `ReadFault`.
 #[tactic(auto, using(crate::proofs::Bytes::rest_read))]
 fn read_rest<R: Read>(reader: &mut R, body: &mut Vec<u8>, held: usize) -> Result<(), EndReason>
     requires { held ≤ length body.old.items }
@@ -138,9 +140,9 @@ fn read_rest<R: Read>(reader: &mut R, body: &mut Vec<u8>, held: usize) -> Result
     }
 }
 
-/// Reads so many bytes. Room is taken for the first 8,192 of them, or for as many as the longest frame before had, and then
+/// Reads so many bytes. Memory is taken for the first 8,192 of them, or for as many as the longest frame before had, and then
 /// each time for as many more as have come, up to the size. So a size that announces bytes which never come costs at most
-/// 8,192 bytes, or as many as came at once before, or twice what came of these. The last room is exact: the block that is
+/// 8,192 bytes, or as many as came at once before, or twice what came of these. The last step is exact: the block that is
 /// given back has none to spare.
 #[tactic(auto, using(crate::proofs::Bytes::unread, crate::proofs::Bytes::read_on))]
 fn read_body<R: Read>(
@@ -170,7 +172,7 @@ fn read_body<R: Read>(
     Ok(body)
 }
 
-/// Reads past so many bytes, by pieces of 8,192.
+/// Reads so many bytes and drops them, by pieces of 8,192.
 #[tactic(auto, using(crate::proofs::Bytes::none_passed, crate::proofs::Bytes::more_passed))]
 fn read_past<R: Read>(reader: &mut R, size: usize) -> Result<(), EndReason>
     ensures ok { IfOk result (λ _. Passes (R.remaining reader.old) (R.remaining reader.new) size) }
@@ -192,7 +194,7 @@ fn read_past<R: Read>(reader: &mut R, size: usize) -> Result<(), EndReason>
     Ok(())
 }
 
-/// Reads so many bytes, and keeps so many of them, the first ones.
+/// Reads `size` bytes, keeps the first `kept` of them, and drops the others.
 #[tactic(auto, using(crate::proofs::Bytes::some_kept, crate::proofs::Bytes::front_lacks, crate::proofs::Bytes::rest_lacks))]
 fn read_keeping<R: Read>(
     alloc: Global,
@@ -227,7 +229,8 @@ pub(crate) struct Came {
     pub(crate) size: usize,
 }
 
-/// Reads a frame of at most so many bytes after its size field, and keeps what is kept of it.
+/// Reads a frame, its size field first, and gives what is kept of it, and its size: all its bytes, or the first eight where it
+/// has more than `most`. The error is `BadFrame` where the size is below 8 or above `limit`.
 #[tactic(auto, using(crate::proofs::Fronts::no_head, crate::proofs::Fronts::bad, crate::proofs::Fronts::no_body))]
 fn read_sized<R: Read>(
     alloc: Global,
@@ -272,8 +275,8 @@ impl<R: Drop> Drop for FrameReader<R> {
 }
 
 impl<R: Read> FrameReader<R> {
-    /// What comes of the next frame, without its size field: the whole of it, or of a frame above so many bytes the first eight,
-    /// and its length. What was read and kept isn't copied.
+    /// Reads the next frame, without its size field, and keeps all of it, or the first eight bytes of one that is longer than
+    /// `most`. What was kept isn't copied. The error is the reason for which the session ends.
     #[tactic(auto, using(crate::proofs::Fronts::no_room))]
     pub(crate) fn read(&mut self, alloc: Global, most: u32, limit: u32) -> Result<Came, EndReason>
         ensures within { IfOk result

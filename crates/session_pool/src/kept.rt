@@ -1,7 +1,7 @@
 //! What a desk's lock is round.
 
 ghost use Rattle.std.specs.Prelude.{◌≡◌, ◌+◌, ◌<◌, ◌≤◌, [], length, IfOk, IfErr, IfSome, IfNone, OnOk, OnErr};
-ghost use Rattle.api_dispatch.specs.Bounds.{EventFits};
+ghost use Rattle.request_handlers.specs.Bounds.{EventFits};
 ghost use Rattle.request_handlers.specs.Core.{StoppedBy, core_after, receipt_of};
 ghost use Rattle.request_handlers.specs.Seats.{fresh_seat, most_seats, seat_after};
 
@@ -18,7 +18,7 @@ pub(crate) struct Kept<L: DeskLedger> {
 }
 
 impl<L: DeskLedger> Kept<L> {
-    /// A core that has answered nothing.
+    /// A core that has answered nothing, of whose seats none was given.
     pub(crate) fn new(core: Core, blank: Blank) -> Kept<L>
         requires settings { core.settings ≡ L.settings }
         requires empty { core.trail ≡ [] }
@@ -31,7 +31,7 @@ impl<L: DeskLedger> Kept<L> {
         }
     }
 
-    /// A new seat, unless all were given.
+    /// A new seat; `None` once all were given.
     pub(crate) fn seat(&mut self) -> Option<Seat<L>>
         ensures some { IfSome result
             (λ seat. (seat ≡ fresh_seat) × (self.old.booked.given < most_seats)
@@ -42,14 +42,15 @@ impl<L: DeskLedger> Kept<L> {
         self.booked.seat()
     }
 
-    /// How many markers are pending.
+    /// How many markers of ended transactions are still to be written.
     pub(crate) fn owed(&self) -> usize
         ensures { result ≡ length self.now.booked.core.world.coordinator.warrants }
     {
         self.booked.core().world().coordinator.owed()
     }
 
-    /// The step of the core.
+    /// Hands an event to the core by a seat, and gives its receipt, or the stop where the core doesn't take it. The seat comes
+    /// back.
     #[tactic(auto, using(crate::proofs::Stays::settings_stay))]
     pub(crate) fn step(&mut self, seat: Seat<L>, event: Event) -> (Seat<L>, Result<Receipt, Stop>)
         requires { EventFits event }

@@ -13,8 +13,8 @@ use wire_types::{ErrorCode, Items};
 pub enum ListedVersions {
     /// Each api in the versions that are served.
     AsServed,
-    /// The same, but FindCoordinator and SaslHandshake from version 0 on. librdkafka uses SASL and coordinators only where it sees
-    /// them listed so, and then asks them in version 1, which is served. Version 0 of the two isn't.
+    /// The same, but FindCoordinator and SaslHandshake from version 0 on. librdkafka uses SASL and coordinators only where it
+    /// sees them listed so, and then asks them in version 1, which is served. Version 0 of the two isn't.
     ForLibrdkafka,
 }
 
@@ -22,14 +22,14 @@ const FIND_COORDINATOR: i16 = 10;
 
 const SASL_HANDSHAKE: i16 = 17;
 
-/// Whether librdkafka looks for version 0 of the api with this key.
+/// Whether librdkafka looks for version 0 of the api with this key: FindCoordinator and SaslHandshake.
 fn is_looked_for(key: i16) -> bool
     ensures { result ≡ is_looked_for key }
 {
     key == FIND_COORDINATOR || key == SASL_HANDSHAKE
 }
 
-/// The api, from version 0 on where librdkafka looks for that.
+/// The versions of an api, from 0 on where librdkafka looks for that.
 fn from_zero(served: &ServedVersions) -> ServedVersions
     ensures { result ≡ from_zero served.now }
 {
@@ -45,7 +45,7 @@ fn from_zero(served: &ServedVersions) -> ServedVersions
     }
 }
 
-/// The same apis, each listed from version 0 on.
+/// The versions of all these apis, from 0 on for those of which librdkafka looks for that.
 fn all_from_zero(
     alloc: Global,
     apis: &[ServedVersions],
@@ -59,7 +59,7 @@ fn all_from_zero(
     Ok(listed)
 }
 
-/// What ApiVersions is answered before a login.
+/// What an ApiVersions is answered before a login: each api with the versions of it that are listed.
 pub(crate) fn versions_listed(
     alloc: Global,
     listed: ListedVersions,

@@ -2,7 +2,7 @@
 
 ghost use Rattle.std.specs.Prelude.{◌≡◌, ◌+◌, ◌≤◌, [], true, Some, IfOk, IfSome, OnOk, OnErr};
 ghost use Rattle.std.specs.Fn.{FnOnceReturnsAt};
-ghost use Rattle.api_dispatch.specs.Bounds.{EventFits};
+ghost use Rattle.request_handlers.specs.Bounds.{EventFits};
 ghost use Rattle.request_handlers.specs.Core.{CoreValue, IsHistory};
 ghost use Rattle.request_handlers.specs.Seats.{fresh_seat, most_seats};
 ghost use Rattle.session_pool.specs.Desks.{IsDeskCore};
@@ -43,14 +43,14 @@ impl<L: DeskLedger, R: Wait> LockedDesk<L, R> {
         }
     }
 
-    /// A new seat; none once 1,048,576 were given.
+    /// A new seat; `None` once 1,048,576 were given.
     pub fn seat(&self) -> Option<Seat<L>>
         ensures { IfSome result (λ seat. seat ≡ fresh_seat) }
     {
         self.kept.lock(&self.rt).seat()
     }
 
-    /// Looks at the core while it is locked.
+    /// Looks at the core while it is locked, and gives what was seen. Nothing else happens at the desk meanwhile.
     pub fn look<T, F: FnOnce(&Core) -> T>(&self, look: F) -> T
         requires { F.IsAlwaysCallable look }
         ensures { (core : CoreValue) × IsDeskCore L.settings core × FnOnceReturnsAt F.FnOnce look
@@ -62,20 +62,21 @@ impl<L: DeskLedger, R: Wait> LockedDesk<L, R> {
         look(core)
     }
 
-    /// Rests until a step leaves markers pending where none were pending before, or the time is over. A step that did so since the
-    /// last rest ends it at once. It may end early.
+    /// Rests until a step leaves markers to be written where there were none before, or the time is over. A step that did so
+    /// since the last rest ends it at once. It may end early.
     pub fn rest<T: Wait>(&self, rt: &T, most: Duration) {
         self.keeper.park_timeout(rt, most);
     }
 
-    /// Ends a rest, where markers are pending that weren't before.
+    /// Ends the rest of whoever keeps the core's time, where there are markers to be written and there were none before the step.
     fn wake(&self, before: usize, after: usize) {
         if before == 0 && after > 0 {
             self.keeper.unpark();
         }
     }
 
-    /// As `submit`; `steps` is called before and after it, under the lock. It wakes no keeper, which is who calls this.
+    /// Hands an event to the core, as `submit` does, and shows the core to `steps` before and after it, under the lock. This is
+    /// called by the keeper, so it wakes none.
     pub fn submit_seen<K: Steps>(
         &self,
         seat: Seat<L>,
@@ -103,6 +104,8 @@ impl<L: DeskLedger, R: Wait> Desk<Seat<L>> for LockedDesk<L, R> {
 
     ghost may_stop = { λ _ _. true };
 
+    /// Hands an event to the core under the lock. The seat comes back. Where the step leaves markers to be written, the keeper is
+    /// woken.
     fn submit(&self, seat: Seat<L>, event: Event) -> (Seat<L>, Result<Receipt, Stop>) {
         let mut kept = self.kept.lock(&self.rt);
         let before = kept.owed();
@@ -129,14 +132,14 @@ impl<L: Ledger> Model for Quiet<L> {
 }
 
 impl<L: Ledger> Quiet<L> {
-    /// The core.
+    /// The core, as its last step left it.
     pub fn core(&self) -> &Core
         ensures { result.now ≡ self.now }
     {
         self.booked.core()
     }
 
-    /// The core and its trail, of which it is told that it is the history of its events.
+    /// The same core. As with each core, its trail is the history of the events that it has answered.
     fn told(self) -> Quiet<L>
         ensures same { result ≡ self }
         ensures history { IsHistory result }
@@ -147,8 +150,8 @@ impl<L: Ledger> Quiet<L> {
 }
 
 impl<L: DeskLedger, R: Wait + Drop> LockedDesk<L, R> {
-    /// The core, once no thread shares the desk. It has the settings with which the desk was opened, and its trail is the
-    /// history of its events.
+    /// Gives up the lock once no thread shares the desk, and gives the core. It has the settings with which the desk was opened,
+    /// and its trail is the history of its events.
     pub fn close(self) -> Quiet<L>
         ensures { IsDeskCore L.settings result }
     {

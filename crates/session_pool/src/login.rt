@@ -63,7 +63,7 @@ impl Drop for Principal {
 }
 
 impl Principal {
-    /// The principal of a user who calls from a host.
+    /// The principal `User:NAME` of a user who logs in from this host.
     fn of(alloc: Global, user: &User, host: &Text) -> Result<Principal, AllocError>
         ensures { IfOk result (λ principal. principal ≡ principal_of user.now) }
     {
@@ -74,14 +74,14 @@ impl Principal {
         })
     }
 
-    /// Who it is.
+    /// The principal's name, `User:NAME`.
     fn who(&self) -> &Text
         ensures { result.now ≡ self.now }
     {
         &self.caller.value().who
     }
 
-    /// The principal at a host: one caller for all that it asks from where it logged in.
+    /// The caller that the principal is at this host. Where that is the host from which it logged in, nothing is copied.
     fn at(&self, alloc: Global, host: &Text) -> Result<Shared<Caller>, AllocError>
         ensures { IfOk result (λ caller. caller ≡ record { who = self.now; host = host.now }) }
     {
@@ -109,7 +109,7 @@ pub(crate) enum SessionState {
 }
 
 impl SessionState {
-    /// Whether its user is known.
+    /// Whether the session's user has logged in.
     pub(crate) fn is_known(&self) -> bool
         ensures { result ≡ is_known self.now }
     {
@@ -121,12 +121,13 @@ impl SessionState {
 }
 
 impl Fresh {
-    /// Where each session begins.
+    /// The state of a session that begins: no mechanism was agreed on.
     pub fn new() -> Fresh {
         Fresh(())
     }
 
-    /// Agrees on PLAIN (RFC 4616), which alone is offered. Else the code is 33.
+    /// Agrees on the mechanism PLAIN (RFC 4616), the only one that is offered. For any other, the session is closed with
+    /// UNSUPPORTED_SASL_MECHANISM (33).
     pub fn offer(self, mechanism: &[u8]) -> Result<Offered, Closed>
         ensures { MatchResult result (λ _. is_plain mechanism.now ≡ true)
             (λ closed. (is_plain mechanism.now ≡ false) × (closed ≡ mechanism_unknown)) }
@@ -141,9 +142,9 @@ impl Fresh {
 }
 
 impl Offered {
-    /// Only the right password gives a user: the message is the authorization identity, empty or the user's name, NUL, the
-    /// user's name, NUL, and the password (RFC 4616, section 2). Else the code is 58.
-    /// Who logs in calls from `host`.
+    /// Logs in from `host` the user whose name and password the message tells: the authorization identity, empty or the user's
+    /// name, NUL, the user's name, NUL, and the password (RFC 4616, section 2). Otherwise the session is closed with
+    /// SASL_AUTHENTICATION_FAILED (58).
     pub fn login(
         self,
         alloc: Global,
@@ -165,14 +166,14 @@ impl Offered {
 }
 
 impl Known {
-    /// The user's principal.
+    /// The principal of the user who has logged in, `User:NAME`.
     pub(crate) fn who(&self) -> &Text
         ensures { result.now ≡ self.now.who }
     {
         self.who.who()
     }
 
-    /// What the user asks, from this host: the event for a core.
+    /// The event that stands for a request of this user from this host, for a core to answer.
     pub fn ask(
         &self,
         alloc: Global,

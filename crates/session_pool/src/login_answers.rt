@@ -13,7 +13,7 @@ use msg_login::{SaslAuthenticateReply, SaslHandshakeReply};
 use std::alloc::{AllocError, Global};
 use wire_types::{Boxed, Bytes, ErrorCode, WriteFault};
 
-/// The response of a reply of the session's own. It is never too long, so only memory can be refused for it.
+/// The response to a request that the session answers itself. It is never too long, so the only error is an allocation failure.
 #[tactic(auto, using(crate::proofs::Short::never_long))]
 fn write_own(alloc: Global, correlation: i32, reply: &Reply) -> Result<Bytes, AllocError>
     requires { is_sendable correlation reply.now ≡ true }
@@ -26,7 +26,7 @@ fn write_own(alloc: Global, correlation: i32, reply: &Reply) -> Result<Bytes, Al
     }
 }
 
-/// What an ApiVersions is answered.
+/// The response to an ApiVersions before a login, with the versions as they are listed there.
 #[tactic(auto, using(crate::proofs::Short::versions_short))]
 pub(crate) fn write_versions(
     alloc: Global,
@@ -40,7 +40,7 @@ pub(crate) fn write_versions(
     write_own(alloc, correlation, &reply)
 }
 
-/// What a SaslHandshake is answered.
+/// The response to a SaslHandshake, with this error, or none where the mechanism is agreed on.
 #[tactic(auto, using(crate::proofs::Short::handshake_short))]
 pub(crate) fn write_handshake(
     alloc: Global,
@@ -54,7 +54,7 @@ pub(crate) fn write_handshake(
     write_own(alloc, correlation, &reply)
 }
 
-/// What a SaslAuthenticate is answered.
+/// The response to a SaslAuthenticate, with this error, or none where the user is logged in.
 #[tactic(auto, using(crate::proofs::Short::login_short))]
 pub(crate) fn write_login(
     alloc: Global,

@@ -12,14 +12,14 @@ pub fn login_is_exact()
     ensures { (users : List User) (message : List ℕ) → LoginIsExact users message }
 {}
 
-/// No message that logs somebody in is longer than the longest of a user.
+/// No message that logs somebody in is longer than the longest one that the users' names and passwords make.
 pub fn no_login_is_longer()
     ensures { (users : List User) (message who : List ℕ) → login_of users message ≡ Some who
         → length message ≤ longest_login users }
 {}
 
-/// For librdkafka FindCoordinator and SaslHandshake are listed from version 0 on, and each other api as it is served; else all are
-/// listed as they are served.
+/// Before a login ApiVersions lists each api in the versions that are served; for librdkafka it lists FindCoordinator and
+/// SaslHandshake from version 0 on.
 pub fn versions_are_listed()
     ensures { VersionsAreListed }
 {}

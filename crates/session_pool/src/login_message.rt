@@ -9,14 +9,14 @@ use settings_text::User;
 use std::alloc::{AllocError, Global};
 use wire_types::Text;
 
-/// The place of the first NUL.
+/// The place of the first NUL; `None` without one.
 fn find_nul(bytes: &[u8]) -> Option<usize>
     ensures { result ≡ position is_nul bytes.now }
 {
     bytes.iter().position(|byte| *byte == 0)
 }
 
-/// What stands before the first NUL and after it.
+/// What stands before the first NUL, and after it; `None` without one.
 fn cut_at_nul(bytes: &[u8]) -> Option<(&[u8], &[u8])>
     ensures { option_map (λ p. (p.0.now, p.1.now)) result ≡ parts_at_nul bytes.now }
 {
@@ -32,7 +32,8 @@ struct Plain<'a> {
     password: &'a [u8],
 }
 
-/// The three parts of a PLAIN message, which stand between its two NULs (RFC 4616, section 2). None where it has more or fewer.
+/// The three parts of a PLAIN message, which stand between its two NULs (RFC 4616, section 2). `None` where it has more NULs or
+/// fewer.
 fn split_plain(message: &[u8]) -> Option<Plain<'_>>
     ensures { option_map (λ p. (p.authorization.now, p.authentication.now, p.password.now)) result
         ≡ plain_of message.now }
@@ -49,7 +50,8 @@ fn split_plain(message: &[u8]) -> Option<Plain<'_>>
     })
 }
 
-/// The user that a PLAIN message names with the right password.
+/// The user whom a PLAIN message logs in: it has that user's name and password, and an authorization identity that is empty or
+/// the name. `None` where there is no such user.
 pub(crate) fn user_of<'u>(users: &'u Users, message: &[u8]) -> Option<&'u User>
     ensures { option_map (λ u. u.now) result ≡ user_of users.now message.now }
 {
@@ -60,14 +62,14 @@ pub(crate) fn user_of<'u>(users: &'u Users, message: &[u8]) -> Option<&'u User>
     users.find(plain.authentication, plain.password)
 }
 
-/// The name that a PLAIN message tells, whatever its password: its authentication identity.
+/// The name that a PLAIN message tells, whatever its password: its authentication identity. `None` where it is no PLAIN message.
 pub fn name_in(message: &[u8]) -> Option<&[u8]>
     ensures { option_map (λ name. name.now) result ≡ option_map (λ p. p.1) (plain_of message.now) }
 {
     Some(split_plain(message)?.authentication)
 }
 
-/// The principal as which a user asks.
+/// The principal as which a user asks, `User:NAME`.
 pub(crate) fn principal_of(alloc: Global, user: &User) -> Result<Text, AllocError>
     ensures { IfOk result (λ who. who ≡ principal_of user.now) }
 {

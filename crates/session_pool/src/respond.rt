@@ -4,7 +4,7 @@ ghost use Rattle.std.specs.Prelude.{◌≡◌, ◌+◌, ◌≤◌, ℕ, List, []
 ghost use Rattle.msg_admin.specs.declared.request.TheConstants.{FRAME_LIMIT as LIMIT};
 ghost use Rattle.msg_admin.specs.Request.{Fits, request_at};
 ghost use Rattle.msg_admin.specs.Versions.{unsupported_response};
-ghost use Rattle.api_dispatch.specs.Bounds.{EventFits};
+ghost use Rattle.request_handlers.specs.Bounds.{EventFits};
 ghost use Rattle.session_pool.specs.declared.login.SessionState.TheVariants as state;
 ghost use Rattle.session_pool.specs.declared.respond.SessionAction.TheVariants as outcome;
 ghost use Rattle.session_pool.specs.Asks.{Tells, Submits, Refuses, setting_of, step_of, step_if_readable, request_step, fresh_step, offered_step, known_step, mechanism_step, logs_in};
@@ -45,7 +45,7 @@ pub(crate) enum SessionAction {
     Unsent(WriteFault),
 }
 
-/// An answer, after which the session goes on.
+/// An answer of the session's own, after which it goes on in this state; `NoMemory` where it couldn't be allocated.
 fn tell(answer: Result<Bytes, AllocError>, state: SessionState) -> SessionAction
     ensures { MatchResult answer (λ bytes. result ≡ outcome.Tells bytes state)
         (λ _. result ≡ outcome.NoMemory) }
@@ -56,7 +56,7 @@ fn tell(answer: Result<Bytes, AllocError>, state: SessionState) -> SessionAction
     }
 }
 
-/// A last answer.
+/// A last answer, with which the session ends, since the login failed; `NoMemory` where it couldn't be allocated.
 fn refuse(answer: Result<Bytes, AllocError>) -> SessionAction
     ensures { MatchResult answer (λ bytes. result ≡ outcome.Refuses bytes)
         (λ _. result ≡ outcome.NoMemory) }
@@ -67,14 +67,14 @@ fn refuse(answer: Result<Bytes, AllocError>) -> SessionAction
     }
 }
 
-/// No answer.
+/// The session ends without an answer, since nobody has logged in.
 fn close() -> SessionAction
     ensures { result ≡ outcome.Refuses [] }
 {
     SessionAction::Refuses(Bytes::new())
 }
 
-/// Agrees on the mechanism, or refuses it by code 33.
+/// Answers a SaslHandshake: agrees on the mechanism, or refuses it with UNSUPPORTED_SASL_MECHANISM (33).
 fn offer(alloc: Global, correlation: i32, fresh: Fresh, mechanism: &[u8]) -> SessionAction
     ensures { Says (mechanism_step correlation mechanism.now) result }
 {
@@ -87,7 +87,7 @@ fn offer(alloc: Global, correlation: i32, fresh: Fresh, mechanism: &[u8]) -> Ses
     }
 }
 
-/// Logs the user in whom the message names, or refuses it by code 58.
+/// Answers a SaslAuthenticate: logs the user in whom the message names, or refuses it with SASL_AUTHENTICATION_FAILED (58).
 fn log_in(
     alloc: Global,
     login: &LoginContext<'_>,
@@ -107,7 +107,7 @@ fn log_in(
     }
 }
 
-/// Before a mechanism was agreed on.
+/// Answers a request before a mechanism is agreed on: an ApiVersions or a SaslHandshake. After any other the session is closed.
 fn on_fresh(
     alloc: Global,
     listed: ListedVersions,
@@ -134,7 +134,8 @@ fn on_fresh(
     }
 }
 
-/// Before a password was told.
+/// Answers a request between the SaslHandshake and the login: an ApiVersions or a SaslAuthenticate. After any other the session
+/// is closed.
 fn on_offered(
     alloc: Global,
     login: &LoginContext<'_>,
@@ -157,7 +158,8 @@ fn on_offered(
     }
 }
 
-/// Hands an event to the desk, and keeps its receipt. Memory for it is taken first.
+/// Hands an event to the desk, keeps its receipt, and gives its answer. Memory for the receipt is taken before, so that it can't
+/// be lost.
 fn submit<S, D: Desk<S>>(
     alloc: Global,
     desk: &D,
@@ -191,7 +193,7 @@ fn submit<S, D: Desk<S>>(
     }
 }
 
-/// Once a user is known, who alone may ask.
+/// Answers a request of a user who has logged in: the core does.
 fn on_known<S, D: Desk<S>>(
     alloc: Global,
     host: &Text,
@@ -214,7 +216,7 @@ fn on_known<S, D: Desk<S>>(
     }
 }
 
-/// What a request leads to.
+/// Answers a request in whatever state the session is.
 #[tactic(auto, using(crate::proofs::Sessions::said))]
 fn on_request<S, D: Desk<S>>(
     alloc: Global,
@@ -248,21 +250,22 @@ fn on_request<S, D: Desk<S>>(
     }
 }
 
-/// Which version of ApiVersions is served.
+/// Answers an ApiVersions in a version that isn't served: UNSUPPORTED_VERSION, and which version of it is (KIP-511). The session
+/// goes on.
 fn tell_served(alloc: Global, correlation: i32, state: SessionState) -> SessionAction
     ensures { Says (Tells (unsupported_response correlation) state) result }
 {
     tell(write_unsupported_versions(alloc, correlation), state)
 }
 
-/// Refuses a login.
+/// Answers a SaslAuthenticate that is longer than any right one with SASL_AUTHENTICATION_FAILED (58), and ends the session.
 fn refuse_login(alloc: Global, correlation: i32) -> SessionAction
     ensures { Says (logs_in correlation None) result }
 {
     refuse(write_login(alloc, correlation, ErrorCode::SaslAuthenticationFailed))
 }
 
-/// What a frame leads to whose body is read.
+/// Reads the request of a frame that came whole, and answers it. Where it is none that is served, that is `Malformed`.
 #[tactic(auto, using(crate::proofs::Sessions::said))]
 fn read<S, D: Desk<S>>(
     alloc: Global,

@@ -49,7 +49,8 @@ impl Drop for Response {
 }
 
 impl Response {
-    /// The response that a receipt's reply is sent as, under this correlation id.
+    /// The response to a request, from its receipt's reply, under this correlation id. The error is `TooLong`, or `NoMemory`
+    /// after an allocation failure.
     pub(crate) fn of(
         alloc: Global,
         correlation: i32,
@@ -70,7 +71,7 @@ impl Response {
         })
     }
 
-    /// Writes the bytes. Where that fails, some of them stand written, from the front.
+    /// Writes the response. Where that fails, some of it stands written, from the front.
     pub(crate) fn send<W: Write>(&self, alloc: Global, writer: &mut W) -> Result<(), SendFault>
         ensures { Wrote (W.contents writer.old) (W.contents writer.new) self.now result }
     {
@@ -82,7 +83,7 @@ impl Response {
     }
 }
 
-/// Writes the topics of a reply.
+/// Writes the topics of a reply, by pieces of about 65,536 bytes.
 fn send_topics<W: Write>(alloc: Global, writer: &mut W, reply: &Reply) -> Result<(), SendFault>
     ensures { Wrote (W.contents writer.old) (W.contents writer.new) (topics_of reply.now) result }
 {
@@ -91,7 +92,7 @@ fn send_topics<W: Write>(alloc: Global, writer: &mut W, reply: &Reply) -> Result
     spill(&mut gathered, writer)
 }
 
-/// Writes the topics of a long answer one after the other.
+/// Gathers the topics of a Metadata or Fetch reply one after the other, and writes them whenever enough are gathered.
 fn stream_topics<W: Write>(
     gathered: &mut Vec<u8>,
     writer: &mut W,
@@ -107,7 +108,7 @@ fn stream_topics<W: Write>(
     }
 }
 
-/// What stands before the topics of a long answer; nothing for what is written as a whole.
+/// What a long Metadata or Fetch response begins with, up to its topics; `None` for any other, which is written as a whole.
 fn front_of(alloc: Global, correlation: i32, reply: &Reply) -> Result<Option<Bytes>, AllocError>
     ensures { IfOk result (λ front. IfSome front (IsFront correlation reply.now)) }
 {
@@ -118,7 +119,8 @@ fn front_of(alloc: Global, correlation: i32, reply: &Reply) -> Result<Option<Byt
     }
 }
 
-/// The size of a long answer and of its correlation id, as its size field tells it.
+/// What the size field of a long response tells, the size of the reply and of its correlation id; `None` for one of up to 65,536
+/// bytes, or one too long for the field.
 fn long_size<B: Wire>(answer: &B) -> Option<i32>
     ensures { IfSome result (IsSize B.grammar answer.now) }
 {
@@ -130,7 +132,7 @@ fn long_size<B: Wire>(answer: &B) -> Option<i32>
     }
 }
 
-/// What a Metadata's response begins with, up to its topics.
+/// What a long Metadata response begins with, up to its topics; `None` where it isn't long.
 fn metadata_front(
     alloc: Global,
     correlation: i32,
@@ -149,7 +151,8 @@ fn metadata_front(
     }
 }
 
-/// Appends what a Metadata's response begins with, up to its topics.
+/// Appends what a Metadata response begins with: its size, its correlation id, the brokers, the controller, and how many topics
+/// follow.
 fn put_metadata_front(
     out: &mut Vec<u8>,
     size: i32,
@@ -166,7 +169,7 @@ fn put_metadata_front(
     write_count(out, answer.topics.len())
 }
 
-/// What a Fetch's response begins with, up to its topics.
+/// What a long Fetch response begins with, up to its topics; `None` where it isn't long.
 fn fetch_front(
     alloc: Global,
     correlation: i32,
@@ -184,7 +187,7 @@ fn fetch_front(
     }
 }
 
-/// Appends what a Fetch's response begins with, up to its topics.
+/// Appends what a Fetch response begins with: its size, its correlation id, its throttle time, and how many topics follow.
 fn put_fetch_front(
     out: &mut Vec<u8>,
     size: i32,

@@ -51,6 +51,7 @@ pub struct Limits {
 impl Default for Limits {
     ghost use Rattle.msg_admin.specs.declared.request.TheConstants.{FRAME_LIMIT as LIMIT};
 
+    /// Frames of up to 104,857,600 bytes, and 1,000,000 of them.
     fn default() -> Limits
         ensures { result ≡ record { frame = LIMIT; frames = 1000000 } }
     {
@@ -61,6 +62,7 @@ impl Default for Limits {
     }
 }
 
+/// Why a session ends whose reply can't be written as a response: it is too long, or an allocation failed.
 fn why_of(fault: WriteFault) -> EndReason
     ensures { result ≡ why_of fault }
 {
@@ -70,7 +72,7 @@ fn why_of(fault: WriteFault) -> EndReason
     }
 }
 
-/// Writes the bytes, and gives what comes after them.
+/// Writes bytes, and then gives what comes next; or `WriteFault`, where the write fails.
 fn send<W: Write>(
     writer: &mut W,
     bytes: &Bytes,
@@ -84,7 +86,7 @@ fn send<W: Write>(
     }
 }
 
-/// Writes a response, and gives what comes after it.
+/// Writes a response, and then gives what comes next; or why the session ends, where that fails.
 fn send_response<W: Write>(
     alloc: Global,
     writer: &mut W,
@@ -100,7 +102,7 @@ fn send_response<W: Write>(
     }
 }
 
-/// Writes what an outcome has to write.
+/// Writes the answer that a frame led to, if there is one, and gives the session's next state, or why it ends.
 fn finish<W: Write>(
     alloc: Global,
     writer: &mut W,
@@ -126,7 +128,8 @@ const LONGEST_HANDSHAKE: usize = 65_546;
 
 const LONGEST_BEFORE_MESSAGE: usize = 32_781;
 
-/// How many bytes a frame may have that is kept, where none has more than the limit.
+/// How long a frame may be that is kept whole: up to `limit` once the user is known; before that, the longest login of a user, or
+/// a SaslHandshake, if that is longer.
 fn most_kept(users: &Users, state: &SessionState, limit: u32) -> u32
     ensures { result ≡ most_kept users.now limit state.now }
 {
@@ -153,7 +156,7 @@ fn tell_unserved<G: Gate>(gate: &G, session: u64, outcome: &SessionAction, came:
     }
 }
 
-/// Tells the gate of the user who is known now and wasn't before.
+/// Tells the gate of a user who has logged in by this frame.
 fn tell_login<G: Gate>(
     gate: &G,
     session: u64,
@@ -167,7 +170,8 @@ fn tell_login<G: Gate>(
     }
 }
 
-/// Reads and answers one frame. The gate is told of the event's receipt before its answer is written, and of a user after that.
+/// Reads and answers one frame, and gives the session's next state, or why it ends. The gate is told of the event's receipt
+/// before its answer is written, and of a login after that.
 #[tactic(auto, using(crate::proofs::Sessions::turned_off))]
 fn turn<S, Rd: Read, Wr: Write, D: Desk<S>, G: Gate>(
     alloc: Global,

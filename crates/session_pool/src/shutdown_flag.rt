@@ -9,14 +9,14 @@ pub struct ShutdownFlag {
 }
 
 impl ShutdownFlag {
-    /// At first they are to be taken.
+    /// A flag that isn't set: connections are to be taken.
     pub fn new() -> ShutdownFlag {
         ShutdownFlag {
             flag: AtomicU64::new(0),
         }
     }
 
-    /// From here on no more are.
+    /// Sets the flag for good: from here on no more connections are to be taken.
     pub fn close(&self) {
         self.flag.store(1, Ordering::SeqCst);
     }

@@ -21,7 +21,7 @@ pub trait Steps {
     /// How many markers are pending, where the steps go by that: then a mark is the next one where some are, and else a tick.
     ghost owed: { Self → Option ℕ };
 
-    /// The next step; where there is none, the keeper ends. It is told whether all workers have ended.
+    /// The next step; after `None` the keeper ends. `done` says that all workers have ended.
     fn next(&mut self, done: bool) -> Option<Step>
         ensures step { IfSome result (λ step. IsDue (owed self.old) (step_event step)) }
         ensures owed { owed self.new ≡ owed self.old };
@@ -34,7 +34,8 @@ pub trait Steps {
     fn after(&mut self, core: &Core)
         ensures { owed self.new ≡ owed self.old };
 
-    /// Is told what came of the step: how many markers are still pending, or why it wasn't taken. Gives whether the keeper goes on.
+    /// Is told what came of the step: how many markers are still to be written, or why it wasn't taken. Gives whether the keeper
+    /// goes on.
     fn on_result(&mut self, outcome: Result<u64, EndReason>) -> bool
         ensures { owed self.new ≡ pending_after_outcome (owed self.old) outcome };
 }
@@ -44,7 +45,7 @@ pub trait Clock {
     /// That a clock of the first state, told whether all workers have ended, gives this and leaves the second state.
     ghost gives: { Self → Bool → Option ℕ → Self → Type 0 };
 
-    /// The next moment, if there is one. It is told whether all workers have ended.
+    /// The next moment, in milliseconds; `None` where there is none any more. `done` says that all workers have ended.
     fn next(&mut self, done: bool) -> Option<u64>
         ensures { gives self.old done result self.new };
 }
@@ -59,7 +60,7 @@ pub struct Clocked<C: Clock> {
 }
 
 impl<C: Clock> Clocked<C> {
-    /// Before the first moment, when none is owed.
+    /// Steps by this clock, before its first moment; no marker is to be written yet.
     pub fn new(clock: C) -> Clocked<C>
         ensures { (result.clock ≡ clock) × (result.left ≡ 0) }
     {
@@ -70,6 +71,7 @@ impl<C: Clock> Clocked<C> {
 impl<C: Clock> Steps for Clocked<C> {
     ghost owed = { λ steps. Some steps.left };
 
+    /// A mark as long as markers are to be written; else a tick of the clock's next moment, or `None` where it has none.
     fn next(&mut self, done: bool) -> Option<Step>
         ensures step { IfSome result (λ step. IsDueAt self.old.left (step_event step)) }
         ensures owed { self.new.left ≡ self.old.left }
@@ -89,8 +91,10 @@ impl<C: Clock> Steps for Clocked<C> {
     /// A clock looks at no core.
     fn before(&mut self, _core: &Core) {}
 
+    /// A clock looks at no core.
     fn after(&mut self, _core: &Core) {}
 
+    /// Remembers how many markers are still to be written. The keeper ends where the step wasn't taken.
     fn on_result(&mut self, outcome: Result<u64, EndReason>) -> bool
         ensures owed { Some self.new.left ≡ pending_after_outcome (Some self.old.left) outcome }
         ensures goes_on { result ≡ is_ok outcome }

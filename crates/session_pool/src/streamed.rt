@@ -35,6 +35,7 @@ impl From<AllocError> for SendFault {
 
     ghost from_gives = { λ _ fault. fault ≡ faults.NoMemory };
 
+    /// An allocation failure is the fault `NoMemory`.
     fn from(_: AllocError) -> SendFault {
         SendFault::NoMemory
     }
@@ -56,12 +57,13 @@ impl From<io::Error> for SendFault {
 
     ghost from_gives = { λ _ fault. fault ≡ faults.Write };
 
+    /// A failed write is the fault `Write`.
     fn from(_: io::Error) -> SendFault {
         SendFault::Write
     }
 }
 
-/// Writes what was gathered.
+/// Writes what was gathered, and forgets it.
 pub(crate) fn spill<W: Write>(gathered: &mut Vec<u8>, writer: &mut W) -> Result<(), SendFault>
     ensures streams { Streams (W.contents writer.old) (W.contents writer.new) gathered.old.items []
         gathered.new.items result }
@@ -72,7 +74,7 @@ pub(crate) fn spill<W: Write>(gathered: &mut Vec<u8>, writer: &mut W) -> Result<
     Ok(())
 }
 
-/// Writes what was gathered once it is enough.
+/// Writes what was gathered, once it has 65,536 bytes.
 fn spill_enough<W: Write>(gathered: &mut Vec<u8>, writer: &mut W) -> Result<(), SendFault>
     ensures { Streams (W.contents writer.old) (W.contents writer.new) gathered.old.items []
         gathered.new.items result }
@@ -83,7 +85,7 @@ fn spill_enough<W: Write>(gathered: &mut Vec<u8>, writer: &mut W) -> Result<(), 
     spill(gathered, writer)
 }
 
-/// Bytes after those that were gathered.
+/// Gathers bytes after those before. Where there are 32,768 or more, they are written from where they stand.
 fn stream_bytes<W: Write>(
     gathered: &mut Vec<u8>,
     writer: &mut W,
@@ -106,12 +108,12 @@ pub(crate) trait Streamed {
     /// The bytes that spell it.
     ghost text: { Self → List ℕ };
 
-    /// Gathers its bytes after those that were gathered, and writes them whenever there are enough.
+    /// Gathers the bytes of its wire form, and writes them whenever enough are gathered.
     fn stream<W: Write>(&self, gathered: &mut Vec<u8>, writer: &mut W) -> Result<(), SendFault>
         ensures { Streams (W.contents writer.old) (W.contents writer.new) gathered.old.items (text self.now) gathered.new.items result };
 }
 
-/// One value after the other.
+/// Streams these values one after the other, without a count before them.
 pub(crate) fn stream_all<T: Streamed, W: Write>(
     gathered: &mut Vec<u8>,
     writer: &mut W,
@@ -131,6 +133,7 @@ impl Streamed for TopicInfo {
 
     ghost text = { topic.written };
 
+    /// Streams a topic of a Metadata response, all of which is gathered at once.
     fn stream<W: Write>(&self, gathered: &mut Vec<u8>, writer: &mut W) -> Result<(), SendFault> {
         self.put(gathered)?;
         spill_enough(gathered, writer)
@@ -140,6 +143,7 @@ impl Streamed for TopicInfo {
 impl Streamed for Piece {
     ghost text = { λ piece. piece };
 
+    /// Streams a piece of a log: its own bytes, and those that it shares with the log.
     fn stream<W: Write>(&self, gathered: &mut Vec<u8>, writer: &mut W) -> Result<(), SendFault> {
         let (own, shared) = self.runs();
         stream_bytes(gathered, writer, own)?;
@@ -147,7 +151,8 @@ impl Streamed for Piece {
     }
 }
 
-/// What stands before the records of a partition.
+/// Appends what stands before the records of a partition in a Fetch response: its error, its offsets, its aborted transactions
+/// and the records' length.
 fn put_records_head(out: &mut Vec<u8>, records: &FetchedRecords) -> Result<(), WriteFault>
     ensures { Puts records_head (records_head_of records.now) out.old.items result out.new.items }
 {
@@ -164,13 +169,14 @@ impl Streamed for FetchedRecords {
 
     ghost text = { fetched_records.written };
 
+    /// Streams a partition of a Fetch response, and its record batches.
     fn stream<W: Write>(&self, gathered: &mut Vec<u8>, writer: &mut W) -> Result<(), SendFault> {
         put_records_head(gathered, self)?;
         stream_all(gathered, writer, self.records.as_slice())
     }
 }
 
-/// What stands before the partitions of a topic.
+/// Appends what stands before the partitions of a topic in a Fetch response: its name, and how many they are.
 fn put_topic_head(out: &mut Vec<u8>, topic: &Topic<FetchedRecords>) -> Result<(), WriteFault>
     ensures { Puts topic_head (topic.now.name, length topic.now.partitions) out.old.items result
         out.new.items }
@@ -185,6 +191,7 @@ impl Streamed for Topic<FetchedRecords> {
 
     ghost text = { (topic_of fetched_records).written };
 
+    /// Streams a topic of a Fetch response, one partition after the other.
     fn stream<W: Write>(&self, gathered: &mut Vec<u8>, writer: &mut W) -> Result<(), SendFault> {
         put_topic_head(gathered, self)?;
         stream_all(gathered, writer, self.partitions.as_slice())

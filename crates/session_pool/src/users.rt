@@ -12,7 +12,7 @@ use std::alloc::Global;
 use std::marker::Model;
 use wire_types::Items;
 
-/// How long a user's longest message is, or the greatest number of its type where that is less.
+/// How many bytes the longest PLAIN message has that logs this user in, or the greatest number of its type where that is less.
 fn length_of_login(user: &User) -> usize
     ensures { result ≡ min (length_of_login user.now) (2 ^ 64 - 1) }
 {
@@ -37,7 +37,8 @@ impl Model for Users {
 }
 
 impl Users {
-    /// Names and passwords aren't empty and hold no NUL, and no name stands twice; else the fault is `User`.
+    /// The users, checked. The fault is `User` where a name or password is empty or holds a NUL, or a name stands twice, and
+    /// `NoMemory` after an allocation failure.
     pub fn new(alloc: Global, users: Items<User>) -> Result<Users, SettingsFault>
         ensures { Admits (if are_users users then Ok users else Err faults.User) result }
     {
@@ -47,7 +48,7 @@ impl Users {
         }
     }
 
-    /// As `new`, of users that were checked, which can't fail.
+    /// The users, of whom it was checked that they may log in.
     pub fn of_checked(users: CheckedUsers) -> Users
         ensures { result ≡ users }
     {
@@ -63,7 +64,7 @@ impl Users {
         self.users.len()
     }
 
-    /// Whether the user has this name and this password. Both are looked at, so that the time doesn't tell which is wrong.
+    /// Whether a user has this name and this password. Both are looked at, so that the time doesn't tell which is wrong.
     fn has(user: &User, name: &[u8], password: &[u8]) -> bool
         ensures { result ≡ is_user name.now password.now user.now }
     {
@@ -72,7 +73,7 @@ impl Users {
         is_named && is_right
     }
 
-    /// The user of this name and password. Each user is looked at, whether one was found or not.
+    /// The user of this name and password; `None` without one. Each user is looked at, whether one was found or not.
     pub(crate) fn find(&self, name: &[u8], password: &[u8]) -> Option<&User>
         ensures { option_map (λ u. u.now) result ≡ find (is_user name.now password.now) self.now }
     {
@@ -85,7 +86,8 @@ impl Users {
         found
     }
 
-    /// How long the longest message is that logs one of them in, or the greatest number of its type where that is less.
+    /// How many bytes the longest PLAIN message has that logs one of them in, or the greatest number of its type where that is
+    /// less.
     #[tactic(auto, using(crate::proofs::Longest::none_so_far, crate::proofs::Longest::one_more, crate::proofs::Longest::all_seen))]
     pub(crate) fn longest_login(&self) -> usize
         ensures { result ≡ min (longest_login self.now) (2 ^ 64 - 1) }

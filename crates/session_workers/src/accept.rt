@@ -19,7 +19,7 @@ use wire_types::{Shared, Text};
 pub(crate) type Connection<'x, R> = Job<Requests<'x>, Guest<'x, R>>;
 
 /// How long it takes until a listener is asked again that had no connection to give, or couldn't give it, and until it is looked
-/// again whether there is room for a job, or a connection is open, in milliseconds.
+/// again whether a job can be handed in, or a connection is open, in milliseconds.
 const TURN: u64 = 10;
 
 /// For how long it isn't told again that connections are turned away, in seconds.
@@ -34,7 +34,7 @@ struct Term<'x> {
 }
 
 impl<'x> Term<'x> {
-    /// Begins now.
+    /// A term that begins now. The error is the clock's, where it can't be read.
     fn begin<R: time::Clock>(
         rt: &R,
         time: Option<Duration>,
@@ -48,7 +48,7 @@ impl<'x> Term<'x> {
         })
     }
 
-    /// Whether it is over. The time of a clock which can't be read has passed.
+    /// Whether the term is over: its time has passed, or someone has closed. Where the clock can't be read, the time has passed.
     fn is_over<R: time::Clock>(&self, rt: &R) -> bool {
         if let Some(closing) = self.closing {
             if closing.is_closed() {
@@ -63,12 +63,12 @@ impl<'x> Term<'x> {
     }
 }
 
-/// Waits a moment before looking again.
+/// Sleeps for 10 milliseconds, before it is looked again.
 fn rest<R: time::Clock>(rt: &R) {
     thread::sleep(rt, Duration::from_millis(TURN));
 }
 
-/// Waits for a connection. None once no more are taken.
+/// Waits for a connection, and gives it or why it couldn't be accepted. `None` once the term is over: no more are taken.
 fn next_connection<R: Wait + time::Clock>(
     rt: &R,
     listener: &TcpListener,
@@ -123,7 +123,7 @@ pub(crate) struct Door<'x, R, D> {
 }
 
 impl<'x, R: Wait + time::Clock, D: Doorman> Door<'x, R, D> {
-    /// The session over a stream.
+    /// The session over an accepted connection, for a worker to serve. It is among the open connections from here on.
     fn job_of(
         &self,
         session: u64,
@@ -158,7 +158,8 @@ impl<'x, R: Wait + time::Clock, D: Doorman> Door<'x, R, D> {
         })
     }
 
-    /// What a connection comes to. Its host is the peer's address without the port.
+    /// Makes a session of an accepted connection, unless its host has as many as it may: then it is turned away. The host is the
+    /// peer's address without the port. The error says why there is neither.
     fn take(
         &self,
         session: u64,
@@ -177,12 +178,12 @@ impl<'x, R: Wait + time::Clock, D: Doorman> Door<'x, R, D> {
         Ok(Taken::Session(self.job_of(session, stream, host, counted)?))
     }
 
-    /// Whether as many were taken as are served in all. Where that is endless, they aren't counted.
+    /// Whether as many connections were taken as are served in all; never where they are served without end.
     fn is_used_up(&self, session: u64) -> bool {
         !self.options.endless && session >= self.options.connections
     }
 
-    /// Whether it was told less than a second ago that a connection was turned away.
+    /// Whether the doorman was told less than a second ago that a connection was turned away.
     fn is_just_told(&self, told: &Told) -> bool {
         match told.turned_away {
             Some(moment) => match moment.elapsed(self.rt) {
@@ -193,7 +194,8 @@ impl<'x, R: Wait + time::Clock, D: Doorman> Door<'x, R, D> {
         }
     }
 
-    /// Tells the doorman of a connection that isn't served: the first that can't be accepted, and one a second that is turned away.
+    /// Tells the doorman of a connection that isn't served: the first of those that can't be accepted, and one a second of those
+    /// that are turned away.
     fn tell(&self, taken: &io::Result<Taken<'x, R>>, told: &mut Told) {
         match taken {
             Ok(Taken::Session(_)) => {}
@@ -212,7 +214,7 @@ impl<'x, R: Wait + time::Clock, D: Doorman> Door<'x, R, D> {
         told.failed = taken.is_err();
     }
 
-    /// Whether those that wait for a worker aren't waited for any longer.
+    /// Whether connections that wait for a worker are given up: there is a grace, and no more are taken.
     fn is_over(&self, opening: Option<Term<'_>>) -> bool {
         match (self.options.grace, opening) {
             (Some(_), Some(opening)) => opening.is_over(self.rt),
@@ -220,7 +222,7 @@ impl<'x, R: Wait + time::Clock, D: Doorman> Door<'x, R, D> {
         }
     }
 
-    /// Hands a job to the workers, once there is room for it. Gives whether it did: not where there are no workers, or the open
+    /// Hands a job to the workers, once one can take it. Gives whether it did: not where there are no workers, or the open
     /// connections are to be seen out.
     fn hand_in(
         &self,
@@ -241,8 +243,8 @@ impl<'x, R: Wait + time::Clock, D: Doorman> Door<'x, R, D> {
         unreachable!()
     }
 
-    /// Makes a job of each connection that is taken, as long as there are workers. One that can't be accepted uses one up, and one
-    /// that is turned away uses none up.
+    /// Accepts connections and hands each to the workers, until so many were taken, the term is over, or there are no workers.
+    /// One that can't be accepted counts as one of so many, one that is turned away doesn't.
     fn accept_until(
         &self,
         listener: &TcpListener,
@@ -278,7 +280,7 @@ impl<'x, R: Wait + time::Clock, D: Doorman> Door<'x, R, D> {
         }
     }
 
-    /// Waits until no connection is open any more, or a time is over.
+    /// Waits until no connection is open any more, or a term is over.
     fn wait_out(&self, term: Term<'_>) {
         for _ in self.rt.forever() {
             if self.open.is_empty(self.rt) || term.is_over(self.rt) {
@@ -288,7 +290,8 @@ impl<'x, R: Wait + time::Clock, D: Doorman> Door<'x, R, D> {
         }
     }
 
-    /// Tells the doorman which connections are still open after the grace. Where there is no memory for that, nobody is told.
+    /// Tells the doorman of each connection that is still open after the grace. Where an allocation fails for that, nobody is
+    /// told.
     fn tell_closed(&self, grace: Duration) {
         if let Ok(sessions) = self.open.sessions(self.rt, self.alloc) {
             for session in sessions {
@@ -297,9 +300,8 @@ impl<'x, R: Wait + time::Clock, D: Doorman> Door<'x, R, D> {
         }
     }
 
-    /// Sees the open connections out. Where they were counted and are used up, they are served until the time has passed for which
-    /// they are, or the broker is told to take no more. From then on no further request is read, and those that are still open after
-    /// the grace are closed.
+    /// Sees the open connections out. They are served until the term is over; then no further request is read, and those that are
+    /// still open after the grace are closed.
     fn see_out(&self, opening: Term<'_>, grace: Duration) {
         self.wait_out(opening);
         self.reading.close();
@@ -311,8 +313,9 @@ impl<'x, R: Wait + time::Clock, D: Doorman> Door<'x, R, D> {
         self.open.shut_down(self.rt, Shutdown::Both);
     }
 
-    /// Makes jobs of a listener's connections, until so many were made, the time has passed for which they are taken, or the broker
-    /// is told to take no more. Then those that are open are seen out, where there is a grace, or else served to their end.
+    /// Accepts a listener's connections and hands each to the workers, until so many were taken, the time has passed for which
+    /// they are taken, or the broker is told to take no more. Then those that are open are seen out, where there is a grace, or
+    /// else served to their end.
     pub(crate) fn accept_all(
         &self,
         listener: &TcpListener,

@@ -31,8 +31,8 @@ pub struct ConnectionOptions {
     pub per_host: Option<u64>,
     /// For so long connections are taken, if there is an end to it.
     pub open: Option<Duration>,
-    /// Once that has passed, or no more are to be taken, no further request is read, and each connection that is still open after so
-    /// long is closed. Where there is none, they are served to their end.
+    /// Once that has passed, or no more are to be taken, no further request is read, and each connection that is still open after
+    /// so long is closed. Where there is none, they are served to their end.
     pub grace: Option<Duration>,
     /// After so long a wait for its peer a session ends, if it ever does. It is above zero.
     pub idle: Option<Duration>,
@@ -58,7 +58,7 @@ pub struct Service<'x> {
 /// process mostly has 1,024.
 const WAITING: usize = 256;
 
-/// As `serve_connections`, with what the threads share lent at one lifetime.
+/// Does what `serve_connections` does, with all that the threads share borrowed for one lifetime.
 fn serve_lent<
     'x,
     'r,

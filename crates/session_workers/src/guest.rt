@@ -18,7 +18,7 @@ pub(crate) struct Counted<'x, R: Wait> {
 }
 
 impl<'x, R: Wait> Counted<'x, R> {
-    /// Counts one more; none where the host has as many as it may.
+    /// Counts one connection more of a host, until what this gives is dropped; `None` where the host has as many as it may.
     pub(crate) fn enter(
         rt: &'x R,
         alloc: Global,
@@ -36,6 +36,7 @@ impl<'x, R: Wait> Counted<'x, R> {
 }
 
 impl<'x, R: Wait> Drop for Counted<'x, R> {
+    /// Counts one connection less of the host.
     fn drop(self) {
         let Counted { rt, hosts, host } = self;
         hosts.lock(rt).leave(&host);
@@ -56,25 +57,26 @@ pub(crate) struct OpenConnections {
 }
 
 impl OpenConnections {
-    /// None is open.
+    /// No connection is open.
     pub(crate) fn new(alloc: Global) -> OpenConnections {
         OpenConnections {
             all: Mutex::new(Vec::new(alloc)),
         }
     }
 
-    /// Whether none is open.
+    /// Whether no connection is open.
     pub(crate) fn is_empty<R: Wait>(&self, rt: &R) -> bool {
         self.all.lock(rt).is_empty()
     }
 
-    /// The sessions of the connections that are open.
+    /// The numbers of the sessions whose connections are open.
     pub(crate) fn sessions<R: Wait>(&self, rt: &R, alloc: Global) -> Result<Vec<u64>, AllocError> {
         let all = self.all.lock(rt);
         all.iter().map(|open| open.session).collect(alloc)
     }
 
-    /// Ends reading, or both reading and writing, on each connection that is open. Whoever waits in such a call goes on at once.
+    /// Shuts each open connection down, for reading or for both reading and writing. Whoever waits in such a call goes on at
+    /// once.
     pub(crate) fn shut_down<R: Wait>(&self, rt: &R, how: Shutdown) {
         let all = self.all.lock(rt);
         for open in all.iter() {
@@ -82,7 +84,7 @@ impl OpenConnections {
         }
     }
 
-    /// The connection of this session is open no more.
+    /// Takes the connection of this session from the open ones.
     fn leave<R: Wait>(&self, rt: &R, session: u64) {
         self.all.lock(rt).retain(|open| open.session != session);
     }
@@ -96,7 +98,7 @@ pub(crate) struct Entered<'x, R: Wait> {
 }
 
 impl<'x, R: Wait> Entered<'x, R> {
-    /// One more is open.
+    /// Puts a session's connection among the open ones, until what this gives is dropped.
     pub(crate) fn enter(
         rt: &'x R,
         open: &'x OpenConnections,
@@ -110,6 +112,7 @@ impl<'x, R: Wait> Entered<'x, R> {
 }
 
 impl<'x, R: Wait> Drop for Entered<'x, R> {
+    /// Takes the connection from the open ones.
     fn drop(self) {
         let Entered { rt, open, session } = self;
         open.leave(rt, session);
@@ -124,6 +127,7 @@ pub(crate) struct Requests<'x> {
 }
 
 impl<'x> Read for Requests<'x> {
+    /// Reads from the connection. Once no further request is to be read, it is at its end.
     fn read(&mut self, piece: &mut [u8]) -> io::Result<usize> {
         if self.reading.is_closed() {
             return Ok(0);
@@ -134,13 +138,14 @@ impl<'x> Read for Requests<'x> {
 }
 
 impl<'x> OpenStream for Requests<'x> {
+    /// Sets for how long a read of the connection waits; `None` is without end.
     fn set_read_timeout(&self, time: Option<Duration>) -> io::Result<()> {
         self.stream.value().set_read_timeout(time)
     }
 }
 
-/// What is written to a connection. It is among the open ones until this is dropped, whatever became of its session, and counted where
-/// connections are.
+/// What is written to a connection. It is among the open ones until this is dropped, whatever became of its session, and counted
+/// where connections are.
 #[derive(Drop)]
 pub(crate) struct Guest<'x, R: Wait> {
     pub(crate) stream: Shared<TcpStream>,
@@ -149,11 +154,13 @@ pub(crate) struct Guest<'x, R: Wait> {
 }
 
 impl<'x, R: Wait> Write for Guest<'x, R> {
+    /// Writes to the connection.
     fn write(&mut self, bytes: &[u8]) -> io::Result<usize> {
         let mut stream = self.stream.value();
         stream.write(bytes)
     }
 
+    /// Flushes the connection.
     fn flush(&mut self) -> io::Result<()> {
         let mut stream = self.stream.value();
         stream.flush()
@@ -161,6 +168,7 @@ impl<'x, R: Wait> Write for Guest<'x, R> {
 }
 
 impl<'x, R: Wait> OpenStream for Guest<'x, R> {
+    /// Sets for how long a write to the connection waits; `None` is without end.
     fn set_write_timeout(&self, time: Option<Duration>) -> io::Result<()> {
         self.stream.value().set_write_timeout(time)
     }

@@ -30,12 +30,13 @@ pub struct Job<Rd, Wr> {
     pub users: Shared<Users>,
     pub limits: Limits,
     pub times: Times,
-    /// When its connection was taken, if that can be told: who has waited long for a worker, and then sends no whole frame, is waited for less.
+    /// When its connection was taken, if that can be told: who has waited long for a worker, and then sends no whole frame, is
+    /// waited for less.
     pub taken: Option<Instant>,
     pub ghost within: { limits.frame ≤ LIMIT },
 }
 
-/// For how long a job has waited, as far as that can be told.
+/// For how long a connection has waited that was taken at this moment; zero where that can't be told.
 pub(crate) fn waited<T: time::Clock>(rt: &T, taken: Option<Instant>) -> Duration {
     let Some(taken) = taken else {
         return Duration::ZERO;
@@ -64,7 +65,7 @@ impl<'x, 'r, L: DeskLedger, R: Wait, G: Gate, D, T: Wait + time::Clock> WorkerCo
     D,
     T,
 > {
-    /// Serves a job with a seat that no session has used.
+    /// Serves a session from its first frame to its last, by a seat that no session has used, and tells the gate why it ended.
     pub(crate) fn serve<Rd: Read + OpenStream + Drop, Wr: Write + OpenStream + Drop>(
         &self,
         seat: Unused<L>,

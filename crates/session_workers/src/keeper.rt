@@ -12,7 +12,7 @@ use std::alloc::Global;
 use std::sync::Wait;
 use std::sync::atomic::{AtomicU64, Ordering};
 
-/// How many markers are still pending, as the keeper is told.
+/// How many markers are still to be written, as the reply to a tick or a mark tells it; 0 for any other reply.
 fn markers_left(reply: &Reply) -> u64
     ensures { result ≡ markers_left reply.now }
 {
@@ -22,7 +22,7 @@ fn markers_left(reply: &Reply) -> u64
     }
 }
 
-/// The event of a step.
+/// The event of a step: a tick or a mark.
 fn event_of(step: Step) -> Event
     ensures { result ≡ step_event step }
 {
@@ -32,7 +32,7 @@ fn event_of(step: Step) -> Event
     }
 }
 
-/// Hands the event of a step to the desk, while whoever told the step looks, keeps its receipt, for which room is made first,
+/// Hands the event of a step to the desk, while whoever told the step looks, keeps its receipt, for which memory is taken first,
 /// and gives how many markers are still pending.
 #[tactic(auto, using(crate::proofs::Keeping::one_more))]
 fn submit<L: DeskLedger, R: Wait, K: Steps>(
@@ -61,7 +61,7 @@ fn submit<L: DeskLedger, R: Wait, K: Steps>(
     }
 }
 
-/// Why the keeper ends that doesn't go on after a step.
+/// Why the keeper ends after the step with this outcome.
 fn why_of(outcome: Result<u64, EndReason>) -> EndReason {
     match outcome {
         Ok(_) => EndReason::Closed,
@@ -69,7 +69,8 @@ fn why_of(outcome: Result<u64, EndReason>) -> EndReason {
     }
 }
 
-/// Submits the event of each step, one after the other, until there is none or what tells them has the keeper end.
+/// Hands the event of each step to the desk, one after the other, until there is no next step or `steps` has the keeper end.
+/// `running` is how many workers haven't ended. Gives the keeper's receipts, and why it ended.
 pub(crate) fn keep<L: DeskLedger, R: Wait, K: Steps, T: Wait>(
     rt: &T,
     alloc: Global,

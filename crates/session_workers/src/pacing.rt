@@ -25,7 +25,7 @@ pub(crate) struct Pacing<'r, R> {
 }
 
 impl<'r, R: Wait + time::Clock> Pacing<'r, R> {
-    /// Nobody has asked.
+    /// No user has asked yet.
     pub(crate) fn new(
         rt: &'r R,
         alloc: Global,
@@ -46,13 +46,14 @@ impl<'r, R: Wait + time::Clock> Pacing<'r, R> {
         }
     }
 
-    /// The moment, in nanoseconds.
+    /// How many nanoseconds have passed since the start; `None` where that can't be told, or where users may ask as fast as they
+    /// like.
     fn now(&self) -> Option<u64> {
         let passed = self.start?.elapsed(self.rt).ok()?;
         u64::try_from(passed.as_nanos()).ok()
     }
 
-    /// Sleeps for so many nanoseconds, or until no further request is read.
+    /// Sleeps for so many nanoseconds, or until no further request is read, which is looked at ten times a second.
     fn sleep(&self, time: u64) {
         for _ in 0..time / NAP {
             if self.reading.is_closed() {
@@ -63,8 +64,8 @@ impl<'r, R: Wait + time::Clock> Pacing<'r, R> {
         thread::sleep(self.rt, Duration::from_nanos(time % NAP));
     }
 
-    /// A user has asked by so many bytes: returns once it may ask again, or no further request is read. Where memory is refused for a
-    /// user that is new, it may at once.
+    /// Charges a user for a request of so many bytes, and returns once it may ask again, or no further request is read. It
+    /// returns at once where an allocation fails for a user that is new.
     pub(crate) fn pause(&self, user: &Text, bytes: u64) {
         let Some(now) = self.now() else {
             return;

@@ -8,8 +8,8 @@ use std::time;
 use std::time::Duration;
 use wire_types::{Bytes, ErrorCode, Text};
 
-/// For how long the answer to a Fetch is held back that brings no record and no error: as long as its `max_wait_ms` says. None
-/// where no answer of that kind was given.
+/// For how long the answer to a Fetch may be held back that brings no record and no error: its `max_wait_ms`. `None` for any
+/// other answer.
 fn wait_of(receipt: &Receipt) -> Option<Duration> {
     let Event::Ask {
         request: Request::Fetch(request),
@@ -43,17 +43,20 @@ pub(crate) struct Patient<'x, R, G> {
 }
 
 impl<'x, R, G> Patient<'x, R, G> {
-    /// Holds back for so long at most, or nothing.
+    /// A gate that holds such answers back for so long at most; with `None` it holds none back.
     pub(crate) fn new(rt: &'x R, gate: &'x G, most: Option<Duration>) -> Patient<'x, R, G> {
         Patient { rt, gate, most }
     }
 }
 
 impl<'x, R: time::Clock, G: Gate> Gate for Patient<'x, R, G> {
+    /// Tells the other gate that a frame is about to be read.
     fn before(&self, session: u64, frame: u64) {
         self.gate.before(session, frame);
     }
 
+    /// Tells the other gate of the receipt. Then it waits where the answer is a Fetch's without a record: as long as its
+    /// `max_wait_ms` says, up to the most.
     fn answered(&self, receipt: &Receipt) {
         self.gate.answered(receipt);
         if let (Some(most), Some(wait)) = (self.most, wait_of(receipt)) {
@@ -61,26 +64,32 @@ impl<'x, R: time::Clock, G: Gate> Gate for Patient<'x, R, G> {
         }
     }
 
+    /// Tells the other gate whose session it is, once its user is known.
     fn logged_in(&self, session: u64, who: &Text) {
         self.gate.logged_in(session, who);
     }
 
+    /// Tells the other gate that a frame was answered, or has ended the session.
     fn after(&self, session: u64, frame: u64) {
         self.gate.after(session, frame);
     }
 
+    /// Tells the other gate of a frame that is no request that is served.
     fn malformed(&self, session: u64, kept: &[u8]) {
         self.gate.malformed(session, kept);
     }
 
+    /// Tells the other gate of a frame that has ended the session, since its user isn't known.
     fn refused(&self, session: u64, kept: &Bytes, is_answered: bool) {
         self.gate.refused(session, kept, is_answered);
     }
 
+    /// Tells the other gate that the session has ended, and why.
     fn ended(&self, session: u64, host: &Text, who: Option<&Text>, why: EndReason) {
         self.gate.ended(session, host, who, why);
     }
 
+    /// Tells the other gate that the session has ended, and why, in these words.
     fn ended_as(&self, session: u64, host: &Text, who: Option<&Text>, why: EndReason, words: &str) {
         self.gate.ended_as(session, host, who, why, words);
     }

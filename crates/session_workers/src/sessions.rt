@@ -41,7 +41,7 @@ pub(crate) struct Sessions<L: Ledger> {
 }
 
 impl<L: Ledger> Sessions<L> {
-    /// None has ended.
+    /// No session has ended yet.
     pub(crate) fn new(alloc: Global) -> Sessions<L> {
         Sessions {
             kept: Vec::new(alloc),
@@ -49,8 +49,8 @@ impl<L: Ledger> Sessions<L> {
         }
     }
 
-    /// A session more has ended. Where it has no receipt, its seat comes back. Only memory is lacking for one more end, or a number
-    /// of 64 bits for one more of the others.
+    /// Counts one ended session more. Its end is kept where it has a receipt; else its seat comes back, for the next session. The
+    /// error is an allocation failure, or that 64 bits don't count the sessions.
     pub(crate) fn add(self, done: Done<L>) -> Result<(Sessions<L>, Option<Unused<L>>), AllocError>
         ensures added { IfOk result
             (λ r. AddsSession self.kept.items r.0.kept.items self.others r.0.others done.end) }
@@ -67,7 +67,7 @@ impl<L: Ledger> Sessions<L> {
         Ok((Sessions { kept, others }, None))
     }
 
-    /// These, and then more.
+    /// These sessions, and then those of another worker. The error is an allocation failure, or that 64 bits don't count them.
     pub(crate) fn join(self, more: Sessions<L>) -> Result<Sessions<L>, AllocError>
         ensures kept { IfOk result (λ all. all.kept.items ≡ self.kept.items ++ more.kept.items) }
         ensures others { IfOk result (λ all. all.others ≡ self.others + more.others) }

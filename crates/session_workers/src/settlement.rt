@@ -29,7 +29,7 @@ pub enum SettleFault {
 }
 
 impl SettleFault {
-    /// The fault's name, as it is printed.
+    /// The fault's name, as `settle failed:` prints it.
     pub fn name(self) -> &'static str
         ensures { result.now ≡ fault_name self }
     {
@@ -51,7 +51,7 @@ pub struct Settled {
     pub refusals: u64,
 }
 
-/// Whether the receipt's event and reply are the trail's at its place.
+/// Whether a receipt's event and reply are those that the trail has at its place.
 fn is_told(trail: &Trail, receipt: &Receipt) -> bool
     ensures { IsTrue result ↔ IsInTrail trail.now receipt.now }
 {
@@ -64,7 +64,7 @@ fn is_told(trail: &Trail, receipt: &Receipt) -> bool
     }
 }
 
-/// Whether all receipts are the trail's.
+/// Whether each of these receipts has the event and the reply that the trail has at its place.
 fn all_told(trail: &Trail, receipts: &[Receipt]) -> bool
     ensures { MatchBool result (All (IsInTrail trail.now) receipts.now)
         (Any (λ r. ¬ IsInTrail trail.now r) receipts.now) }
@@ -77,7 +77,7 @@ fn all_told(trail: &Trail, receipts: &[Receipt]) -> bool
     true
 }
 
-/// Ticks off the places of the receipts. False where one was ticked off before.
+/// Ticks off the places of these receipts; false where a place was ticked off before, so that two receipts hold it.
 fn tick_off(seen: &mut [bool], receipts: &[Receipt]) -> bool
     requires { All (λ r. r.place < length seen.old) receipts.now }
     ensures { MatchBool result
@@ -95,7 +95,7 @@ fn tick_off(seen: &mut [bool], receipts: &[Receipt]) -> bool
     true
 }
 
-/// Whether the receipts of all ends are the trail's.
+/// Whether each receipt of each end has the event and the reply that the trail has at its place.
 fn are_told(trail: &Trail, ends: &[Vec<Receipt>]) -> bool
     ensures { MatchBool result (AreInTrail trail.now ends.now)
         (Any (λ v. Any (λ r. ¬ IsInTrail trail.now r) v.items) ends.now) }
@@ -108,7 +108,7 @@ fn are_told(trail: &Trail, ends: &[Vec<Receipt>]) -> bool
     true
 }
 
-/// Ticks off the places of the receipts of all ends. False where one was ticked off before.
+/// Ticks off the places of the receipts of all ends; false where two receipts hold one place.
 fn tick_ends(seen: &mut [bool], ends: &[Vec<Receipt>]) -> bool
     requires { All (λ v. All (λ r. r.place < length seen.old) v.items) ends.now }
     ensures { MatchBool result
@@ -124,7 +124,7 @@ fn tick_ends(seen: &mut [bool], ends: &[Vec<Receipt>]) -> bool
     true
 }
 
-/// Whether all places were ticked off.
+/// Whether each place was ticked off.
 fn all_ticked(seen: &[bool]) -> bool
     ensures { MatchBool result
         ((place : ℕ) → place < length seen.now → tick_count seen.now place ≡ 1)
@@ -138,8 +138,8 @@ fn all_ticked(seen: &[bool]) -> bool
     true
 }
 
-/// Compares the receipts of all ends with the trail: first each receipt with the entry at its place, then how often each
-/// place is held.
+/// Settles the books: compares the receipts of all ends with the trail, first each with the entry at its place, then how often
+/// each place is held. Gives how many events and refusals there are, or the first fault.
 pub fn settle<L: Ledger>(
     alloc: Global,
     quiet: &Quiet<L>,

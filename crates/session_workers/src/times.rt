@@ -23,7 +23,7 @@ pub(crate) struct Noting<'x, 'r, G, R> {
 }
 
 impl<'x, 'r, G, R> Noting<'x, 'r, G, R> {
-    /// Nobody is known.
+    /// A session's gate, whose user isn't known yet.
     pub(crate) fn new(
         gate: &'x G,
         notes: &'x Notes,
@@ -37,14 +37,14 @@ impl<'x, 'r, G, R> Noting<'x, 'r, G, R> {
         }
     }
 
-    /// The principal that has logged in, if one has.
+    /// The principal that has logged in; `None` before that.
     pub(crate) fn who(&self) -> Option<&Text> {
         self.who.get()
     }
 }
 
 impl<'x, 'r, G: Gate, R> Noting<'x, 'r, G, R> {
-    /// Tells the gate that the session has ended, and why.
+    /// Tells the gate that the session has ended, and why, in words where more is known of it.
     pub(crate) fn tell_end<S>(
         &self,
         alloc: Global,
@@ -64,14 +64,17 @@ impl<'x, 'r, G: Gate, R> Noting<'x, 'r, G, R> {
 }
 
 impl<'x, 'r, G: Gate, R: Wait + time::Clock> Gate for Noting<'x, 'r, G, R> {
+    /// Tells the gate of all sessions that a frame is about to be read.
     fn before(&self, session: u64, frame: u64) {
         self.gate.before(session, frame);
     }
 
+    /// Tells the gate of all sessions of an event's receipt.
     fn answered(&self, receipt: &Receipt) {
         self.gate.answered(receipt);
     }
 
+    /// Notes that the user is known, and who it is, and tells the gate of all sessions.
     fn logged_in(&self, session: u64, who: &Text) {
         self.notes.log_in();
         if let Ok(who) = who.clone() {
@@ -80,6 +83,7 @@ impl<'x, 'r, G: Gate, R: Wait + time::Clock> Gate for Noting<'x, 'r, G, R> {
         self.gate.logged_in(session, who);
     }
 
+    /// Tells the gate of all sessions. Then the session waits, where its user asks faster than it may.
     fn after(&self, session: u64, frame: u64) {
         self.gate.after(session, frame);
         let bytes = self.notes.take_read();
@@ -88,31 +92,35 @@ impl<'x, 'r, G: Gate, R: Wait + time::Clock> Gate for Noting<'x, 'r, G, R> {
         }
     }
 
+    /// Tells the gate of all sessions of a frame that is no request that is served.
     fn malformed(&self, session: u64, kept: &[u8]) {
         self.gate.malformed(session, kept);
     }
 
+    /// Tells the gate of all sessions of a frame that has ended the session, since its user isn't known.
     fn refused(&self, session: u64, kept: &Bytes, is_answered: bool) {
         self.gate.refused(session, kept, is_answered);
     }
 
+    /// Tells the gate of all sessions that the session has ended, and why.
     fn ended(&self, session: u64, host: &Text, who: Option<&Text>, why: EndReason) {
         self.gate.ended(session, host, who, why);
     }
 
+    /// Tells the gate of all sessions that the session has ended, and why, in these words.
     fn ended_as(&self, session: u64, host: &Text, who: Option<&Text>, why: EndReason, words: &str) {
         self.gate.ended_as(session, host, who, why, words);
     }
 }
 
-/// What took longer than so many seconds, in words; none where there is no memory for them.
+/// Says what took longer than so many seconds; `None` after an allocation failure.
 fn words_of(alloc: Global, what: &str, time: Duration) -> Option<String> {
     let seconds = time.as_secs();
     let unit = if seconds == 1 { "second" } else { "seconds" };
     format!(in alloc; "{what} took longer than {seconds} {unit}").ok()
 }
 
-/// Which time of a peer's was over, in words. A wait is no time of its own.
+/// Says which of its times a peer has overrun, its login's or a frame's; `None` for the idle time, or where none was over.
 fn overdue(alloc: Global, times: Times, over: Option<Limit>) -> Option<String> {
     match over? {
         Limit::Idle => None,
@@ -124,7 +132,7 @@ fn overdue(alloc: Global, times: Times, over: Option<Limit>) -> Option<String> {
 /// The first byte of a TLS record that holds a handshake, and the first of its version (RFC 8446, section 5.1).
 const TLS_HANDSHAKE: [u8; 2] = [22, 3];
 
-/// What a session's first bytes look like, where they are those of another protocol, in words.
+/// Says that a session's first bytes look like TLS or HTTP; `None` where they don't.
 fn foreign(front: [u8; 4]) -> Option<&'static str> {
     if front.starts_with(&TLS_HANDSHAKE) {
         return Some(
@@ -140,8 +148,8 @@ fn foreign(front: [u8; 4]) -> Option<&'static str> {
     }
 }
 
-/// More of why a session has ended than its end tells, in words: which time of its peer's was over, where a read or a write failed
-/// for that; and what its first bytes look like, where they are no frame's size.
+/// More of why a session has ended than its end tells, in words: which of its times the peer has overrun, where a read or a write
+/// failed for that; or what its first bytes look like, where they are no frame's size. `None` where no more is known.
 fn words_of_end(alloc: Global, why: EndReason, times: Times, notes: &Notes) -> Option<String> {
     match why {
         EndReason::ReadFault | EndReason::WriteFault => overdue(alloc, times, notes.over()),

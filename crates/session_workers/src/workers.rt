@@ -39,7 +39,7 @@ pub enum PoolFault {
 }
 
 impl PoolFault {
-    /// The fault's name, as it is printed.
+    /// The fault's name, as `settle failed:` prints it.
     pub fn name(self) -> &'static str
         ensures { result.now ≡ fault_name self }
     {
@@ -63,7 +63,7 @@ pub struct SessionOptions {
 /// What serves jobs, and hands back what is left of its sessions.
 type Worker<L> = JoinHandle<Result<Sessions<L>, AllocError>>;
 
-/// The seat that came back, or a fresh one. None where no seat is left.
+/// The seat that came back, or else a new one from the desk; `None` where no seat is left.
 fn seat_of<L: DeskLedger, R: Wait>(
     desk: &LockedDesk<L, R>,
     back: Option<Unused<L>>,
@@ -74,8 +74,8 @@ fn seat_of<L: DeskLedger, R: Wait>(
     }
 }
 
-/// Serves jobs until the channel is closed. The seat of a session that ended without a receipt serves the next one. Where no seat is
-/// left, a job is dropped, and the doorman is told.
+/// What one worker does: serves jobs until the channel is closed, and gives what is left of their sessions. The seat of a session
+/// that ended without a receipt serves the next one. Where no seat is left, a job is dropped, and the doorman is told.
 fn work<
     L: DeskLedger,
     R: Wait,
@@ -111,7 +111,7 @@ fn work<
     Ok(sessions)
 }
 
-/// Joins all workers, and gives what is left of their sessions.
+/// Waits for all workers to end, and gives what is left of their sessions.
 fn join_all<L: DeskLedger, T: Threads>(
     rt: &T,
     alloc: Global,
@@ -124,7 +124,7 @@ fn join_all<L: DeskLedger, T: Threads>(
     Ok(sessions)
 }
 
-/// Keeps the core's time until all workers have ended, joins them, and puts the keeper's end after theirs.
+/// Keeps the core's time until all workers have ended, and gives the ends of their sessions, and after these the keeper's.
 #[tactic(auto, using(crate::proofs::Keeping::are_ends))]
 fn keep_and_join<L: DeskLedger, R: Wait, K: Steps + Drop, T: Threads + Wait>(
     rt: &T,
@@ -149,7 +149,7 @@ fn keep_and_join<L: DeskLedger, R: Wait, K: Steps + Drop, T: Threads + Wait>(
     }
 }
 
-/// As `serve_all_stepped`, with what the threads share lent at one lifetime.
+/// Does what `serve_all_stepped` does, with all that the threads share borrowed for one lifetime.
 fn serve_lent<
     'x,
     'r,
@@ -220,8 +220,9 @@ pub struct ServerContext<'x, L: DeskLedger, R: Wait, G, D> {
     pub reading: &'x ShutdownFlag,
 }
 
-/// Serves the jobs of the channel by so many worker threads, until the channel is closed and all of them are served, while the
-/// keeper does the steps that it is told on the calling thread. The keeper's end is the last. After a fault the ends are given up.
+/// Serves the jobs of the channel by so many worker threads, until the channel is closed and all are served. Meanwhile the keeper
+/// does the steps that `steps` tells it, on the calling thread. Gives the ends, the keeper's last; after a fault they are given
+/// up.
 pub fn serve_all_stepped<
     L: DeskLedger + Send + Sync,
     R: Wait + Sync,
@@ -256,8 +257,8 @@ pub fn serve_all_stepped<
     serve_lent(&context, &jobs, &running, workers, steps)
 }
 
-/// The same by a clock: the keeper tells the core each of its moments, and after each has markers written as long as some are
-/// owed.
+/// Serves the jobs of the channel as `serve_all_stepped` does, while the keeper goes by a clock: it tells the core each of its
+/// moments, and after each has markers written as long as some are pending.
 pub fn serve_all<
     L: DeskLedger + Send + Sync,
     R: Wait + Sync,

@@ -1,4 +1,4 @@
-//! Settings that were checked, so that nobody behind the check has to look for a fault again.
+//! Settings that were checked, so that nobody after the check has to look for a fault again.
 
 ghost use Rattle.std.specs.Prelude.{◌≡◌, Some, None, IfOk, IfErr, OnOk};
 ghost use Rattle.settings.specs.Fault.{first_fault};
@@ -34,7 +34,7 @@ impl Drop for CheckedSettings {
 }
 
 impl CheckedSettings {
-    /// The settings, if they have no fault; else their first. It takes no memory.
+    /// Checks settings, and gives their first fault if they have one. It allocates nothing.
     pub fn of(settings: Settings) -> Result<CheckedSettings, OpenFault>
         ensures ok { IfOk result (λ checked. checked ≡ settings) }
         ensures faultless { OnOk result (first_fault settings ≡ None) }
@@ -46,7 +46,7 @@ impl CheckedSettings {
         }
     }
 
-    /// The settings.
+    /// The settings, which have no fault.
     pub fn settings(&self) -> &Settings
         ensures value { result.now ≡ self.now }
         ensures faultless { first_fault result.now ≡ None }
@@ -54,7 +54,7 @@ impl CheckedSettings {
         &self.settings
     }
 
-    /// The settings alone.
+    /// Takes the settings out.
     pub fn into_settings(self) -> Settings
         ensures value { result ≡ self }
         ensures faultless { first_fault result ≡ None }

@@ -13,11 +13,13 @@ pub struct Entry<'a> {
     pub place: usize,
 }
 
+/// The number by which a sentence names the entry at this place, counted from 1.
 fn number_of(place: usize) -> u64 {
     (place as u64).saturating_add(1)
 }
 
 impl fmt::Display for Entry<'_> {
+    /// Writes the list's key and the entry's number from 1, as in "`topic`, entry 2".
     fn fmt<W: fmt::Write>(&self, f: &mut fmt::Formatter<W>) -> fmt::Result {
         let list = self.list;
         let number = number_of(self.place);
@@ -25,7 +27,7 @@ impl fmt::Display for Entry<'_> {
     }
 }
 
-/// Says that two entries of a list have one name.
+/// The sentence that the entries of a list at these two places, counted from 0, have the same name.
 pub fn name_twice(
     alloc: Global,
     list: &str,

@@ -74,13 +74,14 @@ pub(crate) const PARTITIONS: Limits = Limits {
     greatest: 1_000,
 };
 
-/// Whether the number is within the limits.
+/// Whether the number is from the least to the greatest that the limits allow.
 pub(crate) fn is_within(number: i64, limits: Limits) -> bool
     ensures { result ≡ is_within limits.least limits.greatest number }
 {
     i64::from(limits.least) <= number && number <= i64::from(limits.greatest)
 }
 
+/// Whether node id, port, trail limit, greatest batch size and greatest transaction timeout are each within their limits.
 fn are_numbers_within(settings: &Settings) -> bool
     ensures { result ≡ are_numbers_within settings.now }
 {
@@ -91,12 +92,14 @@ fn are_numbers_within(settings: &Settings) -> bool
         && is_within(settings.max_txn_timeout, MAX_TXN_TIMEOUT)
 }
 
+/// Whether the host has 1 to 255 bytes.
 pub(crate) fn is_host_within(host: &Text) -> bool
     ensures { result ≡ is_host_within host.now }
 {
     host.len() >= 1 && host.len() <= 255
 }
 
+/// Whether each topic has 1 to 1,000 partitions.
 fn are_partitions_within(topics: &[TopicSetting]) -> bool
     ensures { result ≡ list_all is_topic_within topics.now }
 {
@@ -105,24 +108,28 @@ fn are_partitions_within(topics: &[TopicSetting]) -> bool
         .all(|topic| is_within(topic.partitions, PARTITIONS))
 }
 
+/// Whether there are at most 1,000 topics, each with 1 to 1,000 partitions.
 fn are_topics_within(topics: &[TopicSetting]) -> bool
     ensures { result ≡ are_topics_within topics.now }
 {
     topics.len() <= 1_000 && are_partitions_within(topics)
 }
 
+/// Whether a text has at most 1,000 bytes.
 pub(crate) fn is_text_within(text: &Text) -> bool
     ensures { result ≡ is_text_within text.now }
 {
     text.len() <= 1_000
 }
 
+/// Whether each text has at most 1,000 bytes.
 fn are_texts_within(texts: &[Text]) -> bool
     ensures { result ≡ list_all is_text_within texts.now }
 {
     texts.iter().all(|text| is_text_within(text))
 }
 
+/// Whether the binding's name, principal and host have at most 1,000 bytes each.
 pub(crate) fn is_binding_within(binding: &Binding) -> bool
     ensures { result ≡ is_binding_within binding.now }
 {
@@ -131,18 +138,21 @@ pub(crate) fn is_binding_within(binding: &Binding) -> bool
         && is_text_within(&binding.host)
 }
 
+/// Whether the texts of each binding have at most 1,000 bytes.
 fn are_all_within(acls: &[Binding]) -> bool
     ensures { result ≡ list_all is_binding_within acls.now }
 {
     acls.iter().all(|binding| is_binding_within(binding))
 }
 
+/// Whether there are at most 100,000 bindings, with texts of at most 1,000 bytes.
 fn are_bindings_within(acls: &[Binding]) -> bool
     ensures { result ≡ are_bindings_within acls.now }
 {
     acls.len() <= 100_000 && are_all_within(acls)
 }
 
+/// Whether each number, length and count of the settings is in its range; if not, the fault is `Range`.
 fn is_in_range(settings: &Settings) -> bool
     ensures { result ≡ is_in_range settings.now }
 {
@@ -153,6 +163,7 @@ fn is_in_range(settings: &Settings) -> bool
         && are_texts_within(settings.supers.as_slice())
 }
 
+/// Whether each topic has a name that Kafka allows; if not, the fault is `TopicName`.
 fn are_topic_names(topics: &[TopicSetting]) -> bool
     ensures { result ≡ are_topic_names topics.now }
 {
@@ -161,6 +172,7 @@ fn are_topic_names(topics: &[TopicSetting]) -> bool
         .all(|topic| is_topic_name(topic.name.as_str()))
 }
 
+/// Whether one of the topics has this name.
 fn is_among(name: &Text, topics: &[TopicSetting]) -> bool
     ensures { result ≡ list_any (λ u. bytes_eq name.now u.name) topics.now }
 {
@@ -169,7 +181,8 @@ fn is_among(name: &Text, topics: &[TopicSetting]) -> bool
         .any(|topic| name.as_str() == topic.name.as_str())
 }
 
-/// Whether no topic stands twice. There are at most 1,000.
+/// Whether no topic stands twice; if one does, the fault is `Twice`. It compares each with each, of which there are at most
+/// 1,000.
 fn are_distinct(topics: &[TopicSetting]) -> bool
     ensures { result ≡ are_distinct topics.now }
 {
@@ -183,12 +196,14 @@ fn are_distinct(topics: &[TopicSetting]) -> bool
     true
 }
 
+/// Whether each binding may be created; if not, the fault is `Acl`.
 fn are_creatable(acls: &[Binding]) -> bool
     ensures { result ≡ list_all is_creatable acls.now }
 {
     acls.iter().all(|binding| binding.is_creatable())
 }
 
+/// Whether each super user is `User:` and at least one character; if not, the fault is `Super`.
 fn are_principals(supers: &[Text]) -> bool
     ensures { result ≡ list_all is_principal supers.now }
 {
@@ -197,7 +212,8 @@ fn are_principals(supers: &[Text]) -> bool
         .all(|principal| is_principal(principal.as_str()))
 }
 
-/// What is wrong with the settings first, looked for over all of them one kind after the other. It takes no memory.
+/// The first fault of the settings in the order of `OpenFault`; `None` if there is none. Never `NoMemory`, since it
+/// allocates nothing.
 pub fn first_fault(settings: &Settings) -> Option<OpenFault>
     ensures { result ≡ first_fault settings.now }
 {

@@ -4,7 +4,7 @@ ghost use Rattle.std.specs.Prelude.{◌≡◌};
 ghost use Rattle.std.specs.List.{list_all};
 ghost use Rattle.settings.specs.Names.{is_name_byte, is_topic_name};
 
-/// Whether the byte may stand in a topic's name.
+/// Whether the byte may stand in a topic's name: an ASCII letter or digit, `.`, `_` or `-`.
 fn is_name_byte(byte: u8) -> bool
     ensures { result ≡ is_name_byte byte }
 {

@@ -12,7 +12,7 @@ use acl_binding::{Binding, CLUSTER_NAME, Kind, is_principal};
 use std::alloc::{AllocError, Global};
 use wire_types::Text;
 
-/// A number that is out of its limits.
+/// The sentence about the first number of the settings that is out of its limits, `None` if there is none.
 fn number_out_of_range(alloc: Global, settings: &Settings) -> Result<Option<String>, AllocError> {
     for (key, number, limits) in [
         ("node_id", settings.node_id, NODE_ID),
@@ -31,7 +31,7 @@ fn number_out_of_range(alloc: Global, settings: &Settings) -> Result<Option<Stri
     Ok(None)
 }
 
-/// A host that is empty or too long.
+/// The sentence about a host that is empty or too long, `None` if it is neither.
 fn host_out_of_range(alloc: Global, host: &Text) -> Result<Option<String>, AllocError> {
     if is_host_within(host) {
         return Ok(None);
@@ -40,7 +40,8 @@ fn host_out_of_range(alloc: Global, host: &Text) -> Result<Option<String>, Alloc
     Ok(Some(format!(in alloc; "`host` has {bytes} bytes, and not from 1 to 255")?))
 }
 
-/// Too many topics, or one with too few or too many partitions.
+/// The sentence about the first topic with too few or too many partitions, or else about too many topics; `None` if all is
+/// in range.
 fn topics_out_of_range(
     alloc: Global,
     topics: &[TopicSetting],
@@ -65,7 +66,7 @@ fn topics_out_of_range(
     Ok(None)
 }
 
-/// A text of a binding that is too long.
+/// What is too long in this binding: its name, its principal or its host. `None` if nothing is.
 fn long_text(alloc: Global, binding: &Binding) -> Result<Option<String>, AllocError> {
     for (key, text) in [
         ("name", &binding.name),
@@ -80,7 +81,8 @@ fn long_text(alloc: Global, binding: &Binding) -> Result<Option<String>, AllocEr
     Ok(None)
 }
 
-/// Too many bindings, or one with a text that is too long.
+/// The sentence about the first binding with a text that is too long, or else about too many bindings; `None` if all is in
+/// range.
 fn bindings_out_of_range(alloc: Global, acls: &[Binding]) -> Result<Option<String>, AllocError> {
     for (place, binding) in acls.iter().enumerate() {
         if let Some(what) = long_text(alloc, binding)? {
@@ -95,7 +97,7 @@ fn bindings_out_of_range(alloc: Global, acls: &[Binding]) -> Result<Option<Strin
     Ok(None)
 }
 
-/// A super user's name that is too long.
+/// The sentence about the first super user that is too long, `None` if there is none.
 fn supers_out_of_range(alloc: Global, supers: &[Text]) -> Result<Option<String>, AllocError> {
     for (place, principal) in supers.iter().enumerate() {
         if !is_text_within(principal) {
@@ -112,7 +114,7 @@ fn supers_out_of_range(alloc: Global, supers: &[Text]) -> Result<Option<String>,
     Ok(None)
 }
 
-/// What is out of its range.
+/// The sentence about what is out of its range in the settings, `None` if nothing is.
 fn out_of_range(alloc: Global, settings: &Settings) -> Result<Option<String>, AllocError> {
     if let Some(sentence) = number_out_of_range(alloc, settings)? {
         return Ok(Some(sentence));
@@ -129,7 +131,7 @@ fn out_of_range(alloc: Global, settings: &Settings) -> Result<Option<String>, Al
     supers_out_of_range(alloc, settings.supers.as_slice())
 }
 
-/// A name that no topic may have.
+/// The sentence about the first topic whose name none may have, `None` if there is none.
 fn no_topic_name(alloc: Global, topics: &[TopicSetting]) -> Result<Option<String>, AllocError> {
     for (place, topic) in topics.iter().enumerate() {
         let name = topic.name.as_str();
@@ -147,7 +149,8 @@ fn no_topic_name(alloc: Global, topics: &[TopicSetting]) -> Result<Option<String
     Ok(None)
 }
 
-/// The first topic whose name stands again after it, and the place where that is.
+/// The first topic whose name a later topic has too: the name, and both places, counted from 0. `None` if no topic stands
+/// twice.
 fn repeated(topics: &[TopicSetting]) -> Option<(&Text, usize, usize)> {
     let mut rest = topics;
     while let Some((first, more)) = rest.split_first() {
@@ -161,7 +164,7 @@ fn repeated(topics: &[TopicSetting]) -> Option<(&Text, usize, usize)> {
     None
 }
 
-/// A topic that stands twice.
+/// The sentence about a topic that stands twice, `None` if none does.
 fn topic_twice(alloc: Global, topics: &[TopicSetting]) -> Result<Option<String>, AllocError> {
     match repeated(topics) {
         Some((name, place, again)) => {
@@ -171,7 +174,7 @@ fn topic_twice(alloc: Global, topics: &[TopicSetting]) -> Result<Option<String>,
     }
 }
 
-/// Why a binding may not be created.
+/// Why this binding, which may not be created, may not.
 fn why_not_creatable(alloc: Global, binding: &Binding) -> Result<String, AllocError> {
     let name = binding.name.as_str();
     if binding.kind == Kind::Cluster && name != CLUSTER_NAME {
@@ -191,7 +194,7 @@ fn why_not_creatable(alloc: Global, binding: &Binding) -> Result<String, AllocEr
     String::from_str(alloc, "`host` is empty")
 }
 
-/// A binding that may not be created.
+/// The sentence about the first binding that may not be created, `None` if there is none.
 fn no_binding(alloc: Global, acls: &[Binding]) -> Result<Option<String>, AllocError> {
     for (place, binding) in acls.iter().enumerate() {
         if !binding.is_creatable() {
@@ -203,7 +206,7 @@ fn no_binding(alloc: Global, acls: &[Binding]) -> Result<Option<String>, AllocEr
     Ok(None)
 }
 
-/// A super user that is none.
+/// The sentence about the first super user that isn't `User:` and at least one character, `None` if there is none.
 fn no_super(alloc: Global, supers: &[Text]) -> Result<Option<String>, AllocError> {
     for (place, principal) in supers.iter().enumerate() {
         let principal = principal.as_str();
@@ -221,7 +224,8 @@ fn no_super(alloc: Global, supers: &[Text]) -> Result<Option<String>, AllocError
     Ok(None)
 }
 
-/// Says in a sentence where the settings have a fault of this kind.
+/// A sentence for an operator: where the settings have this fault, and what is wrong there. If no such place is found, it
+/// says what the fault is in general.
 pub fn explain(alloc: Global, settings: &Settings, fault: OpenFault) -> Result<String, AllocError> {
     let found = match fault {
         OpenFault::Range => out_of_range(alloc, settings)?,

@@ -26,6 +26,7 @@ pub struct User {
 
 /// Written out, so that no password is shown.
 impl fmt::Debug for User {
+    /// Writes the user's name, and leaves out the password.
     fn fmt<W: fmt::Write>(&self, f: &mut fmt::Formatter<W>) -> fmt::Result {
         write!(f, "User {{ name: {:?}, .. }}", self.name)
     }
@@ -53,7 +54,7 @@ impl Model for UncheckedDocument {
     ghost view = { λ u. record { users = u.users; settings = u.settings } };
 }
 
-/// The document, if its users and settings have no fault.
+/// Checks the users and the settings of a document. The error is the first fault of the users, or else of the settings.
 fn settle(alloc: Global, document: UncheckedDocument) -> Result<Document, SettingsFault>
     ensures { Settles (checked_document document) result }
 {
@@ -68,6 +69,7 @@ fn settle(alloc: Global, document: UncheckedDocument) -> Result<Document, Settin
     }
 }
 
+/// Reads and checks the document that a TOML table holds. The error is its first fault: of its keys, its users or its settings.
 fn document_of_table(alloc: Global, table: &Table) -> Result<Document, SettingsFault>
     ensures { Settles (keyed_document (document_of (table_view table.now))) result }
 {
@@ -78,6 +80,7 @@ fn document_of_table(alloc: Global, table: &Table) -> Result<Document, SettingsF
     }
 }
 
+/// Reads and checks the document that a text holds. The error is `Toml` where the text is no TOML, or else the first fault.
 fn document_of_str(alloc: Global, text: &str) -> Result<Document, SettingsFault>
     ensures { Settles (parsed_document (parse_document text.now)) result }
 {
@@ -93,7 +96,8 @@ fn document_of_str(alloc: Global, text: &str) -> Result<Document, SettingsFault>
     }
 }
 
-/// What a settings text sets, or what is wrong with it first.
+/// Reads and checks a settings text: gives its users and settings, or its first fault. The fault is `Toml` where the text isn't
+/// UTF-8.
 pub fn document_of_text(alloc: Global, text: &[u8]) -> Result<Document, SettingsFault>
     ensures { Settles (document_of_text text.now) result }
 {

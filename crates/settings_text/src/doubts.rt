@@ -1,5 +1,5 @@
-//! What settings without a fault are unlikely to mean, in words for whoever serves by them. No contract speaks of these sentences. A
-//! name is told with its escapes, so that each is one line.
+//! What settings without a fault are unlikely to mean, in words for whoever serves by them. No contract speaks of these
+//! sentences. A name is told with its escapes, so that each is one line.
 
 use crate::document::{Document, User};
 use acl_binding::{Binding, Kind, Operation};
@@ -9,7 +9,7 @@ use std::alloc::{AllocError, Global};
 /// The principal that stands for everybody.
 const EVERYBODY: &str = "User:*";
 
-/// Whether Kafka has the operation on resources of this kind (Kafka documentation, "Operations and Resources on Protocols").
+/// Whether Kafka has this operation on resources of this kind (Kafka documentation, "Operations and Resources on Protocols").
 fn is_meant(kind: Kind, operation: Operation) -> bool {
     match operation {
         Operation::All | Operation::Describe => true,
@@ -24,13 +24,13 @@ fn is_meant(kind: Kind, operation: Operation) -> bool {
     }
 }
 
-/// Whether some user is this principal, or all are.
+/// Whether a principal is that of some user, or `User:*`, which stands for everybody.
 fn is_known(users: &[User], principal: &str) -> bool {
     principal == EVERYBODY
         || users.iter().any(|user| principal.strip_prefix("User:") == Some(user.name.as_str()))
 }
 
-/// The first binding of a principal that is no user.
+/// A sentence about the first ACL binding whose principal is no user of the settings; `None` without one.
 fn unknown_principal(alloc: Global, document: &Document) -> Result<Option<String>, AllocError> {
     let users = document.users.as_slice();
     let acls = document.settings.settings().acls.as_slice();
@@ -45,7 +45,7 @@ fn unknown_principal(alloc: Global, document: &Document) -> Result<Option<String
     Ok(None)
 }
 
-/// The first binding with an operation that means nothing for its kind of resource.
+/// A sentence about the first ACL binding with an operation that its kind of resource doesn't have; `None` without one.
 fn meaningless(alloc: Global, acls: &[Binding]) -> Result<Option<String>, AllocError> {
     for (place, binding) in acls.iter().enumerate() {
         if !is_meant(binding.kind, binding.operation) {
@@ -59,8 +59,8 @@ fn meaningless(alloc: Global, acls: &[Binding]) -> Result<Option<String>, AllocE
     Ok(None)
 }
 
-/// What a server's settings are unlikely to mean, a sentence for each kind: nobody who could log in, a binding of a principal that is
-/// no user, and one with an operation that its kind of resource doesn't have.
+/// What settings without a fault are unlikely to mean, at most a sentence for each of these: nobody could log in, an ACL binding
+/// has a principal that is no user, and one has an operation that its kind of resource doesn't have.
 pub fn warnings(alloc: Global, document: &Document) -> Result<Vec<String>, AllocError> {
     let mut sentences = Vec::new(alloc);
     if document.users.as_slice().is_empty() {

@@ -39,7 +39,7 @@ pub enum SettingsFault {
 }
 
 impl SettingsFault {
-    /// The fault's name, as it is printed.
+    /// The fault's name, as `settings refused:` prints it.
     pub fn name(self) -> &'static str
         ensures { result.now ≡ fault_name self }
     {
@@ -57,7 +57,7 @@ impl SettingsFault {
     }
 }
 
-/// A fault of settings as one of their text.
+/// The fault of a settings text that a fault of its settings is.
 pub(crate) fn text_fault(fault: OpenFault) -> SettingsFault
     ensures { result ≡ text_fault fault }
 {

@@ -25,19 +25,20 @@ impl From<AllocError> for FieldFault {
 
     ghost from_gives = { λ _ fault. fault ≡ fault_case.NoMemory };
 
+    /// An allocation failure is the fault `NoMemory`.
     fn from(_: AllocError) -> FieldFault {
         FieldFault::NoMemory
     }
 }
 
-/// The value at a key.
+/// The value at a key; `None` where the key is missing.
 pub(crate) fn find<'a>(table: &'a Table, key: &str) -> Option<&'a Value>
     ensures { option_map (λ v. view v.now) result ≡ get_member key.now (table_view table.now) }
 {
     table.get(key)
 }
 
-/// A required number.
+/// The integer at a key. The fault is `Key` where the key is missing or its value is no integer.
 pub(crate) fn number(table: &Table, key: &str) -> Result<i64, FieldFault>
     ensures { Reads (λ x. x) (number_field key.now (table_view table.now)) result }
 {
@@ -47,7 +48,7 @@ pub(crate) fn number(table: &Table, key: &str) -> Result<i64, FieldFault>
     }
 }
 
-/// A number that may be left out.
+/// The integer at a key, or the default where the key is missing. The fault is `Key` where its value is no integer.
 pub(crate) fn number_or_default(table: &Table, key: &str, default: i64) -> Result<i64, FieldFault>
     ensures { Reads (λ x. x) (number_or default key.now (table_view table.now)) result }
 {
@@ -57,7 +58,7 @@ pub(crate) fn number_or_default(table: &Table, key: &str, default: i64) -> Resul
     }
 }
 
-/// The text that a value is.
+/// The text that a value is. The fault is `Key` where it is none, `NoMemory` after an allocation failure.
 pub(crate) fn text_of(alloc: Global, value: &Value) -> Result<Text, FieldFault>
     ensures { Reads (λ x. x) (as_str (view value.now)) result }
 {
@@ -67,7 +68,8 @@ pub(crate) fn text_of(alloc: Global, value: &Value) -> Result<Text, FieldFault>
     }
 }
 
-/// A required text.
+/// The text at a key. The fault is `Key` where the key is missing or its value is no text, `NoMemory` after an allocation
+/// failure.
 pub(crate) fn text(alloc: Global, table: &Table, key: &str) -> Result<Text, FieldFault>
     ensures { Reads (λ x. x) (text_field key.now (table_view table.now)) result }
 {
@@ -77,7 +79,7 @@ pub(crate) fn text(alloc: Global, table: &Table, key: &str) -> Result<Text, Fiel
     }
 }
 
-/// The items of a list, which may be left out.
+/// The items of the list at a key, none where the key is missing. The fault is `Key` where its value is no list.
 pub(crate) fn items<'a>(table: &'a Table, key: &str) -> Result<&'a [Value], FieldFault>
     ensures { Reads (λ vs. items_view vs.now) (items_field key.now (table_view table.now)) result }
 {
@@ -88,21 +90,21 @@ pub(crate) fn items<'a>(table: &'a Table, key: &str) -> Result<&'a [Value], Fiel
     }
 }
 
-/// Whether the key is one of these.
+/// Whether a key is one of these.
 pub(crate) fn is_among(key: &str, known: &[&str]) -> bool
     ensures { result ≡ is_one_of known.now key.now }
 {
     known.iter().any(|other| key == *other)
 }
 
-/// Whether each key of the table is one of these.
+/// Whether each key of a table is one of these.
 fn are_among(table: &Table, known: &[&str]) -> bool
     ensures { result ≡ list_all (λ k. is_one_of known.now (string_bytes k)) (keys table.now) }
 {
     table.keys().all(|key| is_among(key.as_str(), known))
 }
 
-/// Whether the table has no key but these.
+/// Whether a table has no other keys than these.
 pub(crate) fn has_only(table: &Table, known: &[&str]) -> bool
     ensures { result ≡ has_only (texts known.now) (table_view table.now) }
 {

@@ -41,7 +41,7 @@ pub(crate) const TOP_KEYS: [&str; 10] = [
     "acl",
 ];
 
-/// The table that a value is, if it has no key but these.
+/// The table that a value is. The fault is `Key` where it is none, or has other keys than these.
 fn row<'a>(value: &'a Value, keys: &[&str]) -> Result<&'a Table, FieldFault>
     ensures { Reads (λ t. table_view t.now) (row_of (texts keys.now) (view value.now)) result }
 {
@@ -52,6 +52,7 @@ fn row<'a>(value: &'a Value, keys: &[&str]) -> Result<&'a Table, FieldFault>
     Ok(table)
 }
 
+/// Reads a `[[user]]`: a name and a password.
 fn user(alloc: Global, value: &Value) -> Result<User, FieldFault>
     ensures { Reads (λ x. x) (user_of (view value.now)) result }
 {
@@ -61,6 +62,7 @@ fn user(alloc: Global, value: &Value) -> Result<User, FieldFault>
     Ok(User { name, password })
 }
 
+/// Reads a `[[topic]]`: a name, and how many partitions it has.
 fn topic(alloc: Global, value: &Value) -> Result<TopicSetting, FieldFault>
     ensures { Reads (λ x. x) (topic_of (view value.now)) result }
 {
@@ -70,6 +72,7 @@ fn topic(alloc: Global, value: &Value) -> Result<TopicSetting, FieldFault>
     Ok(TopicSetting { name, partitions })
 }
 
+/// Reads an ACL binding's kind of resource, by its name, such as `Topic`. The fault is `Key` for an unknown one.
 fn kind(alloc: Global, table: &Table) -> Result<Kind, FieldFault>
     ensures { Reads (λ x. x) (kind_field (table_view table.now)) result }
 {
@@ -77,6 +80,7 @@ fn kind(alloc: Global, table: &Table) -> Result<Kind, FieldFault>
     Kind::named(word.as_str()).ok_or(FieldFault::Key)
 }
 
+/// Reads an ACL binding's pattern type, `LITERAL` or `PREFIXED`. The fault is `Key` for an unknown one.
 fn pattern(alloc: Global, table: &Table) -> Result<Pattern, FieldFault>
     ensures { Reads (λ x. x) (pattern_field (table_view table.now)) result }
 {
@@ -84,6 +88,7 @@ fn pattern(alloc: Global, table: &Table) -> Result<Pattern, FieldFault>
     Pattern::named(word.as_str()).ok_or(FieldFault::Key)
 }
 
+/// Reads an ACL binding's operation, by its name, such as `READ`. The fault is `Key` for an unknown one.
 fn operation(alloc: Global, table: &Table) -> Result<Operation, FieldFault>
     ensures { Reads (λ x. x) (operation_field (table_view table.now)) result }
 {
@@ -91,6 +96,7 @@ fn operation(alloc: Global, table: &Table) -> Result<Operation, FieldFault>
     Operation::named(word.as_str()).ok_or(FieldFault::Key)
 }
 
+/// Reads whether an ACL binding is `ALLOW` or `DENY`. The fault is `Key` for another word.
 fn permission(alloc: Global, table: &Table) -> Result<Permission, FieldFault>
     ensures { Reads (λ x. x) (permission_field (table_view table.now)) result }
 {
@@ -98,6 +104,7 @@ fn permission(alloc: Global, table: &Table) -> Result<Permission, FieldFault>
     Permission::named(word.as_str()).ok_or(FieldFault::Key)
 }
 
+/// Reads an `[[acl]]`, an ACL binding: its resource pattern, and who may or may not do what from which host.
 fn binding(alloc: Global, value: &Value) -> Result<Binding, FieldFault>
     ensures { Reads (λ x. x) (binding_of (view value.now)) result }
 {
@@ -120,6 +127,7 @@ fn binding(alloc: Global, value: &Value) -> Result<Binding, FieldFault>
     })
 }
 
+/// Reads each `[[user]]`, in order.
 fn users(alloc: Global, table: &Table) -> Result<Items<User>, FieldFault>
     ensures { Reads (λ x. x) (list_field user_of (codes "user") (table_view table.now)) result }
 {
@@ -130,6 +138,7 @@ fn users(alloc: Global, table: &Table) -> Result<Items<User>, FieldFault>
     Ok(users)
 }
 
+/// Reads each `[[topic]]`, in order.
 fn topics(alloc: Global, table: &Table) -> Result<Items<TopicSetting>, FieldFault>
     ensures { Reads (λ x. x) (list_field topic_of (codes "topic") (table_view table.now)) result }
 {
@@ -140,6 +149,7 @@ fn topics(alloc: Global, table: &Table) -> Result<Items<TopicSetting>, FieldFaul
     Ok(topics)
 }
 
+/// Reads each `[[acl]]`, in order.
 fn acls(alloc: Global, table: &Table) -> Result<Items<Binding>, FieldFault>
     ensures { Reads (λ x. x) (list_field binding_of (codes "acl") (table_view table.now)) result }
 {
@@ -150,6 +160,7 @@ fn acls(alloc: Global, table: &Table) -> Result<Items<Binding>, FieldFault>
     Ok(acls)
 }
 
+/// Reads the list `supers`: the principals of the super users.
 fn supers(alloc: Global, table: &Table) -> Result<Items<Text>, FieldFault>
     ensures { Reads (λ x. x) (list_field as_str (codes "supers") (table_view table.now)) result }
 {
@@ -160,6 +171,7 @@ fn supers(alloc: Global, table: &Table) -> Result<Items<Text>, FieldFault>
     Ok(supers)
 }
 
+/// Reads the settings of the broker: all that a document says but its users. Limits that are left out get their defaults.
 fn settings(alloc: Global, table: &Table) -> Result<Settings, FieldFault>
     ensures { Reads (λ x. x) (settings_of (table_view table.now)) result }
 {
@@ -185,7 +197,8 @@ fn settings(alloc: Global, table: &Table) -> Result<Settings, FieldFault>
     })
 }
 
-/// What a document says, if its keys are right.
+/// Reads a whole settings table: its users and its settings. The fault is `Key` where a key is missing, unknown or of another
+/// kind, `NoMemory` after an allocation failure.
 pub(crate) fn document(alloc: Global, table: &Table) -> Result<UncheckedDocument, FieldFault>
     ensures { Reads (λ x. x) (document_of (table_view table.now)) result }
 {

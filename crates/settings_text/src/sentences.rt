@@ -26,6 +26,7 @@ enum Shape {
 }
 
 impl Shape {
+    /// Whether a value is of this shape.
     fn fits(self, value: &Value) -> bool {
         match self {
             Shape::Integer => value.as_integer().is_some(),
@@ -38,6 +39,7 @@ impl Shape {
         }
     }
 
+    /// What the shape is called in a sentence.
     fn name(self) -> &'static str {
         match self {
             Shape::Integer => "an integer",
@@ -48,7 +50,7 @@ impl Shape {
         }
     }
 
-    /// The words that may stand there, if not every text may.
+    /// A sentence of the words that may stand there; `None` where every value of the shape may.
     fn words(self) -> Option<&'static str> {
         match self {
             Shape::Kind => Some(KINDS),
@@ -112,7 +114,7 @@ const ACL: [(&str, Shape); 7] = [
     ("permission", Shape::Permission),
 ];
 
-/// A key of a table that is none of these.
+/// The first key of a table that is none of these.
 fn unknown<'a>(table: &'a Table, known: &[&str]) -> Option<&'a str> {
     for key in table.keys() {
         if !is_among(key.as_str(), known) {
@@ -122,7 +124,7 @@ fn unknown<'a>(table: &'a Table, known: &[&str]) -> Option<&'a str> {
     None
 }
 
-/// A key that belongs before the first table, and stands in this one.
+/// A key that belongs before the first table of the document, but stands in this one.
 fn misplaced(table: &Table, known: &[&str]) -> Option<&'static str> {
     for key in BEFORE_TABLES {
         if find(table, key).is_some() && !is_among(key, known) {
@@ -132,7 +134,7 @@ fn misplaced(table: &Table, known: &[&str]) -> Option<&'static str> {
     None
 }
 
-/// A key that stands in a list's table, and belongs before the first one.
+/// A sentence about a key that stands in one of a list's tables, but belongs before the first table of the document.
 fn misplaced_fault(
     alloc: Global,
     table: &Table,
@@ -153,7 +155,7 @@ fn misplaced_fault(
     Ok(None)
 }
 
-/// What is wrong with the value at a key.
+/// A sentence about the value at a key, if it isn't of the shape that is due; else `None`.
 fn misfit(
     alloc: Global,
     key: &str,
@@ -171,7 +173,8 @@ fn misfit(
     Ok(Some(format!(in alloc; "`{key}` is not {kind}")?))
 }
 
-/// What is wrong with the keys of a table, without the place of the table.
+/// A sentence about a table's first key that is unknown, missing or of the wrong shape, if there is one. Where the table stands
+/// isn't said.
 fn keys_fault(
     alloc: Global,
     table: &Table,
@@ -195,7 +198,7 @@ fn keys_fault(
     Ok(None)
 }
 
-/// What is wrong with the keys of a list's tables.
+/// A sentence about the first of a list's tables whose keys aren't right, and which one it is; `None` if all are.
 fn rows_fault(
     alloc: Global,
     table: &Table,
@@ -218,7 +221,7 @@ fn rows_fault(
     Ok(None)
 }
 
-/// What is wrong with the keys that may be left out.
+/// A sentence about the first optional key whose value is of the wrong shape; `None` without one.
 fn optional_fault(alloc: Global, table: &Table) -> Result<Option<String>, AllocError> {
     for (key, shape) in &OPTIONAL {
         if let Some(value) = find(table, key) {
@@ -230,8 +233,8 @@ fn optional_fault(alloc: Global, table: &Table) -> Result<Option<String>, AllocE
     Ok(None)
 }
 
-/// What is wrong with a document's keys. One that stands in a table by mistake is told before those that are missing,
-/// since it may be one of them.
+/// A sentence about the key at which a document has its fault. A key that stands in a table by mistake is told before those that
+/// are missing, since it may be one of them.
 fn key_fault(alloc: Global, table: &Table) -> Result<String, AllocError> {
     if let Some(what) = misplaced_fault(alloc, table, "user", &USER_KEYS)? {
         return Ok(what);
@@ -260,7 +263,7 @@ fn key_fault(alloc: Global, table: &Table) -> Result<String, AllocError> {
     String::from_str(alloc, "`supers` is not a list of texts")
 }
 
-/// What is wrong with a user's name or password.
+/// What is wrong with a user's name or password: it is empty or holds a NUL. `None` if nothing is.
 fn word_fault(alloc: Global, key: &str, word: &Text) -> Result<Option<String>, AllocError> {
     if word.is_empty() {
         return Ok(Some(format!(in alloc; "`{key}` is empty")?));
@@ -271,7 +274,8 @@ fn word_fault(alloc: Global, key: &str, word: &Text) -> Result<Option<String>, A
     Ok(None)
 }
 
-/// A user whose name stood before, and where that was, by an ordered set of the names so far: there may be many users.
+/// The places of two users of the same name, the earlier one first; `None` if all names differ. An ordered set of the names so
+/// far finds them, since there may be many users.
 fn repeated(alloc: Global, users: &[User]) -> Result<Option<(usize, usize)>, AllocError> {
     let mut names = BTreeSet::new(alloc);
     for (again, user) in users.iter().enumerate() {
@@ -283,7 +287,7 @@ fn repeated(alloc: Global, users: &[User]) -> Result<Option<(usize, usize)>, All
     Ok(None)
 }
 
-/// What is wrong with the users.
+/// A sentence about the first user with a bad name or password, or about a name that stands twice; `None` if all is right.
 fn user_fault(alloc: Global, users: &[User]) -> Result<Option<String>, AllocError> {
     for (place, user) in users.iter().enumerate() {
         let entry = Entry {
@@ -306,7 +310,7 @@ fn user_fault(alloc: Global, users: &[User]) -> Result<Option<String>, AllocErro
     }
 }
 
-/// What is wrong with a document whose keys are right.
+/// A sentence about the first fault of a document whose keys are right.
 fn document_fault(
     alloc: Global,
     document: &UncheckedDocument,
@@ -321,12 +325,12 @@ fn document_fault(
     }
 }
 
-/// Whether no value begins with the byte, though a text without its quotes may.
+/// Whether a text that lacks its quotes may begin with this byte, but no TOML value does.
 fn begins_bare_text(byte: u8) -> bool {
     byte > b' ' && !byte.is_ascii_digit() && !b"\"'#[{+-tf".contains(&byte)
 }
 
-/// Whether a text without its quotes stands at this place, right after the first `=` of its line.
+/// Whether a text that lacks its quotes stands at this byte of a document, right after the first `=` of its line.
 fn is_bare_text(text: &str, place: usize) -> bool {
     let (Some(before), Some(rest)) = (text.get(..place), text.get(place..)) else {
         return false;
@@ -346,7 +350,7 @@ fn is_bare_text(text: &str, place: usize) -> bool {
             .is_some_and(|byte| begins_bare_text(*byte))
 }
 
-/// What is wrong with a text that is no TOML document.
+/// What the TOML reader says is wrong, and that a text stands between quotes, where it lacks these.
 fn toml_fault(alloc: Global, text: &str, error: &toml::de::Error) -> Result<String, AllocError> {
     let said = format!(in alloc; "{error}")?;
     let said = said.as_str().trim_end();

@@ -37,7 +37,8 @@ impl Drop for CheckedUsers {
 }
 
 impl CheckedUsers {
-    /// The users, if names and passwords aren't empty and hold no NUL, and no name stands twice; else the fault is `User`.
+    /// The users, checked. The fault is `User` where a name or password is empty or holds a NUL, or a name stands twice, and
+    /// `NoMemory` after an allocation failure.
     pub fn of(alloc: Global, users: Items<User>) -> Result<CheckedUsers, SettingsFault>
         ensures { Admits (if are_users users then Ok users else Err faults.User) result }
     {
@@ -48,7 +49,7 @@ impl CheckedUsers {
         }
     }
 
-    /// The users.
+    /// The users, in the order of the settings.
     pub fn as_slice(&self) -> &[User]
         ensures value { result.now ≡ self.now }
         ensures users { are_users result.now ≡ true }
@@ -56,7 +57,7 @@ impl CheckedUsers {
         self.users.as_slice()
     }
 
-    /// The users alone.
+    /// Gives up the check, and gives the users alone.
     pub fn into_users(self) -> Items<User>
         ensures value { result ≡ self }
         ensures users { are_users result ≡ true }
@@ -73,19 +74,21 @@ fn has_no_nul(bytes: &[u8]) -> bool
     bytes.iter().all(|byte| *byte != 0)
 }
 
-/// Whether the text isn't empty and holds no NUL.
+/// Whether a text may be a name or a password: it isn't empty, and holds no NUL.
 fn is_word(text: &Text) -> bool
     ensures { result ≡ is_word text.now }
 {
     !text.is_empty() && has_no_nul(text.as_bytes())
 }
 
+/// Whether a user's name and password aren't empty and hold no NUL.
 fn is_user(user: &User) -> bool
     ensures { result ≡ is_user user.now }
 {
     is_word(&user.name) && is_word(&user.password)
 }
 
+/// Whether no user's name or password is empty or holds a NUL.
 fn are_words(users: &[User]) -> bool
     ensures { result ≡ list_all is_user users.now }
 {
@@ -105,7 +108,7 @@ fn are_distinct(alloc: Global, users: &[User]) -> Result<bool, AllocError>
     Ok(true)
 }
 
-/// Whether each user is one who may log in, and no name stands twice.
+/// Whether names and passwords aren't empty and hold no NUL, and no name stands twice.
 fn are_users(alloc: Global, users: &[User]) -> Result<bool, AllocError>
     ensures { IfOk result (λ b. b ≡ are_users users.now) }
 {

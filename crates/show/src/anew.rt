@@ -1,7 +1,7 @@
 //! Answers that a core gives anew.
 
 ghost use Rattle.std.specs.Prelude.{◌≤◌, length};
-ghost use Rattle.api_dispatch.specs.Bounds.{EventFits};
+ghost use Rattle.request_handlers.specs.Bounds.{EventFits};
 
 use crate::answer::{Answers, push_stop};
 use audit_trail::{Event, line};
@@ -13,7 +13,8 @@ use request_handlers::{Core, Stop};
 use std::alloc::AllocError;
 use wire_types::WriteFault;
 
-/// Appends the reply to a request, if it can be sent.
+/// Appends the reply to a request, as far as it is sent: its fields, or that nothing is sent, or that it is too long and the
+/// connection is closed.
 fn push_request_reply(
     sheet: &mut Sheet,
     correlation: i32,
@@ -31,7 +32,7 @@ fn push_request_reply(
     }
 }
 
-/// Appends what was refused of an event.
+/// Appends a line for each part of an event that was refused.
 fn push_refusals(sheet: &mut Sheet, refusals: &[Refusal]) -> Result<(), AllocError> {
     if refusals.is_empty() {
         return Ok(());
@@ -45,7 +46,7 @@ fn push_refusals(sheet: &mut Sheet, refusals: &[Refusal]) -> Result<(), AllocErr
     Ok(())
 }
 
-/// What was refused of the event at a place of the trail.
+/// The refusals of the event at a place of the trail; none where the trail has no such place.
 fn refusals_at(core: &Core, place: u64) -> &[Refusal] {
     match core.trail().entry(place as usize) {
         Some(entry) => entry.refusals.as_slice(),
@@ -53,7 +54,8 @@ fn refusals_at(core: &Core, place: u64) -> &[Refusal] {
     }
 }
 
-/// Makes the step of an event. Only a request is answered.
+/// Hands an event to the core, and appends its reply, where it is a request of this correlation id, and its refusals. Gives the
+/// stop, where the core takes no more events.
 fn push_step(
     core: &mut Core,
     sheet: &mut Sheet,
@@ -78,7 +80,8 @@ fn push_step(
     }
 }
 
-/// Answers a frame within the limit.
+/// Answers a frame that isn't too long: a request by the core, any other frame as the broker would. Gives the stop, where the
+/// core takes no more events.
 fn push_request_step(
     core: &mut Core,
     sheet: &mut Sheet,
@@ -105,7 +108,7 @@ fn push_request_step(
     }
 }
 
-/// Answers a frame.
+/// Answers a frame; where it is too long, the connection is closed. Gives the stop, where the core takes no more events.
 fn push_frame_step(
     core: &mut Core,
     sheet: &mut Sheet,
@@ -119,6 +122,7 @@ fn push_frame_step(
 }
 
 impl Answers for Core {
+    /// Has the core do what an order asks for, and appends what it answers.
     fn push_answer(&mut self, sheet: &mut Sheet, order: Order) -> Result<Option<Stop>, AllocError> {
         match order {
             Order::Ask(sent) => push_frame_step(self, sheet, sent),

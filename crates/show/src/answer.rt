@@ -7,7 +7,7 @@ use std::alloc::AllocError;
 
 /// Where the answers to a script's lines come from.
 pub(crate) trait Answers {
-    /// Appends what an order is answered; or gives the stop that ends the script there.
+    /// Appends what an order is answered. Gives the stop, if the script ends there; else `None`.
     fn push_answer(&mut self, sheet: &mut Sheet, order: Order) -> Result<Option<Stop>, AllocError>;
 }
 
@@ -16,6 +16,7 @@ pub(crate) trait Answers {
 pub(crate) struct NoAnswers;
 
 impl Answers for NoAnswers {
+    /// Appends nothing.
     fn push_answer(
         &mut self,
         _sheet: &mut Sheet,
@@ -26,7 +27,7 @@ impl Answers for NoAnswers {
     }
 }
 
-/// Appends the stop that an order meets in place of an answer.
+/// Appends that an order isn't answered, since the broker stops there, and why.
 pub(crate) fn push_stop(sheet: &mut Sheet, stop: Stop) -> Result<(), AllocError> {
     let why = format!(in sheet.alloc(); "none, the broker stops: {stop}")?;
     push_no_answer(sheet, why.as_str())

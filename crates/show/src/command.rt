@@ -25,14 +25,14 @@ struct Unread {
     reason: Option<ErrorKind>,
 }
 
-/// Says what went wrong. If that fails, nothing else does.
+/// Prints `kbroker: WHAT: WHY`. If that fails, nothing else does.
 pub fn explain<E: Write>(alloc: Global, errors: &mut E, what: &str, why: &str) {
     if let Ok(text) = format!(in alloc; "kbroker: {what}: {why}\n") {
         let _ = errors.write_all(text.as_bytes());
     }
 }
 
-/// The same, with the system's reason.
+/// Prints `kbroker: WHAT: WHY: REASON`, the last being the system's reason. If that fails, nothing else does.
 pub fn explain_by<E: Write>(
     alloc: Global,
     errors: &mut E,
@@ -46,7 +46,7 @@ pub fn explain_by<E: Write>(
     }
 }
 
-/// Why an input isn't there.
+/// Says why an input can't be read: a read failed, it is too long, or an allocation failed.
 fn sentence_of(fault: InputFault) -> &'static str {
     match fault {
         InputFault::Read => "it can't be read",
@@ -55,7 +55,7 @@ fn sentence_of(fault: InputFault) -> &'static str {
     }
 }
 
-/// Reads the text of a file.
+/// Reads a whole file. The error says why it can't be opened or read, with the system's reason where it has one.
 fn read_file<T: Files>(rt: &T, alloc: Global, path: &str) -> Result<Vec<u8>, Unread> {
     let mut file = match fs::open(rt, path) {
         Ok(file) => Noted::new(file),
@@ -75,7 +75,7 @@ fn read_file<T: Files>(rt: &T, alloc: Global, path: &str) -> Result<Vec<u8>, Unr
     }
 }
 
-/// Says why the script isn't there, and gives the exit status.
+/// Prints why the script can't be read, and gives the exit status 1.
 fn give_up<E: Write>(alloc: Global, errors: &mut E, what: &str, fault: InputFault) -> u8
     ensures { result ≡ 1 }
 {
@@ -83,7 +83,7 @@ fn give_up<E: Write>(alloc: Global, errors: &mut E, what: &str, fault: InputFaul
     FAILED
 }
 
-/// Says why the answers aren't there, and gives the exit status.
+/// Prints why the file of the answers can't be read, and gives the exit status 1.
 fn give_up_answers<E: Write>(alloc: Global, errors: &mut E, path: &str, unread: Unread) -> u8
     ensures { result ≡ 1 }
 {
@@ -95,7 +95,7 @@ fn give_up_answers<E: Write>(alloc: Global, errors: &mut E, path: &str, unread: 
     FAILED
 }
 
-/// Says where and why a script was shown no further, and gives the exit status.
+/// Prints at which line and why a script was shown no further, and gives the exit status 1.
 fn end_at<E: Write, Y: Display + Drop>(alloc: Global, errors: &mut E, number: u64, why: Y) -> u8 {
     if let (Ok(what), Ok(why)) = (
         format!(in alloc; "line {number}"),
@@ -106,7 +106,7 @@ fn end_at<E: Write, Y: Display + Drop>(alloc: Global, errors: &mut E, number: u6
     FAILED
 }
 
-/// Says how showing ended, where it is not the script's end, and gives the exit status.
+/// Prints why a script wasn't shown to its end, if it wasn't, and gives the exit status.
 fn end_of<E: Write>(alloc: Global, errors: &mut E, shown: Result<Shown, ShowFault>) -> u8 {
     match shown {
         Ok(Shown::Whole) => SHOWN,

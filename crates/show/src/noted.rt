@@ -11,7 +11,7 @@ pub struct Noted<R> {
 }
 
 impl<R: Read> Noted<R> {
-    /// Reads by this reader, of which no read has failed.
+    /// A reader round this one, of which no read has failed.
     pub fn new(reader: R) -> Noted<R> {
         Noted {
             reader,
@@ -19,7 +19,7 @@ impl<R: Read> Noted<R> {
         }
     }
 
-    /// Why its last read failed, if it did.
+    /// The system's reason why the last read failed; `None` where it didn't.
     pub fn reason(&self) -> Option<ErrorKind> {
         self.reason
     }
@@ -28,6 +28,7 @@ impl<R: Read> Noted<R> {
 impl<R: Read> Read for Noted<R> {
     ghost remaining = { λ n. R.remaining n.reader };
 
+    /// Reads as the reader does, and notes the system's reason where that fails.
     fn read(&mut self, piece: &mut [u8]) -> io::Result<usize> {
         let read = self.reader.read(piece);
         self.reason = match &read {

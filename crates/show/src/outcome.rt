@@ -31,6 +31,7 @@ pub enum ShowFault {
 }
 
 impl From<AllocError> for ShowFault {
+    /// An allocation failure is the fault `NoMemory`.
     fn from(_error: AllocError) -> ShowFault {
         ShowFault::NoMemory
     }

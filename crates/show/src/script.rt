@@ -14,7 +14,7 @@ use std::io::Write;
 
 const LINE_FEED: u8 = b'\n';
 
-/// Writes a text whole.
+/// Writes a whole text; the error is `Write`.
 fn write_text<W: Write>(writer: &mut W, text: &str) -> Result<(), ShowFault> {
     match write_whole(writer, text.as_bytes()) {
         Ok(()) => Ok(()),
@@ -22,7 +22,7 @@ fn write_text<W: Write>(writer: &mut W, text: &str) -> Result<(), ShowFault> {
     }
 }
 
-/// Begins with what an order asks for.
+/// Appends what an order asks for, and begins what stands under that: its answer.
 fn push_order(sheet: &mut Sheet, number: u64, order: &Order) -> Result<(), AllocError> {
     match order {
         Order::Ask(sent) => push_sent(sheet, number, sent),
@@ -37,7 +37,7 @@ fn push_order(sheet: &mut Sheet, number: u64, order: &Order) -> Result<(), Alloc
     }
 }
 
-/// Appends an order and its answer; and tells how the script ends, if it ends there.
+/// Appends an order and its answer. Gives how the script ends, if it ends there; else `None`.
 fn push_turn<A: Answers>(
     sheet: &mut Sheet,
     answers: &mut A,
@@ -53,7 +53,7 @@ fn push_turn<A: Answers>(
     }
 }
 
-/// Appends what is told of a line that can't be read.
+/// Appends that the line of this number can't be read, and why. The script ends there.
 fn push_unreadable(
     sheet: &mut Sheet,
     number: u64,
@@ -64,12 +64,12 @@ fn push_unreadable(
     Ok(Some(Shown::Unreadable(number, unreadable)))
 }
 
-/// Whether an order has more lines than one: then it stands apart from the others.
+/// Whether an order is a request, which is shown on several lines, so that it stands apart from the others.
 fn is_long(order: &Result<Order, Unreadable>) -> bool {
     matches!(order, Ok(Order::Ask(_)))
 }
 
-/// Shows each line of a script, up to one that ends it.
+/// Shows each line of a script and its answer, up to one that ends it, and tells how far it was shown.
 fn show_lines<A: Answers, W: Write>(
     alloc: Global,
     script: &[u8],
@@ -100,7 +100,7 @@ fn show_lines<A: Answers, W: Write>(
     Ok(Shown::Whole)
 }
 
-/// Says that the settings are refused.
+/// Prints `settings refused: FAULT`.
 fn show_refused<W: Write>(
     alloc: Global,
     fault: SettingsFault,
@@ -112,7 +112,7 @@ fn show_refused<W: Write>(
     Ok(Shown::Refused(fault))
 }
 
-/// Shows a script that a core answers anew.
+/// Shows a script, whose answers a broker opened with these settings gives anew.
 fn show_anew<W: Write>(
     alloc: Global,
     settings: &[u8],

@@ -8,7 +8,7 @@ use msg_admin::{FRAME_LIMIT, Frame, Header, Request, decode_frame};
 use std::alloc::AllocError;
 use wire_types::{Bytes, Cursor, Malformed};
 
-/// Begins with who sends something, with the escapes of an audit line, and what.
+/// Begins what is told of a line: `line N: WHO at HOST WHAT`, with the escapes of an audit line.
 fn push_heading(
     sheet: &mut Sheet,
     number: u64,
@@ -24,7 +24,7 @@ fn push_heading(
     sheet.begin(line.as_str())
 }
 
-/// Appends who asks what, and the fields of the request.
+/// Appends which api a caller asks, in which version, and the fields of the request.
 fn push_asked(
     sheet: &mut Sheet,
     number: u64,
@@ -39,7 +39,7 @@ fn push_asked(
     push_request(sheet, header, request)
 }
 
-/// Where a fault stands in a frame, in words.
+/// Says that a frame is no request: what its first fault is, and at which byte that stands.
 fn fault_text(sheet: &Sheet, frame: &Bytes, fault: Malformed) -> Result<String, AllocError> {
     let alloc = sheet.alloc();
     let count = frame.len();
@@ -54,7 +54,8 @@ fn fault_text(sheet: &Sheet, frame: &Bytes, fault: Malformed) -> Result<String, 
     }
 }
 
-/// The first fields of a header, as far as there are bytes for them.
+/// Appends the first fields of a request header, the api key, the version and the correlation id, as far as there are bytes for
+/// them.
 fn push_start(sheet: &mut Sheet, frame: &Bytes) -> Result<(), AllocError> {
     let mut cursor = Cursor::over(frame);
     if let Ok(key) = cursor.read_i16() {
@@ -69,14 +70,14 @@ fn push_start(sheet: &mut Sheet, frame: &Bytes) -> Result<(), AllocError> {
     Ok(())
 }
 
-/// A frame that asks ApiVersions in a version that isn't served.
+/// Appends a frame that asks ApiVersions in a version that isn't served.
 fn push_other_versions(sheet: &mut Sheet, number: u64, sent: &Sent) -> Result<(), AllocError> {
     let what = "asks ApiVersions in a version that isn't served";
     push_heading(sheet, number, &sent.caller, what)?;
     push_start(sheet, &sent.frame)
 }
 
-/// A frame that is no request.
+/// Appends a frame that is no request: its first fault, and the first fields of its header.
 fn push_malformed(
     sheet: &mut Sheet,
     number: u64,
@@ -88,7 +89,7 @@ fn push_malformed(
     push_start(sheet, &sent.frame)
 }
 
-/// A frame that is longer than one may be.
+/// Appends a frame that is longer than one may be: its length alone.
 fn push_too_long(sheet: &mut Sheet, number: u64, sent: &Sent) -> Result<(), AllocError> {
     let count = sent.frame.len();
     let what = format!(in sheet.alloc();
@@ -97,7 +98,7 @@ fn push_too_long(sheet: &mut Sheet, number: u64, sent: &Sent) -> Result<(), Allo
     push_heading(sheet, number, &sent.caller, what.as_str())
 }
 
-/// Begins with who sends a frame, and appends what is read from it.
+/// Appends what a line sends: who sends it, and the fields of the request, or why it is none.
 pub(crate) fn push_sent(sheet: &mut Sheet, number: u64, sent: &Sent) -> Result<(), AllocError> {
     if sent.frame.len() > FRAME_LIMIT {
         return push_too_long(sheet, number, sent);

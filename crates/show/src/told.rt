@@ -15,12 +15,12 @@ pub(crate) struct Told<'a> {
     left: &'a [u8],
 }
 
-/// Whether a text begins with a line that tells of a refusal.
+/// Whether a text begins with a line about a refusal, `denied ..` or `unmatched ..`.
 fn is_refusal(text: &[u8]) -> bool {
     text.starts_with(b"denied ".as_slice()) || text.starts_with(b"unmatched ".as_slice())
 }
 
-/// The stop that a line tells of.
+/// The stop that a printed line is about; `None` for any other line.
 fn stop_in(line: &[u8]) -> Option<Stop> {
     let stops = [Stop::NoMemory, Stop::TrailFull, Stop::Down];
     stops
@@ -29,7 +29,7 @@ fn stop_in(line: &[u8]) -> Option<Stop> {
         .find(|stop| content(stop.line().as_bytes()) == line)
 }
 
-/// The bytes that a line of hexadecimal digits spells.
+/// The bytes that a line of hexadecimal digits spells; `None` for any other line.
 fn bytes_in(alloc: Global, line: &[u8]) -> Result<Option<Bytes>, AllocError> {
     let Ok(digits) = from_utf8(line) else {
         return Ok(None);
@@ -41,12 +41,12 @@ fn bytes_in(alloc: Global, line: &[u8]) -> Result<Option<Bytes>, AllocError> {
     }
 }
 
-/// Appends a line that answers nothing.
+/// Appends that a printed line is no answer, and the line.
 fn push_no_reply(sheet: &mut Sheet, line: &[u8]) -> Result<(), AllocError> {
     sheet.push_bytes("answer unreadable", line)
 }
 
-/// Appends the answer to a frame, as a line tells it.
+/// Appends the answer to a frame, as a printed line has it: `-`, `closed`, or a response in hexadecimal digits.
 fn push_frame_answer(sheet: &mut Sheet, frame: &Bytes, line: &[u8]) -> Result<(), AllocError> {
     if line == b"-".as_slice() {
         return push_silence(sheet);
@@ -60,7 +60,7 @@ fn push_frame_answer(sheet: &mut Sheet, frame: &Bytes, line: &[u8]) -> Result<()
     }
 }
 
-/// Appends the answer to an order, as a line tells it; or gives the stop that it tells.
+/// Appends the answer to an order, as a printed line has it. Gives the stop, if the line is about one.
 fn push_line_answer(
     sheet: &mut Sheet,
     order: &Order,
@@ -82,12 +82,12 @@ fn push_line_answer(
 }
 
 impl<'a> Told<'a> {
-    /// All of a text that was printed.
+    /// Answers from a text that `replay` printed, beginning with its first line.
     pub(crate) fn new(answers: &'a [u8]) -> Told<'a> {
         Told { left: answers }
     }
 
-    /// The next line, without its line feed.
+    /// Takes the next line, without its line feed; `None` at the end of the text.
     fn next_line(&mut self) -> Option<&'a [u8]> {
         if self.left.is_empty() {
             return None;
@@ -97,7 +97,7 @@ impl<'a> Told<'a> {
         Some(content(line))
     }
 
-    /// Appends the refusals that follow.
+    /// Takes the lines about refusals that come next, and appends them.
     fn push_refusals(&mut self, sheet: &mut Sheet) -> Result<(), AllocError> {
         if !is_refusal(self.left) {
             return Ok(());
@@ -116,6 +116,7 @@ impl<'a> Told<'a> {
 }
 
 impl Answers for Told<'_> {
+    /// Takes the lines that answer an order, and appends what they say. Gives the stop, if they are about one.
     fn push_answer(&mut self, sheet: &mut Sheet, order: Order) -> Result<Option<Stop>, AllocError> {
         let Some(line) = self.next_line() else {
             push_no_answer(sheet, "none, the answers end before it")?;

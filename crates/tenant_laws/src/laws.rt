@@ -6,31 +6,33 @@ ghost use Rattle.tenant_laws.specs.NullLists.{NullTellsOfAll};
 ghost use Rattle.tenant_laws.specs.Replies.{RepliesDependOnGrantedParts, AnswersDependOnGrantedParts, ReceiptsDependOnGrantedParts};
 ghost use Rattle.tenant_laws.specs.Runs.{OthersAreUnseen};
 
-/// Two worlds that decide a request's questions alike, and agree on all that its granted parts ask about, give it the
-/// same reply and the same refusals.
+/// What a request is answered, and which of its parts are refused, depends only on the ACLs and on the resources that it is
+/// granted: two worlds that decide its questions alike, and agree on all that its granted parts ask about, give it the same reply
+/// and the same refusals.
 pub fn answers_depend_on_grants()
     ensures replies { RepliesDependOnGrantedParts }
     ensures worlds { AnswersDependOnGrantedParts }
     ensures cores { ReceiptsDependOnGrantedParts }
 {}
 
-/// An OffsetFetch whose list of topics is null is told of exactly the partitions that may be described and have an
-/// offset, each once, in the settings' order.
+/// An OffsetFetch whose list of topics is null is told of exactly the partitions that the caller may describe and for which the
+/// group has an offset, each once, in the settings' order.
 pub fn null_tells_of_all()
     ensures { NullTellsOfAll }
 {}
 
-/// Worlds that agree on what a request is granted go on agreeing.
+/// Two worlds that agree on what a request is granted still agree on it after the request.
 pub fn agreement_goes_on()
     ensures { AgreementGoesOn }
 {}
 
-/// A tenant is told the same in two runs in which others, who leave what is the tenant's as it is, ask what they like.
+/// No tenant notices what others ask: in two runs with the same requests of the tenant, in which others ask different things but
+/// leave what is the tenant's as it is, the tenant is told the same.
 pub fn others_are_unseen()
     ensures { OthersAreUnseen }
 {}
 
-/// A topic, a group or a transactional id on which no question of a request is granted is as before.
+/// A request leaves each topic, group and transactional id as it was on which nothing that it asks is granted.
 pub fn ungranted_stays()
     ensures { UngrantedStays }
 {}

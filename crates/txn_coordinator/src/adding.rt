@@ -11,7 +11,8 @@ use std::alloc::AllocError;
 use wire_types::{ErrorCode, Items, Text};
 
 impl Transaction {
-    /// The refusal of a call that adds, with this pair.
+    /// Why an AddPartitionsToTxn or AddOffsetsToTxn with this producer id and epoch is refused: INVALID_PRODUCER_ID_MAPPING or
+    /// INVALID_PRODUCER_EPOCH if they aren't the id's, CONCURRENT_TRANSACTIONS while markers are pending. `None` if it isn't.
     fn adding_refusal(&self, pair: ProducerIdAndEpoch) -> Option<ErrorCode>
         ensures { (moment : ℕ) → result ≡ refusal_of (open_found (Some self.now) pair moment) }
     {
@@ -27,7 +28,8 @@ impl Transaction {
         }
     }
 
-    /// Begins at this moment, where no transaction is open.
+    /// Begins a transaction at `moment`, in milliseconds, unless one is open, and forgets by what a retry of the last EndTxn is
+    /// known.
     fn open(&mut self, moment: u64)
         ensures { self.new ≡ opened_transaction self.old moment }
     {
@@ -38,8 +40,9 @@ impl Transaction {
         self.kept = None;
     }
 
-    /// Adds partitions, each once, to the open transaction or to one that begins at this moment, unless the call is refused.
-    /// After an error the record is as it was.
+    /// Adds partitions, each once, to the open transaction, or to one that begins at `moment`, in milliseconds. Gives NONE,
+    /// INVALID_PRODUCER_ID_MAPPING, INVALID_PRODUCER_EPOCH, or CONCURRENT_TRANSACTIONS while markers are pending. With an error,
+    /// or on an allocation failure, nothing changes.
     pub(crate) fn add_partitions(
         &mut self,
         pair: ProducerIdAndEpoch,
@@ -64,7 +67,9 @@ impl Transaction {
         Ok(ErrorCode::None)
     }
 
-    /// The same of a group.
+    /// Adds a consumer group, once, to the open transaction, or to one that begins at `moment`, in milliseconds. Gives NONE,
+    /// INVALID_PRODUCER_ID_MAPPING, INVALID_PRODUCER_EPOCH, or CONCURRENT_TRANSACTIONS while markers are pending. With an error,
+    /// or on an allocation failure, nothing changes.
     pub(crate) fn add_group(
         &mut self,
         pair: ProducerIdAndEpoch,
@@ -90,7 +95,7 @@ impl Transaction {
     }
 }
 
-/// Adds the group, unless it is there. After an error the groups are as they were.
+/// Adds the group to the list, unless it is there. An allocation failure changes nothing.
 fn add_group(groups: &mut Items<Text>, group: &Text) -> Result<(), AllocError>
     ensures ok { OnOk result (groups.new ≡ group_added groups.old group.now) }
     ensures err { OnErr result (groups.new ≡ groups.old) }

@@ -12,25 +12,29 @@ use crate::transaction::{Transaction, TransactionState};
 use std::alloc::AllocError;
 use wire_types::{ErrorCode, Items, Shared, Text};
 
-/// Where a transactional id stands: what a call changes of its record, beside what is added to its transaction.
+/// What an InitProducerId or EndTxn may change of the record of a transactional id.
 #[derive(Clone, Copy, Debug, PartialEq, Eq)]
 pub struct Standing {
     pub pair: ProducerIdAndEpoch,
+    /// How long a transaction may stay open, in milliseconds.
     pub timeout: u32,
     pub state: TransactionState,
+    /// The producer id and epoch by which a retry of an EndTxn of version 5 is known.
     pub kept: Option<ProducerIdAndEpoch>,
 }
 
-/// What a call comes to: a code alone; or a code with where the id stands from then on, the owners of the producer ids
-/// that are given out for it, and the markers that are pending.
+/// What an InitProducerId or EndTxn comes to, before anything is changed.
 #[derive(Drop)]
 pub enum Change {
+    /// The call is answered this error code, and the record stays as it is.
     Stays(ErrorCode),
+    /// The call is answered this error code, and the record gets these values. The owners of the producer ids that are newly
+    /// given out follow, then the new pending markers.
     Moves(ErrorCode, Standing, Items<Option<Text>>, Items<Shared<PendingMarker>>),
 }
 
 impl Transaction {
-    /// Where the id stands.
+    /// The values of this record that an InitProducerId or EndTxn may change.
     pub(crate) fn standing(&self) -> Standing
         ensures { result ≡ standing_of self.now }
     {
@@ -42,6 +46,7 @@ impl Transaction {
         }
     }
 
+    /// Sets the values that an InitProducerId or EndTxn changed.
     fn stand(&mut self, standing: Standing)
         ensures { self.new ≡ with_standing standing self.old }
     {
@@ -51,7 +56,7 @@ impl Transaction {
         self.kept = standing.kept;
     }
 
-    /// What a call with this code is answered.
+    /// The answer with this error code: for NONE it has the id's producer id and epoch, else no producer id.
     fn answer(&self, code: ErrorCode) -> ProducerIdAnswer
         ensures { result ≡ id_and_epoch_answer code (Some self.now) }
     {
@@ -64,7 +69,8 @@ impl Transaction {
         }
     }
 
-    /// Does what a call comes to. All that needs memory comes first: after an error nothing is changed.
+    /// Carries a change out, and gives the answer. The owners of new producer ids are appended to `given`, the new markers to
+    /// `owed`. An allocation failure changes nothing.
     pub(crate) fn take(
         &mut self,
         given: &mut Vec<Option<Text>>,

@@ -11,7 +11,7 @@ ghost use Rattle.txn_coordinator.specs.Holding.{holding_code, is_usable};
 ghost use Rattle.txn_coordinator.specs.Warrants.{next_warrant, with_front_written};
 ghost use Rattle.txn_coordinator.specs.Permission.{MayWrite};
 
-use crate::ending::EndForm;
+use crate::ending::EndTransaction;
 use crate::expiry::expiry_markers;
 use crate::init::timeout_within;
 use crate::marker::PendingMarker;
@@ -22,13 +22,12 @@ use crate::target::{Target, TopicPartition};
 use crate::transaction::{LAST_EPOCH, Transaction};
 use crate::warrant::Warrant;
 use authorizer::{Permit, Policy, Spent};
-use record_batch::TransactionResult;
 use std::alloc::{AllocError, Global};
 use std::hash::RandomState;
 use std::marker::Model;
 use wire_types::{ErrorCode, Text};
 
-/// What is kept of transactional ids, of producer ids and of markers that are pending.
+/// The transaction coordinator: the record of each transactional id, the producer ids given out, and the pending markers.
 #[derive(Drop)]
 pub struct Coordinator {
     records: Records,
@@ -50,8 +49,8 @@ impl Model for Coordinator {
 }
 
 impl Coordinator {
-    /// No transactional id, no producer id given out, nothing owed. Ids are hashed by `hasher`; no answer depends on it.
-    /// It takes no memory.
+    /// A coordinator without transactional ids, producer ids and markers. Ids are hashed by `hasher`; no answer depends on it. It
+    /// allocates nothing.
     pub fn new(alloc: Global, hasher: RandomState) -> Coordinator
         ensures { result ≡ no_transactions }
     {
@@ -62,7 +61,9 @@ impl Coordinator {
         }
     }
 
-    /// InitProducerId for a transactional id, with its timeout in milliseconds and the greatest that is allowed.
+    /// InitProducerId for a transactional id, with its timeout and the greatest allowed one, in milliseconds. Errors:
+    /// INVALID_REQUEST for the empty id, INVALID_TRANSACTION_TIMEOUT, and CONCURRENT_TRANSACTIONS while a transaction is open,
+    /// which is then fenced and aborted, or while markers are pending. An allocation failure changes nothing.
     pub fn init(
         &mut self,
         alloc: Global,
@@ -98,7 +99,9 @@ impl Coordinator {
         (spent, self.records.init(alloc, given, owed, id, timeout))
     }
 
-    /// AddPartitionsToTxn, at this moment in milliseconds.
+    /// AddPartitionsToTxn at `moment`, in milliseconds. Errors: INVALID_REQUEST for the empty id, INVALID_PRODUCER_ID_MAPPING,
+    /// INVALID_PRODUCER_EPOCH, and CONCURRENT_TRANSACTIONS while markers are pending. An empty list of partitions is answered
+    /// NONE. With an error, or on an allocation failure, nothing changes.
     pub fn add_partitions(
         &mut self,
         policy: &Policy,
@@ -131,7 +134,9 @@ impl Coordinator {
         )
     }
 
-    /// AddOffsetsToTxn, at this moment in milliseconds.
+    /// AddOffsetsToTxn at `moment`, in milliseconds. Errors: INVALID_REQUEST for the empty id, INVALID_PRODUCER_ID_MAPPING,
+    /// INVALID_PRODUCER_EPOCH, and CONCURRENT_TRANSACTIONS while markers are pending. With an error, or on an allocation failure,
+    /// nothing changes.
     pub fn add_group(
         &mut self,
         policy: &Policy,
@@ -157,42 +162,39 @@ impl Coordinator {
         (spent, self.records.add_group(id, pair, moment, group))
     }
 
-    /// EndTxn. Before version 5 the pair of the answer is left out.
+    /// EndTxn. Errors: INVALID_REQUEST for the empty id, INVALID_PRODUCER_ID_MAPPING, INVALID_PRODUCER_EPOCH or PRODUCER_FENCED
+    /// by version, CONCURRENT_TRANSACTIONS while its markers are pending, and INVALID_TXN_STATE. The answer has the id's producer
+    /// id and epoch, which replies before version 5 leave out. An allocation failure changes nothing.
     pub fn end(
         &mut self,
         alloc: Global,
         policy: &Policy,
         permit: Permit,
-        form: EndForm,
-        id: &Text,
-        pair: ProducerIdAndEpoch,
-        outcome: TransactionResult,
+        asked: &EndTransaction,
     ) -> (Spent, Result<ProducerIdAnswer, AllocError>)
-        requires { MayWrite policy.now permit id.now }
+        requires { MayWrite policy.now permit asked.now.id.now }
         ensures spent { result.0 ≡ permit.question }
         ensures ok { OnOk result.1
-            (self.new ≡ apply_transition self.old (end self.old form id.now pair outcome)) }
+            (self.new ≡ apply_transition self.old
+            (end self.old asked.now.form asked.now.id.now asked.now.pair asked.now.outcome)) }
         ensures answer { IfOk result.1
-            (λ answer. answer ≡ transition_answer self.old id.now
-            (end self.old form id.now pair outcome)) }
+            (λ answer. answer ≡ transition_answer self.old asked.now.id.now
+            (end self.old asked.now.form asked.now.id.now asked.now.pair asked.now.outcome)) }
         ensures err { OnErr result.1 (self.new ≡ self.old) }
     {
         let spent: Spent = permit.spend(policy);
-        if id.is_empty() {
+        if asked.id.is_empty() {
             return (
                 spent,
                 Ok(ProducerIdAnswer::refused(ErrorCode::InvalidRequest)),
             );
         }
         let (given, owed) = (&mut self.given, &mut self.owed);
-        (
-            spent,
-            self.records
-                .end(alloc, given, owed, form, id, pair, outcome),
-        )
+        (spent, self.records.end(alloc, given, owed, asked))
     }
 
-    /// Gives a producer id out to no transactional id (InitProducerId with the null id).
+    /// Gives out a producer id to an idempotent producer that has no transactional id (InitProducerId with a null id). An
+    /// allocation failure changes nothing.
     pub fn fresh(&mut self) -> Result<i64, AllocError>
         ensures ok { OnOk result (self.new ≡ given_free self.old) }
         ensures id { IfOk result (λ producer. producer ≡ fresh_producer_id self.old) }
@@ -203,7 +205,7 @@ impl Coordinator {
         Ok(next)
     }
 
-    /// To whom a producer id was given. A negative one was never given out. It takes no memory.
+    /// To whom the producer id was given out; a negative one never was. It allocates nothing.
     pub fn given(&self, producer: i64) -> ProducerIdOwner
         ensures { result ≡ given_by (owner self.now producer) }
     {
@@ -217,8 +219,9 @@ impl Coordinator {
         }
     }
 
-    /// Whether a transactional batch of the pair may be written to a partition, or offsets of it staged for a group: no
-    /// error, or the code of the refusal. It takes no memory.
+    /// Whether a transactional batch of this producer may be appended to a partition, or its offsets staged for a group: NONE; or
+    /// INVALID_PRODUCER_ID_MAPPING or INVALID_PRODUCER_EPOCH if its producer id or epoch isn't the id's, INVALID_TXN_STATE if no
+    /// transaction is open or the target wasn't added. It allocates nothing.
     pub fn holds(&self, id: &Text, pair: ProducerIdAndEpoch, target: &Target) -> ErrorCode
         ensures { result ≡ holding_code self.now id.now pair target.now }
     {
@@ -238,7 +241,8 @@ impl Coordinator {
         }
     }
 
-    /// Prepares each transaction to abort whose time is over at this moment, in milliseconds.
+    /// Fences and aborts each open transaction whose timeout is over at `moment`, in milliseconds: its epoch is raised, and its
+    /// abort markers are pending. An allocation failure changes nothing.
     pub fn expire(&mut self, alloc: Global, moment: u64) -> Result<(), AllocError>
         ensures ok { OnOk result (self.new ≡ expire self.old moment) }
         ensures err { OnErr result (self.new ≡ self.old) }
@@ -249,14 +253,14 @@ impl Coordinator {
         Ok(())
     }
 
-    /// The record of each transactional id, in the order of creation: for whoever runs the broker, past all bindings.
+    /// The record of each transactional id, in the order of creation, without any permit: for whoever runs the broker.
     pub fn transactions(&self) -> &[Transaction]
         ensures { result.now ≡ self.now.transactions }
     {
         self.records.as_slice()
     }
 
-    /// The front marker, if one is pending. It takes no memory.
+    /// The pending marker that is to be written next, `None` if none is pending. It allocates nothing.
     pub fn front(&self) -> Option<&PendingMarker>
         ensures { option_copied result ≡ next_warrant self.now }
     {
@@ -266,14 +270,15 @@ impl Coordinator {
         }
     }
 
-    /// How many markers are pending. It takes no memory.
+    /// The number of pending markers. It allocates nothing.
     pub fn owed(&self) -> usize
         ensures { result ≡ length self.now.warrants }
     {
         self.owed.len()
     }
 
-    /// A warrant for the front marker, if one is pending. The marker stays pending until it is written. It takes no memory.
+    /// A warrant to write the front marker, `None` if none is pending. The marker stays pending until [`Coordinator::written`]
+    /// takes the warrant back. It allocates nothing.
     pub fn next_warrant(&self) -> Option<Warrant>
         ensures { result ≡ next_warrant self.now }
     {
@@ -283,7 +288,7 @@ impl Coordinator {
         }
     }
 
-    /// What the warrant is for: what is to be written, and where. It takes no memory.
+    /// The marker that the warrant is for: what is to be written, and where. It allocates nothing.
     pub fn marker(&self, warrant: &Warrant) -> &PendingMarker
         requires { next_warrant self.now ≡ Some warrant.now }
         ensures { result.now ≡ warrant.now }
@@ -291,7 +296,8 @@ impl Coordinator {
         self.front().unwrap()
     }
 
-    /// The front marker was written. The last one of an id completes its transaction. It takes no memory.
+    /// Takes the warrant back once its marker is written, and removes the marker. The last marker of a transactional id completes
+    /// its transaction. It allocates nothing.
     pub fn written(&mut self, warrant: Warrant)
         requires { next_warrant self.old ≡ Some warrant }
         ensures { self.new ≡ with_front_written self.old }
@@ -304,7 +310,7 @@ impl Coordinator {
         }
     }
 
-    /// The front marker couldn't be written, for lack of memory: it stays pending.
+    /// Takes the warrant back after an allocation failure: its marker wasn't written, and stays pending.
     pub fn give_back(&self, warrant: Warrant)
         requires { next_warrant self.now ≡ Some warrant }
     {
@@ -313,6 +319,7 @@ impl Coordinator {
 }
 
 impl Coordinator {
+    /// The next producer id to be given out.
     fn next_id(&self) -> i64
         ensures { result ≡ fresh_producer_id self.now }
     {
@@ -320,6 +327,7 @@ impl Coordinator {
     }
 }
 
+/// Whether a producer in this epoch may write to the target. The last epoch, in which nobody writes, is refused for a group only.
 fn is_usable(target: &Target, epoch: i16) -> bool
     ensures { result ≡ is_usable target.now epoch }
 {

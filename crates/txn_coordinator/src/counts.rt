@@ -11,10 +11,10 @@ use std::collections::HashMap;
 use std::hash::RandomState;
 use wire_types::{Shared, Text};
 
-/// A number for each transactional id.
+/// The number of pending markers under each transactional id.
 pub(crate) type Counts = HashMap<String, usize, RandomState>;
 
-/// Whether the id owes any.
+/// Whether a marker is pending for the transactional id.
 pub(crate) fn owes_any(counts: &Counts, id: &Text) -> bool
     ensures { result ≡ nat_lt 0 (count_of counts.now id.now) }
 {
@@ -24,7 +24,8 @@ pub(crate) fn owes_any(counts: &Counts, id: &Text) -> bool
     }
 }
 
-/// Enters the ids of these markers that aren't there yet, none of which owes any. Raising them takes no memory then.
+/// Makes an entry with count 0 for each transactional id of these markers that has none, so that raising the counts can't fail.
+/// No count changes, not even on an allocation failure.
 pub(crate) fn enter_all(
     counts: &mut Counts,
     alloc: Global,
@@ -40,6 +41,7 @@ pub(crate) fn enter_all(
     Ok(())
 }
 
+/// Makes an entry with count 0 for the transactional id, unless it has one. No count changes.
 fn enter(counts: &mut Counts, alloc: Global, id: &Text) -> Result<(), AllocError>
     ensures same { (other : List ℕ) → count_of counts.new other ≡ count_of counts.old other }
     ensures kept { (other : List ℕ) → has_count counts.old other ≡ true → has_count counts.new other
@@ -52,7 +54,7 @@ fn enter(counts: &mut Counts, alloc: Global, id: &Text) -> Result<(), AllocError
     Ok(())
 }
 
-/// One more for each of these markers, whose ids were entered. It takes no memory.
+/// Counts one pending marker more for each of these markers, whose ids all have entries. It allocates nothing.
 pub(crate) fn raise_all(counts: &mut Counts, owed: &[Shared<PendingMarker>])
     requires entered { (id : List ℕ) → has_pending_marker owed.now id ≡ true
         → has_count counts.old id ≡ true }
@@ -65,6 +67,7 @@ pub(crate) fn raise_all(counts: &mut Counts, owed: &[Shared<PendingMarker>])
     }
 }
 
+/// Counts one pending marker more for the transactional id, which has an entry. It allocates nothing.
 fn raise(counts: &mut Counts, id: &Text)
     requires entered { has_count counts.old id.now ≡ true }
     requires fits { count_of counts.old id.now + 1 < 2 ^ 64 }
@@ -78,7 +81,7 @@ fn raise(counts: &mut Counts, id: &Text)
     }
 }
 
-/// One less for the id, which owes one. It takes no memory.
+/// Counts one pending marker less for the transactional id, which has at least one. It allocates nothing.
 pub(crate) fn lower(counts: &mut Counts, id: &Text)
     requires { 0 < count_of counts.old id.now }
     ensures { (other : List ℕ) → count_of counts.old other ≡ count_of counts.new other

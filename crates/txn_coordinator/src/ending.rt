@@ -16,19 +16,31 @@ use record_batch::TransactionResult;
 use std::alloc::{AllocError, Global};
 use wire_types::{ErrorCode, Items, Shared, Text};
 
-/// What the version of an EndTxn asks for.
+/// What an EndTxn does and answers by its version.
 #[derive(Clone, Copy, Debug, PartialEq, Eq)]
 pub enum EndForm {
-    /// Versions 0 and 1: another epoch is InvalidProducerEpoch.
+    /// Versions 0 and 1: with another epoch it is answered INVALID_PRODUCER_EPOCH.
     Plain,
-    /// Versions 2 to 4: another epoch is ProducerFenced.
+    /// Versions 2 to 4: with another epoch it is answered PRODUCER_FENCED.
     Fencing,
-    /// Version 5: the same, and each ending raises the epoch, so that the markers shut out what was sent before them.
+    /// Version 5 (KIP-890): PRODUCER_FENCED too, and each ending raises the epoch, so that a batch that was sent before the
+    /// marker but arrives after it is refused.
     Raising,
 }
 
+/// An EndTxn request: to commit or abort the transaction of a transactional id (KIP-98).
+#[derive(Clone, Copy)]
+pub struct EndTransaction<'a> {
+    pub form: EndForm,
+    /// The transactional id.
+    pub id: &'a Text,
+    /// The producer id and epoch that the producer sends.
+    pub pair: ProducerIdAndEpoch,
+    pub outcome: TransactionResult,
+}
+
 impl EndForm {
-    /// The code for another epoch.
+    /// The error code for an epoch that isn't the id's: INVALID_PRODUCER_EPOCH or PRODUCER_FENCED.
     pub(crate) fn other_epoch(self) -> ErrorCode
         ensures { result ≡ other_epoch self }
     {
@@ -40,7 +52,8 @@ impl EndForm {
 }
 
 impl Transaction {
-    /// The id gets the pair that follows its own, which it keeps.
+    /// How version 5 ends a transaction (KIP-890): the id moves to this state and to its next epoch, or to the producer id `next`
+    /// if the epochs are used up, and keeps the old pair to know a retry by. `owed` are the markers to write.
     fn renewed(
         &self,
         alloc: Global,
@@ -62,6 +75,8 @@ impl Transaction {
         Ok(Change::Moves(ErrorCode::None, renewed, given, owed))
     }
 
+    /// How versions 0 to 4 end an open transaction: it moves to PrepareCommit or PrepareAbort, its epoch stays, and a marker is
+    /// pending for each partition and group that was added.
     fn prepared_plain(
         &self,
         alloc: Global,
@@ -78,6 +93,8 @@ impl Transaction {
         Ok(Change::Moves(ErrorCode::None, prepared, Items::new(alloc), owed))
     }
 
+    /// How an EndTxn ends the open transaction. In version 5 the markers carry the next epoch, and the id gets that epoch, or the
+    /// producer id `next` if the epochs are used up.
     fn end_ongoing(
         &self,
         alloc: Global,
@@ -98,6 +115,8 @@ impl Transaction {
         }
     }
 
+    /// What an EndTxn comes to if no transaction is open and no marker pending. Before version 5 it is answered `code`, and
+    /// nothing changes. In version 5 a commit is answered INVALID_TXN_STATE, and an abort raises the epoch (KIP-890).
     fn end_closed(
         &self,
         alloc: Global,
@@ -125,29 +144,25 @@ impl Transaction {
         }
     }
 
-    /// What EndTxn comes to for an id that is there.
-    fn ended(
-        &self,
-        alloc: Global,
-        form: EndForm,
-        next: i64,
-        pair: ProducerIdAndEpoch,
-        outcome: TransactionResult,
-    ) -> Result<Change, AllocError>
+    /// What an EndTxn comes to for this record: the answer of a retry if it is one, a refusal if the producer id or epoch isn't
+    /// the id's, else the ending. `next` is the next producer id to be given out.
+    fn ended(&self, alloc: Global, next: i64, asked: &EndTransaction) -> Result<Change, AllocError>
         ensures { IfOk result
-            (λ change. transition_of self.now change ≡ end_found (Some self.now) form next pair
-            outcome) }
+            (λ change. transition_of self.now change ≡ end_found (Some self.now) asked.now.form next
+            asked.now.pair asked.now.outcome) }
     {
-        if self.is_again(form, pair) {
-            return Ok(Change::Stays(end_again(self.state, outcome)));
+        if self.is_again(asked.form, asked.pair) {
+            return Ok(Change::Stays(end_again(self.state, asked.outcome)));
         }
-        match self.pair_refusal(form.other_epoch(), pair) {
+        match self.pair_refusal(asked.form.other_epoch(), asked.pair) {
             Some(code) => Ok(Change::Stays(code)),
-            None => self.end_own(alloc, form, next, outcome),
+            None => self.end_own(alloc, asked.form, next, asked.outcome),
         }
     }
 
-    /// An EndTxn that comes with the id's pair.
+    /// What an EndTxn comes to that has the id's own producer id and epoch. An open transaction is ended. While markers are
+    /// pending the answer is CONCURRENT_TRANSACTIONS, or INVALID_TXN_STATE for the other outcome. Else nothing is open: see
+    /// `end_closed`.
     fn end_own(
         &self,
         alloc: Global,
@@ -182,43 +197,46 @@ impl Transaction {
         }
     }
 
-    /// EndTxn for an id that is there. After an error nothing is changed.
+    /// Does an EndTxn, and answers the id's producer id and epoch, or INVALID_PRODUCER_ID_MAPPING, INVALID_PRODUCER_EPOCH,
+    /// PRODUCER_FENCED, CONCURRENT_TRANSACTIONS or INVALID_TXN_STATE. The owners of new producer ids are appended to `given`, new
+    /// pending markers to `owed`. An allocation failure changes nothing.
     pub(crate) fn end(
         &mut self,
         alloc: Global,
         given: &mut Vec<Option<Text>>,
         owed: &mut PendingMarkers,
-        form: EndForm,
-        pair: ProducerIdAndEpoch,
-        outcome: TransactionResult,
+        asked: &EndTransaction,
     ) -> Result<ProducerIdAnswer, AllocError>
         ensures ok { OnOk result
             (self.new ≡ record_after
-            (end_found (Some self.old) form (pos (length given.old.items)) pair outcome)
-            self.old) }
+            (end_found (Some self.old) asked.now.form (pos (length given.old.items)) asked.now.pair
+            asked.now.outcome) self.old) }
         ensures given { OnOk result
             (given.new.items ≡ given.old.items
-            ++ given_for (end_found (Some self.old) form (pos (length given.old.items)) pair
-            outcome)) }
+            ++ given_for
+            (end_found (Some self.old) asked.now.form (pos (length given.old.items)) asked.now.pair
+            asked.now.outcome)) }
         ensures owed { OnOk result
             (owed.new ≡ owed.old
             ++ pending_markers_for
-            (end_found (Some self.old) form (pos (length given.old.items)) pair outcome)) }
+            (end_found (Some self.old) asked.now.form (pos (length given.old.items)) asked.now.pair
+            asked.now.outcome)) }
         ensures answer { IfOk result
             (λ answer. answer
             ≡ id_and_epoch_answer
             (transition_code
-            (end_found (Some self.old) form (pos (length given.old.items)) pair outcome))
-            (Some self.new)) }
+            (end_found (Some self.old) asked.now.form (pos (length given.old.items))
+            asked.now.pair asked.now.outcome)) (Some self.new)) }
         ensures err { OnErr result (self.new ≡ self.old) }
         ensures given_err { OnErr result (given.new.items ≡ given.old.items) }
         ensures owed_err { OnErr result (owed.new ≡ owed.old) }
     {
-        let change = self.ended(alloc, form, given.len() as i64, pair, outcome)?;
+        let change = self.ended(alloc, given.len() as i64, asked)?;
         self.take(given, owed, change)
     }
 
-    /// Whether an EndTxn comes once more with the pair that one of version 5 came with.
+    /// Whether the call is a retry of the version 5 EndTxn that ended the last transaction: it has the producer id and epoch of
+    /// that one.
     fn is_again(&self, form: EndForm, pair: ProducerIdAndEpoch) -> bool
         ensures { result ≡ is_again form self.now pair }
     {
@@ -229,7 +247,8 @@ impl Transaction {
     }
 }
 
-/// What an EndTxn that comes once more is answered.
+/// The answer to a retry of a version 5 EndTxn: CONCURRENT_TRANSACTIONS while the markers are pending, NONE once they are
+/// written, INVALID_TXN_STATE if it asks for the other outcome.
 fn end_again(state: TransactionState, outcome: TransactionResult) -> ErrorCode
     ensures { result ≡ end_again state outcome }
 {

@@ -16,7 +16,7 @@ use std::hash::RandomState;
 use wire_types::{Items, Shared};
 
 impl Transaction {
-    /// Whether the transaction is open and its time is over. No sum is made, so nothing can wrap.
+    /// Whether the transaction is open for longer than its timeout at `moment`, in milliseconds.
     fn is_due(&self, moment: u64) -> bool
         ensures { result ≡ is_due moment self.now }
     {
@@ -25,7 +25,7 @@ impl Transaction {
             && u64::from(self.timeout) < moment - self.start
     }
 
-    /// Fences the transaction if it is due.
+    /// Raises the epoch and sets the state to PrepareAbort, if the transaction's timeout is over at `moment`, in milliseconds.
     fn expire(&mut self, moment: u64)
         requires { CanRaise self.old }
         ensures { self.new ≡ fenced_if_due moment self.old }
@@ -37,7 +37,7 @@ impl Transaction {
     }
 }
 
-/// The markers of all that are due.
+/// The abort markers of all transactions whose timeout is over at `moment`, in milliseconds. They carry the raised epochs.
 pub(crate) fn expiry_markers(
     alloc: Global,
     transactions: &[Transaction],
@@ -57,7 +57,7 @@ pub(crate) fn expiry_markers(
     Ok(Items::from(owed))
 }
 
-/// Fences all that are due. Each stays under its id.
+/// Raises the epoch of each open transaction whose timeout is over at `moment`, in milliseconds, and sets it to PrepareAbort.
 pub(crate) fn expire_all(records: &mut IndexMap<String, Transaction, RandomState>, moment: u64)
     requires { AllCanRaise (values records.old) }
     ensures { records.new.entries ≡ all_expired moment records.old.entries }

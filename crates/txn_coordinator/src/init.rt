@@ -19,7 +19,7 @@ use std::alloc::{AllocError, Global};
 use std::hash::RandomState;
 use wire_types::{ErrorCode, Items, Text};
 
-/// The timeout that is asked for, where it is from 1 to the greatest.
+/// The transaction timeout of an InitProducerId, in milliseconds, `None` if it is less than 1 or more than `greatest`.
 pub(crate) fn timeout_within(timeout: i32, greatest: i32) -> Option<u32>
     ensures { result ≡ timeout_within timeout greatest }
 {
@@ -30,7 +30,8 @@ pub(crate) fn timeout_within(timeout: i32, greatest: i32) -> Option<u32>
     }
 }
 
-/// The record of a new id, with the producer id that is the next one to be given out. Its partitions are hashed by `hasher`.
+/// The record of a new transactional id, with the producer id `next`, epoch 0 and no transaction. `timeout` is in milliseconds.
+/// Its partitions are hashed by `hasher`.
 pub(crate) fn created(
     alloc: Global,
     hasher: RandomState,
@@ -56,7 +57,8 @@ pub(crate) fn created(
 }
 
 impl Transaction {
-    /// To abort with the epoch raised.
+    /// Fences the producer of the open transaction: the epoch is raised, the transaction moves to PrepareAbort, and its abort
+    /// markers carry the new epoch. The call is answered `code`.
     fn fencing(&self, alloc: Global, code: ErrorCode) -> Result<Change, AllocError>
         requires { self.now.pair.epoch <ℤ last_epoch }
         ensures { IfOk result
@@ -72,7 +74,8 @@ impl Transaction {
         Ok(Change::Moves(code, fenced, Items::new(alloc), owed))
     }
 
-    /// The id gets the pair that follows its own.
+    /// What an InitProducerId comes to if no transaction is open: the id gets its next epoch, or the producer id `next` if the
+    /// epochs are used up, this timeout in milliseconds, and the state Empty.
     fn begun(&self, alloc: Global, next: i64, timeout: u32) -> Result<Change, AllocError>
         ensures { IfOk result
             (λ change. transition_of self.now change ≡ begin_transition self.now next timeout) }
@@ -87,7 +90,8 @@ impl Transaction {
         Ok(Change::Moves(ErrorCode::None, begun, given, Items::new(alloc)))
     }
 
-    /// What InitProducerId comes to for an id that is there.
+    /// What an InitProducerId comes to for this record: its next epoch, or CONCURRENT_TRANSACTIONS while a transaction is open,
+    /// which is then fenced and aborted, or while markers are pending.
     fn inited(&self, alloc: Global, next: i64, timeout: u32) -> Result<Change, AllocError>
         requires { CanRaise self.now }
         ensures { IfOk result
@@ -105,7 +109,9 @@ impl Transaction {
         }
     }
 
-    /// InitProducerId for an id that is there. After an error nothing is changed.
+    /// Does an InitProducerId for an id that has a record, and answers the id's new producer id and epoch, or
+    /// CONCURRENT_TRANSACTIONS. The owners of new producer ids are appended to `given`, new pending markers to `owed`. An
+    /// allocation failure changes nothing.
     pub(crate) fn init(
         &mut self,
         alloc: Global,

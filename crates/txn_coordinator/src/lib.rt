@@ -23,7 +23,7 @@ mod transaction;
 mod warrant;
 
 pub use coordinator::Coordinator;
-pub use ending::EndForm;
+pub use ending::{EndForm, EndTransaction};
 pub use laws::calls_keep_ranges;
 pub use marker::PendingMarker;
 pub use partitions::Partitions;

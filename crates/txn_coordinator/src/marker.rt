@@ -11,20 +11,20 @@ use record_batch::TransactionResult;
 use std::alloc::{AllocError, Global};
 use wire_types::{Items, Shared, Text};
 
-/// A marker that a transactional id owes: a control batch to a partition, or the decision over what the producer staged
-/// to a group.
+/// A marker that is still to be written for a transactional id: a control batch to a partition, or the commit or abort of the
+/// offsets that its producer staged for a group (KIP-447).
 #[derive(Clone, Debug, Drop)]
 pub struct PendingMarker {
-    /// The transactional id that owes it.
+    /// The transactional id whose transaction the marker ends.
     pub id: Text,
-    /// The producer id and the epoch that the marker carries. They aren't always the id's own at the time of writing.
+    /// The producer id and epoch that the marker carries. By the time of writing the id may have others.
     pub pair: ProducerIdAndEpoch,
     pub outcome: TransactionResult,
     pub target: Target,
 }
 
 impl Transaction {
-    /// A marker for each added partition, then for each added group.
+    /// The markers that end this transaction: one for each added partition, then one for each added group. They carry `pair`.
     pub(crate) fn markers(
         &self,
         alloc: Global,
@@ -37,6 +37,7 @@ impl Transaction {
         self.group_markers(alloc, owed, pair, outcome)
     }
 
+    /// One marker for each added partition, in the order of adding. They carry `pair`.
     fn partition_markers(
         &self,
         alloc: Global,
@@ -55,6 +56,7 @@ impl Transaction {
         Ok(owed)
     }
 
+    /// Appends to `before` one marker for each added group, in the order of adding. They carry `pair`.
     fn group_markers(
         &self,
         alloc: Global,
@@ -74,6 +76,7 @@ impl Transaction {
         Ok(owed)
     }
 
+    /// The marker that ends this transaction at one target. It carries `pair`.
     fn marker_for(
         &self,
         alloc: Global,

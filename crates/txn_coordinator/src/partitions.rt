@@ -12,13 +12,13 @@ use std::hash::RandomState;
 use std::marker::Model;
 use std::sync::Arc;
 
-/// Partitions in the order of adding, each once; seen as their list. To look whether one is there, or to add one, costs a look-up,
-/// whatever their number. A copy shares them until one is added: a call that changes a transaction's state copies none.
+/// The partitions of a transaction in the order of adding, each once. Finding or adding one costs one hash look-up, whatever
+/// their number. A copy shares them until one is added: a call that only changes a transaction's state copies none.
 #[derive(Debug, Drop)]
 pub struct Partitions {
     alloc: Global,
     hasher: RandomState,
-    /// None where there are no partitions.
+    /// `None` if there are no partitions.
     set: Option<Arc<IndexSet<TopicPartition, RandomState>>>,
 }
 
@@ -36,6 +36,7 @@ impl Model for Partitions {
 impl Clone for Partitions {
     ghost is_clone = { λ partitions copy. copy ≡ partitions };
 
+    /// Shares the partitions with the copy.
     fn clone(&self) -> Result<Partitions, AllocError> {
         let set = match &self.set {
             Some(set) => Some(Arc::try_clone(set)?),
@@ -50,7 +51,7 @@ impl Clone for Partitions {
 }
 
 impl Partitions {
-    /// No partition. Partitions are hashed by `hasher`; no answer depends on it. It takes no memory.
+    /// A set without partitions. Partitions are hashed by `hasher`; no answer depends on it. It allocates nothing.
     pub(crate) fn new(alloc: Global, hasher: RandomState) -> Partitions
         ensures { result ≡ [] }
     {
@@ -61,7 +62,7 @@ impl Partitions {
         }
     }
 
-    /// The partitions in their order.
+    /// The partitions in the order of adding.
     pub fn as_slice(&self) -> &[TopicPartition]
         ensures { result.now ≡ self.now }
     {
@@ -71,7 +72,7 @@ impl Partitions {
         }
     }
 
-    /// Whether the partition is one of them.
+    /// Whether the partition was added.
     pub(crate) fn contains(&self, partition: &TopicPartition) -> bool
         ensures { result ≡ has_partition self.now partition.now }
     {
@@ -81,7 +82,7 @@ impl Partitions {
         }
     }
 
-    /// Adds each that isn't there. After an error they are as they were.
+    /// Adds each partition that isn't there. An allocation failure changes nothing.
     pub(crate) fn add(&mut self, partitions: &[TopicPartition]) -> Result<(), AllocError>
         ensures ok { OnOk result (self.new ≡ partitions_added self.old partitions.now) }
         ensures err { OnErr result (self.new ≡ self.old) }
@@ -97,7 +98,7 @@ impl Partitions {
         }
     }
 
-    /// Lets them all go.
+    /// Removes all partitions.
     pub(crate) fn clear(&mut self)
         ensures { self.new ≡ [] }
     {
@@ -105,7 +106,7 @@ impl Partitions {
     }
 }
 
-/// Adds each that isn't there. After an error they are as they were.
+/// Adds each partition that isn't in the set. An allocation failure changes nothing: those added before it are removed again.
 fn add_each(
     set: &mut IndexSet<TopicPartition, RandomState>,
     partitions: &[TopicPartition],
@@ -123,7 +124,7 @@ fn add_each(
     Ok(())
 }
 
-/// Adds one, unless it is there. After an error they are as they were.
+/// Adds the partition, unless it is in the set. An allocation failure changes nothing.
 fn add_one(
     set: &mut IndexSet<TopicPartition, RandomState>,
     partition: &TopicPartition,

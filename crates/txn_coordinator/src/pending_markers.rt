@@ -12,7 +12,7 @@ use std::hash::RandomState;
 use std::marker::Model;
 use wire_types::{Items, Shared, Text};
 
-/// The markers that are pending, the front one first, and how many each transactional id owes; seen as the list of markers.
+/// The queue of pending markers, and how many of them each transactional id has.
 #[derive(Drop)]
 pub struct PendingMarkers {
     queue: VecDeque<Shared<PendingMarker>>,
@@ -32,7 +32,7 @@ impl Model for PendingMarkers {
 }
 
 impl PendingMarkers {
-    /// Nothing is owed. Ids are hashed by `hasher`; no answer depends on it. It takes no memory.
+    /// An empty queue. Ids are hashed by `hasher`; no answer depends on it. It allocates nothing.
     pub fn new(alloc: Global, hasher: RandomState) -> PendingMarkers
         ensures { result ≡ [] }
     {
@@ -42,28 +42,28 @@ impl PendingMarkers {
         }
     }
 
-    /// How many they are.
+    /// The number of pending markers.
     pub fn len(&self) -> usize
         ensures { result ≡ length self.now }
     {
         self.queue.len()
     }
 
-    /// The front marker.
+    /// The marker that is to be written next, `None` if none is pending.
     pub fn front(&self) -> Option<&Shared<PendingMarker>>
         ensures { option_copied result ≡ slice_get self.now 0 }
     {
         self.queue.front()
     }
 
-    /// Whether the id owes a marker. It takes no memory.
+    /// Whether a marker of the transactional id is pending. It allocates nothing.
     pub fn owes(&self, id: &Text) -> bool
         ensures { result ≡ has_pending_marker self.now id.now }
     {
         owes_any(&self.counts, id)
     }
 
-    /// These are owed too, after the others. All that needs memory comes first.
+    /// Appends markers to the queue. An allocation failure changes nothing.
     pub fn append(&mut self, more: Items<Shared<PendingMarker>>) -> Result<(), AllocError>
         ensures ok { OnOk result (self.new ≡ self.old ++ more) }
         ensures err { OnErr result (self.new ≡ self.old) }
@@ -77,7 +77,7 @@ impl PendingMarkers {
         Ok(())
     }
 
-    /// Takes the front marker off. It takes no memory.
+    /// Removes the front marker from the queue, which isn't empty, and gives it. It allocates nothing.
     pub fn pop(&mut self) -> Shared<PendingMarker>
         requires { 0 < length self.old }
         ensures { self.old ≡ result ∷ self.new }

@@ -7,7 +7,7 @@ ghost use Rattle.txn_coordinator.specs.Words.{is_same_producer, with_next_epoch,
 use std::alloc::{AllocError, Global};
 use wire_types::{ErrorCode, Items, Text};
 
-/// From this epoch on the epochs of a producer id are used up.
+/// From this epoch on the epochs of a producer id are used up: what follows is a new producer id.
 const EXHAUSTED_EPOCH: i16 = 32_766;
 
 /// A producer id with its epoch, which requests, record batches and markers name together.
@@ -17,8 +17,8 @@ pub struct ProducerIdAndEpoch {
     pub epoch: i16,
 }
 
-/// What a call is answered that answers a transactional id's pair too: with an error code the pair is
-/// [`ProducerIdAndEpoch::NONE`].
+/// The answer to an InitProducerId or EndTxn: an error code, and a producer id with its epoch, which is
+/// [`ProducerIdAndEpoch::NONE`] with an error.
 #[derive(Clone, Copy, Debug, PartialEq, Eq)]
 pub struct ProducerIdAnswer {
     pub code: ErrorCode,
@@ -26,7 +26,7 @@ pub struct ProducerIdAnswer {
 }
 
 impl ProducerIdAnswer {
-    /// What a call is answered that is refused, or that answers no pair.
+    /// An answer with this error code, and no producer id.
     pub fn refused(code: ErrorCode) -> ProducerIdAnswer
         ensures { result ≡ refusal_answer code }
     {
@@ -37,7 +37,7 @@ impl ProducerIdAnswer {
     }
 }
 
-/// To whom a producer id was given.
+/// To whom a producer id was given out.
 #[derive(Clone, Copy, Debug, PartialEq, Eq)]
 pub enum ProducerIdOwner {
     /// It wasn't given out.
@@ -49,19 +49,20 @@ pub enum ProducerIdOwner {
 }
 
 impl ProducerIdAndEpoch {
-    /// The pair of no producer.
+    /// Producer id -1 and epoch -1, which stand for no producer.
     pub const NONE: ProducerIdAndEpoch = ProducerIdAndEpoch {
         producer: -1,
         epoch: -1,
     };
 
+    /// Whether both the producer ids and the epochs are the same.
     pub(crate) fn is_same(self, other: ProducerIdAndEpoch) -> bool
         ensures { result ≡ is_same_producer self other }
     {
         self.producer == other.producer && self.epoch == other.epoch
     }
 
-    /// The same producer id with the next epoch.
+    /// The same producer id with the next epoch, for an epoch that isn't the last.
     pub(crate) fn raised(self) -> ProducerIdAndEpoch
         requires { self.epoch <ℤ last_epoch }
         ensures { result ≡ with_next_epoch self }
@@ -72,13 +73,15 @@ impl ProducerIdAndEpoch {
         }
     }
 
+    /// Whether the epochs of the producer id are used up.
     fn is_exhausted(self) -> bool
         ensures { result ≡ is_exhausted self }
     {
         EXHAUSTED_EPOCH <= self.epoch
     }
 
-    /// The next epoch, or a fresh producer id where the epochs are used up.
+    /// What a transactional id gets next: the same producer id with the next epoch, or the producer id `fresh` with epoch 0 if
+    /// the epochs are used up.
     pub(crate) fn after(self, fresh: i64) -> ProducerIdAndEpoch
         ensures { result ≡ next_id_and_epoch self fresh }
     {
@@ -92,7 +95,8 @@ impl ProducerIdAndEpoch {
         }
     }
 
-    /// The owner of the fresh producer id that follows the pair, if one does.
+    /// The list of owners of the producer ids that are newly given out when the transactional id `id` gets its next epoch: `id`
+    /// alone if the epochs are used up, else none.
     pub(crate) fn given_after(
         self,
         alloc: Global,

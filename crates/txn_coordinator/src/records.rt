@@ -11,7 +11,7 @@ ghost use Rattle.txn_coordinator.specs.Expiry.{fenced_if_due};
 ghost use Rattle.txn_coordinator.specs.Bounds.{AllCanRaise};
 ghost use Rattle.txn_coordinator.specs.Warrants.{with_completed};
 
-use crate::ending::EndForm;
+use crate::ending::EndTransaction;
 use crate::expiry::expire_all;
 use crate::init::created;
 use crate::pending_markers::PendingMarkers;
@@ -25,7 +25,7 @@ use std::hash::RandomState;
 use std::marker::Model;
 use wire_types::{ErrorCode, Text};
 
-/// The record of each transactional id, under it; seen as the list of records.
+/// The record of each transactional id, found by the id, in the order of creation.
 pub struct Records {
     table: IndexMap<String, Transaction, RandomState>,
 }
@@ -48,7 +48,7 @@ impl Drop for Records {
 }
 
 impl Records {
-    /// No record. Ids are hashed by `hasher`; no answer depends on it. It takes no memory.
+    /// A table without records. Ids are hashed by `hasher`; no answer depends on it. It allocates nothing.
     pub(crate) fn new(alloc: Global, hasher: RandomState) -> Records
         ensures { result.list ≡ [] }
     {
@@ -57,23 +57,23 @@ impl Records {
         }
     }
 
-    /// The records in their order.
+    /// The records in the order of their creation.
     pub(crate) fn as_slice(&self) -> &[Transaction]
         ensures { result.now ≡ self.now.list }
     {
         self.table.values().as_slice()
     }
 
-    /// The record of a transactional id, if it has one.
+    /// The record of a transactional id, `None` if it never got a producer id.
     pub(crate) fn get(&self, id: &Text) -> Option<&Transaction>
         ensures { option_copied result ≡ id_record self.now.list id.now }
     {
         self.table.get(id.as_str())
     }
 
-    /// InitProducerId for an id that isn't empty, with a timeout that is allowed, in milliseconds: the producer ids that are given
-    /// out for it come after the others in `given`, and the markers that are pending for it after the others in `owed`. After an
-    /// error nothing is changed.
+    /// Does an InitProducerId for a non-empty transactional id, with an allowed timeout in milliseconds, and creates the record
+    /// of a new id. The owners of new producer ids are appended to `given`, new pending markers to `owed`. An allocation failure
+    /// changes nothing.
     pub(crate) fn init(
         &mut self,
         alloc: Global,
@@ -112,7 +112,8 @@ impl Records {
         }
     }
 
-    /// The record of an id that has none. After an error nothing is changed.
+    /// Creates the record of a transactional id that has none, with a new producer id and epoch 0, which are the answer. The id
+    /// is appended to `given` as the owner. An allocation failure changes nothing.
     fn create(
         &mut self,
         alloc: Global,
@@ -143,8 +144,9 @@ impl Records {
         })
     }
 
-    /// Adds partitions to the transaction of an id, for a call with this pair at this moment. After an error the records are as they
-    /// were.
+    /// Adds partitions to the transaction of an id (AddPartitionsToTxn) at `moment`, in milliseconds, and gives the error code:
+    /// INVALID_PRODUCER_ID_MAPPING if the id has no record, else that of `Transaction::add_partitions`. With an error, or on an
+    /// allocation failure, nothing changes.
     pub(crate) fn add_partitions(
         &mut self,
         id: &Text,
@@ -168,7 +170,9 @@ impl Records {
         transaction.add_partitions(pair, moment, partitions)
     }
 
-    /// The same of a group.
+    /// Adds a consumer group to the transaction of an id (AddOffsetsToTxn) at `moment`, in milliseconds, and gives the error
+    /// code: INVALID_PRODUCER_ID_MAPPING if the id has no record, else that of `Transaction::add_group`. With an error, or on an
+    /// allocation failure, nothing changes.
     pub(crate) fn add_group(
         &mut self,
         id: &Text,
@@ -192,48 +196,48 @@ impl Records {
         transaction.add_group(pair, moment, group)
     }
 
-    /// EndTxn for an id: the producer ids that are given out for it come after the others in `given`, and the markers that are
-    /// owed for it after the others in `owed`. After an error nothing is changed.
+    /// Does an EndTxn: INVALID_PRODUCER_ID_MAPPING if the id has no record, else what `Transaction::end` answers. The owners of
+    /// new producer ids are appended to `given`, new pending markers to `owed`. An allocation failure changes nothing.
     pub(crate) fn end(
         &mut self,
         alloc: Global,
         given: &mut Vec<Option<Text>>,
         owed: &mut PendingMarkers,
-        form: EndForm,
-        id: &Text,
-        pair: ProducerIdAndEpoch,
-        outcome: TransactionResult,
+        asked: &EndTransaction,
     ) -> Result<ProducerIdAnswer, AllocError>
         ensures ok { OnOk result
             (self.new.list ≡ records_after self.old.list
-            (end_found (id_record self.old.list id.now) form (pos (length given.old.items)) pair
-            outcome)) }
+            (end_found (id_record self.old.list asked.now.id.now) asked.now.form
+            (pos (length given.old.items)) asked.now.pair asked.now.outcome)) }
         ensures given { OnOk result
             (given.new.items ≡ given.old.items
-            ++ given_for (end_found (id_record self.old.list id.now) form
-            (pos (length given.old.items)) pair outcome)) }
+            ++ given_for
+            (end_found (id_record self.old.list asked.now.id.now) asked.now.form
+            (pos (length given.old.items)) asked.now.pair asked.now.outcome)) }
         ensures owed { OnOk result
             (owed.new ≡ owed.old
             ++ pending_markers_for
-            (end_found (id_record self.old.list id.now) form (pos (length given.old.items)) pair
-            outcome)) }
+            (end_found (id_record self.old.list asked.now.id.now) asked.now.form
+            (pos (length given.old.items)) asked.now.pair asked.now.outcome)) }
         ensures answer { IfOk result
             (λ answer. answer
             ≡ id_and_epoch_answer
             (transition_code
-            (end_found (id_record self.old.list id.now) form (pos (length given.old.items))
-            pair outcome)) (id_record self.new.list id.now)) }
+            (end_found (id_record self.old.list asked.now.id.now) asked.now.form
+            (pos (length given.old.items)) asked.now.pair asked.now.outcome))
+            (id_record self.new.list asked.now.id.now)) }
         ensures err { OnErr result (self.new.list ≡ self.old.list) }
         ensures given_err { OnErr result (given.new.items ≡ given.old.items) }
         ensures owed_err { OnErr result (owed.new ≡ owed.old) }
     {
-        let Some(transaction) = self.table.get_mut(id.as_str()) else {
+        let Some(transaction) = self.table.get_mut(asked.id.as_str()) else {
             return Ok(ProducerIdAnswer::refused(ErrorCode::InvalidProducerIdMapping));
         };
-        transaction.end(alloc, given, owed, form, pair, outcome)
+        transaction.end(alloc, given, owed, asked)
     }
 
-    /// The transaction of the id has its outcome. It takes no memory.
+    /// Notes that the last marker of the id's transaction is written: it is committed or aborted from now on. It allocates
+    /// nothing.
     pub(crate) fn complete(&mut self, id: &Text, outcome: TransactionResult)
         ensures { self.new.list ≡ with_completed outcome (id_record self.old.list id.now)
             self.old.list }
@@ -245,7 +249,8 @@ impl Records {
         transaction.complete(alloc, outcome);
     }
 
-    /// Fences each whose time is over. It takes no memory.
+    /// Raises the epoch of each open transaction whose timeout is over at `moment`, in milliseconds, and sets it to PrepareAbort.
+    /// It allocates nothing.
     pub(crate) fn expire(&mut self, moment: u64)
         requires { AllCanRaise self.old.list }
         ensures { self.new.list ≡ map (fenced_if_due moment) self.old.list }

@@ -14,7 +14,7 @@ pub struct TopicPartition {
     pub index: i32,
 }
 
-/// Where a transaction writes: records to a partition, or offsets to a group.
+/// Where a transaction writes: records to a partition, or offsets to a consumer group.
 #[derive(Clone, Debug, Drop)]
 pub enum Target {
     Partition(TopicPartition),
@@ -22,6 +22,7 @@ pub enum Target {
 }
 
 impl TopicPartition {
+    /// A copy of the partition.
     pub(crate) fn copied(&self) -> Result<TopicPartition, AllocError>
         ensures { IfOk result (λ copy. copy ≡ self.now) }
     {
@@ -29,7 +30,7 @@ impl TopicPartition {
     }
 }
 
-/// By its topic's name and its index.
+/// Hashed by its topic's name and its index.
 impl Hash for TopicPartition {
     ghost use Rattle.std.specs.Prelude.{◌++◌};
     ghost use Rattle.std.proofs.Common.{rules};
@@ -40,12 +41,14 @@ impl Hash for TopicPartition {
 
     ghost respects_eq = { Prim.search (hashing, rules) };
 
+    /// Feeds the topic's name, then the index, to the hasher.
     fn hash<H: Hasher>(&self, state: &mut H) {
         self.topic.as_str().hash(state);
         self.index.hash(state);
     }
 }
 
+/// Whether the group is one of those that were added.
 pub(crate) fn has_group(added: &[Text], group: &Text) -> bool
     ensures { result ≡ has_group added.now group.now }
 {

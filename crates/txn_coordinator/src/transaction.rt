@@ -12,13 +12,13 @@ use record_batch::TransactionResult;
 use std::alloc::{AllocError, Global};
 use wire_types::{ErrorCode, Items, Text};
 
-/// The greatest epoch, in which nobody writes.
+/// The greatest epoch of a producer id. No producer writes in it; only the markers that end a transaction carry it.
 pub(crate) const LAST_EPOCH: i16 = 32_767;
 
-/// Where the transaction of a transactional id stands.
+/// The state of the transaction of a transactional id (KIP-98).
 #[derive(Clone, Copy, Debug, PartialEq, Eq)]
 pub enum TransactionState {
-    /// No transaction since the id got its pair.
+    /// No transaction began since the id got its producer id and epoch.
     Empty,
     Ongoing,
     /// The outcome is decided, and markers are pending.
@@ -28,10 +28,11 @@ pub enum TransactionState {
     CompleteAbort,
 }
 
-/// What is kept of a transactional id.
+/// What the coordinator keeps of a transactional id: its producer id and epoch, and its transaction.
 #[derive(Clone, Debug, Drop)]
 pub struct Transaction {
     pub id: Text,
+    /// The producer id and the epoch in which its producer writes now.
     pub pair: ProducerIdAndEpoch,
     /// How long a transaction may stay open, in milliseconds.
     pub timeout: u32,
@@ -42,19 +43,20 @@ pub struct Transaction {
     pub partitions: Partitions,
     /// The groups that were added, in the order of adding.
     pub groups: Items<Text>,
-    /// The pair that an EndTxn of version 5 came with, until an InitProducerId or an adding changes the record.
+    /// The producer id and epoch with which an EndTxn of version 5 came, by which a retry of it is known (KIP-890). It is kept
+    /// until an InitProducerId, AddPartitionsToTxn or AddOffsetsToTxn changes the record.
     pub kept: Option<ProducerIdAndEpoch>,
 }
 
 impl TransactionState {
-    /// Whether the transaction is open.
+    /// Whether the transaction is open: it takes writes, and its outcome is still undecided.
     pub fn is_ongoing(self) -> bool
         ensures { result ≡ is_ongoing self }
     {
         self == TransactionState::Ongoing
     }
 
-    /// The state of a transaction that owes the markers of this outcome.
+    /// The state once the outcome is decided and its markers are pending: PrepareCommit or PrepareAbort.
     pub(crate) fn prepared(outcome: TransactionResult) -> TransactionState
         ensures { result ≡ prepared_phase outcome }
     {
@@ -64,7 +66,7 @@ impl TransactionState {
         }
     }
 
-    /// The state of a transaction whose markers are written.
+    /// The state once the outcome is decided and all of its markers are written: CompleteCommit or CompleteAbort.
     pub(crate) fn complete(outcome: TransactionResult) -> TransactionState
         ensures { result ≡ completed_phase outcome }
     {
@@ -76,14 +78,14 @@ impl TransactionState {
 }
 
 impl Transaction {
-    /// A record of its own.
+    /// A copy of the whole record.
     pub fn copied(&self) -> Result<Transaction, AllocError>
         ensures { IfOk result (λ copy. copy ≡ self.now) }
     {
         self.clone()
     }
 
-    /// Whether the partition or the group was added.
+    /// Whether the partition or the group was added to the transaction.
     pub fn has_target(&self, target: &Target) -> bool
         ensures { result ≡ has_target self.now target.now }
     {
@@ -93,7 +95,8 @@ impl Transaction {
         }
     }
 
-    /// The refusal of a call that doesn't come with the id's pair.
+    /// Why a call with this producer id and epoch may not act for the transactional id: INVALID_PRODUCER_ID_MAPPING if the
+    /// producer id isn't the id's, `other_epoch` if the epoch isn't, or is the last one. `None` if it may.
     pub fn pair_refusal(
         &self,
         other_epoch: ErrorCode,
@@ -111,7 +114,7 @@ impl Transaction {
         }
     }
 
-    /// The transaction has its outcome, and nothing is added to it any more.
+    /// Notes that all markers are written: the transaction is committed or aborted, and holds no partitions and groups any more.
     pub(crate) fn complete(&mut self, alloc: Global, outcome: TransactionResult)
         ensures { self.new ≡ completed_transaction outcome self.old }
     {

@@ -6,9 +6,8 @@ use crate::marker::PendingMarker;
 use std::marker::Model;
 use std::snapshot::Snapshot;
 
-/// The right to write the front marker, once; seen as that marker. It keeps nothing of it at run time, so it takes no memory: the
-/// coordinator lends what is to be written (`Coordinator::marker`). Neither `Clone` nor `Drop`: it goes back to the coordinator,
-/// its marker written or not.
+/// The right to write the front marker, once. It holds no data: the coordinator lends what is to be written
+/// (`Coordinator::marker`). It can be neither copied nor dropped: it goes back to the coordinator, its marker written or not.
 pub struct Warrant {
     marker: Snapshot<PendingMarker>,
 }
@@ -22,6 +21,7 @@ impl Model for Warrant {
 }
 
 impl Warrant {
+    /// A warrant for this marker, which is the front one. It allocates nothing.
     pub(crate) fn of(front: &PendingMarker) -> Warrant
         ensures { result ≡ front.now }
     {
@@ -30,7 +30,7 @@ impl Warrant {
         }
     }
 
-    /// Ends it, for the coordinator that takes it back.
+    /// Uses the warrant up, for the coordinator that takes it back.
     pub(crate) fn end(self) {
         let Warrant { marker: _marker } = self;
     }

@@ -51,7 +51,7 @@ cut_rule caller id topics = record {
   after = λ w name index. w;
   refused = λ code name index. added_partition code index;
   weight = λ index. 0;
-  room = λ w. 0;
+  budget = λ w. 0;
   takes = λ w name index. zero-le;
 }
 
@@ -74,7 +74,7 @@ code_rule code = record {
   after = λ w name index. w;
   refused = λ refusal name index. added_partition refusal index;
   weight = λ index. 0;
-  room = λ w. 0;
+  budget = λ w. 0;
   takes = λ w name index. zero-le;
 }
 

@@ -21,6 +21,7 @@ use Rattle.txn_coordinator.specs.Coordinator.{CoordinatorValue}
 use Rattle.txn_coordinator.specs.Holding.{holding_code}
 use Rattle.group_offsets.specs.declared.event.PartitionOffset.{PartitionOffset}
 use Rattle.group_offsets.specs.declared.group.Group.{Group}
+use Rattle.group_offsets.specs.declared.group_metadata.GroupMetadata.{GroupMetadata}
 use Rattle.group_offsets.specs.GroupTransition.{GroupTransition, Stays, answer_of}
 use Rattle.group_offsets.specs.Groups.{groups_after, stage}
 use Rattle.broker_world.specs.World.{World, TopicValue, LogValue, rules_of}
@@ -41,6 +42,10 @@ pub record Staging : Type 0 where
 
 abbrev pub staging_of : TxnOffsetCommitRequest → Staging
 staging_of r = record { id = r.transactional_id; pair = record { producer = r.producer; epoch = r.epoch }; group = r.group; generation = r.generation; member = r.member }
+
+-- the same by a transactional id with its pair, and a consumer's metadata
+abbrev pub staging_by : List ℕ → ProducerIdAndEpoch → GroupMetadata → Staging
+staging_by id pair m = record { id = id; pair = pair; group = m.group.now; generation = m.generation; member = m.member.now }
 
 -- to write with the transactional id, to read the group, and then to read the topic
 abbrev pub stage_questions : Caller → Staging → List ℕ → List Question
@@ -79,7 +84,7 @@ stage_rule caller s refusal topics = record {
   after = λ gs name p. groups_after gs (stage_transition refusal topics s gs name p);
   refused = λ code name p. staged_code code p;
   weight = λ p. 0;
-  room = λ gs. 0;
+  budget = λ gs. 0;
   takes = λ gs name p. zero-le;
 }
 

@@ -16,13 +16,15 @@ use txn_coordinator::{Coordinator, ProducerIdAndEpoch};
 use walk::refusal_code;
 use wire_types::ErrorCode;
 
+/// The AddOffsetsToTxn reply with this error code.
 fn add_offsets_reply(error: ErrorCode) -> Reply
     ensures { result ≡ Reply.AddOffsetsToTxn (add_offsets_reply error) }
 {
     Reply::AddOffsetsToTxn(AddOffsetsToTxnReply { throttle: 0, error })
 }
 
-/// Adds the group by a permit for the transactional id.
+/// Adds the group to the transaction by a permit to WRITE on its transactional id, which is spent, and gives the error code.
+/// `moment` is in milliseconds.
 fn add_by(
     coordinator: &mut Coordinator,
     policy: &Policy,
@@ -48,7 +50,8 @@ fn add_by(
     Ok((spent, code?))
 }
 
-/// What an AddOffsetsToTxn does and is answered.
+/// Handles an AddOffsetsToTxn: adds the group to the transaction if the caller may WRITE on its transactional id and READ the
+/// group, else answers TRANSACTIONAL_ID_ or GROUP_AUTHORIZATION_FAILED.
 pub fn answer_add_offsets(
     alloc: Global,
     state: &mut State,

@@ -25,8 +25,8 @@ use txn_coordinator::{Coordinator, ProducerIdAndEpoch, TopicPartition};
 use walk::{Part, PartApi, Walked, has_part, refusal_code, walk_cut, walk_granted};
 use wire_types::{ErrorCode, Items, Text, Topic};
 
-/// Who asks to add partitions to the transaction of an id, what is said to writing with that, and what partitions there are.
-/// Nothing is added, and nothing spent.
+/// Checks the partitions of an AddPartitionsToTxn before any is added. It holds the caller, the transactional id, what the policy
+/// said to WRITE on it, and the topics. It adds nothing and spends no permit.
 #[derive(Drop)]
 pub(crate) struct AddPartitionsCheck<'a> {
     pub(crate) caller: &'a Caller,
@@ -47,6 +47,8 @@ impl<'a> PartApi<i32, AddedPartition, ()> for AddPartitionsCheck<'a> {
 
     ghost settles = { λ api policy. api.asked.now ≡ settled_value policy (id_question api.caller.now api.id.now) };
 
+    /// Answers one partition of a request of which none is added: TRANSACTIONAL_ID_ or TOPIC_AUTHORIZATION_FAILED if it is
+    /// refused, UNKNOWN_TOPIC_OR_PARTITION if it isn't there, else OPERATION_NOT_ATTEMPTED.
     fn serve(
         &self,
         _alloc: Global,
@@ -72,8 +74,8 @@ impl<'a> PartApi<i32, AddedPartition, ()> for AddPartitionsCheck<'a> {
     }
 }
 
-/// Who has added partitions to the transaction of an id, what is said to writing with that, and the code that each of them is
-/// told.
+/// Answers the partitions of an AddPartitionsToTxn after the coordinator did. It holds the caller, the transactional id, what the
+/// policy said to WRITE on it, and the coordinator's error code, which each partition is told.
 #[derive(Drop)]
 struct AddPartitionsHandler<'a> {
     caller: &'a Caller,
@@ -94,6 +96,8 @@ impl<'a> PartApi<i32, AddedPartition, ()> for AddPartitionsHandler<'a> {
 
     ghost settles = { λ api policy. api.asked.now ≡ settled_value policy (id_question api.caller.now api.id.now) };
 
+    /// Answers one partition the coordinator's error code, and spends its permits, or answers TRANSACTIONAL_ID_ or
+    /// TOPIC_AUTHORIZATION_FAILED if it is refused.
     fn serve(
         &self,
         _alloc: Global,
@@ -117,13 +121,15 @@ impl<'a> PartApi<i32, AddedPartition, ()> for AddPartitionsHandler<'a> {
     }
 }
 
+/// The partition's answer, with this error code.
 fn added_partition(error: ErrorCode, index: i32) -> AddedPartition
     ensures { result ≡ added_partition error index }
 {
     AddedPartition { index, error }
 }
 
-/// What a partition is told where nothing is added.
+/// The error code of an allowed partition where none is added: UNKNOWN_TOPIC_OR_PARTITION if it has no log, else
+/// OPERATION_NOT_ATTEMPTED.
 fn cut_code(log: Option<&Log>) -> ErrorCode
     ensures { result ≡ cut_code (option_copied log.entry) }
 {
@@ -133,6 +139,7 @@ fn cut_code(log: Option<&Log>) -> ErrorCode
     }
 }
 
+/// Whether some of these partitions of the topic `name` don't exist.
 fn is_missing_in(topics: &Topics, name: &Text, indices: &[i32]) -> bool
     ensures { result ≡ is_missing_in topics.now name.now indices.now }
 {
@@ -141,14 +148,14 @@ fn is_missing_in(topics: &Topics, name: &Text, indices: &[i32]) -> bool
         .any(|index| topics.log(name, *index).is_none())
 }
 
-/// Whether some partition that is named isn't there.
+/// Whether some partition that the request names doesn't exist.
 fn is_missing(topics: &Topics, named: &[Topic<i32>]) -> bool
     ensures { result ≡ is_missing topics.now named.now }
 {
     named.iter().any(|topic| is_missing_in(topics, &topic.name, topic.partitions.as_slice()))
 }
 
-/// The partitions that are named, in order.
+/// The partitions that the request names, in its order.
 fn partitions_of(alloc: Global, named: &[Topic<i32>]) -> Result<Vec<TopicPartition>, AllocError>
     ensures { IfOk result (λ partitions. partitions.items ≡ partitions_of named.now) }
 {
@@ -159,6 +166,7 @@ fn partitions_of(alloc: Global, named: &[Topic<i32>]) -> Result<Vec<TopicPartiti
     Ok(partitions)
 }
 
+/// Appends the partitions with these indices of the topic `name` to the list.
 fn push_partitions(
     partitions: &mut Vec<TopicPartition>,
     name: &Text,
@@ -177,6 +185,7 @@ fn push_partitions(
     Ok(())
 }
 
+/// The AddPartitionsToTxn reply with these answers.
 fn add_reply(topics: Items<Topic<AddedPartition>>) -> Reply
     ensures { result ≡ add_reply topics }
 {
@@ -186,8 +195,8 @@ fn add_reply(topics: Items<Topic<AddedPartition>>) -> Reply
     })
 }
 
-/// The reply that tells each partition one code. None is refused, and the permits of all are spent, of which this is the
-/// number.
+/// The reply that answers each partition this error code, and the number of permits that were spent. None of the partitions is
+/// refused.
 fn told(
     alloc: Global,
     policy: &Policy,
@@ -216,7 +225,7 @@ fn told(
     Ok((add_reply(walked.topics), walked.spent))
 }
 
-/// The permit of a question that was settled, and is known to be granted.
+/// The permit of a question to which the policy said yes.
 fn granted(policy: &Policy, asked: Settled) -> Permit
     requires settled { IsSettled policy.now asked }
     requires granted { question_refusal (policy_rules policy.now) asked.question ≡ None }
@@ -228,7 +237,9 @@ fn granted(policy: &Policy, asked: Settled) -> Permit
     }
 }
 
-/// What an AddPartitionsToTxn does and is answered.
+/// Handles an AddPartitionsToTxn: adds all the partitions to the transaction, or none if one is refused or doesn't exist. The
+/// caller needs WRITE on the transactional id and on each topic. One that is fine is told OPERATION_NOT_ATTEMPTED if none is
+/// added, else what the coordinator answers.
 pub fn answer_add_partitions(
     alloc: Global,
     state: &mut State,
@@ -260,7 +271,7 @@ pub fn answer_add_partitions(
     Ok(served_in_parts(reply, cut.refusals, spent))
 }
 
-/// The answers where nothing is added, and what is refused.
+/// The answers where no partition is added, and the refusals. No permit is spent.
 fn cut(
     alloc: Global,
     policy: &Policy,
@@ -288,7 +299,8 @@ fn cut(
     walk_cut(alloc, &api, policy, named)
 }
 
-/// Adds all the partitions, if any are named. What all of them ask was settled, and is granted.
+/// Adds all the partitions to the transaction, and gives the coordinator's error code; NONE if the request names none. The caller
+/// may WRITE on the transactional id, as `asked` says. `moment` is in milliseconds.
 fn add_all(
     alloc: Global,
     coordinator: &mut Coordinator,

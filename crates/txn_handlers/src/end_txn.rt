@@ -13,9 +13,10 @@ use msg_admin::Reply;
 use msg_txn::{EndTxnReply, EndTxnRequest, Ended, EndedWithPair, FlexibleEnded};
 use record_batch::TransactionResult;
 use std::alloc::{AllocError, Global};
-use txn_coordinator::{Coordinator, EndForm, ProducerIdAndEpoch, ProducerIdAnswer};
+use txn_coordinator::{Coordinator, EndForm, EndTransaction, ProducerIdAndEpoch, ProducerIdAnswer};
 use walk::refusal_code;
 
+/// The outcome that the request's `committed` flag stands for.
 fn ending(committed: bool) -> TransactionResult
     ensures { result ≡ ending_of committed }
 {
@@ -26,7 +27,8 @@ fn ending(committed: bool) -> TransactionResult
     }
 }
 
-/// What the request's version asks for.
+/// What EndTxn does in the request's version: from 2 on another epoch is answered PRODUCER_FENCED, and 5 raises the epoch
+/// (KIP-890).
 fn form_of(request: &EndTxnRequest) -> EndForm
     ensures { result ≡ form_of request.now }
 {
@@ -38,7 +40,7 @@ fn form_of(request: &EndTxnRequest) -> EndForm
     }
 }
 
-/// The answer in the request's version.
+/// The EndTxn reply in the request's version. Only version 5 has the producer id and epoch.
 fn end_reply(request: &EndTxnRequest, answer: ProducerIdAnswer) -> Reply
     ensures { result ≡ Reply.EndTxn (end_reply request.now answer) }
 {
@@ -58,7 +60,7 @@ fn end_reply(request: &EndTxnRequest, answer: ProducerIdAnswer) -> Reply
     })
 }
 
-/// Ends the transaction by a permit for its id.
+/// Ends the transaction by a permit to WRITE on its transactional id, which is spent.
 fn end_by(
     alloc: Global,
     coordinator: &mut Coordinator,
@@ -75,19 +77,22 @@ fn end_by(
         (λ r. r.1 ≡ transition_answer coordinator.old (ending_id request.now)
         (end_transition coordinator.old request.now)) }
 {
-    let asked = request.asked();
-    let pair = ProducerIdAndEpoch {
-        producer: asked.producer,
-        epoch: asked.epoch,
+    let body = request.asked();
+    let asked = EndTransaction {
+        form: form_of(request),
+        id: &body.transactional_id,
+        pair: ProducerIdAndEpoch {
+            producer: body.producer,
+            epoch: body.epoch,
+        },
+        outcome: ending(body.committed),
     };
-    let outcome = ending(asked.committed);
-    let id = &asked.transactional_id;
-    let form = form_of(request);
-    let (spent, answer) = coordinator.end(alloc, policy, permit, form, id, pair, outcome);
+    let (spent, answer) = coordinator.end(alloc, policy, permit, &asked);
     Ok((spent, answer?))
 }
 
-/// What an EndTxn does and is answered.
+/// Handles an EndTxn: commits or aborts the transaction if the caller may WRITE on its transactional id, else answers
+/// TRANSACTIONAL_ID_AUTHORIZATION_FAILED. The markers are written later.
 pub fn answer_end_txn(
     alloc: Global,
     state: &mut State,

@@ -16,7 +16,7 @@ use txn_coordinator::{Coordinator, ProducerIdAnswer};
 use walk::refusal_code;
 use wire_types::{ErrorCode, Text};
 
-/// May the caller have a producer id, or that of a transactional id?
+/// The question whether the caller may WRITE on the transactional id, or without one may do IDEMPOTENT_WRITE on the cluster.
 fn init_question(alloc: Global, caller: &Caller, id: &Option<Text>) -> Result<Question, AllocError>
     ensures { IfOk result (λ question. question ≡ init_question caller.now id.now) }
 {
@@ -26,6 +26,7 @@ fn init_question(alloc: Global, caller: &Caller, id: &Option<Text>) -> Result<Qu
     }
 }
 
+/// The InitProducerId reply that gives this producer id, with epoch 0.
 fn init_given(producer: i64) -> Reply
     ensures { result ≡ Reply.InitProducerId (init_given producer) }
 {
@@ -37,6 +38,7 @@ fn init_given(producer: i64) -> Reply
     })
 }
 
+/// The InitProducerId reply with this error code, and no producer id.
 fn init_error(error: ErrorCode) -> Reply
     ensures { result ≡ Reply.InitProducerId (init_error error) }
 {
@@ -48,7 +50,7 @@ fn init_error(error: ErrorCode) -> Reply
     })
 }
 
-/// The pair of a transactional id, or an error.
+/// The InitProducerId reply for what the coordinator answered: a producer id and epoch, or an error code.
 fn init_answered(answer: ProducerIdAnswer) -> Reply
     ensures { result ≡ Reply.InitProducerId (init_answered answer) }
 {
@@ -60,7 +62,9 @@ fn init_answered(answer: ProducerIdAnswer) -> Reply
     })
 }
 
-/// What an InitProducerId does and is answered.
+/// Handles an InitProducerId: gives a producer id and epoch to the transactional id if the caller may WRITE on it, or without one
+/// to an idempotent producer if the caller may do IDEMPOTENT_WRITE on the cluster or WRITE on any topic. Else answers
+/// TRANSACTIONAL_ID_ or CLUSTER_AUTHORIZATION_FAILED.
 pub fn answer_init_producer_id(
     alloc: Global,
     state: &mut State,
@@ -90,7 +94,7 @@ pub fn answer_init_producer_id(
     }
 }
 
-/// Without an id it is enough that the caller may write to some topic.
+/// Whether the request has no transactional id and the caller may WRITE on any topic, which is enough then.
 fn any_topic_suffices(state: &State, caller: &Caller, request: &InitProducerIdRequest) -> bool
     ensures { result
         ≡ (is_none request.now.transactional_id && any_topic state.now.book.entries caller.now.who
@@ -99,7 +103,8 @@ fn any_topic_suffices(state: &State, caller: &Caller, request: &InitProducerIdRe
     request.transactional_id.is_none() && state.policy.any_topic(&caller.who, &caller.host)
 }
 
-/// Gives out the next producer id, or has the coordinator give the transactional id its next pair.
+/// Carries an allowed InitProducerId out and spends its permit: without a transactional id gives out the next producer id, else
+/// asks the coordinator for the id's next epoch. `greatest` is the greatest transaction timeout, in milliseconds.
 fn initialize(
     alloc: Global,
     coordinator: &mut Coordinator,

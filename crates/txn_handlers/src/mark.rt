@@ -13,7 +13,8 @@ use msg_admin::Reply;
 use std::alloc::{AllocError, Global};
 use txn_coordinator::{PendingMarker, Target};
 
-/// Writes a marker where it is pending: to a partition's log, or as a decision to a group.
+/// Writes a marker: a control batch to a partition's log, or the commit or abort of the offsets that the producer staged for a
+/// group. An allocation failure changes nothing.
 fn write_marker(
     alloc: Global,
     topics: &mut Topics,
@@ -42,8 +43,8 @@ fn write_marker(
     }
 }
 
-/// What a marker step does and is answered. Whose transaction it is, and what that principal may do by now, isn't
-/// asked.
+/// Writes the front marker, if one is pending, and tells how many are left. No permission is asked: whose transaction it is, and
+/// what that principal may do by now, doesn't matter.
 pub fn answer_mark(alloc: Global, state: &mut State) -> Result<HandlerResult, AllocError>
     requires { most_end state.old.topics < 9223372036854775807 }
     ensures { HandlerMeets state.old state.new (mark_outcome state.old) [] [] result }

@@ -11,14 +11,14 @@ ghost use Rattle.broker_world.specs.Codes.{code_in};
 ghost use Rattle.authorizer.specs.Asking.{policy_rules};
 ghost use Rattle.authorizer.specs.Tally.{count_after_parts};
 ghost use Rattle.walk.specs.Walk.{world_after, answers, refusals, asked_in};
-ghost use Rattle.txn_handlers.specs.TxnOffsetCommit.{staging_of, offset_staged, staged_code, staging_refusal, transition_by, stage_rule, staging_rule, txn_offset_commit_outcome};
+ghost use Rattle.txn_handlers.specs.TxnOffsetCommit.{staging_of, staging_by, offset_staged, staged_code, staging_refusal, transition_by, stage_rule, staging_rule, txn_offset_commit_outcome};
 
 use acl_binding::{Caller, Kind, Operation};
 use authorizer::{Paid, Permit, Policy, Settled, Spent, ThreePermits, ask_three};
 use broker_world::{
     HandlerResult, State, Topics, code_in, id_question, read_question, refused_by, served_in_parts,
 };
-use group_offsets::{Groups, PartitionOffset};
+use group_offsets::{GroupMetadata, Groups, PartitionOffset};
 use msg_admin::Reply;
 use msg_txn::{OffsetToStage, StagedOffset, TxnOffsetCommitReply, TxnOffsetCommitRequest};
 use partition_log::Log;
@@ -27,34 +27,36 @@ use txn_coordinator::{Coordinator, ProducerIdAndEpoch, Target};
 use walk::{Part, PartApi, Walked, refusal_code, walk};
 use wire_types::{ErrorCode, Text};
 
-/// Whose transaction commits for which group, what is said to writing with its id and to reading the group, and what partitions
-/// there are.
+/// Serves the partitions of a TxnOffsetCommit. It holds the caller, its transaction, the group and member for which it commits,
+/// what the policy said to WRITE on the transactional id and to READ of the group, and the topics.
 #[derive(Drop)]
 pub(crate) struct TxnOffsetCommitHandler<'a> {
     pub(crate) caller: &'a Caller,
     pub(crate) id: &'a Text,
+    /// What the policy said to WRITE on the transactional id.
     pub(crate) id_asked: &'a Settled,
     pub(crate) pair: ProducerIdAndEpoch,
-    pub(crate) group: &'a Text,
+    pub(crate) metadata: GroupMetadata<'a>,
+    /// What the policy said to READ of the group.
     pub(crate) group_asked: &'a Settled,
-    pub(crate) generation: i32,
-    pub(crate) member: &'a Text,
-    /// Why the transaction can't commit for the group, if it can't.
+    /// Why the transaction can't commit for the group: the error code for each partition. `None` if it can.
     pub(crate) refusal: Option<ErrorCode>,
     pub(crate) topics: &'a Topics,
 }
 
 impl<'a> PartApi<OffsetToStage, StagedOffset, Groups> for TxnOffsetCommitHandler<'a> {
     ghost use Rattle.std.specs.Prelude.{false};
-    ghost use Rattle.txn_handlers.specs.TxnOffsetCommit.{stage_rule};
+    ghost use Rattle.txn_handlers.specs.TxnOffsetCommit.{staging_by, stage_rule};
     ghost use Rattle.txn_handlers.specs.Asked.{AreAsked};
 
-    ghost rule = { λ api. stage_rule api.caller.now (record { id = api.id.now; pair = api.pair; group = api.group.now; generation = api.generation; member = api.member.now }) api.refusal api.topics.now };
+    ghost rule = { λ api. stage_rule api.caller.now (staging_by api.id.now api.pair api.metadata) api.refusal api.topics.now };
 
     ghost cuts = { λ _. false };
 
-    ghost settles = { λ api policy. AreAsked policy api.caller.now api.id.now api.group.now api.id_asked.now api.group_asked.now };
+    ghost settles = { λ api policy. AreAsked policy api.caller.now api.id.now api.metadata.group.now api.id_asked.now api.group_asked.now };
 
+    /// Stages the offset of one partition if the caller may WRITE on the transactional id and READ the group and the topic. Else
+    /// answers the partition TRANSACTIONAL_ID_, GROUP_ or TOPIC_AUTHORIZATION_FAILED.
     fn serve(
         &self,
         alloc: Global,
@@ -77,9 +79,8 @@ impl<'a> PartApi<OffsetToStage, StagedOffset, Groups> for TxnOffsetCommitHandler
             ) => {
                 let (id, topic) = (first.spend(policy), third.spend(policy));
                 let log = self.topics.log(name, part.index);
-                let (group, answer) = self.stage(
-                    alloc, policy, second, groups, log, name, part, offset,
-                )?;
+                let (group, code) = self.stage(alloc, policy, second, groups, log, offset)?;
+                let answer = staged_code(code, part);
                 Ok(Part::served(answer, Paid::three(id, group, topic)))
             }
             Err(refusal) => {
@@ -91,7 +92,8 @@ impl<'a> PartApi<OffsetToStage, StagedOffset, Groups> for TxnOffsetCommitHandler
 }
 
 impl<'a> TxnOffsetCommitHandler<'a> {
-    /// Stages the offset of a part that was granted, if the partition is there.
+    /// Stages the offset of a partition that the caller may commit, by the permit to READ the group, and gives the error code:
+    /// UNKNOWN_TOPIC_OR_PARTITION if it has no log, else the transaction's refusal, else what the group answers.
     fn stage(
         &self,
         alloc: Global,
@@ -99,52 +101,35 @@ impl<'a> TxnOffsetCommitHandler<'a> {
         permit: Permit,
         groups: &mut Groups,
         log: Option<&Log>,
-        name: &Text,
-        part: &OffsetToStage,
         offset: PartitionOffset,
-    ) -> Result<(Spent, StagedOffset), AllocError>
-        requires permit { MayUse policy.now operations.Read self.now.group.now permit }
-        requires offset { offset ≡ offset_staged name.now part.now }
+    ) -> Result<(Spent, ErrorCode), AllocError>
+        requires { MayUse policy.now operations.Read self.now.metadata.group.now permit }
         ensures spent { IfOk result (λ r. r.0 ≡ permit.question) }
         ensures groups { OnOk result
             (groups.new ≡ groups_after groups.old
             (transition_by self.now.refusal
-            (record {
-              id = self.now.id.now;
-              pair = self.now.pair;
-              group = self.now.group.now;
-              generation = self.now.generation;
-              member = self.now.member.now;
-            }) groups.old (offset_staged name.now part.now)
+            (staging_by self.now.id.now self.now.pair self.now.metadata) groups.old offset
             (option_copied log.entry))) }
-        ensures answer { IfOk result
-            (λ r. r.1 ≡ staged_code
-            (code_in (answer_of
+        ensures code { IfOk result
+            (λ r. r.1 ≡ code_in
+            (answer_of
             (transition_by self.now.refusal
-            (record {
-              id = self.now.id.now;
-              pair = self.now.pair;
-              group = self.now.group.now;
-              generation = self.now.generation;
-              member = self.now.member.now;
-            }) groups.old (offset_staged name.now part.now)
-            (option_copied log.entry)))) part.now) }
+            (staging_by self.now.id.now self.now.pair self.now.metadata) groups.old offset
+            (option_copied log.entry)))) }
     {
         if log.is_none() {
-            let answer = staged_code(ErrorCode::UnknownTopicOrPartition, part);
-            return Ok((permit.spend(policy), answer));
+            return Ok((permit.spend(policy), ErrorCode::UnknownTopicOrPartition));
         }
         if let Some(code) = self.refusal {
-            return Ok((permit.spend(policy), staged_code(code, part)));
+            return Ok((permit.spend(policy), code));
         }
-        let (producer, generation, member) = (self.pair.producer, self.generation, self.member);
-        let (spent, staged) = groups.stage(
-            alloc, policy, permit, self.group, producer, generation, member, offset,
-        );
-        Ok((spent, staged_code(code_in(staged?), part)))
+        let (metadata, producer) = (&self.metadata, self.pair.producer);
+        let (spent, staged) = groups.stage(alloc, policy, permit, metadata, producer, offset);
+        Ok((spent, code_in(staged?)))
     }
 }
 
+/// The offset that the request sends for this partition of the topic `name`.
 fn offset_staged(
     alloc: Global,
     name: &Text,
@@ -155,6 +140,7 @@ fn offset_staged(
     PartitionOffset::told(alloc, name, part.index, part.offset, &part.metadata)
 }
 
+/// The partition's answer, with this error code.
 fn staged_code(error: ErrorCode, part: &OffsetToStage) -> StagedOffset
     ensures { result ≡ staged_code error part.now }
 {
@@ -164,7 +150,8 @@ fn staged_code(error: ErrorCode, part: &OffsetToStage) -> StagedOffset
     }
 }
 
-/// Why the transaction that a request names can't commit for its group, if it can't.
+/// Why the coordinator doesn't let the request's transaction commit offsets for its group: INVALID_PRODUCER_ID_MAPPING,
+/// INVALID_PRODUCER_EPOCH, or INVALID_TXN_STATE if no transaction is open or the group wasn't added. `None` if it does.
 fn staging_refusal(
     coordinator: &Coordinator,
     request: &TxnOffsetCommitRequest,
@@ -180,7 +167,8 @@ fn staging_refusal(
     Ok(refused_by(coordinator.holds(&request.transactional_id, pair, &group)))
 }
 
-/// Walks the parts of a request whose transaction can commit for its group, or can't by this code.
+/// Serves the partitions of a TxnOffsetCommit one after the other. `refusal` is the error code of the allowed ones if the
+/// transaction can't commit for the group.
 fn stage_all(
     alloc: Global,
     policy: &Policy,
@@ -217,17 +205,20 @@ fn stage_all(
             producer: request.producer,
             epoch: request.epoch,
         },
-        group: &request.group,
+        metadata: GroupMetadata {
+            group: &request.group,
+            generation: request.generation,
+            member: &request.member,
+        },
         group_asked: &group_asked,
-        generation: request.generation,
-        member: &request.member,
         refusal,
         topics,
     };
     walk(alloc, &api, policy, groups, request.topics.as_slice())
 }
 
-/// What a TxnOffsetCommit does and is answered.
+/// Handles a TxnOffsetCommit: stages the offset of each partition in the transaction (KIP-447) if the caller may WRITE on its
+/// transactional id and READ the group and the topic. Each partition is answered an error code of its own.
 pub fn answer_txn_offset_commit(
     alloc: Global,
     state: &mut State,

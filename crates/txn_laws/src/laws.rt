@@ -10,9 +10,9 @@ ghost use Rattle.txn_laws.specs.Kept.{KeptLaw, KeptEndLaw};
 ghost use Rattle.txn_laws.specs.Tables.{AddTable, EndTable, GroupTable, InitTable};
 ghost use Rattle.txn_laws.specs.TurnedAway.{TurnsAwayByTable};
 
-/// What an EndTxn with an id's own pair is answered, how many markers it owes and which pair it leaves, by the state of the
-/// id's transaction, the version and what is asked for; and the same of an InitProducerId, and of an AddPartitionsToTxn
-/// and an AddOffsetsToTxn, which take in what they name and nothing else: as tables of the protocol's numbers.
+/// Tables of the protocol's numbers say what an EndTxn of the right producer id and epoch is answered, how many markers it leaves
+/// to be written and which id and epoch come next, by the transaction's state, the version, and commit or abort. The same holds
+/// of InitProducerId, AddPartitionsToTxn and AddOffsetsToTxn, of which the last two take in what they name and nothing else.
 pub fn calls_by_table()
     ensures ends { EndTable }
     ensures inits { InitTable }
@@ -20,20 +20,21 @@ pub fn calls_by_table()
     ensures groups { GroupTable }
 {}
 
-/// What a call is told that comes with the empty id, an unknown one, another producer id or another epoch, with a timeout out of its
-/// range, or once more: the protocol's number, and nothing is changed.
+/// A table of the protocol's numbers says which error a call gets that comes with an empty or unknown transactional id, another
+/// producer id or epoch, or a timeout out of range, or that comes once more; and that it changes nothing.
 pub fn turns_away_by_table()
     ensures { TurnsAwayByTable }
 {}
 
-/// What every move keeps holds from the beginning on.
+/// The invariant of the coordinator, the logs and the groups holds at the beginning, and each call, write, marker and tick keeps
+/// it: so it holds of every state that they reach.
 pub fn soundness()
     ensures { SoundLaw }
 {}
 
-/// A marker that is pending with fewer than k in front of it is written by k marks, before anything else of its producer
-/// comes there; so a transaction that is prepared is completed at each partition and group that was added, and one that
-/// waits is completed at each for which a marker is still pending.
+/// A pending marker with fewer than k before it is written by the next k marks, before anything else of its producer comes to
+/// that partition or group. So each transaction that is prepared is completed at each partition and group that it took in, and
+/// one that waits for markers at each that is left.
 pub fn completion()
     ensures owed { InSound CompletionLaw }
     ensures owed_reached { InReached CompletionLaw }
@@ -47,8 +48,8 @@ pub fn completion()
     ensures completed_reached { InReached CompletedLaw }
 {}
 
-/// A pair that a record has left writes nothing more, each check refuses it, and no data stands after a marker that
-/// fenced its producer.
+/// A producer id and epoch that a transactional id has left for others writes nothing more: each check refuses it, and no data of
+/// a producer stands in a log after a marker of it with a greater epoch.
 pub fn fencing()
     ensures left { InSound FencingLaw }
     ensures left_reached { InReached FencingLaw }
@@ -58,7 +59,8 @@ pub fn fencing()
     ensures order_reached { InReached OrderLaw }
 {}
 
-/// To expire all transactions at once is to expire one after the other, since their ids are different.
+/// A tick that aborts all transactions whose time is over does what aborting them one after the other does, since their
+/// transactional ids differ.
 pub fn expiry()
     ensures own_ids { (w : World) → HaveOwnIds w.coordinator.transactions → ExpiryLaw w }
     ensures reached { InReached ExpiryLaw }
@@ -68,7 +70,8 @@ pub fn expiry()
     ensures ids_reached { InReached IdsLaw }
 {}
 
-/// A broker whose groups keep no epochs goes on as the small world does, and shows where a transaction ends.
+/// A broker whose groups keep of a producer its id, and no epoch, goes on as one whose groups keep both, and shows the end of
+/// each transaction.
 pub fn keeping()
     ensures moves { KeptLaw }
     ensures ends { KeptEndLaw }

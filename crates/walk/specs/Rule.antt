@@ -16,8 +16,8 @@ pub record PartRule (P A W : Type 0) : Type 0 where
   pub refused : ErrorCode → List ℕ → P → A
   -- how much it may add to the world, how much more the world can take, and that the one is taken off the other at most
   pub weight : P → ℕ
-  pub room : W → ℕ
-  pub takes : (w : W) (name : List ℕ) (p : P) → room w ≤ weight p + room (after w name p)
+  pub budget : W → ℕ
+  pub takes : (w : W) (name : List ℕ) (p : P) → budget w ≤ weight p + budget (after w name p)
 
 -- the part's refusal, if it is refused
 abbrev pub refusal_of : {P A W : Type 0} → PartRule P A W → Rules → List ℕ → P → Option Refusal

@@ -7,7 +7,8 @@ use acl_binding::Kind;
 use authorizer::Refusal;
 use wire_types::ErrorCode;
 
-/// The code that a part with this refusal is answered with.
+/// The error code that a refused part is answered, by the kind of resource that was refused: TOPIC_, GROUP_, CLUSTER_ or
+/// TRANSACTIONAL_ID_AUTHORIZATION_FAILED.
 pub fn refusal_code(refusal: &Refusal) -> ErrorCode
     ensures { result ≡ refusal_code refusal.now }
 {

@@ -3,18 +3,19 @@
 ghost use Rattle.walk.specs.Woven.{OneWalk, FirstIsGranted};
 ghost use Rattle.walk.specs.Headline.{AnswersEachPart};
 
-/// To serve or refuse one part after the other, and to serve the allowed parts and then put the refused ones back, are
-/// one.
+/// Serving or refusing one part after the other comes to the same as serving the allowed parts alone and then putting the
+/// refused parts' answers at their places.
 pub fn one_walk<P, A, W>()
     ensures { OneWalk P A W }
 {}
 
-/// Each part is answered at its place: a refused one by its code, any other as the plain broker does.
+/// Each part is answered at its place in the request: a refused one by its code, any other as the broker without permissions
+/// would.
 pub fn answers_each_part<P, A, W>()
     ensures { AnswersEachPart P A W }
 {}
 
-/// Where no part of a request with a part was refused, what each part asks first is granted.
+/// If a request has a part and none was refused, then a question that each part asks first is granted.
 pub fn first_is_granted<P, A, W>()
     ensures { FirstIsGranted P A W }
 {}

@@ -12,7 +12,7 @@ use authorizer::{Paid, Policy, Refusal, Tally};
 use std::alloc::{AllocError, Global};
 use wire_types::Text;
 
-/// How a part went.
+/// What became of one part of a request, such as a partition.
 #[derive(Drop)]
 pub enum PartResult {
     /// It was served, and this was spent for it.
@@ -24,7 +24,7 @@ pub enum PartResult {
 }
 
 impl PartResult {
-    /// Counts what was spent for a part that was served, and gives the refusal of one that was refused.
+    /// Counts in `spent` the permits of a part that was served, and gives the refusal of one that was refused; else `None`.
     pub fn counted(self, spent: &mut Tally) -> Option<Refusal>
         ensures refusal { result ≡ refusal_in self }
         ensures spent { spent.new ≡ count_after spent.old (spent_in self) }
@@ -40,7 +40,7 @@ impl PartResult {
     }
 }
 
-/// The answer for one part, and how it went.
+/// The answer for one part of a request, and what became of the part.
 #[derive(Drop)]
 pub struct Part<A> {
     pub answer: A,
@@ -48,7 +48,7 @@ pub struct Part<A> {
 }
 
 impl<A> Part<A> {
-    /// A part that was served, for which this was spent.
+    /// The outcome of a part that was served, with the permits that were spent for it.
     pub fn served(answer: A, paid: Paid) -> Part<A>
         ensures { result ≡ record { answer = answer; ending = endings.Served paid } }
     {
@@ -58,7 +58,7 @@ impl<A> Part<A> {
         }
     }
 
-    /// A part that was refused.
+    /// The outcome of a part that was refused, with the refusal.
     pub fn refused(answer: A, refusal: Refusal) -> Part<A>
         ensures { result ≡ record { answer = answer; ending = endings.Refused refusal } }
     {
@@ -68,7 +68,7 @@ impl<A> Part<A> {
         }
     }
 
-    /// A part that was granted all that it asked, and isn't served.
+    /// The outcome of a part that was granted all that it asked, and is not served all the same: its permits were declined.
     pub fn cut(answer: A) -> Part<A>
         ensures { result ≡ record { answer = answer; ending = endings.Cut } }
     {
@@ -79,7 +79,8 @@ impl<A> Part<A> {
     }
 }
 
-/// An api that answers for partitions `P` by `A`, over a world `W` that is only what it may change.
+/// What an api does with one part of a request. `P` is a part, such as a partition, `A` its answer, and `W` what serving may
+/// change.
 pub trait PartApi<P, A, W> {
     /// What a part asks, does and is answered.
     ghost rule: { Self → PartRule P A W };
@@ -90,7 +91,8 @@ pub trait PartApi<P, A, W> {
     /// What all parts ask was asked of this policy.
     ghost settles: { Self → PolicyValue → Type 0 };
 
-    /// Serves one part of the topic of this name, or refuses it.
+    /// Asks the policy for one part of the topic of this name. Serves the part if all is granted, else answers the refusal's
+    /// code. An `AllocError` is an allocation failure.
     fn serve(
         &self,
         alloc: Global,
@@ -100,7 +102,7 @@ pub trait PartApi<P, A, W> {
         part: &P,
     ) -> Result<Part<A>, AllocError>
         requires settled { settles self.now policy.now }
-        requires room { (rule self.now).weight part.now ≤ (rule self.now).room world.old }
+        requires budget { (rule self.now).weight part.now ≤ (rule self.now).budget world.old }
         ensures world { OnOk result
             (world.new ≡ part_world (rule self.now) (policy_rules policy.now) world.old name.now
             part.now) }

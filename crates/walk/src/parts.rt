@@ -5,7 +5,7 @@ ghost use Rattle.walk.specs.Woven.{has_part};
 
 use wire_types::Topic;
 
-/// Some partition is asked for.
+/// Whether the topics have at least one part, such as a partition, among them.
 pub fn has_part<P>(topics: &[Topic<P>]) -> bool
     ensures { result ≡ has_part topics.now }
 {

@@ -11,7 +11,8 @@ use authorizer::{Policy, Refusal, Tally};
 use std::alloc::{AllocError, Global};
 use wire_types::{Items, Text, Topic};
 
-/// The answers for the topics, the refusals of the parts that were refused, and how many permits were spent for the others.
+/// What a walk comes to: an answer for each part, by topics, the refusals of the refused parts, and how many permits were
+/// spent for the others.
 #[derive(Drop)]
 pub struct Walked<A> {
     pub topics: Items<Topic<A>>,
@@ -19,7 +20,8 @@ pub struct Walked<A> {
     pub spent: Tally,
 }
 
-/// The plain answers to the parts that are allowed, with a code in place of each other part, and the refusals of those.
+/// Serves the parts that are allowed and answers each refused one by its code, in the request's order. After an allocation
+/// failure some parts may have been served.
 #[tactic(auto, using(crate::proofs::Weaving::woven, crate::proofs::Spending::all_counted))]
 pub fn walk<P, A: Drop, W, X: PartApi<P, A, W>>(
     alloc: Global,
@@ -30,7 +32,7 @@ pub fn walk<P, A: Drop, W, X: PartApi<P, A, W>>(
 ) -> Result<Walked<A>, AllocError>
     requires served { X.cuts api.now ≡ false }
     requires settled { X.settles api.now policy.now }
-    requires room { topics_weight (X.rule api.now) topics.now ≤ (X.rule api.now).room world.old }
+    requires budget { topics_weight (X.rule api.now) topics.now ≤ (X.rule api.now).budget world.old }
     ensures world { OnOk result
         (world.new ≡ world_after (X.rule api.now) (policy_rules policy.now) world.old topics.now) }
     ensures answers { IfOk result
@@ -44,7 +46,8 @@ pub fn walk<P, A: Drop, W, X: PartApi<P, A, W>>(
     walk_topics(alloc, api, policy, world, topics)
 }
 
-/// The plain answers to all parts, where none is refused, and how many permits were spent for them.
+/// Serves all parts of a request of which it is known that none is refused. After an allocation failure some parts may have
+/// been served.
 #[tactic(auto, using(crate::proofs::Weaving::granted, crate::proofs::Spending::all_counted))]
 pub fn walk_granted<P, A: Drop, W, X: PartApi<P, A, W>>(
     alloc: Global,
@@ -56,7 +59,7 @@ pub fn walk_granted<P, A: Drop, W, X: PartApi<P, A, W>>(
     requires served { X.cuts api.now ≡ false }
     requires settled { X.settles api.now policy.now }
     requires granted { refusals (X.rule api.now) (policy_rules policy.now) topics.now ≡ [] }
-    requires room { topics_weight (X.rule api.now) topics.now ≤ (X.rule api.now).room world.old }
+    requires budget { topics_weight (X.rule api.now) topics.now ≤ (X.rule api.now).budget world.old }
     ensures world { OnOk result (world.new ≡ plain_world (X.rule api.now) world.old topics.now) }
     ensures answers { IfOk result
         (λ r. r.topics ≡ plain_topics (X.rule api.now) world.old topics.now) }
@@ -68,8 +71,8 @@ pub fn walk_granted<P, A: Drop, W, X: PartApi<P, A, W>>(
     walk_topics(alloc, api, policy, world, topics)
 }
 
-/// The answers to the parts of a request of which nothing is served: there is no world that it could change, and for
-/// what is granted nothing is spent.
+/// Answers the parts of a request of which none is to be served: a refused part by its code, a granted one as the api cuts
+/// it. No permit is spent, and nothing is changed.
 #[tactic(auto, using(crate::proofs::Weaving::woven, crate::proofs::Spending::none_counted))]
 pub fn walk_cut<P, A: Drop, X: PartApi<P, A, ()>>(
     alloc: Global,
@@ -79,7 +82,7 @@ pub fn walk_cut<P, A: Drop, X: PartApi<P, A, ()>>(
 ) -> Result<Walked<A>, AllocError>
     requires cut { X.cuts api.now ≡ true }
     requires settled { X.settles api.now policy.now }
-    requires room { topics_weight (X.rule api.now) topics.now ≤ (X.rule api.now).room tt }
+    requires budget { topics_weight (X.rule api.now) topics.now ≤ (X.rule api.now).budget tt }
     ensures answers { IfOk result
         (λ r. r.topics ≡ answers (X.rule api.now) (policy_rules policy.now) tt topics.now) }
     ensures refusals { IfOk result
@@ -89,7 +92,7 @@ pub fn walk_cut<P, A: Drop, X: PartApi<P, A, ()>>(
     walk_topics(alloc, api, policy, &mut (), topics)
 }
 
-/// Walks the topics of a request, one after the other.
+/// Answers the parts of the topics, one topic after the other.
 fn walk_topics<P, A: Drop, W, X: PartApi<P, A, W>>(
     alloc: Global,
     api: &X,
@@ -98,7 +101,7 @@ fn walk_topics<P, A: Drop, W, X: PartApi<P, A, W>>(
     topics: &[Topic<P>],
 ) -> Result<Walked<A>, AllocError>
     requires settled { X.settles api.now policy.now }
-    requires room { topics_weight (X.rule api.now) topics.now ≤ (X.rule api.now).room world.old }
+    requires budget { topics_weight (X.rule api.now) topics.now ≤ (X.rule api.now).budget world.old }
     ensures world { OnOk result
         (world.new ≡ topics_world (X.rule api.now) (policy_rules policy.now) world.old topics.now) }
     ensures answers { IfOk result
@@ -137,7 +140,8 @@ fn walk_topics<P, A: Drop, W, X: PartApi<P, A, W>>(
     })
 }
 
-/// One partition after the other. Their refusals go after those that are there, and what is spent is counted.
+/// Answers the parts of one topic in order. It adds their refusals to `refusals`, and counts in `spent` the permits that
+/// were spent.
 #[tactic(auto, using(crate::proofs::Weights::part_takes))]
 fn walk_parts<P, A: Drop, W, X: PartApi<P, A, W>>(
     alloc: Global,
@@ -150,7 +154,7 @@ fn walk_parts<P, A: Drop, W, X: PartApi<P, A, W>>(
     spent: &mut Tally,
 ) -> Result<Items<A>, AllocError>
     requires settled { X.settles api.now policy.now }
-    requires room { parts_weight (X.rule api.now) parts.now ≤ (X.rule api.now).room world.old }
+    requires budget { parts_weight (X.rule api.now) parts.now ≤ (X.rule api.now).budget world.old }
     ensures world { OnOk result
         (world.new ≡ parts_world (X.rule api.now) (policy_rules policy.now) world.old name.now
         parts.now) }
@@ -163,9 +167,9 @@ fn walk_parts<P, A: Drop, W, X: PartApi<P, A, W>>(
     ensures spent { OnOk result
         (spent.new ≡ parts_spent (X.cuts api.now) (X.rule api.now) (policy_rules policy.now)
         spent.old name.now parts.now) }
-    ensures room { OnOk result
-        ((X.rule api.now).room world.old ≤ parts_weight (X.rule api.now) parts.now
-        + (X.rule api.now).room world.new) }
+    ensures budget { OnOk result
+        ((X.rule api.now).budget world.old ≤ parts_weight (X.rule api.now) parts.now
+        + (X.rule api.now).budget world.new) }
 {
     let mut answers = Items::new(alloc);
     for part in parts {
@@ -183,7 +187,7 @@ struct PartAnswer<A> {
     refusal: Option<Refusal>,
 }
 
-/// Serves one part or refuses it, and counts what was spent for it.
+/// Serves one part or refuses it, and counts in `spent` the permits that were spent for it.
 fn answer_part<P, A: Drop, W, X: PartApi<P, A, W>>(
     alloc: Global,
     api: &X,
@@ -194,7 +198,7 @@ fn answer_part<P, A: Drop, W, X: PartApi<P, A, W>>(
     spent: &mut Tally,
 ) -> Result<PartAnswer<A>, AllocError>
     requires settled { X.settles api.now policy.now }
-    requires room { (X.rule api.now).weight part.now ≤ (X.rule api.now).room world.old }
+    requires budget { (X.rule api.now).weight part.now ≤ (X.rule api.now).budget world.old }
     ensures world { OnOk result
         (world.new ≡ part_world (X.rule api.now) (policy_rules policy.now) world.old name.now
         part.now) }

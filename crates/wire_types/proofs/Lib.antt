@@ -1,7 +1,7 @@
 pub mod Utf8
 pub mod Loop
 pub mod Writes
-pub mod Rooms
+pub mod Deductions
 pub mod Sizes
 pub mod OneValue
 pub mod StringLaws

@@ -1,15 +1,15 @@
--- The size of what is written, from the room that it leaves.
+-- The size of what is written, from what it leaves of a budget.
 use Rattle.std.proofs.Common.{◌≡◌, ℕ, ◌-◌, ◌^◌, Bool, true, false, ◌&&◌, cond, ltb, leb, Some, None, length, refl, sym, ap, ◌∙◌, inl, inr, arith}
 use Rattle.std.proofs.lemmas.Bool.{cases_lt, le-leb, lt-leb, lt-ltb, le-ltb}
 use Rattle.wire_types.specs.Grammar.{Grammar}
-use Rattle.wire_types.specs.Spelling.{room_left}
+use Rattle.wire_types.specs.Spelling.{left_after}
 use Rattle.wire_types.specs.Laws.{size_of}
 
 some_is : (x y : ℕ) → Some x ≡ Some y → x ≡ y
 some_is x y e = cc
 
-sized : (fits : Bool) (n left : ℕ) → room_left fits n (2 ^ 64 - 1) ≡ Some left → Some (2 ^ 64 - 1 - left) ≡ cond (fits && ltb n (2 ^ 64)) (Some n) None
-unfolding room_left
+sized : (fits : Bool) (n left : ℕ) → left_after fits n (2 ^ 64 - 1) ≡ Some left → Some (2 ^ 64 - 1 - left) ≡ cond (fits && ltb n (2 ^ 64)) (Some n) None
+unfolding left_after
 sized false n left e = absurd cc
 sized true n left e =
     elim (cases_lt (2 ^ 64 - 1) n) [
@@ -22,8 +22,8 @@ sized true n left e =
           rw (s, back) refl
     ]
 
-not_sized : (fits : Bool) (n : ℕ) → room_left fits n (2 ^ 64 - 1) ≡ None → None ≡ cond (fits && ltb n (2 ^ 64)) (Some n) None
-unfolding room_left
+not_sized : (fits : Bool) (n : ℕ) → left_after fits n (2 ^ 64 - 1) ≡ None → None ≡ cond (fits && ltb n (2 ^ 64)) (Some n) None
+unfolding left_after
 not_sized false n e = refl
 not_sized true n e =
     elim (cases_lt (2 ^ 64 - 1) n) [

@@ -6,10 +6,10 @@ use Rattle.std.proofs.lemmas.Bool.{ltb-false, le-ltb}
 use Rattle.std.proofs.lemmas.List.{length-append, length-take, take-append-drop, take_at, drop_at}
 use Rattle.wire_types.specs.declared.fault.Malformed.TheVariants.{Short, Utf8}
 use Rattle.wire_types.specs.Reading.{front_at, utf8_at, many_at, items_at, after_count_at, null_or, after_null_count_at}
-use Rattle.wire_types.specs.Spelling.{many_written, many_fit, after_count_written, after_count_fits, after_null_count_written, after_null_count_put, after_null_count_fits, after_null_count_left, room_left, then_left, many_left}
+use Rattle.wire_types.specs.Spelling.{many_written, many_fit, after_count_written, after_count_fits, after_null_count_written, after_null_count_put, after_null_count_fits, after_null_count_left, left_after, then_left, many_left}
 use Rattle.wire_types.specs.Grammar.{IsBytes, AreMany, IsAfter, IsNullAfter, Grammar, Content}
 use Rattle.wire_types.specs.NumberLaws.{bind_ok, guard_ok, pass_ok, ok_is, IsBytes-front, IsBytes-rest}
-use Rattle.wire_types.specs.RoomLaws.{room_of_parts, room_whole}
+use Rattle.wire_types.specs.BudgetLaws.{left_of_parts, left_after_nothing}
 use Rattle.wire_types.specs.ListLaws.{many-sound, many-complete, many-at_least, if_ok, and_parts}
 
 -- ---- so many bytes
@@ -56,10 +56,10 @@ items-complete g text rest xs h =
     let enough : ltb (length (text ++ rest)) (length xs) ≡ false = le-ltb _ _ (omega (arith, many-at_least g text xs h, length-append text rest)) in
     rw enough (many-complete g text rest xs h)
 
-pub items-lefts : {A : Type 0} (g : Grammar A) (xs : List A) (room : ℕ) → many_left g.left xs room ≡ room_left (many_fit g.fits xs) (length (many_written g.written xs)) room
+pub items-lefts : {A : Type 0} (g : Grammar A) (xs : List A) (budget : ℕ) → many_left g.left xs budget ≡ left_after (many_fit g.fits xs) (length (many_written g.written xs)) budget
 unfolding many_left many_fit many_written
-items-lefts g [] room = room_whole room
-items-lefts g (x ∷ xs) room = room_of_parts (g.fits x) (many_fit g.fits xs) (g.written x) (many_written g.written xs) room (g.left x room) (many_left g.left xs) (g.lefts x room) (items-lefts g xs)
+items-lefts g [] budget = left_after_nothing budget
+items-lefts g (x ∷ xs) budget = left_of_parts (g.fits x) (many_fit g.fits xs) (g.written x) (many_written g.written xs) budget (g.left x budget) (many_left g.left xs) (g.lefts x budget) (items-lefts g xs)
 
 -- ---- after a count
 
@@ -82,9 +82,9 @@ pub after_count-puts : {A : Type 0} (c : Grammar ℕ) (k : Content A) (old : Lis
 unfolding after_count_written
 after_count-puts c k old x = ap (λ (t : List ℕ). t ++ k.written x) (c.puts old (k.count x)) ∙ append_assoc old (c.written (k.count x)) (k.written x)
 
-pub after_count-lefts : {A : Type 0} (c : Grammar ℕ) (k : Content A) (x : A) (room : ℕ) → then_left (c.left (k.count x) room) (k.left x) ≡ room_left (after_count_fits k.count c.fits k.fits x) (length (after_count_written k.count c.written k.written x)) room
+pub after_count-lefts : {A : Type 0} (c : Grammar ℕ) (k : Content A) (x : A) (budget : ℕ) → then_left (c.left (k.count x) budget) (k.left x) ≡ left_after (after_count_fits k.count c.fits k.fits x) (length (after_count_written k.count c.written k.written x)) budget
 unfolding after_count_fits after_count_written
-after_count-lefts c k x room = room_of_parts (c.fits (k.count x)) (k.fits x) (c.written (k.count x)) (k.written x) room (c.left (k.count x) room) (k.left x) (c.lefts (k.count x) room) (k.lefts x)
+after_count-lefts c k x budget = left_of_parts (c.fits (k.count x)) (k.fits x) (c.written (k.count x)) (k.written x) budget (c.left (k.count x) budget) (k.left x) (c.lefts (k.count x) budget) (k.lefts x)
 
 pub after_count-canonical : {A : Type 0} (c : Grammar ℕ) (k : Content A) (x : A) → c.InType (k.count x) × k.InType x → after_count_fits k.count c.fits k.fits x ≡ true → IsAfter k.count c.Spells k.Spells (after_count_written k.count c.written k.written x) x
 unfolding after_count_fits after_count_written
@@ -139,10 +139,10 @@ unfolding after_null_count_put after_null_count_written
 after_null_count-puts c k old None = c.puts old None
 after_null_count-puts c k old (Some x) = ap (λ (t : List ℕ). t ++ k.written x) (c.puts old (Some (k.count x))) ∙ append_assoc old (c.written (Some (k.count x))) (k.written x)
 
-pub after_null_count-lefts : {A : Type 0} (c : Grammar (Option ℕ)) (k : Content A) (o : Option A) (room : ℕ) → after_null_count_left k.count c.left k.left o room ≡ room_left (after_null_count_fits k.count c.fits k.fits o) (length (after_null_count_written k.count c.written k.written o)) room
+pub after_null_count-lefts : {A : Type 0} (c : Grammar (Option ℕ)) (k : Content A) (o : Option A) (budget : ℕ) → after_null_count_left k.count c.left k.left o budget ≡ left_after (after_null_count_fits k.count c.fits k.fits o) (length (after_null_count_written k.count c.written k.written o)) budget
 unfolding after_null_count_left after_null_count_fits after_null_count_written
-after_null_count-lefts c k None room = c.lefts None room
-after_null_count-lefts c k (Some x) room = room_of_parts (c.fits (Some (k.count x))) (k.fits x) (c.written (Some (k.count x))) (k.written x) room (c.left (Some (k.count x)) room) (k.left x) (c.lefts (Some (k.count x)) room) (k.lefts x)
+after_null_count-lefts c k None budget = c.lefts None budget
+after_null_count-lefts c k (Some x) budget = left_of_parts (c.fits (Some (k.count x))) (k.fits x) (c.written (Some (k.count x))) (k.written x) budget (c.left (Some (k.count x)) budget) (k.left x) (c.lefts (Some (k.count x)) budget) (k.lefts x)
 
 -- what the Rust type of a value that may be null gives
 abbrev pub NullInType : {A : Type 0} → (A → ℕ) → (Option ℕ → Type 0) → (A → Type 0) → Option A → Type 0

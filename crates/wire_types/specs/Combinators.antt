@@ -6,10 +6,10 @@ use Rattle.std.specs.Str.{IsUtf8}
 use Rattle.std.specs.List.{AllByRecursion}
 use Rattle.wire_types.specs.Reading.{front_at, utf8_at, items_at, required_at, after_count_at, after_null_count_at}
 use Rattle.wire_types.specs.Grammar.{Grammar, Content, Body, AreBoth, AreMany, IsAfter, IsNullAfter}
-use Rattle.wire_types.specs.Spelling.{many_written, many_fit, many_left, after_count_written, after_count_fits, after_null_count_written, after_null_count_put, after_null_count_fits, after_null_count_left, room_left, then_left}
+use Rattle.wire_types.specs.Spelling.{many_written, many_fit, many_left, after_count_written, after_count_fits, after_null_count_written, after_null_count_put, after_null_count_fits, after_null_count_left, left_after, then_left}
 use Rattle.wire_types.specs.CountLaws.{required_count-sound, required_count-complete}
 use Rattle.wire_types.specs.AfterLaws.{front-sound, front-complete, utf8-sound, utf8-complete, items-sound, items-complete, items-lefts, after_count-sound, after_count-complete, after_count-puts, after_count-lefts, after_count-canonical, after_count-shortest, after_count-some, after_null_count-sound, after_null_count-complete, after_null_count-puts, after_null_count-lefts, NullInType, after_null_count-canonical, after_null_count-shortest, after_null_count-some}
-use Rattle.wire_types.specs.RoomLaws.{room_of_parts}
+use Rattle.wire_types.specs.BudgetLaws.{left_of_parts}
 use Rattle.wire_types.specs.ListLaws.{both_at, via_at, both-puts, both-sound, both-complete, both-canonical, both-shortest, both-some, via-sound, via-complete, many-canonical, many-shortest, part_written, part_put, part_fits, part_left, part-lefts, part-puts, arm-sound, arm-complete, part-canonical, part-shortest, part-some, skip-sound, skip-complete, IsLeast, value-sound, value-complete, value-fits, value-short, raw-shortest}
 
 -- ---- parts one after the other
@@ -23,10 +23,10 @@ f ⨟ g = record {
   written = λ x. f.written x.0 ++ g.written x.1;
   put = λ old x. g.put (f.put old x.0) x.1;
   fits = λ x. f.fits x.0 && g.fits x.1;
-  left = λ x room. then_left (f.left x.0 room) (g.left x.1);
+  left = λ x budget. then_left (f.left x.0 budget) (g.left x.1);
   InType = λ x. f.InType x.0 × g.InType x.1;
   puts = both-puts f g;
-  lefts = λ x room. room_of_parts (f.fits x.0) (g.fits x.1) (f.written x.0) (g.written x.1) room (f.left x.0 room) (g.left x.1) (f.lefts x.0 room) (g.lefts x.1);
+  lefts = λ x budget. left_of_parts (f.fits x.0) (g.fits x.1) (f.written x.0) (g.written x.1) budget (f.left x.0 budget) (g.left x.1) (f.lefts x.0 budget) (g.lefts x.1);
   sound = both-sound f g;
   complete = both-complete f g;
   canonical = both-canonical f g;
@@ -101,9 +101,9 @@ raw = record {
   reading = front_at;
   written = λ t. t;
   fits = λ _. true;
-  left = λ t. room_left true (length t);
+  left = λ t. left_after true (length t);
   InType = λ _. Unit {0};
-  lefts = λ t room. refl;
+  lefts = λ t budget. refl;
   sound = front-sound;
   complete = front-complete;
   canonical = λ t _ _. refl;
@@ -118,9 +118,9 @@ utf8 = record {
   reading = utf8_at;
   written = λ t. t;
   fits = λ _. true;
-  left = λ t. room_left true (length t);
+  left = λ t. left_after true (length t);
   InType = IsUtf8;
-  lefts = λ t room. refl;
+  lefts = λ t budget. refl;
   sound = utf8-sound;
   complete = utf8-complete;
   canonical = λ t types _. (refl, types);
@@ -151,7 +151,7 @@ after_count c k = record {
   written = after_count_written k.count c.written k.written;
   put = λ old x. c.put old (k.count x) ++ k.written x;
   fits = after_count_fits k.count c.fits k.fits;
-  left = λ x room. then_left (c.left (k.count x) room) (k.left x);
+  left = λ x budget. then_left (c.left (k.count x) budget) (k.left x);
   InType = λ x. c.InType (k.count x) × k.InType x;
   puts = after_count-puts c k;
   lefts = after_count-lefts c k;
@@ -190,10 +190,10 @@ skipped_value {A} g least size is = record {
   written = λ s. g.written least;
   put = λ old s. old ++ g.written least;
   fits = λ s. true;
-  left = λ s. room_left true size;
+  left = λ s. left_after true size;
   InType = λ s. Unit {0};
   puts = λ old s. refl;
-  lefts = λ s room. ap (λ (n : ℕ). room_left true n room) (sym is.sized);
+  lefts = λ s budget. ap (λ (n : ℕ). left_after true n budget) (sym is.sized);
   sound = skip-sound g;
   complete = skip-complete g;
   canonical = λ s _ _. (least, g.canonical least is.in_type is.fits);
@@ -229,10 +229,10 @@ empty_body value is holds only = record {
   written = λ s. [];
   put = λ old s. old;
   fits = is;
-  left = λ s room. room_left (is s) 0 room;
+  left = λ s budget. left_after (is s) 0 budget;
   InType = λ s. Unit {0};
   puts = λ old s. sym (append-nil old);
-  lefts = λ s room. refl;
+  lefts = λ s budget. refl;
   sound = value-sound value;
   complete = value-complete value;
   canonical = λ s _ fits. (refl, only s fits);

@@ -1,7 +1,7 @@
 pub mod Reading
 pub mod Spelling
 pub mod Grammar
-pub mod RoomLaws
+pub mod BudgetLaws
 pub mod NumberLaws
 pub mod VarintLaws
 pub mod ListLaws

@@ -6,7 +6,7 @@ use Rattle.std.proofs.Common.{ap, lit<, arith}
 use Rattle.wire_types.specs.Reading.{nat_at, int_at, bool_at, varint_at, varint_limit, null_count_at, compact_null_count_at}
 use Rattle.wire_types.specs.Grammar.{Grammar, IsNat, IsInt, IsBool, IsVarint, IsNullCount, IsCompactNullCount}
 use Rattle.wire_types.specs.NumberLaws.{IsWide, wide8, wide16, wide32, wide64, nat-sound, nat-complete, nat-canonical, nat-shortest, nat-some, nat-lefts, int-sound, int-complete, int-canonical, int-shortest, int-some, int-lefts, bool-sound, bool-complete, bool-canonical, bool-shortest, bool-some, bool-lefts}
-use Rattle.wire_types.specs.Spelling.{int_written, bool_written, varint_written, count_number, null_count_fits, compact_null_count_written, compact_null_count_fits, many_written, many_fit, after_count_written, after_count_fits, room_left}
+use Rattle.wire_types.specs.Spelling.{int_written, bool_written, varint_written, count_number, null_count_fits, compact_null_count_written, compact_null_count_fits, many_written, many_fit, after_count_written, after_count_fits, left_after}
 use Rattle.wire_types.specs.VarintLaws.{varint-sound, varint-complete, varint-canonical, varint-shortest, varint-some}
 use Rattle.wire_types.specs.CountLaws.{TellsCounts, null_count-sound, null_count-complete, null_count-puts, null_count-canonical, null_count-shortest, null_count-some, null_count-lefts, compact_count-sound, compact_count-complete, compact_count-canonical, compact_count-shortest, compact_count-some}
 use Rattle.wire_types.specs.Zigzag.{unzigzag, zigzag, zigzag-unzigzag, unzigzag-zigzag}
@@ -21,7 +21,7 @@ uint32 = record {
   written = to_be_bytes w32;
   put = λ old n. old ++ to_be_bytes w32 n;
   fits = λ _. true;
-  left = λ _. room_left true 4;
+  left = λ _. left_after true 4;
   InType = λ n. n < 2 ^ 32;
   puts = λ old n. refl;
   lefts = nat-lefts;
@@ -39,7 +39,7 @@ int_grammar w wide = record {
   written = int_written w;
   put = λ old x. old ++ int_written w x;
   fits = λ _. true;
-  left = λ _. room_left true (byte_len w);
+  left = λ _. left_after true (byte_len w);
   InType = FitsSigned w;
   puts = λ old x. refl;
   lefts = int-lefts w wide;
@@ -69,7 +69,7 @@ boolean = record {
   written = bool_written;
   put = λ old x. old ++ bool_written x;
   fits = λ _. true;
-  left = λ _. room_left true 1;
+  left = λ _. left_after true 1;
   InType = λ _. Unit {0};
   puts = λ old x. refl;
   lefts = bool-lefts;
@@ -89,10 +89,10 @@ base128 k top = record {
   written = varint_written k;
   put = λ old n. old ++ varint_written k n;
   fits = λ _. true;
-  left = λ n. room_left true (length (varint_written k n));
+  left = λ n. left_after true (length (varint_written k n));
   InType = λ n. n < varint_limit k top;
   puts = λ old n. refl;
-  lefts = λ n room. refl;
+  lefts = λ n budget. refl;
   sound = varint-sound k top;
   complete = varint-complete k top;
   canonical = λ n h _. varint-canonical k top n h;
@@ -125,7 +125,7 @@ null_count g limit counts = record {
   written = λ o. g.written (count_number o);
   put = λ old o. g.put old (count_number o);
   fits = null_count_fits limit;
-  left = λ o room. if null_count_fits limit o then g.left (count_number o) room else None;
+  left = λ o budget. if null_count_fits limit o then g.left (count_number o) budget else None;
   InType = λ _. Unit {0};
   puts = null_count-puts g;
   lefts = null_count-lefts g limit counts;
@@ -166,10 +166,10 @@ compact_null_count = record {
   written = compact_null_count_written;
   put = λ old o. old ++ compact_null_count_written o;
   fits = compact_null_count_fits;
-  left = λ o. room_left (compact_null_count_fits o) (length (compact_null_count_written o));
+  left = λ o. left_after (compact_null_count_fits o) (length (compact_null_count_written o));
   InType = λ _. Unit {0};
   puts = λ old o. refl;
-  lefts = λ o room. refl;
+  lefts = λ o budget. refl;
   sound = compact_count-sound;
   complete = compact_count-complete;
   canonical = λ o _. compact_count-canonical o;

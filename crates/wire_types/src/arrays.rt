@@ -4,23 +4,23 @@ ghost use Rattle.std.specs.Io.{StartsWith};
 ghost use Rattle.std.specs.Prelude.{◌≡◌, ◌+◌, ◌<◌, ◌++◌, ◌^◌, None, Some, OnErr, Ok, Err};
 ghost use Rattle.wire_types.specs.Reading.{Reads, many_at, all_at};
 ghost use Rattle.wire_types.specs.Writing.{Writes, Puts};
-ghost use Rattle.wire_types.specs.Spelling.{room_left, varint_written, many_fit, many_written, many_left};
+ghost use Rattle.wire_types.specs.Spelling.{left_after, varint_written, many_fit, many_written, many_left};
 ghost use Rattle.wire_types.specs.Combinators.{items};
 ghost use Rattle.wire_types.specs.Schema.{array, nullable_array, compact_array, compact_nullable_array, varint_array};
 
+use crate::budget::deduct;
 use crate::counts::{
-    compact_count_room, count_room, varint_count_room, write_compact_count, write_compact_null,
-    write_count, write_null, write_varint_count,
+    deduct_compact_count, deduct_count, deduct_varint_count, write_compact_count,
+    write_compact_null, write_count, write_null, write_varint_count,
 };
 use crate::cursor::Cursor;
 use crate::fault::{Malformed, ReadFault, WriteFault};
 use crate::items::Items;
-use crate::room::room_after;
 use crate::wire::Wire;
 use std::alloc::Global;
 
-/// So many values one after the other. Their room is taken at once, and is for no more than the bytes that are left can spell:
-/// each value has a byte at least.
+/// Reads `count` values one after the other. Their memory is taken at once, and is for no more than the bytes that are left can
+/// spell: each value has a byte at least.
 fn read_many<T: Wire>(
     alloc: Global,
     cursor: &mut Cursor<'_>,
@@ -29,14 +29,14 @@ fn read_many<T: Wire>(
     ensures { Reads (many_at T.grammar.reading count cursor.old) result cursor.new }
 {
     let most = cursor.len().min(count as usize);
-    let mut items = Items::with_room(alloc, most)?;
+    let mut items = Items::with_capacity(alloc, most)?;
     for _ in 0..count {
         items.push(T::read(alloc, cursor)?)?;
     }
     Ok(items)
 }
 
-/// The same, of no more values than there are bytes left.
+/// Reads `count` values, or refuses a count above the number of bytes left as malformed.
 #[tactic(auto, unfolding(crate::specs::Reading::items_at))]
 fn read_items<T: Wire>(
     alloc: Global,
@@ -51,7 +51,7 @@ fn read_items<T: Wire>(
     read_many(alloc, cursor, count)
 }
 
-/// So many values and no more bytes.
+/// Reads `count` values that are all of these bytes: what is left after them is malformed.
 #[tactic(auto, unfolding(crate::specs::Reading::all_at))]
 pub fn read_all<T: Wire>(
     alloc: Global,
@@ -67,7 +67,7 @@ pub fn read_all<T: Wire>(
     Ok(items)
 }
 
-/// Values one after the other.
+/// Appends the values one after the other.
 #[tactic(auto, unfolding(crate::specs::Spelling::many_fit, crate::specs::Spelling::many_written))]
 fn write_many<T: Wire>(out: &mut Vec<u8>, items: &[T]) -> Result<(), WriteFault>
     ensures spelled { Writes (many_fit T.grammar.fits items.now)
@@ -88,18 +88,18 @@ fn write_many<T: Wire>(out: &mut Vec<u8>, items: &[T]) -> Result<(), WriteFault>
     Ok(())
 }
 
-/// The room that values leave.
-fn many_room<T: Wire>(items: &[T], room: usize) -> Option<usize>
-    ensures { result ≡ many_left T.grammar.left items.now room }
+/// How many of `budget` bytes these values leave, one after the other.
+fn deduct_all<T: Wire>(items: &[T], budget: usize) -> Option<usize>
+    ensures { result ≡ many_left T.grammar.left items.now budget }
 {
-    let mut left = room;
+    let mut left = budget;
     for item in items {
-        left = item.room_left(left)?;
+        left = item.deduct_from(left)?;
     }
     Some(left)
 }
 
-/// A count in four bytes, and that many values.
+/// ARRAY of the protocol guide: a count in four bytes (INT32), and that many values.
 #[tactic(auto, using(crate::proofs::Announced::many_after, crate::proofs::Announced::many_refused))]
 pub fn read_array<T: Wire>(alloc: Global, cursor: &mut Cursor<'_>) -> Result<Items<T>, ReadFault>
     ensures { Reads ((array T.grammar).reading cursor.old) result cursor.new }
@@ -108,6 +108,7 @@ pub fn read_array<T: Wire>(alloc: Global, cursor: &mut Cursor<'_>) -> Result<Ite
     read_many(alloc, cursor, count)
 }
 
+/// Appends an ARRAY.
 #[tactic(auto, unfolding(crate::specs::Spelling::after_count_fits))]
 pub fn write_array<T: Wire>(out: &mut Vec<u8>, items: &Items<T>) -> Result<(), WriteFault>
     ensures spelled { Puts (array T.grammar) items.now out.old.items result out.new.items }
@@ -123,14 +124,15 @@ pub fn write_array<T: Wire>(out: &mut Vec<u8>, items: &Items<T>) -> Result<(), W
     rest
 }
 
-pub fn array_room<T: Wire>(items: &Items<T>, room: usize) -> Option<usize>
-    ensures { result ≡ (array T.grammar).left items.now room }
+/// How many of `budget` bytes an ARRAY leaves. None where it has no spelling, or a longer one.
+pub fn deduct_array<T: Wire>(items: &Items<T>, budget: usize) -> Option<usize>
+    ensures { result ≡ (array T.grammar).left items.now budget }
 {
-    let room = count_room(items.len(), room)?;
-    many_room(items.as_slice(), room)
+    let budget = deduct_count(items.len(), budget)?;
+    deduct_all(items.as_slice(), budget)
 }
 
-/// The same, or nothing for null.
+/// A nullable ARRAY: None where the count is -1.
 #[tactic(auto, unfolding(crate::specs::Reading::after_null_count_at, crate::specs::Reading::null_or))]
 pub fn read_nullable_array<T: Wire>(
     alloc: Global,
@@ -144,6 +146,7 @@ pub fn read_nullable_array<T: Wire>(
     }
 }
 
+/// Appends a nullable ARRAY.
 #[tactic(auto, unfolding(crate::specs::Spelling::after_count_fits, crate::specs::Spelling::after_null_count_fits, crate::specs::Spelling::after_null_count_put, crate::specs::Spelling::null_count_fits, crate::specs::Spelling::compact_null_count_fits))]
 pub fn write_nullable_array<T: Wire>(
     out: &mut Vec<u8>,
@@ -160,17 +163,18 @@ pub fn write_nullable_array<T: Wire>(
     Ok(())
 }
 
+/// How many of `budget` bytes a nullable ARRAY leaves. None where it has no spelling, or a longer one.
 #[tactic(auto, unfolding(crate::specs::Spelling::after_null_count_left, crate::specs::Spelling::null_count_fits))]
-pub fn nullable_array_room<T: Wire>(items: &Option<Items<T>>, room: usize) -> Option<usize>
-    ensures { result ≡ (nullable_array T.grammar).left items.now room }
+pub fn deduct_nullable_array<T: Wire>(items: &Option<Items<T>>, budget: usize) -> Option<usize>
+    ensures { result ≡ (nullable_array T.grammar).left items.now budget }
 {
     match items {
-        None => room_after(4, room),
-        Some(items) => array_room(items, room),
+        None => deduct(4, budget),
+        Some(items) => deduct_array(items, budget),
     }
 }
 
-/// A count and one in a number of variable length, and that many values.
+/// COMPACT_ARRAY: a count and one as an UNSIGNED_VARINT, and that many values.
 #[tactic(auto, using(crate::proofs::Announced::many_after, crate::proofs::Announced::many_refused))]
 pub fn read_compact_array<T: Wire>(
     alloc: Global,
@@ -182,6 +186,7 @@ pub fn read_compact_array<T: Wire>(
     read_many(alloc, cursor, count)
 }
 
+/// Appends a COMPACT_ARRAY.
 #[tactic(auto, unfolding(crate::specs::Spelling::after_count_fits))]
 pub fn write_compact_array<T: Wire>(out: &mut Vec<u8>, items: &Items<T>) -> Result<(), WriteFault>
     ensures spelled { Puts (compact_array T.grammar) items.now out.old.items result out.new.items }
@@ -197,14 +202,15 @@ pub fn write_compact_array<T: Wire>(out: &mut Vec<u8>, items: &Items<T>) -> Resu
     rest
 }
 
-pub fn compact_array_room<T: Wire>(items: &Items<T>, room: usize) -> Option<usize>
-    ensures { result ≡ (compact_array T.grammar).left items.now room }
+/// How many of `budget` bytes a COMPACT_ARRAY leaves. None where it has no spelling, or a longer one.
+pub fn deduct_compact_array<T: Wire>(items: &Items<T>, budget: usize) -> Option<usize>
+    ensures { result ≡ (compact_array T.grammar).left items.now budget }
 {
-    let room = compact_count_room(items.len(), room)?;
-    many_room(items.as_slice(), room)
+    let budget = deduct_compact_count(items.len(), budget)?;
+    deduct_all(items.as_slice(), budget)
 }
 
-/// The same, or nothing for null.
+/// A nullable COMPACT_ARRAY: None where its first number is 0.
 #[tactic(auto, unfolding(crate::specs::Reading::after_null_count_at, crate::specs::Reading::null_or))]
 pub fn read_compact_nullable_array<T: Wire>(
     alloc: Global,
@@ -218,6 +224,7 @@ pub fn read_compact_nullable_array<T: Wire>(
     }
 }
 
+/// Appends a nullable COMPACT_ARRAY.
 #[tactic(auto, unfolding(crate::specs::Spelling::after_count_fits, crate::specs::Spelling::after_null_count_fits, crate::specs::Spelling::after_null_count_put, crate::specs::Spelling::null_count_fits, crate::specs::Spelling::compact_null_count_fits))]
 pub fn write_compact_nullable_array<T: Wire>(
     out: &mut Vec<u8>,
@@ -235,17 +242,21 @@ pub fn write_compact_nullable_array<T: Wire>(
     Ok(())
 }
 
+/// How many of `budget` bytes a nullable COMPACT_ARRAY leaves. None where it has no spelling, or a longer one.
 #[tactic(auto, unfolding(crate::specs::Spelling::after_null_count_left, crate::specs::Spelling::null_count_fits, crate::specs::Spelling::compact_null_count_fits, crate::specs::Spelling::compact_null_count_written, crate::specs::Spelling::varint_written))]
-pub fn compact_nullable_array_room<T: Wire>(items: &Option<Items<T>>, room: usize) -> Option<usize>
-    ensures { result ≡ (compact_nullable_array T.grammar).left items.now room }
+pub fn deduct_compact_nullable_array<T: Wire>(
+    items: &Option<Items<T>>,
+    budget: usize,
+) -> Option<usize>
+    ensures { result ≡ (compact_nullable_array T.grammar).left items.now budget }
 {
     match items {
-        None => room_after(1, room),
-        Some(items) => compact_array_room(items, room),
+        None => deduct(1, budget),
+        Some(items) => deduct_compact_array(items, budget),
     }
 }
 
-/// A count in a signed number of variable length, and that many values.
+/// An array as a record's headers are: a count as a VARINT, and that many values.
 #[tactic(auto, using(crate::proofs::Announced::many_after, crate::proofs::Announced::many_refused))]
 pub fn read_varint_array<T: Wire>(
     alloc: Global,
@@ -257,6 +268,7 @@ pub fn read_varint_array<T: Wire>(
     read_many(alloc, cursor, count)
 }
 
+/// Appends an array whose count is a VARINT.
 #[tactic(auto, unfolding(crate::specs::Spelling::after_count_fits))]
 pub fn write_varint_array<T: Wire>(out: &mut Vec<u8>, items: &Items<T>) -> Result<(), WriteFault>
     ensures spelled { Puts (varint_array T.grammar) items.now out.old.items result out.new.items }
@@ -272,11 +284,12 @@ pub fn write_varint_array<T: Wire>(out: &mut Vec<u8>, items: &Items<T>) -> Resul
     rest
 }
 
-pub fn varint_array_room<T: Wire>(items: &Items<T>, room: usize) -> Option<usize>
-    ensures { result ≡ (varint_array T.grammar).left items.now room }
+/// How many of `budget` bytes an array whose count is a VARINT leaves. None where it has no spelling, or a longer one.
+pub fn deduct_varint_array<T: Wire>(items: &Items<T>, budget: usize) -> Option<usize>
+    ensures { result ≡ (varint_array T.grammar).left items.now budget }
 {
-    let room = varint_count_room(items.len(), room)?;
-    many_room(items.as_slice(), room)
+    let budget = deduct_varint_count(items.len(), budget)?;
+    deduct_all(items.as_slice(), budget)
 }
 
 impl<T: Wire> Wire for Items<T> {
@@ -290,7 +303,7 @@ impl<T: Wire> Wire for Items<T> {
         write_array(out, self)
     }
 
-    fn room_left(&self, room: usize) -> Option<usize> {
-        array_room(self, room)
+    fn deduct_from(&self, budget: usize) -> Option<usize> {
+        deduct_array(self, budget)
     }
 }

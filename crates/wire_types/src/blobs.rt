@@ -7,19 +7,19 @@ ghost use Rattle.wire_types.specs.Writing.{Puts};
 ghost use Rattle.wire_types.specs.Spelling.{varint_written};
 ghost use Rattle.wire_types.specs.Schema.{bytes, nullable_bytes, compact_bytes, compact_nullable_bytes, varint_bytes, varint_nullable_bytes};
 
+use crate::budget::deduct;
 use crate::counts::{
-    compact_count_room, count_room, varint_count_room, write_compact_count, write_compact_null,
-    write_count, write_null, write_varint_count, write_varint_null,
+    deduct_compact_count, deduct_count, deduct_varint_count, write_compact_count,
+    write_compact_null, write_count, write_null, write_varint_count, write_varint_null,
 };
 use crate::cursor::Cursor;
 use crate::fault::{ReadFault, WriteFault};
-use crate::room::room_after;
 use crate::shared_bytes::Bytes;
-use crate::varints::varint_room;
+use crate::varints::deduct_varint;
 use std::alloc::Global;
 
 impl<'a> Cursor<'a> {
-    /// Bytes after their number in four bytes.
+    /// BYTES of the protocol guide: their number in four bytes (INT32), and then they.
     #[tactic(auto, using(crate::proofs::Announced::content_after, crate::proofs::Announced::front_refused))]
     pub fn read_bytes(&mut self, alloc: Global) -> Result<Bytes, ReadFault>
         ensures { Reads (bytes.reading self.old) result self.new }
@@ -28,7 +28,7 @@ impl<'a> Cursor<'a> {
         self.read_shared(alloc, len as usize)
     }
 
-    /// Bytes after their number in four bytes, or nothing for -1.
+    /// NULLABLE_BYTES: None where the number is -1.
     #[tactic(auto, unfolding(crate::specs::Reading::after_null_count_at, crate::specs::Reading::null_or))]
     pub fn read_nullable_bytes(&mut self, alloc: Global) -> Result<Option<Bytes>, ReadFault>
         ensures { Reads (nullable_bytes.reading self.old) result self.new }
@@ -39,7 +39,7 @@ impl<'a> Cursor<'a> {
         }
     }
 
-    /// Bytes after their number and one in a number of variable length.
+    /// COMPACT_BYTES: their number and one as an UNSIGNED_VARINT, and then they.
     #[tactic(auto, using(crate::proofs::Announced::content_after, crate::proofs::Announced::front_refused))]
     pub fn read_compact_bytes(&mut self, alloc: Global) -> Result<Bytes, ReadFault>
         ensures { Reads (compact_bytes.reading self.old) result self.new }
@@ -48,7 +48,7 @@ impl<'a> Cursor<'a> {
         self.read_shared(alloc, len as usize)
     }
 
-    /// The same, or nothing for 0.
+    /// COMPACT_NULLABLE_BYTES: None where the first number is 0.
     #[tactic(auto, unfolding(crate::specs::Reading::after_null_count_at, crate::specs::Reading::null_or))]
     pub fn read_compact_nullable_bytes(&mut self, alloc: Global) -> Result<Option<Bytes>, ReadFault>
         ensures { Reads (compact_nullable_bytes.reading self.old) result self.new }
@@ -59,7 +59,7 @@ impl<'a> Cursor<'a> {
         }
     }
 
-    /// Bytes after their number in a signed number of variable length.
+    /// Bytes as a record's key is: their number as a VARINT, and then they.
     #[tactic(auto, using(crate::proofs::Announced::content_after, crate::proofs::Announced::front_refused))]
     pub fn read_varint_bytes(&mut self, alloc: Global) -> Result<Bytes, ReadFault>
         ensures { Reads (varint_bytes.reading self.old) result self.new }
@@ -68,7 +68,7 @@ impl<'a> Cursor<'a> {
         self.read_shared(alloc, len as usize)
     }
 
-    /// The same, or nothing for -1.
+    /// Bytes as a record's key or value is, which may be null: None where the number is -1.
     #[tactic(auto, unfolding(crate::specs::Reading::after_null_count_at, crate::specs::Reading::null_or))]
     pub fn read_varint_nullable_bytes(&mut self, alloc: Global) -> Result<Option<Bytes>, ReadFault>
         ensures { Reads (varint_nullable_bytes.reading self.old) result self.new }
@@ -80,7 +80,7 @@ impl<'a> Cursor<'a> {
     }
 }
 
-/// A number of bytes in four bytes, and the bytes.
+/// Appends BYTES.
 #[tactic(auto, unfolding(crate::specs::Spelling::after_count_fits))]
 pub fn write_bytes(out: &mut Vec<u8>, value: &Bytes) -> Result<(), WriteFault>
     ensures spelled { Puts bytes value.now out.old.items result out.new.items }
@@ -96,7 +96,7 @@ pub fn write_bytes(out: &mut Vec<u8>, value: &Bytes) -> Result<(), WriteFault>
     Ok(rest?)
 }
 
-/// Bytes, or the number -1 for nothing.
+/// Appends NULLABLE_BYTES.
 #[tactic(auto, unfolding(crate::specs::Spelling::after_count_fits, crate::specs::Spelling::after_null_count_fits, crate::specs::Spelling::after_null_count_put, crate::specs::Spelling::null_count_fits, crate::specs::Spelling::compact_null_count_fits))]
 pub fn write_nullable_bytes(out: &mut Vec<u8>, value: &Option<Bytes>) -> Result<(), WriteFault>
     ensures spelled { Puts nullable_bytes value.now out.old.items result out.new.items }
@@ -110,7 +110,7 @@ pub fn write_nullable_bytes(out: &mut Vec<u8>, value: &Option<Bytes>) -> Result<
     Ok(())
 }
 
-/// A number of bytes and one in a number of variable length, and the bytes.
+/// Appends COMPACT_BYTES.
 #[tactic(auto, unfolding(crate::specs::Spelling::after_count_fits))]
 pub fn write_compact_bytes(out: &mut Vec<u8>, value: &Bytes) -> Result<(), WriteFault>
     ensures spelled { Puts compact_bytes value.now out.old.items result out.new.items }
@@ -126,7 +126,7 @@ pub fn write_compact_bytes(out: &mut Vec<u8>, value: &Bytes) -> Result<(), Write
     Ok(rest?)
 }
 
-/// The same, or 0 for nothing.
+/// Appends COMPACT_NULLABLE_BYTES.
 #[tactic(auto, unfolding(crate::specs::Spelling::after_count_fits, crate::specs::Spelling::after_null_count_fits, crate::specs::Spelling::after_null_count_put, crate::specs::Spelling::null_count_fits, crate::specs::Spelling::compact_null_count_fits))]
 pub fn write_compact_nullable_bytes(
     out: &mut Vec<u8>,
@@ -143,7 +143,7 @@ pub fn write_compact_nullable_bytes(
     Ok(())
 }
 
-/// A number of bytes as a signed number of variable length, and the bytes.
+/// Appends bytes whose number is a VARINT.
 #[tactic(auto, unfolding(crate::specs::Spelling::after_count_fits))]
 pub fn write_varint_bytes(out: &mut Vec<u8>, value: &Bytes) -> Result<(), WriteFault>
     ensures spelled { Puts varint_bytes value.now out.old.items result out.new.items }
@@ -159,7 +159,7 @@ pub fn write_varint_bytes(out: &mut Vec<u8>, value: &Bytes) -> Result<(), WriteF
     Ok(rest?)
 }
 
-/// The same, or -1 for nothing.
+/// Appends bytes whose number is a VARINT, or -1 for None.
 #[tactic(auto, unfolding(crate::specs::Spelling::after_count_fits, crate::specs::Spelling::after_null_count_fits, crate::specs::Spelling::after_null_count_put, crate::specs::Spelling::null_count_fits))]
 pub fn write_varint_nullable_bytes(
     out: &mut Vec<u8>,
@@ -176,53 +176,60 @@ pub fn write_varint_nullable_bytes(
     Ok(())
 }
 
-pub fn bytes_room(value: &Bytes, room: usize) -> Option<usize>
-    ensures { result ≡ bytes.left value.now room }
+/// How many of `budget` bytes BYTES leave. None where they are too many to be spelled, or more than the budget.
+pub fn deduct_bytes(value: &Bytes, budget: usize) -> Option<usize>
+    ensures { result ≡ bytes.left value.now budget }
 {
-    let room = count_room(value.len(), room)?;
-    room_after(value.len(), room)
+    let budget = deduct_count(value.len(), budget)?;
+    deduct(value.len(), budget)
 }
 
+/// How many of `budget` bytes NULLABLE_BYTES leave. None where they are too many to be spelled, or more than the budget.
 #[tactic(auto, unfolding(crate::specs::Spelling::after_null_count_left, crate::specs::Spelling::null_count_fits))]
-pub fn nullable_bytes_room(value: &Option<Bytes>, room: usize) -> Option<usize>
-    ensures { result ≡ nullable_bytes.left value.now room }
+pub fn deduct_nullable_bytes(value: &Option<Bytes>, budget: usize) -> Option<usize>
+    ensures { result ≡ nullable_bytes.left value.now budget }
 {
     match value {
-        None => room_after(4, room),
-        Some(value) => bytes_room(value, room),
+        None => deduct(4, budget),
+        Some(value) => deduct_bytes(value, budget),
     }
 }
 
-pub fn compact_bytes_room(value: &Bytes, room: usize) -> Option<usize>
-    ensures { result ≡ compact_bytes.left value.now room }
+/// How many of `budget` bytes COMPACT_BYTES leave. None where they are too many to be spelled, or more than the budget.
+pub fn deduct_compact_bytes(value: &Bytes, budget: usize) -> Option<usize>
+    ensures { result ≡ compact_bytes.left value.now budget }
 {
-    let room = compact_count_room(value.len(), room)?;
-    room_after(value.len(), room)
+    let budget = deduct_compact_count(value.len(), budget)?;
+    deduct(value.len(), budget)
 }
 
+/// How many of `budget` bytes COMPACT_NULLABLE_BYTES leave. None where they are too many to be spelled, or more than the
+/// budget.
 #[tactic(auto, unfolding(crate::specs::Spelling::after_null_count_left, crate::specs::Spelling::null_count_fits, crate::specs::Spelling::compact_null_count_fits, crate::specs::Spelling::compact_null_count_written, crate::specs::Spelling::varint_written))]
-pub fn compact_nullable_bytes_room(value: &Option<Bytes>, room: usize) -> Option<usize>
-    ensures { result ≡ compact_nullable_bytes.left value.now room }
+pub fn deduct_compact_nullable_bytes(value: &Option<Bytes>, budget: usize) -> Option<usize>
+    ensures { result ≡ compact_nullable_bytes.left value.now budget }
 {
     match value {
-        None => room_after(1, room),
-        Some(value) => compact_bytes_room(value, room),
+        None => deduct(1, budget),
+        Some(value) => deduct_compact_bytes(value, budget),
     }
 }
 
-pub fn varint_bytes_room(value: &Bytes, room: usize) -> Option<usize>
-    ensures { result ≡ varint_bytes.left value.now room }
+/// How many of `budget` bytes are left after these and their number as a VARINT. None where that is more than the budget.
+pub fn deduct_varint_bytes(value: &Bytes, budget: usize) -> Option<usize>
+    ensures { result ≡ varint_bytes.left value.now budget }
 {
-    let room = varint_count_room(value.len(), room)?;
-    room_after(value.len(), room)
+    let budget = deduct_varint_count(value.len(), budget)?;
+    deduct(value.len(), budget)
 }
 
+/// How many of `budget` bytes are left after these and their number as a VARINT, -1 for None. None where that is more.
 #[tactic(auto, unfolding(crate::specs::Spelling::after_null_count_left, crate::specs::Spelling::null_count_fits))]
-pub fn varint_nullable_bytes_room(value: &Option<Bytes>, room: usize) -> Option<usize>
-    ensures { result ≡ varint_nullable_bytes.left value.now room }
+pub fn deduct_varint_nullable_bytes(value: &Option<Bytes>, budget: usize) -> Option<usize>
+    ensures { result ≡ varint_nullable_bytes.left value.now budget }
 {
     match value {
-        None => varint_room(-1, room),
-        Some(value) => varint_bytes_room(value, room),
+        None => deduct_varint(-1, budget),
+        Some(value) => deduct_varint_bytes(value, budget),
     }
 }

@@ -26,7 +26,7 @@ impl<T: Drop> Drop for Boxed<T> {
 }
 
 impl<T> Boxed<T> {
-    /// Puts a value into a block. Where memory is refused, the value is dropped.
+    /// Puts a value into a block of its own. An error is an allocation failure, and drops the value.
     pub fn new(alloc: Global, value: T) -> Result<Boxed<T>, AllocError>
     where
         T: Drop,
@@ -37,6 +37,7 @@ impl<T> Boxed<T> {
         })
     }
 
+    /// The value in the block.
     pub fn value(&self) -> &T
         ensures { result.now ≡ self.now }
     {
@@ -70,7 +71,7 @@ impl<T: Wire> Wire for Boxed<T> {
         self.value().put(out)
     }
 
-    fn room_left(&self, room: usize) -> Option<usize> {
-        self.value().room_left(room)
+    fn deduct_from(&self, budget: usize) -> Option<usize> {
+        self.value().deduct_from(budget)
     }
 }

@@ -5,18 +5,18 @@ ghost use Rattle.std.specs.Prelude.{◌≡◌, ◌+◌, ◌<◌, ◌^◌, length
 ghost use Rattle.wire_types.specs.Reading.{Takes, counted_at};
 ghost use Rattle.wire_types.specs.declared.fault.Malformed.TheVariants.{Short};
 ghost use Rattle.wire_types.specs.Writing.{Puts};
-ghost use Rattle.wire_types.specs.Spelling.{room_left};
+ghost use Rattle.wire_types.specs.Spelling.{left_after};
 ghost use Rattle.wire_types.specs.Schema.{null_count16, null_count32, compact_null_count, varint_null_count, varint_count, count16, count32, compact_count};
 
+use crate::budget::deduct;
 use crate::cursor::Cursor;
 use crate::fault::{Malformed, WriteFault};
 use crate::numbers::{write_i16, write_i32};
-use crate::room::room_after;
-use crate::varints::{varint_len, varint_room, write_uvarint, write_varint};
+use crate::varints::{deduct_varint, varint_len, write_uvarint, write_varint};
 use std::alloc::AllocError;
 
 impl<'a> Cursor<'a> {
-    /// A count in two bytes, or nothing for -1.
+    /// A count in two bytes (INT16), or None for -1. Another negative number is malformed.
     #[tactic(auto, unfolding(crate::specs::Reading::null_count_at, crate::specs::Reading::null_or_count))]
     pub(crate) fn read_null_count16(&mut self) -> Result<Option<u16>, Malformed>
         ensures { Takes (null_count16.reading self.old) result self.new }
@@ -32,7 +32,7 @@ impl<'a> Cursor<'a> {
         })
     }
 
-    /// A count in two bytes.
+    /// A count in two bytes (INT16). A negative number is malformed.
     #[tactic(auto, unfolding(crate::specs::Reading::required_at, crate::specs::Reading::not_null))]
     pub(crate) fn read_count16(&mut self) -> Result<u16, Malformed>
         ensures { Takes (count16.reading self.old) result self.new }
@@ -43,7 +43,7 @@ impl<'a> Cursor<'a> {
         }
     }
 
-    /// A count in four bytes, or nothing for -1.
+    /// A count in four bytes (INT32), or None for -1. Another negative number is malformed.
     #[tactic(auto, unfolding(crate::specs::Reading::null_count_at, crate::specs::Reading::null_or_count))]
     pub(crate) fn read_null_count(&mut self) -> Result<Option<u32>, Malformed>
         ensures { Takes (null_count32.reading self.old) result self.new }
@@ -59,7 +59,7 @@ impl<'a> Cursor<'a> {
         })
     }
 
-    /// Refuses a count above the number of bytes left.
+    /// The count, or malformed where it is above the number of bytes left.
     fn within(&self, count: u32) -> Result<u32, Malformed>
         ensures { result ≡ (if nat_lt (length self.now) count then Err Short else Ok count) }
     {
@@ -69,7 +69,7 @@ impl<'a> Cursor<'a> {
         Ok(count)
     }
 
-    /// A count in four bytes, of no more than there are bytes left.
+    /// A count in four bytes (INT32). It is malformed where it is negative, or above the number of bytes left.
     #[tactic(auto, unfolding(crate::specs::Reading::counted_at, crate::specs::Reading::required_at, crate::specs::Reading::not_null))]
     pub fn read_count(&mut self) -> Result<u32, Malformed>
         ensures { Takes (counted_at count32.reading self.old) result self.new }
@@ -80,7 +80,7 @@ impl<'a> Cursor<'a> {
         }
     }
 
-    /// A count and one in a number of variable length, or nothing for 0.
+    /// A count and one as an UNSIGNED_VARINT, or None for 0.
     #[tactic(auto, unfolding(crate::specs::Reading::compact_null_count_at, crate::specs::Reading::one_less))]
     pub(crate) fn read_compact_null_count(&mut self) -> Result<Option<u32>, Malformed>
         ensures { Takes (compact_null_count.reading self.old) result self.new }
@@ -89,7 +89,7 @@ impl<'a> Cursor<'a> {
         Ok(if count == 0 { None } else { Some(count - 1) })
     }
 
-    /// A count and one in a number of variable length, of no more than there are bytes left.
+    /// A count and one as an UNSIGNED_VARINT. It is malformed where it is 0, or the count above the number of bytes left.
     #[tactic(auto, unfolding(crate::specs::Reading::counted_at, crate::specs::Reading::required_at, crate::specs::Reading::not_null))]
     pub fn read_compact_count(&mut self) -> Result<u32, Malformed>
         ensures { Takes (counted_at compact_count.reading self.old) result self.new }
@@ -100,7 +100,7 @@ impl<'a> Cursor<'a> {
         }
     }
 
-    /// A count in a signed number of variable length, or nothing for -1.
+    /// A count as a VARINT, or None for -1. Another negative number is malformed.
     #[tactic(auto, unfolding(crate::specs::Reading::null_count_at, crate::specs::Reading::null_or_count))]
     pub(crate) fn read_varint_null_count(&mut self) -> Result<Option<u32>, Malformed>
         ensures { Takes (varint_null_count.reading self.old) result self.new }
@@ -116,7 +116,7 @@ impl<'a> Cursor<'a> {
         })
     }
 
-    /// A count in a signed number of variable length, of no more than there are bytes left.
+    /// A count as a VARINT. It is malformed where it is negative, or above the number of bytes left.
     #[tactic(auto, unfolding(crate::specs::Reading::counted_at, crate::specs::Reading::required_at, crate::specs::Reading::not_null))]
     pub fn read_varint_count(&mut self) -> Result<u32, Malformed>
         ensures { Takes (counted_at varint_count.reading self.old) result self.new }
@@ -128,7 +128,7 @@ impl<'a> Cursor<'a> {
     }
 }
 
-/// A count in two bytes.
+/// Appends a count in two bytes (INT16). One that an INT16 can't hold is refused.
 #[tactic(auto, unfolding(crate::specs::Spelling::null_count_fits, crate::specs::Spelling::int_written))]
 pub(crate) fn write_count16(out: &mut Vec<u8>, count: usize) -> Result<(), WriteFault>
     ensures spelled { Puts count16 count out.old.items result out.new.items }
@@ -142,7 +142,7 @@ pub(crate) fn write_count16(out: &mut Vec<u8>, count: usize) -> Result<(), Write
     Ok(())
 }
 
-/// The count -1 in two bytes.
+/// Appends -1 in two bytes, the count of null.
 pub(crate) fn write_null16(out: &mut Vec<u8>) -> Result<(), AllocError>
     ensures ok { OnOk result (out.new.items ≡ null_count16.put out.old.items None) }
     ensures err { OnErr result (out.new.items ≡ out.old.items) }
@@ -151,7 +151,7 @@ pub(crate) fn write_null16(out: &mut Vec<u8>) -> Result<(), AllocError>
     write_i16(out, -1)
 }
 
-/// A count in four bytes.
+/// Appends a count in four bytes (INT32). One that an INT32 can't hold is refused.
 #[tactic(auto, unfolding(crate::specs::Spelling::null_count_fits, crate::specs::Spelling::int_written))]
 pub fn write_count(out: &mut Vec<u8>, count: usize) -> Result<(), WriteFault>
     ensures spelled { Puts count32 count out.old.items result out.new.items }
@@ -165,7 +165,7 @@ pub fn write_count(out: &mut Vec<u8>, count: usize) -> Result<(), WriteFault>
     Ok(())
 }
 
-/// The count -1 in four bytes.
+/// Appends -1 in four bytes, the count of null.
 pub(crate) fn write_null(out: &mut Vec<u8>) -> Result<(), AllocError>
     ensures ok { OnOk result (out.new.items ≡ null_count32.put out.old.items None) }
     ensures err { OnErr result (out.new.items ≡ out.old.items) }
@@ -174,7 +174,7 @@ pub(crate) fn write_null(out: &mut Vec<u8>) -> Result<(), AllocError>
     write_i32(out, -1)
 }
 
-/// A count and one in a number of variable length.
+/// Appends a count and one as an UNSIGNED_VARINT. One for which that is too large is refused.
 #[tactic(auto, unfolding(crate::specs::Spelling::compact_null_count_written, crate::specs::Spelling::compact_null_count_fits))]
 pub fn write_compact_count(out: &mut Vec<u8>, count: usize) -> Result<(), WriteFault>
     ensures spelled { Puts compact_count count out.old.items result out.new.items }
@@ -188,7 +188,7 @@ pub fn write_compact_count(out: &mut Vec<u8>, count: usize) -> Result<(), WriteF
     Ok(())
 }
 
-/// The number 0, which stands for nothing.
+/// Appends the number 0 as an UNSIGNED_VARINT, which stands for null.
 #[tactic(auto, unfolding(crate::specs::Spelling::compact_null_count_written))]
 pub(crate) fn write_compact_null(out: &mut Vec<u8>) -> Result<(), AllocError>
     ensures ok { OnOk result (out.new.items ≡ compact_null_count.put out.old.items None) }
@@ -198,7 +198,7 @@ pub(crate) fn write_compact_null(out: &mut Vec<u8>) -> Result<(), AllocError>
     write_uvarint(out, 0)
 }
 
-/// A count in a signed number of variable length.
+/// Appends a count as a VARINT. One that an INT32 can't hold is refused.
 #[tactic(auto, unfolding(crate::specs::Spelling::null_count_fits))]
 pub fn write_varint_count(out: &mut Vec<u8>, count: usize) -> Result<(), WriteFault>
     ensures spelled { Puts varint_count count out.old.items result out.new.items }
@@ -212,7 +212,7 @@ pub fn write_varint_count(out: &mut Vec<u8>, count: usize) -> Result<(), WriteFa
     Ok(())
 }
 
-/// The count -1 in a number of variable length.
+/// Appends -1 as a VARINT, the count of null.
 pub(crate) fn write_varint_null(out: &mut Vec<u8>) -> Result<(), AllocError>
     ensures ok { OnOk result (out.new.items ≡ varint_null_count.put out.old.items None) }
     ensures err { OnErr result (out.new.items ≡ out.old.items) }
@@ -221,42 +221,46 @@ pub(crate) fn write_varint_null(out: &mut Vec<u8>) -> Result<(), AllocError>
     write_varint(out, -1)
 }
 
-#[tactic(auto, unfolding(crate::specs::Spelling::null_count_fits, crate::specs::Spelling::room_left))]
-pub(crate) fn count16_room(count: usize, room: usize) -> Option<usize>
-    ensures { result ≡ count16.left count room }
+/// How many of `budget` bytes a count of two bytes leaves. None where an INT16 can't hold it, or less is left.
+#[tactic(auto, unfolding(crate::specs::Spelling::null_count_fits, crate::specs::Spelling::left_after))]
+pub(crate) fn deduct_count16(count: usize, budget: usize) -> Option<usize>
+    ensures { result ≡ count16.left count budget }
 {
     if count >= 32_768 {
         return None;
     }
-    room_after(2, room)
+    deduct(2, budget)
 }
 
-#[tactic(auto, unfolding(crate::specs::Spelling::null_count_fits, crate::specs::Spelling::room_left))]
-pub(crate) fn count_room(count: usize, room: usize) -> Option<usize>
-    ensures { result ≡ count32.left count room }
+/// How many of `budget` bytes a count of four bytes leaves. None where an INT32 can't hold it, or less is left.
+#[tactic(auto, unfolding(crate::specs::Spelling::null_count_fits, crate::specs::Spelling::left_after))]
+pub(crate) fn deduct_count(count: usize, budget: usize) -> Option<usize>
+    ensures { result ≡ count32.left count budget }
 {
     if count >= 2_147_483_648 {
         return None;
     }
-    room_after(4, room)
+    deduct(4, budget)
 }
 
-#[tactic(auto, unfolding(crate::specs::Spelling::compact_null_count_fits, crate::specs::Spelling::compact_null_count_written, crate::specs::Spelling::room_left))]
-pub(crate) fn compact_count_room(count: usize, room: usize) -> Option<usize>
-    ensures { result ≡ compact_count.left count room }
+/// How many of `budget` bytes a count and one leave as an UNSIGNED_VARINT. None where that is too large, or less is left.
+#[tactic(auto, unfolding(crate::specs::Spelling::compact_null_count_fits, crate::specs::Spelling::compact_null_count_written, crate::specs::Spelling::left_after))]
+pub(crate) fn deduct_compact_count(count: usize, budget: usize) -> Option<usize>
+    ensures { result ≡ compact_count.left count budget }
 {
     if count >= 4_294_967_295 {
         return None;
     }
-    room_after(varint_len(4, count as u64 + 1), room)
+    deduct(varint_len(4, count as u64 + 1), budget)
 }
 
+/// How many of `budget` bytes a count as a VARINT leaves. None where an INT32 can't hold it, or less is left.
 #[tactic(auto, unfolding(crate::specs::Spelling::null_count_fits))]
-pub(crate) fn varint_count_room(count: usize, room: usize) -> Option<usize>
-    ensures { result ≡ varint_count.left count room }
+pub(crate) fn deduct_varint_count(count: usize, budget: usize) -> Option<usize>
+    ensures { result ≡ varint_count.left count budget }
 {
     if count >= 2_147_483_648 {
         return None;
     }
-    varint_room(count as i32, room)
+    deduct_varint(count as i32, budget)
 }

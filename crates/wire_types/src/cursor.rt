@@ -27,6 +27,7 @@ impl<'a> Model for Cursor<'a> {
 }
 
 impl<'a> Cursor<'a> {
+    /// A reader of these bytes, from the first on. What it reads of them is copied.
     pub fn new(bytes: &'a [u8]) -> Cursor<'a>
         ensures { result ≡ bytes.now }
     {
@@ -36,7 +37,7 @@ impl<'a> Cursor<'a> {
         }
     }
 
-    /// Over shared bytes, whose parts are then shared.
+    /// A reader of shared bytes, from the first on. The texts and bytes that it reads are parts of them, and aren't copied.
     pub fn over(bytes: &'a Bytes) -> Cursor<'a>
         ensures { result ≡ bytes.now }
     {
@@ -59,7 +60,7 @@ impl<'a> Cursor<'a> {
         self.left.is_empty()
     }
 
-    /// The next `len` bytes.
+    /// The next `len` bytes, or malformed where there are fewer.
     #[tactic(auto, unfolding(crate::specs::Reading::front_at))]
     pub fn read_front(&mut self, len: usize) -> Result<&'a [u8], Malformed>
         ensures { MatchResult result (λ x. front_at len self.old ≡ Ok (x.now, self.new))
@@ -73,7 +74,7 @@ impl<'a> Cursor<'a> {
         Ok(front)
     }
 
-    /// The next byte.
+    /// The next byte, or malformed where there is none.
     #[tactic(auto, unfolding(crate::specs::Reading::front_at))]
     pub(crate) fn read_byte(&mut self) -> Result<u8, Malformed>
         ensures { Takes (byte_at self.old) result self.new }
@@ -82,7 +83,8 @@ impl<'a> Cursor<'a> {
         Ok(front[0])
     }
 
-    /// The next `len` bytes as a part of the shared bytes, or as a copy where there are none.
+    /// The next `len` bytes as a part of the shared bytes, or as a copy where the reader has none. Where fewer are left they are
+    /// malformed.
     #[tactic(auto, unfolding(crate::specs::Reading::front_at))]
     pub fn read_shared(&mut self, alloc: Global, len: usize) -> Result<Bytes, ReadFault>
         ensures { Reads (front_at len self.old) result self.new }

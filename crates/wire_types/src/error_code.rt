@@ -5,10 +5,10 @@ ghost use Rattle.std.specs.List.{find};
 ghost use Rattle.std.specs.Ordering.{int_eq};
 ghost use Rattle.wire_types.specs.ErrorCode.{number_of, code_of};
 
+use crate::budget::deduct;
 use crate::cursor::Cursor;
 use crate::fault::{Malformed, ReadFault, WriteFault};
 use crate::numbers::write_i16;
-use crate::room::room_after;
 use crate::wire::Wire;
 use std::alloc::Global;
 
@@ -107,6 +107,7 @@ impl ErrorCode {
     }
 }
 
+/// The first of these codes that has the number, if one has.
 fn first_of_number(codes: &[ErrorCode], number: i16) -> Option<ErrorCode>
     ensures { result ≡ find (λ code. int_eq (number_of code) number) codes.now }
 {
@@ -132,7 +133,7 @@ impl Wire for ErrorCode {
         Ok(())
     }
 
-    fn room_left(&self, room: usize) -> Option<usize> {
-        room_after(2, room)
+    fn deduct_from(&self, budget: usize) -> Option<usize> {
+        deduct(2, budget)
     }
 }

@@ -9,18 +9,20 @@ ghost use Rattle.wire_types.specs.Combinators.{items};
 ghost use Rattle.wire_types.specs.Schema.{compact_array, compact_nullable_array};
 ghost use Rattle.wire_types.specs.Topic.{flexible_topic_of};
 
-use crate::arrays::{compact_array_room, read_compact_array, write_compact_array};
-use crate::counts::{compact_count_room, write_compact_count, write_compact_null};
+use crate::arrays::{deduct_compact_array, read_compact_array, write_compact_array};
+use crate::budget::deduct;
+use crate::counts::{deduct_compact_count, write_compact_count, write_compact_null};
 use crate::cursor::Cursor;
 use crate::fault::{Malformed, ReadFault, WriteFault};
 use crate::items::Items;
-use crate::room::room_after;
 use crate::tags::write_no_tags;
-use crate::texts::{compact_string_room, write_compact_string};
+use crate::texts::{deduct_compact_string, write_compact_string};
 use crate::topic::Topic;
 use crate::wire::Wire;
 use std::alloc::Global;
 
+/// A topic of a flexible version: its name as a COMPACT_STRING, its partitions as a COMPACT_ARRAY, and tagged fields, which are
+/// skipped.
 #[tactic(auto, unfolding(crate::specs::Topic::flexible_topic_of))]
 fn read_topic<P: Wire>(alloc: Global, cursor: &mut Cursor<'_>) -> Result<Topic<P>, ReadFault>
     ensures { Reads ((flexible_topic_of P.grammar).reading cursor.old) result cursor.new }
@@ -31,7 +33,7 @@ fn read_topic<P: Wire>(alloc: Global, cursor: &mut Cursor<'_>) -> Result<Topic<P
     Ok(Topic { name, partitions })
 }
 
-/// The topic's spelling, or a part of it.
+/// Appends the topic in a flexible version's form. An error may leave a part of it there.
 #[tactic(auto, unfolding(crate::specs::Topic::flexible_topic_of), using(std::proofs::Transfers::starts_with_trans))]
 fn put_topic<P: Wire>(out: &mut Vec<u8>, topic: &Topic<P>) -> Result<(), WriteFault>
     ensures spelled { Puts (flexible_topic_of P.grammar) topic.now out.old.items result
@@ -44,6 +46,7 @@ fn put_topic<P: Wire>(out: &mut Vec<u8>, topic: &Topic<P>) -> Result<(), WriteFa
     Ok(())
 }
 
+/// Appends the topic in a flexible version's form. An error leaves nothing of it there.
 fn write_topic<P: Wire>(out: &mut Vec<u8>, topic: &Topic<P>) -> Result<(), WriteFault>
     ensures spelled { Puts (flexible_topic_of P.grammar) topic.now out.old.items result
         out.new.items }
@@ -58,16 +61,17 @@ fn write_topic<P: Wire>(out: &mut Vec<u8>, topic: &Topic<P>) -> Result<(), Write
     written
 }
 
+/// How many of `budget` bytes a topic leaves in a flexible version's form. None where it has no spelling, or a longer one.
 #[tactic(auto, unfolding(crate::specs::Topic::flexible_topic_of))]
-fn topic_room<P: Wire>(topic: &Topic<P>, room: usize) -> Option<usize>
-    ensures { result ≡ (flexible_topic_of P.grammar).left topic.now room }
+fn deduct_topic<P: Wire>(topic: &Topic<P>, budget: usize) -> Option<usize>
+    ensures { result ≡ (flexible_topic_of P.grammar).left topic.now budget }
 {
-    let room = compact_string_room(&topic.name, room)?;
-    let room = compact_array_room(&topic.partitions, room)?;
-    room_after(1, room)
+    let budget = deduct_compact_string(&topic.name, budget)?;
+    let budget = deduct_compact_array(&topic.partitions, budget)?;
+    deduct(1, budget)
 }
 
-/// So many topics one after the other.
+/// Reads `count` topics one after the other.
 fn read_topics<P: Wire>(
     alloc: Global,
     cursor: &mut Cursor<'_>,
@@ -83,7 +87,7 @@ fn read_topics<P: Wire>(
     Ok(topics)
 }
 
-/// The same, of no more topics than there are bytes left.
+/// Reads `count` topics, or refuses a count above the number of bytes left as malformed.
 #[tactic(auto, unfolding(crate::specs::Reading::items_at))]
 fn read_counted<P: Wire>(
     alloc: Global,
@@ -99,7 +103,7 @@ fn read_counted<P: Wire>(
     read_topics(alloc, cursor, count)
 }
 
-/// Topics one after the other.
+/// Appends the topics one after the other.
 #[tactic(auto, unfolding(crate::specs::Spelling::many_fit, crate::specs::Spelling::many_written))]
 fn write_topics<P: Wire>(out: &mut Vec<u8>, topics: &[Topic<P>]) -> Result<(), WriteFault>
     ensures spelled { Writes (many_fit (flexible_topic_of P.grammar).fits topics.now)
@@ -121,18 +125,18 @@ fn write_topics<P: Wire>(out: &mut Vec<u8>, topics: &[Topic<P>]) -> Result<(), W
     Ok(())
 }
 
-/// The room that topics leave.
-fn topics_room<P: Wire>(topics: &[Topic<P>], room: usize) -> Option<usize>
-    ensures { result ≡ many_left (flexible_topic_of P.grammar).left topics.now room }
+/// How many of `budget` bytes these topics leave, one after the other.
+fn deduct_topics<P: Wire>(topics: &[Topic<P>], budget: usize) -> Option<usize>
+    ensures { result ≡ many_left (flexible_topic_of P.grammar).left topics.now budget }
 {
-    let mut left = room;
+    let mut left = budget;
     for topic in topics {
-        left = topic_room(topic, left)?;
+        left = deduct_topic(topic, left)?;
     }
     Some(left)
 }
 
-/// A count and one in a number of variable length, and that many topics.
+/// The topics of a flexible version, as a COMPACT_ARRAY.
 #[tactic(auto, using(crate::proofs::Announced::many_after, crate::proofs::Announced::many_refused))]
 pub fn read_flexible_topics<P: Wire>(
     alloc: Global,
@@ -145,6 +149,7 @@ pub fn read_flexible_topics<P: Wire>(
     read_topics(alloc, cursor, count)
 }
 
+/// Appends the topics of a flexible version, as a COMPACT_ARRAY.
 #[tactic(auto, unfolding(crate::specs::Spelling::after_count_fits))]
 pub fn write_flexible_topics<P: Wire>(
     out: &mut Vec<u8>,
@@ -164,14 +169,15 @@ pub fn write_flexible_topics<P: Wire>(
     rest
 }
 
-pub fn flexible_topics_room<P: Wire>(topics: &Items<Topic<P>>, room: usize) -> Option<usize>
-    ensures { result ≡ (compact_array (flexible_topic_of P.grammar)).left topics.now room }
+/// How many of `budget` bytes the topics of a flexible version leave. None where they have no spelling, or a longer one.
+pub fn deduct_flexible_topics<P: Wire>(topics: &Items<Topic<P>>, budget: usize) -> Option<usize>
+    ensures { result ≡ (compact_array (flexible_topic_of P.grammar)).left topics.now budget }
 {
-    let room = compact_count_room(topics.len(), room)?;
-    topics_room(topics.as_slice(), room)
+    let budget = deduct_compact_count(topics.len(), budget)?;
+    deduct_topics(topics.as_slice(), budget)
 }
 
-/// The same, or nothing for null.
+/// The topics of a flexible version as a nullable COMPACT_ARRAY: None where its first number is 0.
 #[tactic(auto, unfolding(crate::specs::Reading::after_null_count_at, crate::specs::Reading::null_or))]
 pub fn read_nullable_flexible_topics<P: Wire>(
     alloc: Global,
@@ -186,6 +192,7 @@ pub fn read_nullable_flexible_topics<P: Wire>(
     }
 }
 
+/// Appends the topics of a flexible version as a nullable COMPACT_ARRAY.
 #[tactic(auto, unfolding(crate::specs::Spelling::after_count_fits, crate::specs::Spelling::after_null_count_fits, crate::specs::Spelling::after_null_count_put, crate::specs::Spelling::null_count_fits, crate::specs::Spelling::compact_null_count_fits))]
 pub fn write_nullable_flexible_topics<P: Wire>(
     out: &mut Vec<u8>,
@@ -203,15 +210,17 @@ pub fn write_nullable_flexible_topics<P: Wire>(
     Ok(())
 }
 
+/// How many of `budget` bytes topics that may be null leave in a flexible version. None where they have no spelling, or a longer
+/// one.
 #[tactic(auto, unfolding(crate::specs::Spelling::after_null_count_left, crate::specs::Spelling::null_count_fits, crate::specs::Spelling::compact_null_count_fits, crate::specs::Spelling::compact_null_count_written, crate::specs::Spelling::varint_written))]
-pub fn nullable_flexible_topics_room<P: Wire>(
+pub fn deduct_nullable_flexible_topics<P: Wire>(
     topics: &Option<Items<Topic<P>>>,
-    room: usize,
+    budget: usize,
 ) -> Option<usize>
-    ensures { result ≡ (compact_nullable_array (flexible_topic_of P.grammar)).left topics.now room }
+    ensures { result ≡ (compact_nullable_array (flexible_topic_of P.grammar)).left topics.now budget }
 {
     match topics {
-        None => room_after(1, room),
-        Some(topics) => flexible_topics_room(topics, room),
+        None => deduct(1, budget),
+        Some(topics) => deduct_flexible_topics(topics, budget),
     }
 }

@@ -23,6 +23,7 @@ impl<T> Model for Items<T> {
 }
 
 impl<T> Items<T> {
+    /// An empty list, which takes no memory.
     pub fn new(alloc: Global) -> Items<T>
         ensures { result ≡ [] }
     {
@@ -31,8 +32,8 @@ impl<T> Items<T> {
         }
     }
 
-    /// No values, and room for so many.
-    pub fn with_room(alloc: Global, count: usize) -> Result<Items<T>, AllocError>
+    /// No values, and memory for `count` of them. An error is an allocation failure.
+    pub fn with_capacity(alloc: Global, count: usize) -> Result<Items<T>, AllocError>
         ensures { IfOk result (λ items. items ≡ []) }
     {
         Ok(Items {
@@ -64,14 +65,15 @@ impl<T> Items<T> {
         self.vec.iter()
     }
 
+    /// The values, in order.
     pub fn as_slice(&self) -> &[T]
         ensures { result.now ≡ self.now }
     {
         self.vec.as_slice()
     }
 
-    /// Puts a value after the others. Where no room was taken before, that for the first one is for it alone: most lists of a
-    /// message hold one value.
+    /// Puts a value after the others. Where no memory was taken before, the first value takes its own alone: most lists of a message
+    /// hold one value. An error is an allocation failure, and leaves the list as it was.
     pub fn push(&mut self, item: T) -> Result<(), AllocError>
     where
         T: Drop,
@@ -85,7 +87,7 @@ impl<T> Items<T> {
         Ok(())
     }
 
-    /// Pushes the item, if there is one.
+    /// Puts a value after the others, if there is one. An error is an allocation failure, and leaves the list as it was.
     pub fn push_some(&mut self, item: Option<T>) -> Result<(), AllocError>
     where
         T: Drop,

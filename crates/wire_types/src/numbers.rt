@@ -3,17 +3,18 @@
 ghost use Rattle.std.specs.Io.{StartsWith};
 ghost use Rattle.std.specs.Prelude.{◌≡◌, ◌+◌, ◌<◌, ◌++◌, ◌^◌, OnOk, OnErr, Ok};
 ghost use Rattle.wire_types.specs.Reading.{Takes, nat_at, int_at, bool_at, front_at};
-ghost use Rattle.wire_types.specs.Spelling.{room_left};
+ghost use Rattle.wire_types.specs.Spelling.{left_after};
 ghost use Rattle.std.specs.Int.{w8, w16, w32, w64, to_be_bytes};
 ghost use Rattle.wire_types.specs.Schema.{int8, int16, int32, int64, uint32, boolean};
 
+use crate::budget::deduct;
 use crate::cursor::Cursor;
 use crate::fault::{Malformed, ReadFault, WriteFault};
-use crate::room::room_after;
 use crate::wire::Wire;
 use std::alloc::{AllocError, Global};
 
 impl<'a> Cursor<'a> {
+    /// INT8 of the protocol guide, in one byte.
     #[tactic(auto, unfolding(crate::specs::Reading::nat_at, crate::specs::Reading::int_at, crate::specs::Reading::front_at))]
     pub fn read_i8(&mut self) -> Result<i8, Malformed>
         ensures { Takes (int_at w8 self.old) result self.new }
@@ -21,6 +22,7 @@ impl<'a> Cursor<'a> {
         Ok(i8::from_be_bytes([self.read_byte()?]))
     }
 
+    /// INT16, in two bytes, the highest first.
     #[tactic(auto, unfolding(crate::specs::Reading::nat_at, crate::specs::Reading::int_at, crate::specs::Reading::front_at))]
     pub fn read_i16(&mut self) -> Result<i16, Malformed>
         ensures { Takes (int_at w16 self.old) result self.new }
@@ -29,6 +31,7 @@ impl<'a> Cursor<'a> {
         Ok(i16::from_be_bytes([front[0], front[1]]))
     }
 
+    /// INT32, in four bytes, the highest first.
     #[tactic(auto, unfolding(crate::specs::Reading::nat_at, crate::specs::Reading::int_at, crate::specs::Reading::front_at))]
     pub fn read_i32(&mut self) -> Result<i32, Malformed>
         ensures { Takes (int_at w32 self.old) result self.new }
@@ -37,6 +40,7 @@ impl<'a> Cursor<'a> {
         Ok(i32::from_be_bytes([front[0], front[1], front[2], front[3]]))
     }
 
+    /// INT64, in eight bytes, the highest first.
     #[tactic(auto, unfolding(crate::specs::Reading::nat_at, crate::specs::Reading::int_at, crate::specs::Reading::front_at))]
     pub fn read_i64(&mut self) -> Result<i64, Malformed>
         ensures { Takes (int_at w64 self.old) result self.new }
@@ -47,6 +51,7 @@ impl<'a> Cursor<'a> {
         ]))
     }
 
+    /// UINT32, in four bytes, the highest first.
     #[tactic(auto, unfolding(crate::specs::Reading::nat_at, crate::specs::Reading::front_at))]
     pub fn read_u32(&mut self) -> Result<u32, Malformed>
         ensures { Takes (nat_at w32 self.old) result self.new }
@@ -55,6 +60,7 @@ impl<'a> Cursor<'a> {
         Ok(u32::from_be_bytes([front[0], front[1], front[2], front[3]]))
     }
 
+    /// BOOLEAN, in one byte: 0 is false, and any other true.
     #[tactic(auto, unfolding(crate::specs::Reading::bool_at, crate::specs::Reading::front_at))]
     pub fn read_bool(&mut self) -> Result<bool, Malformed>
         ensures { Takes (bool_at self.old) result self.new }
@@ -128,7 +134,7 @@ impl Wire for i32 {
         Ok(write_i32(out, *self)?)
     }
 
-    fn room_left(&self, room: usize) -> Option<usize> {
-        room_after(4, room)
+    fn deduct_from(&self, budget: usize) -> Option<usize> {
+        deduct(4, budget)
     }
 }

@@ -8,10 +8,10 @@ ghost use Rattle.wire_types.specs.Reading.{Reads};
 ghost use Rattle.wire_types.specs.Writing.{Puts};
 ghost use Rattle.wire_types.specs.Schema.{bytes};
 
-use crate::counts::{count_room, write_count};
+use crate::budget::deduct;
+use crate::counts::{deduct_count, write_count};
 use crate::cursor::Cursor;
 use crate::fault::{ReadFault, WriteFault};
-use crate::room::room_after;
 use crate::shared_bytes::Bytes;
 use std::alloc::{AllocError, Global};
 use std::marker::Model;
@@ -61,7 +61,7 @@ impl Piece {
         }
     }
 
-    /// The first 16 bytes.
+    /// The piece's first 16 bytes.
     pub fn front(&self) -> [u8; 16]
         requires { 16 ≤ length self.now }
         ensures { result ≡ take 16 self.now }
@@ -72,8 +72,8 @@ impl Piece {
         }
     }
 
-    /// The same bytes after other first 16, one more owner of those after them. It is refused only where the count of owners
-    /// is full.
+    /// The same piece with other bytes in place of its first 16; it shares those after them. An error comes only where the count of
+    /// owners is full.
     pub fn with_front(&self, own: [u8; 16]) -> Result<Piece, AllocError>
         requires { 16 ≤ length self.now }
         ensures { IfOk result (λ p. p ≡ own ++ drop 16 self.now) }
@@ -172,6 +172,7 @@ impl Drop for Pieces {
 }
 
 impl Pieces {
+    /// An empty list of pieces, which takes no memory.
     pub fn new(alloc: Global) -> Pieces
         ensures { result ≡ [] }
     {
@@ -355,9 +356,11 @@ pub fn write_pieces(out: &mut Vec<u8>, value: &Pieces) -> Result<(), WriteFault>
     Ok(rest?)
 }
 
-pub fn pieces_room(value: &Pieces, room: usize) -> Option<usize>
-    ensures { result ≡ bytes.left value.now room }
+/// How many of `budget` bytes these pieces leave, written as BYTES. None where they are too many to be spelled, or more than
+/// the budget.
+pub fn deduct_pieces(value: &Pieces, budget: usize) -> Option<usize>
+    ensures { result ≡ bytes.left value.now budget }
 {
-    let room = count_room(value.len(), room)?;
-    room_after(value.len(), room)
+    let budget = deduct_count(value.len(), budget)?;
+    deduct(value.len(), budget)
 }

@@ -44,6 +44,7 @@ impl<T> Shared<T> {
         })
     }
 
+    /// The value that all its owners share.
     pub fn value(&self) -> &T
         ensures { result.now ≡ self.now }
     {

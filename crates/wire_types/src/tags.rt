@@ -12,7 +12,7 @@ use crate::varints::write_uvarint;
 use std::alloc::AllocError;
 
 impl<'a> Cursor<'a> {
-    /// A tag, and what stands under it.
+    /// Reads past one tagged field (KIP-482): its tag, its size and so many bytes.
     #[tactic(auto, unfolding(crate::specs::Reading::after_count_at, crate::specs::Reading::front_at))]
     fn skip_field(&mut self) -> Result<(), Malformed>
         ensures { Takes (skipped_if_found (field.reading self.old)) result self.new }
@@ -23,6 +23,7 @@ impl<'a> Cursor<'a> {
         Ok(())
     }
 
+    /// Reads past `count` tagged fields (KIP-482).
     fn skip_fields(&mut self, count: u32) -> Result<(), Malformed>
         ensures { Takes (skipped_if_found (many_at field.reading count self.old)) result self.new }
     {
@@ -32,7 +33,7 @@ impl<'a> Cursor<'a> {
         Ok(())
     }
 
-    /// A tagged section, which is skipped.
+    /// Reads past a section of tagged fields (KIP-482), whatever they hold.
     #[tactic(auto, unfolding(crate::specs::Reading::after_count_at, crate::specs::Reading::items_at))]
     pub fn skip_tags(&mut self) -> Result<(), Malformed>
         ensures { Takes (tags.reading self.old) result self.new }
@@ -45,7 +46,7 @@ impl<'a> Cursor<'a> {
     }
 }
 
-/// An empty tagged section.
+/// Appends a section of tagged fields (KIP-482) that holds none.
 #[tactic(auto, unfolding(crate::specs::Spelling::after_count_written, crate::specs::Spelling::many_written))]
 pub fn write_no_tags(out: &mut Vec<u8>) -> Result<(), AllocError>
     ensures ok { OnOk result (out.new.items ≡ tags.put out.old.items tt) }

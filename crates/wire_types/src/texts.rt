@@ -4,22 +4,23 @@ ghost use Rattle.std.specs.Io.{StartsWith};
 ghost use Rattle.std.specs.Prelude.{◌≡◌, ◌+◌, ◌<◌, ◌^◌, None, Some, OnErr, Ok, Err};
 ghost use Rattle.wire_types.specs.Reading.{Reads, utf8_at};
 ghost use Rattle.wire_types.specs.Writing.{Puts};
-ghost use Rattle.wire_types.specs.Spelling.{room_left, varint_written};
+ghost use Rattle.wire_types.specs.Spelling.{left_after, varint_written};
 ghost use Rattle.wire_types.specs.Schema.{string, nullable_string, compact_string, compact_nullable_string};
 
+use crate::budget::deduct;
 use crate::counts::{
-    compact_count_room, count16_room, write_compact_count, write_compact_null, write_count16,
+    deduct_compact_count, deduct_count16, write_compact_count, write_compact_null, write_count16,
     write_null16,
 };
 use crate::cursor::Cursor;
 use crate::fault::{Malformed, ReadFault, WriteFault};
-use crate::room::room_after;
 use crate::text::Text;
 use crate::wire::Wire;
 use std::alloc::Global;
 
 impl<'a> Cursor<'a> {
-    /// The next `len` bytes, a text, as a part of the shared bytes, or as a copy where there are none.
+    /// The next `len` bytes as a text, a part of the shared bytes, or a copy where the reader has none. Bytes that aren't UTF-8 are
+    /// malformed.
     #[tactic(auto, unfolding(crate::specs::Reading::utf8_at))]
     fn read_utf8(&mut self, alloc: Global, len: usize) -> Result<Text, ReadFault>
         ensures { Reads (utf8_at len self.old) result self.new }
@@ -31,7 +32,7 @@ impl<'a> Cursor<'a> {
         }
     }
 
-    /// A text after its length in two bytes.
+    /// STRING of the protocol guide: a length in two bytes (INT16), and a text of so many bytes.
     #[tactic(auto, unfolding(crate::specs::Reading::after_count_at))]
     pub fn read_string(&mut self, alloc: Global) -> Result<Text, ReadFault>
         ensures { Reads (string.reading self.old) result self.new }
@@ -40,7 +41,7 @@ impl<'a> Cursor<'a> {
         self.read_utf8(alloc, len as usize)
     }
 
-    /// A text after its length in two bytes, or nothing for the length -1.
+    /// NULLABLE_STRING: None where the length is -1.
     #[tactic(auto, unfolding(crate::specs::Reading::after_null_count_at, crate::specs::Reading::null_or))]
     pub fn read_nullable(&mut self, alloc: Global) -> Result<Option<Text>, ReadFault>
         ensures { Reads (nullable_string.reading self.old) result self.new }
@@ -51,7 +52,7 @@ impl<'a> Cursor<'a> {
         }
     }
 
-    /// A text after its length and one in a number of variable length.
+    /// COMPACT_STRING: a length and one as an UNSIGNED_VARINT, and a text of so many bytes.
     #[tactic(auto, using(crate::proofs::Announced::content_after, crate::proofs::Announced::utf8_refused))]
     pub fn read_compact_string(&mut self, alloc: Global) -> Result<Text, ReadFault>
         ensures { Reads (compact_string.reading self.old) result self.new }
@@ -60,7 +61,7 @@ impl<'a> Cursor<'a> {
         self.read_utf8(alloc, len as usize)
     }
 
-    /// The same, or nothing for 0.
+    /// COMPACT_NULLABLE_STRING: None where the first number is 0.
     #[tactic(auto, unfolding(crate::specs::Reading::after_null_count_at, crate::specs::Reading::null_or))]
     pub fn read_compact_nullable(&mut self, alloc: Global) -> Result<Option<Text>, ReadFault>
         ensures { Reads (compact_nullable_string.reading self.old) result self.new }
@@ -72,7 +73,7 @@ impl<'a> Cursor<'a> {
     }
 }
 
-/// A length in two bytes, and the text.
+/// Appends a STRING.
 #[tactic(auto, unfolding(crate::specs::Spelling::after_count_fits))]
 pub fn write_string(out: &mut Vec<u8>, value: &Text) -> Result<(), WriteFault>
     ensures spelled { Puts string value.now out.old.items result out.new.items }
@@ -88,7 +89,7 @@ pub fn write_string(out: &mut Vec<u8>, value: &Text) -> Result<(), WriteFault>
     Ok(rest?)
 }
 
-/// A text, or the length -1 for nothing.
+/// Appends a NULLABLE_STRING.
 #[tactic(auto, unfolding(crate::specs::Spelling::after_count_fits, crate::specs::Spelling::after_null_count_fits, crate::specs::Spelling::after_null_count_put, crate::specs::Spelling::null_count_fits, crate::specs::Spelling::compact_null_count_fits))]
 pub fn write_nullable(out: &mut Vec<u8>, value: &Option<Text>) -> Result<(), WriteFault>
     ensures spelled { Puts nullable_string value.now out.old.items result out.new.items }
@@ -102,7 +103,7 @@ pub fn write_nullable(out: &mut Vec<u8>, value: &Option<Text>) -> Result<(), Wri
     Ok(())
 }
 
-/// A length and one in a number of variable length, and the text.
+/// Appends a COMPACT_STRING.
 #[tactic(auto, unfolding(crate::specs::Spelling::after_count_fits))]
 pub fn write_compact_string(out: &mut Vec<u8>, value: &Text) -> Result<(), WriteFault>
     ensures spelled { Puts compact_string value.now out.old.items result out.new.items }
@@ -118,7 +119,7 @@ pub fn write_compact_string(out: &mut Vec<u8>, value: &Text) -> Result<(), Write
     Ok(rest?)
 }
 
-/// The same, or 0 for nothing.
+/// Appends a COMPACT_NULLABLE_STRING.
 #[tactic(auto, unfolding(crate::specs::Spelling::after_count_fits, crate::specs::Spelling::after_null_count_fits, crate::specs::Spelling::after_null_count_put, crate::specs::Spelling::null_count_fits, crate::specs::Spelling::compact_null_count_fits))]
 pub fn write_compact_nullable(out: &mut Vec<u8>, value: &Option<Text>) -> Result<(), WriteFault>
     ensures spelled { Puts compact_nullable_string value.now out.old.items result out.new.items }
@@ -132,37 +133,42 @@ pub fn write_compact_nullable(out: &mut Vec<u8>, value: &Option<Text>) -> Result
     Ok(())
 }
 
-pub fn string_room(value: &Text, room: usize) -> Option<usize>
-    ensures { result ≡ string.left value.now room }
+/// How many of `budget` bytes a STRING leaves. None where it is too long to be spelled, or longer than the budget.
+pub fn deduct_string(value: &Text, budget: usize) -> Option<usize>
+    ensures { result ≡ string.left value.now budget }
 {
-    let room = count16_room(value.len(), room)?;
-    room_after(value.len(), room)
+    let budget = deduct_count16(value.len(), budget)?;
+    deduct(value.len(), budget)
 }
 
+/// How many of `budget` bytes a NULLABLE_STRING leaves. None where it is too long to be spelled, or longer than the budget.
 #[tactic(auto, unfolding(crate::specs::Spelling::after_null_count_left, crate::specs::Spelling::null_count_fits))]
-pub fn nullable_room(value: &Option<Text>, room: usize) -> Option<usize>
-    ensures { result ≡ nullable_string.left value.now room }
+pub fn deduct_nullable(value: &Option<Text>, budget: usize) -> Option<usize>
+    ensures { result ≡ nullable_string.left value.now budget }
 {
     match value {
-        None => room_after(2, room),
-        Some(value) => string_room(value, room),
+        None => deduct(2, budget),
+        Some(value) => deduct_string(value, budget),
     }
 }
 
-pub fn compact_string_room(value: &Text, room: usize) -> Option<usize>
-    ensures { result ≡ compact_string.left value.now room }
+/// How many of `budget` bytes a COMPACT_STRING leaves. None where it is too long to be spelled, or longer than the budget.
+pub fn deduct_compact_string(value: &Text, budget: usize) -> Option<usize>
+    ensures { result ≡ compact_string.left value.now budget }
 {
-    let room = compact_count_room(value.len(), room)?;
-    room_after(value.len(), room)
+    let budget = deduct_compact_count(value.len(), budget)?;
+    deduct(value.len(), budget)
 }
 
+/// How many of `budget` bytes a COMPACT_NULLABLE_STRING leaves. None where it is too long to be spelled, or longer than the
+/// budget.
 #[tactic(auto, unfolding(crate::specs::Spelling::after_null_count_left, crate::specs::Spelling::null_count_fits, crate::specs::Spelling::compact_null_count_fits, crate::specs::Spelling::compact_null_count_written, crate::specs::Spelling::varint_written))]
-pub fn compact_nullable_room(value: &Option<Text>, room: usize) -> Option<usize>
-    ensures { result ≡ compact_nullable_string.left value.now room }
+pub fn deduct_compact_nullable(value: &Option<Text>, budget: usize) -> Option<usize>
+    ensures { result ≡ compact_nullable_string.left value.now budget }
 {
     match value {
-        None => room_after(1, room),
-        Some(value) => compact_string_room(value, room),
+        None => deduct(1, budget),
+        Some(value) => deduct_compact_string(value, budget),
     }
 }
 
@@ -177,7 +183,7 @@ impl Wire for Text {
         write_string(out, self)
     }
 
-    fn room_left(&self, room: usize) -> Option<usize> {
-        string_room(self, room)
+    fn deduct_from(&self, budget: usize) -> Option<usize> {
+        deduct_string(self, budget)
     }
 }

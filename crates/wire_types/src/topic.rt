@@ -1,11 +1,11 @@
 //! A topic with what a message says of its partitions.
 
-use crate::arrays::{array_room, read_array, write_array};
+use crate::arrays::{deduct_array, read_array, write_array};
 use crate::cursor::Cursor;
 use crate::fault::{ReadFault, WriteFault};
 use crate::items::Items;
 use crate::text::Text;
-use crate::texts::{string_room, write_string};
+use crate::texts::{deduct_string, write_string};
 use crate::wire::Wire;
 use std::alloc::Global;
 
@@ -33,8 +33,8 @@ impl<P: Wire> Wire for Topic<P> {
         Ok(())
     }
 
-    fn room_left(&self, room: usize) -> Option<usize> {
-        let room = string_room(&self.name, room)?;
-        array_room(&self.partitions, room)
+    fn deduct_from(&self, budget: usize) -> Option<usize> {
+        let budget = deduct_string(&self.name, budget)?;
+        deduct_array(&self.partitions, budget)
     }
 }

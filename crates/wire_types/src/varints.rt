@@ -7,13 +7,14 @@ ghost use Rattle.wire_types.specs.Spelling.{varint_written};
 ghost use Rattle.wire_types.specs.Zigzag.{zigzag};
 ghost use Rattle.wire_types.specs.Schema.{uvarint, uvarlong, varint, varlong};
 
+use crate::budget::deduct;
 use crate::cursor::Cursor;
 use crate::fault::Malformed;
-use crate::room::room_after;
 use std::alloc::AllocError;
 
 impl<'a> Cursor<'a> {
-    /// A number of variable length: `more` bytes may follow the first, and the last of them all is at most `top`.
+    /// A number of variable length, seven bits a byte and the lowest first: `more` bytes may follow the first, and the last of them
+    /// all is at most `top`. A longer or larger one is malformed.
     #[tactic(auto, unfolding(crate::specs::Reading::varint_at, crate::specs::Reading::varint_limit))]
     fn read_varint_slowly(&mut self, more: u32, top: u8) -> Result<u64, Malformed>
         requires { varint_limit more top ≤ 2 ^ 64 }
@@ -35,7 +36,8 @@ impl<'a> Cursor<'a> {
         Ok((first - 128) as u64 + 128 * high)
     }
 
-    /// The same where `more` is at least two: most numbers have one byte or two, and are read with no call for each byte.
+    /// Reads what `read_varint_slowly` does, where `more` is at least two: most numbers have one byte or two, and are read with no
+    /// call for each byte.
     #[inline(always)]
     #[tactic(auto, using(crate::proofs::FirstBytes::first_bytes))]
     fn read_varint_within(&mut self, more: u32, top: u8) -> Result<u64, Malformed>
@@ -56,7 +58,7 @@ impl<'a> Cursor<'a> {
         Ok((first - 128) as u64 + 128 * ((second - 128) as u64 + 128 * high))
     }
 
-    /// An unsigned number of 32 bits in up to five bytes.
+    /// UNSIGNED_VARINT of the protocol guide: an unsigned number of 32 bits in up to five bytes.
     #[tactic(auto, unfolding(crate::specs::Reading::varint_limit))]
     pub fn read_uvarint(&mut self) -> Result<u32, Malformed>
         ensures { Takes (uvarint.reading self.old) result self.new }
@@ -72,7 +74,7 @@ impl<'a> Cursor<'a> {
         self.read_varint_within(9, 1)
     }
 
-    /// A signed number of 32 bits in up to five bytes.
+    /// VARINT: a signed number of 32 bits in zigzag form, in up to five bytes.
     pub fn read_varint(&mut self) -> Result<i32, Malformed>
         ensures { Takes (varint.reading self.old) result self.new }
     {
@@ -81,7 +83,7 @@ impl<'a> Cursor<'a> {
         Ok(if number % 2 == 0 { half } else { -half - 1 })
     }
 
-    /// A signed number of 64 bits in up to ten bytes.
+    /// VARLONG: a signed number of 64 bits in zigzag form, in up to ten bytes.
     pub fn read_varlong(&mut self) -> Result<i64, Malformed>
         ensures { Takes (varlong.reading self.old) result self.new }
     {
@@ -91,7 +93,7 @@ impl<'a> Cursor<'a> {
     }
 }
 
-/// A number of variable length in its shortest form: `more` bytes may follow the first.
+/// Appends a number of variable length in its shortest form: `more` bytes may follow the first.
 #[tactic(auto, unfolding(crate::specs::Spelling::varint_written, crate::specs::Reading::varint_limit))]
 fn write_varint_within(out: &mut Vec<u8>, more: u32, top: u8, number: u64) -> Result<(), AllocError>
     requires { number < varint_limit more top }
@@ -113,7 +115,7 @@ fn write_varint_within(out: &mut Vec<u8>, more: u32, top: u8, number: u64) -> Re
     }
 }
 
-/// An unsigned number of 32 bits.
+/// Appends an UNSIGNED_VARINT.
 #[tactic(auto, unfolding(crate::specs::Reading::varint_limit))]
 pub fn write_uvarint(out: &mut Vec<u8>, number: u32) -> Result<(), AllocError>
     ensures ok { OnOk result (out.new.items ≡ uvarint.put out.old.items number) }
@@ -123,6 +125,7 @@ pub fn write_uvarint(out: &mut Vec<u8>, number: u32) -> Result<(), AllocError>
     write_varint_within(out, 4, 15, number as u64)
 }
 
+/// Appends an unsigned number of 64 bits, in up to ten bytes.
 #[tactic(auto, unfolding(crate::specs::Reading::varint_limit))]
 fn write_uvarlong(out: &mut Vec<u8>, number: u64) -> Result<(), AllocError>
     ensures ok { OnOk result (out.new.items ≡ uvarlong.put out.old.items number) }
@@ -132,7 +135,7 @@ fn write_uvarlong(out: &mut Vec<u8>, number: u64) -> Result<(), AllocError>
     write_varint_within(out, 9, 1, number)
 }
 
-/// A signed number in zigzag form: 0, -1, 1, -2 as 0, 1, 2, 3.
+/// A signed number of 32 bits in zigzag form: 0, -1, 1, -2 become 0, 1, 2, 3.
 fn zigzag(number: i32) -> u32
     ensures { result ≡ zigzag number }
 {
@@ -143,7 +146,7 @@ fn zigzag(number: i32) -> u32
     }
 }
 
-/// The same of 64 bits.
+/// A signed number of 64 bits in zigzag form: 0, -1, 1, -2 become 0, 1, 2, 3.
 fn long_zigzag(number: i64) -> u64
     ensures { result ≡ zigzag number }
 {
@@ -154,7 +157,7 @@ fn long_zigzag(number: i64) -> u64
     }
 }
 
-/// A signed number of 32 bits.
+/// Appends a VARINT.
 pub fn write_varint(out: &mut Vec<u8>, number: i32) -> Result<(), AllocError>
     ensures ok { OnOk result (out.new.items ≡ varint.put out.old.items number) }
     ensures err { OnErr result (out.new.items ≡ out.old.items) }
@@ -163,7 +166,7 @@ pub fn write_varint(out: &mut Vec<u8>, number: i32) -> Result<(), AllocError>
     write_uvarint(out, zigzag(number))
 }
 
-/// A signed number of 64 bits.
+/// Appends a VARLONG.
 pub fn write_varlong(out: &mut Vec<u8>, number: i64) -> Result<(), AllocError>
     ensures ok { OnOk result (out.new.items ≡ varlong.put out.old.items number) }
     ensures err { OnErr result (out.new.items ≡ out.old.items) }
@@ -172,7 +175,7 @@ pub fn write_varlong(out: &mut Vec<u8>, number: i64) -> Result<(), AllocError>
     write_uvarlong(out, long_zigzag(number))
 }
 
-/// How many bytes a number of variable length takes.
+/// How many bytes a number of variable length takes in its shortest form, where `more` may follow the first.
 #[tactic(auto, unfolding(crate::specs::Spelling::varint_written))]
 pub(crate) fn varint_len(more: u32, number: u64) -> usize
     ensures { (result ≡ length (varint_written more number)) × (result ≤ more + 1) }
@@ -183,16 +186,16 @@ pub(crate) fn varint_len(more: u32, number: u64) -> usize
     varint_len(more - 1, number / 128) + 1
 }
 
-/// How many bytes a signed number of variable length takes.
-pub fn varint_room(number: i32, room: usize) -> Option<usize>
-    ensures { result ≡ varint.left number room }
+/// How many of `budget` bytes a VARINT leaves. None where it has more.
+pub fn deduct_varint(number: i32, budget: usize) -> Option<usize>
+    ensures { result ≡ varint.left number budget }
 {
-    room_after(varint_len(4, zigzag(number) as u64), room)
+    deduct(varint_len(4, zigzag(number) as u64), budget)
 }
 
-/// The same of 64 bits.
-pub fn varlong_room(number: i64, room: usize) -> Option<usize>
-    ensures { result ≡ varlong.left number room }
+/// How many of `budget` bytes a VARLONG leaves. None where it has more.
+pub fn deduct_varlong(number: i64, budget: usize) -> Option<usize>
+    ensures { result ≡ varlong.left number budget }
 {
-    room_after(varint_len(9, long_zigzag(number)), room)
+    deduct(varint_len(9, long_zigzag(number)), budget)
 }

@@ -39,15 +39,15 @@ pub trait Wire: Drop {
         written
     }
 
-    /// What is left of a room after that spelling, if it has one and that has place there.
-    fn room_left(&self, room: usize) -> Option<usize>
-        ensures { result ≡ grammar.left self.now room };
+    /// How many of `budget` bytes are left after that spelling. None where the value has no spelling, or a longer one.
+    fn deduct_from(&self, budget: usize) -> Option<usize>
+        ensures { result ≡ grammar.left self.now budget };
 }
 
 /// How many bytes the value's spelling has, if it has one of at most so many as a `usize` can tell.
 pub fn size<T: Wire>(value: &T) -> Option<usize>
     ensures { result ≡ size_of T.grammar value.now }
 {
-    let left = value.room_left(usize::MAX)?;
+    let left = value.deduct_from(usize::MAX)?;
     Some(usize::MAX - left)
 }

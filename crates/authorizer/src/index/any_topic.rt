@@ -15,7 +15,7 @@ use crate::indexed::IndexedBook;
 use acl_binding::{Binding, Kind, Numbered, Operation, Pattern};
 use wire_types::{Shared, Text};
 
-/// One of these is a DENY of writing, or of all, for the caller.
+/// Whether one of these bindings is a DENY of WRITE or of ALL for this principal at this host.
 fn bar_write(entries: &[Shared<Numbered>], who: &Text, host: &Text) -> bool
     ensures { result ≡ list_any (λ (e : Entry). bars_write who.now host.now e.binding) entries.now }
 {
@@ -25,14 +25,14 @@ fn bar_write(entries: &[Shared<Numbered>], who: &Text, host: &Text) -> bool
     })
 }
 
-/// The binding is for each name.
+/// Whether the binding is for every name: literal `*`.
 fn is_star(binding: &Binding) -> bool
     ensures { result ≡ is_star binding.now }
 {
     binding.pattern == Pattern::Literal && binding.name.as_str() == ANY_NAME
 }
 
-/// The binding is literal, and one of the same name is such a DENY.
+/// Whether the binding is literal, and another literal binding of the same name denies WRITE to this principal at this host.
 fn own_name_bars(names: &Names, binding: &Binding, who: &Text, host: &Text) -> bool
     ensures { result
         ≡ ((pattern_number binding.now.pattern == pattern_number Literal) && list_any
@@ -42,7 +42,7 @@ fn own_name_bars(names: &Names, binding: &Binding, who: &Text, host: &Text) -> b
     binding.pattern == Pattern::Literal && bar_write(names.held(binding.name.as_str()), who, host)
 }
 
-/// A prefixed one whose name begins this one is such a DENY.
+/// Whether a prefixed binding that matches this name denies WRITE to this principal at this host.
 fn prefixes_deny_write(names: &Names, name: &Text, who: &Text, host: &Text) -> bool
     ensures { (es : List Entry) → AllByRecursion IsNamed es → IsTableOf names.now Topic Prefixed es
         → result ≡ list_any (λ (e : Entry). bars_write who.now host.now e.binding)
@@ -60,7 +60,8 @@ fn prefixes_deny_write(names: &Names, name: &Text, who: &Text, host: &Text) -> b
 }
 
 impl IndexedBook {
-    /// Some binding lets the caller write to topics, and no denial stands over it.
+    /// Whether this principal at this host may WRITE to some topic: a binding allows it, and no DENY covers all names of
+    /// that binding (KIP-679, `authorizeByResourceType`).
     pub(crate) fn any_topic(&self, who: &Text, host: &Text) -> bool
         ensures { result ≡ any_topic self.now.entries who.now host.now }
     {
@@ -69,7 +70,7 @@ impl IndexedBook {
             || topics.prefixed.any_not_overridden(self, who, host)
     }
 
-    /// The binding lets the caller write, and no denial stands over it.
+    /// Whether the binding allows this principal at this host to WRITE, and no DENY covers all its names.
     pub(crate) fn is_unbarred(&self, entry: &Numbered, who: &Text, host: &Text) -> bool
         ensures { result ≡ is_unbarred self.now.entries who.now host.now entry.now }
     {
@@ -79,8 +80,8 @@ impl IndexedBook {
             && !self.is_overridden_by_deny(binding, who, host)
     }
 
-    /// A denial stands over what the binding allows: one of `*`, or, unless that is the binding's own name, one of its
-    /// name or of a beginning.
+    /// Whether a DENY of WRITE for this principal at this host covers all names of the binding: one of literal `*`, or, if
+    /// the binding isn't literal `*` itself, one of its name or of a beginning of it.
     fn is_overridden_by_deny(&self, binding: &Binding, who: &Text, host: &Text) -> bool
         ensures { result ≡ is_overridden_by_deny self.now.entries who.now host.now binding.now }
     {
@@ -89,7 +90,8 @@ impl IndexedBook {
             || !is_star(binding) && self.is_overridden_by_name(binding, who, host)
     }
 
-    /// A denial of the binding's own literal name, or of a beginning of its name.
+    /// Whether a DENY of WRITE for this principal at this host is bound to the binding's own literal name, or prefixed to
+    /// its name or a beginning of it.
     fn is_overridden_by_name(&self, binding: &Binding, who: &Text, host: &Text) -> bool
         ensures { result ≡ is_overridden_by_name self.now.entries who.now host.now binding.now }
     {

@@ -17,14 +17,14 @@ pub struct Longest {
 }
 
 impl Longest {
-    /// That of no names.
+    /// What holds for a table without names.
     pub(crate) fn none() -> Longest
         ensures { IsLongest result [] }
     {
         Longest { bytes: 0, names: 0 }
     }
 
-    /// That of a table's names.
+    /// The longest name of a table, found by a look at all its names.
     pub(crate) fn of(buckets: &IndexMap<String, Bucket, RandomState>) -> Longest
         ensures { IsLongest result (lengths (keys buckets.now)) }
     {
@@ -35,7 +35,7 @@ impl Longest {
         longest
     }
 
-    /// One name more.
+    /// Counts in a new name of so many bytes.
     pub(crate) fn add(&mut self, bytes: usize)
         requires { self.old.names + 1 < 2 ^ 64 }
         ensures { (ns : List ℕ) → IsLongest self.old ns → IsLongest self.new (ns ++ bytes ∷ []) }
@@ -47,7 +47,8 @@ impl Longest {
         }
     }
 
-    /// One name less. Answers whether the longest is still known: it isn't where that was the only one as long.
+    /// Counts out a name of so many bytes. Tells whether the longest is still known: it isn't where that name was the only
+    /// one as long, and then nothing is changed.
     pub(crate) fn lose(&mut self, bytes: usize) -> bool
         ensures left { (ns left : List ℕ)
             → ((p : ℕ → Bool) → count_by p left + cond (p bytes) 1 0 ≡ count_by p ns)

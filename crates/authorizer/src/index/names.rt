@@ -48,6 +48,7 @@ impl Model for Names {
 }
 
 impl Names {
+    /// A table without names. `hasher` hashes those that are added.
     pub(crate) fn new(alloc: Global, hasher: RandomState) -> Names
         ensures { result ≡ [] }
     {
@@ -57,14 +58,14 @@ impl Names {
         }
     }
 
-    /// The bytes of the longest name, or 0 where there is none.
+    /// How many bytes the longest name has, or 0 if there is none.
     pub(crate) fn longest(&self) -> usize
         ensures { result ≡ longest_name self.now }
     {
         self.longest.bytes
     }
 
-    /// The bindings of this name, by a look-up that isn't counted. Verdicts can't make one: they stand outside this module.
+    /// The bindings of this name, in creation order. This look-up isn't counted; verdicts use `look_up`.
     pub(super) fn held(&self, name: &str) -> &[Shared<Numbered>]
         ensures { result.now ≡ bindings_under self.now name.now }
     {
@@ -77,7 +78,7 @@ impl Names {
         }
     }
 
-    /// The bindings of this name, by a look-up that is counted.
+    /// The bindings of this name, in creation order. The look-up is counted in `looked`.
     pub(crate) fn look_up(&self, name: &str, looked: &mut u64) -> &[Shared<Numbered>]
         requires { looked.old + 1 < 2 ^ 64 }
         ensures held { result.now ≡ bindings_under self.now name.now }
@@ -87,7 +88,8 @@ impl Names {
         self.held(name)
     }
 
-    /// Some binding lets the caller write, and no denial of the book stands over it.
+    /// Whether some binding in the table allows this principal at this host to WRITE, and no DENY of the book covers all its
+    /// names.
     pub(crate) fn any_not_overridden(&self, book: &IndexedBook, who: &Text, host: &Text) -> bool
         ensures { (kind : Kind) (pattern : Pattern) (es : List Entry)
             → IsTableOf self.now kind pattern es → result
@@ -102,7 +104,8 @@ impl Names {
         false
     }
 
-    /// Puts a binding after the others of its name: its creation number is the greatest.
+    /// Appends a binding to those of its name. Its creation number is greater than theirs. An allocation failure changes
+    /// nothing.
     pub(crate) fn add(
         &mut self,
         alloc: Global,
@@ -124,25 +127,26 @@ impl Names {
         Ok(())
     }
 
-    /// Takes out the bindings that the filter picks, and the names of which nothing is left.
+    /// Drops the bindings that match the filter, and each name that then has none.
     pub(crate) fn clean(&mut self, filter: &Filter)
         ensures { HasLess self.old self.new filter.now }
     {
         if self.buckets.len() == 0 {
             return;
         }
-        self.buckets.retain(|_, bucket| bucket.leave(filter));
+        self.buckets
+            .retain(|_, bucket| bucket.keep_unmatched(filter));
         self.longest = Longest::of(&self.buckets);
     }
 
-    /// Takes out those of this name that the filter picks, and the name where nothing is left of it.
+    /// Drops the bindings of this name that match the filter, and the name if it then has none.
     pub(crate) fn clean_at(&mut self, name: &str, filter: &Filter)
         ensures { HasLessAt self.old self.new name.now filter.now }
     {
         let Some(bucket) = self.buckets.get_mut(name) else {
             return;
         };
-        if !bucket.leave(filter) {
+        if !bucket.keep_unmatched(filter) {
             self.buckets.swap_remove(name);
             if !self.longest.lose(name.len()) {
                 self.longest = Longest::of(&self.buckets);
@@ -151,7 +155,7 @@ impl Names {
     }
 }
 
-/// A name that isn't in the table yet, with its first binding.
+/// Puts a name that isn't in the table there, with its first binding. An allocation failure changes nothing.
 fn add_name(
     buckets: &mut IndexMap<String, Bucket, RandomState>,
     alloc: Global,

@@ -10,10 +10,10 @@ use std::test::Fail;
 /// How many pairs of batches the log has: one record, and three after it.
 const PAIRS: i64 = 500;
 
-/// Room for one of the batches, and not for a whole pair.
+/// A budget for one of the batches, and not for a whole pair.
 const ROOM: u64 = 95;
 
-/// Three records of no producer.
+/// A batch of three records, of no producer and no transaction.
 fn three_records() -> [u8; 95] {
     let mut bytes = RICH;
     bytes[22] = 0;
@@ -23,7 +23,7 @@ fn three_records() -> [u8; 95] {
     signed(bytes)
 }
 
-/// A thousand batches of 2,000 records.
+/// A log of a thousand batches with 2,000 records.
 fn thousand(alloc: Global) -> Result<Log, Fail> {
     let mut log = Log::new(alloc);
     let three = three_records();
@@ -50,8 +50,7 @@ fn is_found(alloc: Global, log: &Log, offset: i64) -> bool {
     }
 }
 
-/// Each offset of a thousand batches is found, and the end, after which there is none. How often the search compares for that
-/// (at most ten times here) is no caller's to see: it is a clause of the search itself.
+/// Each offset of a thousand batches is found, and the end, after which there is none.
 #[test]
 fn each_offset_of_a_thousand_batches_is_found(rt: HostRuntime) -> Result<(), Fail> {
     let log = thousand(rt.alloc())?;

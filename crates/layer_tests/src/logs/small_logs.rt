@@ -20,7 +20,7 @@ struct Small {
     entries: Vec<Entry>,
 }
 
-/// One record of a producer that is in no transaction.
+/// A batch of one record of an idempotent producer, in no transaction, with this sequence number.
 fn plain_bytes(producer: u8, sequence: u8) -> [u8; 69] {
     let mut bytes = ONE;
     for place in 43..57 {
@@ -36,7 +36,7 @@ fn plain_bytes(producer: u8, sequence: u8) -> [u8; 69] {
     bytes
 }
 
-/// Three records of a producer's transaction.
+/// A batch of three records of a producer's transaction, from this sequence number on.
 fn transactional_bytes(producer: u8, sequence: u8) -> [u8; 95] {
     let mut bytes = RICH;
     bytes[50] = producer;
@@ -45,7 +45,7 @@ fn transactional_bytes(producer: u8, sequence: u8) -> [u8; 95] {
     signed(bytes)
 }
 
-/// The same bytes with their checksum.
+/// The same batch with its right checksum.
 pub(crate) fn signed(bytes: [u8; 95]) -> [u8; 95] {
     let mut bytes = bytes;
     let [a, b, c, d] = crc32c(&bytes[21..]).to_be_bytes();
@@ -56,7 +56,7 @@ pub(crate) fn signed(bytes: [u8; 95]) -> [u8; 95] {
     bytes
 }
 
-/// The sequence number that the producer goes on with.
+/// The sequence number with which the producer goes on after these entries.
 fn sequence(entries: &[Entry], producer: u8) -> u8 {
     let mut sequence = 0u8;
     for entry in entries {
@@ -71,7 +71,7 @@ fn sequence(entries: &[Entry], producer: u8) -> u8 {
     sequence
 }
 
-/// Appends records, if they are the next ones of their producer.
+/// Appends a batch to a log; false where it isn't the next one of its producer.
 pub(crate) fn send(alloc: Global, log: &mut Log, bytes: &[u8]) -> Result<bool, AllocError> {
     let bytes = Bytes::copy_from_slice(alloc, bytes)?;
     let Ok(batch) = Batch::check(bytes, 1000) else {
@@ -89,6 +89,7 @@ pub(crate) fn send(alloc: Global, log: &mut Log, bytes: &[u8]) -> Result<bool, A
     }
 }
 
+/// Appends the marker that ends a producer's transaction; false where the log has 1,000 records.
 pub(crate) fn mark(
     alloc: Global,
     log: &mut Log,
@@ -102,6 +103,7 @@ pub(crate) fn mark(
     Ok(true)
 }
 
+/// Appends an entry of this kind of the producer; false where that can't be.
 fn append(alloc: Global, small: &mut Small, kind: Kind, producer: u8) -> Result<bool, AllocError> {
     let sequence = sequence(&small.entries, producer);
     let log = &mut small.log;
@@ -113,7 +115,7 @@ fn append(alloc: Global, small: &mut Small, kind: Kind, producer: u8) -> Result<
     }
 }
 
-/// The entry of a kind at the end of the log.
+/// What an entry of this kind is in the list, at this offset.
 fn entry_at(base: i64, kind: Kind, producer: u8) -> Entry {
     let (records, size) = match kind {
         Kind::Transactional => (3, 95),
@@ -129,6 +131,7 @@ fn entry_at(base: i64, kind: Kind, producer: u8) -> Entry {
     }
 }
 
+/// The kind of entry that the lowest two bits stand for.
 fn kind_of(digit: u32) -> Kind {
     match digit % 4 {
         0 => Kind::Transactional,
@@ -138,7 +141,8 @@ fn kind_of(digit: u32) -> Kind {
     }
 }
 
-/// The log of so many batches that a number tells, a digit for each.
+/// The log of so many entries that a number tells, three bits for each: its kind, and its producer. `None` where one can't be
+/// appended.
 fn log_of(alloc: Global, number: u32, length: u32) -> Result<Option<Small>, AllocError> {
     let mut small = Small {
         log: Log::new(alloc),
@@ -158,11 +162,11 @@ fn log_of(alloc: Global, number: u32, length: u32) -> Result<Option<Small>, Allo
     Ok(Some(small))
 }
 
-/// Whether the log answers what the plain list of its entries says.
+/// Whether the log answers a fetch as the list of its entries says, and a consumer shows what it ought to.
 fn is_right(alloc: Global, small: &Small, ask: &Ask) -> Result<bool, AllocError> {
     let answer = small
         .log
-        .fetch(alloc, ask.offset, ask.isolation, ask.room, ask.forced);
+        .fetch(alloc, ask.offset, ask.isolation, ask.budget, ask.forced);
     match answer {
         Ok(served) => {
             let view = consumer_view(alloc, &served, ask.offset)?;
@@ -177,15 +181,16 @@ fn is_right(alloc: Global, small: &Small, ask: &Ask) -> Result<bool, AllocError>
     }
 }
 
-/// From an offset on, in room for no batch, for some and for all, forced or not, and with both levels.
+/// Whether the log answers fetches from an offset on rightly, with a budget for no batch, for some and for all, forced or not,
+/// and at both isolation levels.
 fn are_right(alloc: Global, small: &Small, offset: i64) -> Result<bool, AllocError> {
-    for room in [0, 95, 173, 1000] {
+    for budget in [0, 95, 173, 1000] {
         for forced in [false, true] {
             for isolation in [Isolation::ReadUncommitted, Isolation::ReadCommitted] {
                 let ask = Ask {
                     offset,
                     isolation,
-                    room,
+                    budget,
                     forced,
                 };
                 if !is_right(alloc, small, &ask)? {
@@ -197,7 +202,7 @@ fn are_right(alloc: Global, small: &Small, offset: i64) -> Result<bool, AllocErr
     Ok(true)
 }
 
-/// From each offset on, and from one below the log and one after its end.
+/// Whether the log answers fetches rightly from each offset on, and from one below its start and one after its end.
 fn is_right_from_each(alloc: Global, small: &Small) -> Result<bool, AllocError> {
     for offset in -1..end(&small.entries).saturating_add(2) {
         if !are_right(alloc, small, offset)? {
@@ -207,7 +212,8 @@ fn is_right_from_each(alloc: Global, small: &Small) -> Result<bool, AllocError> 
     Ok(true)
 }
 
-/// All logs of so many batches, the last of them of producer 0: with the two exchanged a log is the same.
+/// Whether all logs of so many entries answer rightly. The last is of producer 0: with the two producers exchanged a log is the
+/// same.
 fn all_are_right(alloc: Global, length: u32) -> Result<bool, AllocError> {
     for number in 0..8u32.saturating_pow(length).div_ceil(2) {
         match log_of(alloc, number, length)? {
@@ -218,6 +224,7 @@ fn all_are_right(alloc: Global, length: u32) -> Result<bool, AllocError> {
     Ok(true)
 }
 
+/// Each log of up to six entries of two producers serves what the list of its entries says.
 #[test]
 fn small_logs_are_served_as_listed(rt: HostRuntime) -> Result<(), Fail> {
     for length in 0..MOST + 1 {

@@ -32,10 +32,10 @@ const OF_SECOND: &str =
     "000000000000000000000039000000000246159fb6001000000000000000000000000000000000000000000000000000\
     000001000000000000000000010e00000001026200";
 
-/// Room for each batch of these logs.
+/// A budget for each batch of these logs.
 const AMPLE: u64 = 10_000;
 
-/// Appends a batch, which is given in hexadecimal digits.
+/// Appends a batch that is given in hexadecimal digits; an error where it isn't the next one of its producer.
 fn append(alloc: Global, log: &mut Log, digits: &str) -> Result<(), Fail> {
     let bytes = hex::decode(alloc, digits)?;
     if send(alloc, log, bytes.as_slice())? {
@@ -54,7 +54,7 @@ fn end(alloc: Global, log: &mut Log, outcome: TransactionResult, producer: u8) -
     }
 }
 
-/// Producer 0 writes 0 to 2 and aborts, with its marker at 3, and writes 4 to 5 and commits, with its marker at 6.
+/// A log in which producer 0 writes 0 to 2 and aborts, with its marker at 3, and writes 4 to 5 and commits, with its marker at 6.
 fn aborted_and_committed(alloc: Global) -> Result<Log, Fail> {
     let mut log = Log::new(alloc);
     append(alloc, &mut log, THREE)?;
@@ -72,7 +72,7 @@ struct Seen {
 }
 
 impl Seen {
-    /// Whether so many batches are served, with these producers' aborted transactions and where they begin.
+    /// Whether so many batches are served, with the aborted transactions of these producers that begin at these offsets.
     fn serves(&self, batches: usize, aborted: &[(i64, i64)]) -> bool {
         self.served.batches.len() == batches && are(self.served.aborted.as_slice(), aborted)
     }
@@ -85,7 +85,7 @@ impl Seen {
     }
 }
 
-/// Whether the list tells these transactions.
+/// Whether the list tells these producers' aborted transactions, and where they begin.
 fn are(list: &[AbortedTransaction], wanted: &[(i64, i64)]) -> bool {
     list.len() == wanted.len()
         && list.iter().zip(wanted).all(|(entry, (producer, first))| {
@@ -101,9 +101,9 @@ fn is(record: &RecordAt, value: u8) -> bool {
     }
 }
 
-/// What a fetch from an offset on shows.
-fn look(alloc: Global, log: &Log, offset: i64, room: u64, forced: bool) -> Result<Seen, Fail> {
-    match log.fetch(alloc, offset, Isolation::ReadCommitted, room, forced) {
+/// What a read_committed fetch from an offset on serves, and what a consumer shows of it.
+fn look(alloc: Global, log: &Log, offset: i64, budget: u64, forced: bool) -> Result<Seen, Fail> {
+    match log.fetch(alloc, offset, Isolation::ReadCommitted, budget, forced) {
         Ok(served) => {
             let shown = consumer_view(alloc, &served, offset)?;
             Ok(Seen { served, shown })
@@ -112,7 +112,8 @@ fn look(alloc: Global, log: &Log, offset: i64, room: u64, forced: bool) -> Resul
     }
 }
 
-/// From 1 and from 3 the aborted transaction is told of, and the committed records are shown, which from 4 are all there is.
+/// A consumer is shown the committed records alone, from each offset on, and is told of the aborted transaction where it reaches
+/// into what is served.
 #[test]
 fn committed_records_alone_are_shown(rt: HostRuntime) -> Result<(), Fail> {
     let log = aborted_and_committed(rt.alloc())?;
@@ -126,8 +127,8 @@ fn committed_records_alone_are_shown(rt: HostRuntime) -> Result<(), Fail> {
     Ok(())
 }
 
-/// One batch is forced where none fits: it is of the aborted transaction, so nothing is shown. Of what is open at 7 to 8 nothing
-/// is served, and past the end nothing can be.
+/// Nothing is shown of an aborted transaction, also where its batch is forced, nothing is served of an open one, and after the
+/// end nothing can be.
 #[test]
 fn nothing_of_an_aborted_or_an_open_transaction_is_shown(rt: HostRuntime) -> Result<(), Fail> {
     let mut log = aborted_and_committed(rt.alloc())?;
@@ -142,8 +143,8 @@ fn nothing_of_an_aborted_or_an_open_transaction_is_shown(rt: HostRuntime) -> Res
     Ok(())
 }
 
-/// Two producers write at 0 and 1, and the second aborts before the first: both are told of in the order of their markers, and
-/// from 3 on the first alone.
+/// Of two transactions of which the second aborts first, both are told in the order of their markers, and from the last marker on
+/// the first alone.
 #[test]
 fn two_aborted_transactions_show_nothing(rt: HostRuntime) -> Result<(), Fail> {
     let mut log = Log::new(rt.alloc());

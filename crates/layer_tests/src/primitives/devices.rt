@@ -18,6 +18,7 @@ struct Flaky<'a> {
 impl Read for Flaky<'_> {
     ghost remaining = { λ r. Some r.bytes.now };
 
+    /// Is interrupted as often as is due, and then reads a piece.
     fn read(&mut self, piece: &mut [u8]) -> io::Result<usize> {
         if self.left > 0 {
             self.left -= 1;
@@ -32,24 +33,27 @@ impl Read for Flaky<'_> {
 #[derive(Drop)]
 struct Narrow {
     held: Vec<u8>,
-    room: usize,
+    budget: usize,
 }
 
 impl Write for Narrow {
+    /// Takes one byte, or fails once it is full.
     fn write(&mut self, bytes: &[u8]) -> io::Result<usize> {
-        if self.room == 0 || bytes.is_empty() {
+        if self.budget == 0 || bytes.is_empty() {
             return Err(ErrorKind::StorageFull.into());
         }
-        self.room -= 1;
+        self.budget -= 1;
         self.held.push(bytes[0])?;
         Ok(1)
     }
 
+    /// Does nothing.
     fn flush(&mut self) -> io::Result<()> {
         Ok(())
     }
 }
 
+/// A read that is interrupted up to 1,000 times in a row is made again; one more interruption is a fault.
 #[test]
 fn tries_again_a_thousand_times(rt: HostRuntime) -> Result<(), Fail> {
     for (interruptions, succeeds) in [(0, true), (1_000, true), (1_001, false)] {
@@ -66,12 +70,13 @@ fn tries_again_a_thousand_times(rt: HostRuntime) -> Result<(), Fail> {
     Ok(())
 }
 
+/// A text is written byte by byte; where that fails, its front stands written.
 #[test]
 fn writes_from_the_front(rt: HostRuntime) -> Result<(), Fail> {
-    for (room, succeeds, held) in [(3, true, "abc"), (2, false, "ab"), (0, false, "")] {
+    for (budget, succeeds, held) in [(3, true, "abc"), (2, false, "ab"), (0, false, "")] {
         let mut writer = Narrow {
             held: Vec::new(rt.alloc()),
-            room,
+            budget,
         };
         assert!(rt; write_whole(&mut writer, b"abc").is_ok() == succeeds);
         assert!(rt; writer.held.as_slice() == held.as_bytes());

@@ -3,15 +3,15 @@
 use std::alloc::Global;
 use std::test::Fail;
 use wire_types::{
-    Cursor, Items, Malformed, ReadFault, Text, Topic, Wire, WriteFault, flexible_topics_room,
-    nullable_flexible_topics_room, read_array, read_compact_array, read_compact_nullable_array,
+    Cursor, Items, Malformed, ReadFault, Text, Topic, Wire, WriteFault, deduct_flexible_topics,
+    deduct_nullable_flexible_topics, read_array, read_compact_array, read_compact_nullable_array,
     read_flexible_topics, read_nullable_array, read_nullable_flexible_topics, read_varint_array,
     size, write_array, write_compact_array, write_compact_count, write_compact_nullable_array,
     write_count, write_flexible_topics, write_no_tags, write_nullable_array,
     write_nullable_flexible_topics, write_varint_array, write_varint_count,
 };
 
-/// Whether the items are 7 alone, or there are none.
+/// Whether the items are this number alone, or null where none is wanted.
 fn are(items: &Option<Items<i32>>, wanted: Option<i32>) -> bool {
     match (items, wanted) {
         (Some(items), Some(wanted)) => items.as_slice() == [wanted].as_slice(),
@@ -20,6 +20,7 @@ fn are(items: &Option<Items<i32>>, wanted: Option<i32>) -> bool {
     }
 }
 
+/// Whether an array of 7, a null array and an array of 7 with a varint count come next.
 fn are_arrays(alloc: Global, cursor: &mut Cursor<'_>) -> Result<bool, ReadFault> {
     Ok(
         are(&Some(read_array(alloc, cursor)?), Some(7))
@@ -28,6 +29,7 @@ fn are_arrays(alloc: Global, cursor: &mut Cursor<'_>) -> Result<bool, ReadFault>
     )
 }
 
+/// Whether a compact array of 7 and a null one come next.
 fn are_compact_arrays(alloc: Global, cursor: &mut Cursor<'_>) -> Result<bool, ReadFault> {
     Ok(
         are(&Some(read_compact_array(alloc, cursor)?), Some(7))
@@ -35,6 +37,7 @@ fn are_compact_arrays(alloc: Global, cursor: &mut Cursor<'_>) -> Result<bool, Re
     )
 }
 
+/// Arrays are read in each form, with their items or as null.
 #[test]
 fn read_arrays(rt: HostRuntime) -> Result<(), Fail> {
     let mut cursor = Cursor::new(
@@ -46,17 +49,20 @@ fn read_arrays(rt: HostRuntime) -> Result<(), Fail> {
     Ok(())
 }
 
+/// Writes these items as an array in each form that is never null.
 fn write_arrays(out: &mut Vec<u8>, items: &Items<i32>) -> Result<(), WriteFault> {
     write_array(out, items)?;
     write_varint_array(out, items)?;
     write_compact_array(out, items)
 }
 
+/// Writes these items, or null, in both forms of an array that may be null.
 fn write_nullable_arrays(out: &mut Vec<u8>, items: &Option<Items<i32>>) -> Result<(), WriteFault> {
     write_nullable_array(out, items)?;
     write_compact_nullable_array(out, items)
 }
 
+/// Arrays are written in each form.
 #[test]
 fn written_arrays(rt: HostRuntime) -> Result<(), Fail> {
     let one = Items::from(vec![in rt.alloc(); 7]?);
@@ -72,6 +78,7 @@ fn written_arrays(rt: HostRuntime) -> Result<(), Fail> {
     Ok(())
 }
 
+/// An array that counts more items than bytes are left has the fault `Short`.
 #[test]
 fn a_count_above_the_bytes_left(rt: HostRuntime) {
     let mut cursor = Cursor::new(b"\x7f\xff\xff\xff\x00\x00\x00\x00");
@@ -79,19 +86,22 @@ fn a_count_above_the_bytes_left(rt: HostRuntime) {
     assert!(rt; matches!(&items, Err(ReadFault::Malformed(Malformed::Short))));
 }
 
+/// Reads the count of an array.
 fn count(bytes: &[u8]) -> Result<u32, Malformed> {
     Cursor::new(bytes).read_count()
 }
 
+/// Reads the count of a compact array, which is one more than its items.
 fn compact_count(bytes: &[u8]) -> Result<u32, Malformed> {
     Cursor::new(bytes).read_compact_count()
 }
 
+/// Reads a count that is a zigzag varint.
 fn varint_count(bytes: &[u8]) -> Result<u32, Malformed> {
     Cursor::new(bytes).read_varint_count()
 }
 
-/// A count in each form, of as many bytes as are left, and of one more.
+/// A count in each form may be as many as bytes are left, and no more.
 #[test]
 fn counts(rt: HostRuntime) {
     assert_eq!(rt; count(b"\x00\x00\x00\x04abcd"), Ok(4));
@@ -103,12 +113,14 @@ fn counts(rt: HostRuntime) {
     assert_eq!(rt; varint_count(b"\x04a"), Err(Malformed::Short));
 }
 
+/// Writes a count in each form.
 fn write_counts(out: &mut Vec<u8>) -> Result<(), WriteFault> {
     write_count(out, 4)?;
     write_compact_count(out, 3)?;
     write_varint_count(out, 2)
 }
 
+/// A count in each form is written.
 #[test]
 fn written_counts(rt: HostRuntime) {
     let mut out = Vec::new(rt.alloc());
@@ -116,12 +128,13 @@ fn written_counts(rt: HostRuntime) {
     assert!(rt; out.as_slice() == b"\x00\x00\x00\x04\x04\x04".as_slice());
 }
 
-/// What skipping the tags gives, and how many bytes are left.
+/// What skipping a section of tagged fields gives, and how many bytes are left after it.
 fn skipped(bytes: &[u8]) -> (Result<(), Malformed>, usize) {
     let mut cursor = Cursor::new(bytes);
     (cursor.skip_tags(), cursor.len())
 }
 
+/// A section of tagged fields is skipped, whatever its fields, and an empty one is written.
 #[test]
 fn tagged_sections(rt: HostRuntime) -> Result<(), Fail> {
     assert!(rt; skipped(b"\x02\x05\x01a\x06\x00\xff") == (Ok(()), 1));
@@ -132,6 +145,7 @@ fn tagged_sections(rt: HostRuntime) -> Result<(), Fail> {
     Ok(())
 }
 
+/// A topic with its partitions is read and written, and its size is right.
 #[test]
 fn a_topic_and_back(rt: HostRuntime) -> Result<(), Fail> {
     let alloc = rt.alloc();
@@ -149,6 +163,7 @@ fn a_topic_and_back(rt: HostRuntime) -> Result<(), Fail> {
     Ok(())
 }
 
+/// Topics of a flexible version are read past their tagged fields, and written with empty ones; their size is right.
 #[test]
 fn flexible_topics(rt: HostRuntime) -> Result<(), Fail> {
     let alloc = rt.alloc();
@@ -160,11 +175,12 @@ fn flexible_topics(rt: HostRuntime) -> Result<(), Fail> {
         out.as_slice(),
         b"\x02\x02t\x02\x00\x00\x00\x05\x00".as_slice()
     );
-    assert_eq!(rt; flexible_topics_room(&topics, 10), Some(1));
-    assert_eq!(rt; flexible_topics_room(&topics, 8), None);
+    assert_eq!(rt; deduct_flexible_topics(&topics, 10), Some(1));
+    assert_eq!(rt; deduct_flexible_topics(&topics, 8), None);
     Ok(())
 }
 
+/// A null list of topics is read and written as one byte.
 #[test]
 fn no_list_of_topics(rt: HostRuntime) -> Result<(), Fail> {
     let alloc = rt.alloc();
@@ -175,6 +191,6 @@ fn no_list_of_topics(rt: HostRuntime) -> Result<(), Fail> {
     let mut out = Vec::new(alloc);
     write_nullable_flexible_topics(&mut out, &none)?;
     assert_eq!(rt; out.as_slice(), b"\x00".as_slice());
-    assert_eq!(rt; nullable_flexible_topics_room(&none, 1), Some(0));
+    assert_eq!(rt; deduct_nullable_flexible_topics(&none, 1), Some(0));
     Ok(())
 }

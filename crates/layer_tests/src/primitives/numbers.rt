@@ -7,19 +7,22 @@ use wire_types::{
     write_uvarint, write_varint, write_varlong,
 };
 
+/// Reads an unsigned varint.
 fn uvarint(bytes: &[u8]) -> Result<u32, Malformed> {
     Cursor::new(bytes).read_uvarint()
 }
 
+/// Reads a zigzag varint of 32 bits.
 fn varint(bytes: &[u8]) -> Result<i32, Malformed> {
     Cursor::new(bytes).read_varint()
 }
 
+/// Reads a zigzag varint of 64 bits.
 fn varlong(bytes: &[u8]) -> Result<i64, Malformed> {
     Cursor::new(bytes).read_varlong()
 }
 
-/// The numbers at the front of the bytes, one of each width.
+/// Reads the numbers at the front of the bytes, one of each width.
 fn fixed(cursor: &mut Cursor<'_>) -> Result<(i8, i16, i32, i64, u32), Malformed> {
     Ok((
         cursor.read_i8()?,
@@ -30,10 +33,12 @@ fn fixed(cursor: &mut Cursor<'_>) -> Result<(i8, i16, i32, i64, u32), Malformed>
     ))
 }
 
+/// Reads a boolean.
 fn truth(bytes: &[u8]) -> Result<bool, Malformed> {
     Cursor::new(bytes).read_bool()
 }
 
+/// Numbers of each fixed width are read, negative ones among them, and any byte but 0 is true.
 #[test]
 fn numbers_of_fixed_width(rt: HostRuntime) {
     let bytes = b"\xfe\xff\xfe\x80\x00\x00\x01\x80\x00\x00\x00\x00\x00\x00\x02\xe3\x06\x92\x83";
@@ -52,6 +57,7 @@ fn numbers_of_fixed_width(rt: HostRuntime) {
     assert_eq!(rt; truth(b""), Err(Malformed::Short));
 }
 
+/// Varints are read up to the end of their range, and are a fault after it.
 #[test]
 fn numbers_of_variable_length(rt: HostRuntime) {
     assert_eq!(rt; uvarint(b"\xff\xff\xff\xff\x0f"), Ok(4_294_967_295));
@@ -73,6 +79,7 @@ fn numbers_of_variable_length(rt: HostRuntime) {
     }
 }
 
+/// Writes a number of each fixed width, and both booleans.
 fn write_fixed(out: &mut Vec<u8>) -> Result<(), AllocError> {
     write_i8(out, -2)?;
     write_i16(out, -2)?;
@@ -83,12 +90,14 @@ fn write_fixed(out: &mut Vec<u8>) -> Result<(), AllocError> {
     write_bool(out, false)
 }
 
+/// Writes a varint of each kind.
 fn write_variable(out: &mut Vec<u8>) -> Result<(), AllocError> {
     write_uvarint(out, 300)?;
     write_varint(out, -2)?;
     write_varlong(out, -9_223_372_036_854_775_808)
 }
 
+/// Numbers of each kind are written.
 #[test]
 fn written_numbers(rt: HostRuntime) -> Result<(), Fail> {
     let mut out = Vec::new(rt.alloc());

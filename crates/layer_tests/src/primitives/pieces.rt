@@ -2,11 +2,11 @@
 
 use std::alloc::{AllocError, Global};
 use std::test::Fail;
-use wire_types::{Bytes, Cursor, Malformed, Piece, Pieces, ReadFault, pieces_room, write_pieces};
+use wire_types::{Bytes, Cursor, Malformed, Piece, Pieces, ReadFault, deduct_pieces, write_pieces};
 
 const ALPHABET: &[u8] = b"abcdefghijklmnopqrstuvwxyz";
 
-/// The pieces between these places of the text.
+/// A text in pieces, cut at these places.
 fn cut(alloc: Global, text: &[u8], places: &[usize]) -> Result<Pieces, Fail> {
     let whole = Bytes::copy_from_slice(alloc, text)?;
     let mut pieces = Pieces::new(alloc);
@@ -19,6 +19,7 @@ fn cut(alloc: Global, text: &[u8], places: &[usize]) -> Result<Pieces, Fail> {
     Ok(pieces)
 }
 
+/// Appends the piece of a text between two places; an error where there is none.
 fn push_part(pieces: &mut Pieces, whole: &Bytes, start: usize, end: usize) -> Result<(), Fail> {
     if start > end || end > whole.len() {
         return Err(Fail::from("no part of the text"));
@@ -34,6 +35,7 @@ fn are(pieces: &Pieces, wanted: &[u8], alloc: Global) -> Result<bool, AllocError
     Ok(out.as_slice() == wanted && pieces.len() == wanted.len())
 }
 
+/// However a text is cut into pieces, they are its bytes.
 #[test]
 fn pieces_are_their_bytes(rt: HostRuntime) -> Result<(), Fail> {
     let alloc = rt.alloc();
@@ -48,7 +50,8 @@ fn pieces_are_their_bytes(rt: HostRuntime) -> Result<(), Fail> {
     Ok(())
 }
 
-/// However they are cut; and no others: one byte more, one less, or another last one.
+/// Pieces are equal where their bytes are, however they are cut; and not to those of one byte more, one less, or another last
+/// one.
 #[test]
 fn pieces_are_compared_by_their_bytes(rt: HostRuntime) -> Result<(), Fail> {
     let alloc = rt.alloc();
@@ -69,7 +72,7 @@ fn pieces_are_compared_by_their_bytes(rt: HostRuntime) -> Result<(), Fail> {
     Ok(())
 }
 
-/// The first 16 bytes of a piece and those after them, also where the first are its own.
+/// A piece can have 16 other bytes at its front, and is then these and the same bytes after them.
 #[test]
 fn piece_with_another_front(rt: HostRuntime) -> Result<(), Fail> {
     let alloc = rt.alloc();
@@ -89,11 +92,12 @@ fn piece_with_another_front(rt: HostRuntime) -> Result<(), Fail> {
     Ok(())
 }
 
+/// Reads a BYTES field as pieces.
 fn read(alloc: Global, bytes: &[u8]) -> Result<Pieces, ReadFault> {
     Cursor::new(bytes).read_pieces(alloc)
 }
 
-/// BYTES: their number in four bytes, and they.
+/// Pieces are read and written as BYTES: how many bytes they have, in four bytes, and then these.
 #[test]
 fn pieces_travel_as_bytes(rt: HostRuntime) -> Result<(), Fail> {
     let alloc = rt.alloc();
@@ -101,8 +105,8 @@ fn pieces_travel_as_bytes(rt: HostRuntime) -> Result<(), Fail> {
     assert!(rt; write_pieces(&mut out, &cut(alloc, b"abcde", &[2, 4])?).is_ok());
     assert!(rt; write_pieces(&mut out, &Pieces::new(alloc)).is_ok());
     assert!(rt; out.as_slice() == b"\x00\x00\x00\x05abcde\x00\x00\x00\x00".as_slice());
-    assert!(rt; pieces_room(&cut(alloc, b"abcde", &[2])?, 9) == Some(0));
-    assert!(rt; pieces_room(&cut(alloc, b"abcde", &[2])?, 8) == None);
+    assert!(rt; deduct_pieces(&cut(alloc, b"abcde", &[2])?, 9) == Some(0));
+    assert!(rt; deduct_pieces(&cut(alloc, b"abcde", &[2])?, 8) == None);
     assert!(rt; are(&read(alloc, out.as_slice())?, b"abcde", alloc)?);
     let short = Some(ReadFault::Malformed(Malformed::Short));
     assert!(rt; read(alloc, b"\x00\x00\x00\x03ab").err() == short);

@@ -8,7 +8,7 @@ use wire_types::{
     write_nullable_bytes, write_string, write_varint_bytes, write_varint_nullable_bytes,
 };
 
-/// Whether a text that is read is this one, or no text.
+/// Whether a text that is read is this one, or null where none is wanted.
 fn is(text: &Option<Text>, wanted: Option<&str>) -> bool {
     match (text, wanted) {
         (Some(text), Some(wanted)) => text.as_str() == wanted,
@@ -17,7 +17,7 @@ fn is(text: &Option<Text>, wanted: Option<&str>) -> bool {
     }
 }
 
-/// Whether the texts at the front are a text and each form of one that may be null.
+/// Whether the texts `ab`, null and `c` come next.
 fn are_texts(alloc: Global, cursor: &mut Cursor<'_>) -> Result<bool, ReadFault> {
     Ok(
         is(&Some(cursor.read_string(alloc)?), Some("ab"))
@@ -26,7 +26,7 @@ fn are_texts(alloc: Global, cursor: &mut Cursor<'_>) -> Result<bool, ReadFault> 
     )
 }
 
-/// The same in the compact form.
+/// Whether the texts `de`, null and `f` come next in the compact form.
 fn are_compact_texts(alloc: Global, cursor: &mut Cursor<'_>) -> Result<bool, ReadFault> {
     Ok(
         is(&Some(cursor.read_compact_string(alloc)?), Some("de"))
@@ -35,6 +35,7 @@ fn are_compact_texts(alloc: Global, cursor: &mut Cursor<'_>) -> Result<bool, Rea
     )
 }
 
+/// Texts are read in each form, and null.
 #[test]
 fn read_texts(rt: HostRuntime) -> Result<(), Fail> {
     let mut cursor = Cursor::new(b"\x00\x02ab\xff\xff\x00\x01c\x03de\x00\x02f");
@@ -44,18 +45,22 @@ fn read_texts(rt: HostRuntime) -> Result<(), Fail> {
     Ok(())
 }
 
+/// The fault of bytes as a STRING; `None` where they are one.
 fn string_fault(alloc: Global, bytes: &[u8]) -> Option<ReadFault> {
     Cursor::new(bytes).read_string(alloc).err()
 }
 
+/// The fault of bytes as a COMPACT_STRING; `None` where they are one.
 fn compact_fault(alloc: Global, bytes: &[u8]) -> Option<ReadFault> {
     Cursor::new(bytes).read_compact_string(alloc).err()
 }
 
+/// The fault of bytes as a NULLABLE_STRING; `None` where they are one.
 fn nullable_fault(alloc: Global, bytes: &[u8]) -> Option<ReadFault> {
     Cursor::new(bytes).read_nullable(alloc).err()
 }
 
+/// A text has a fault where its length is negative or larger than the bytes left, or it isn't UTF-8.
 #[test]
 fn faulty_texts(rt: HostRuntime) {
     let alloc = rt.alloc();
@@ -73,7 +78,7 @@ fn faulty_texts(rt: HostRuntime) {
     assert!(rt; nullable_fault(alloc, b"\xff\xfe") == range);
 }
 
-/// Whether bytes that are read are these, or none.
+/// Whether bytes that are read are these, or null where none are wanted.
 fn are(bytes: &Option<Bytes>, wanted: Option<&[u8]>) -> bool {
     match (bytes, wanted) {
         (Some(bytes), Some(wanted)) => bytes.as_slice() == wanted,
@@ -82,6 +87,7 @@ fn are(bytes: &Option<Bytes>, wanted: Option<&[u8]>) -> bool {
     }
 }
 
+/// Whether the bytes `ab`, null and `c` come next.
 fn are_bytes(alloc: Global, cursor: &mut Cursor<'_>) -> Result<bool, ReadFault> {
     Ok(
         are(&Some(cursor.read_bytes(alloc)?), Some(b"ab"))
@@ -90,6 +96,7 @@ fn are_bytes(alloc: Global, cursor: &mut Cursor<'_>) -> Result<bool, ReadFault> 
     )
 }
 
+/// Whether the bytes `de`, null and `f` come next in the compact form.
 fn are_compact_bytes(alloc: Global, cursor: &mut Cursor<'_>) -> Result<bool, ReadFault> {
     Ok(
         are(&Some(cursor.read_compact_bytes(alloc)?), Some(b"de"))
@@ -98,6 +105,7 @@ fn are_compact_bytes(alloc: Global, cursor: &mut Cursor<'_>) -> Result<bool, Rea
     )
 }
 
+/// Whether the bytes `gh`, null and `i` come next in the form of a record's fields.
 fn are_varint_bytes(alloc: Global, cursor: &mut Cursor<'_>) -> Result<bool, ReadFault> {
     Ok(
         are(&Some(cursor.read_varint_bytes(alloc)?), Some(b"gh"))
@@ -106,6 +114,7 @@ fn are_varint_bytes(alloc: Global, cursor: &mut Cursor<'_>) -> Result<bool, Read
     )
 }
 
+/// Bytes are read in each form, and null, out of bytes that they share.
 #[test]
 fn read_shared_bytes(rt: HostRuntime) -> Result<(), Fail> {
     let alloc = rt.alloc();
@@ -119,6 +128,7 @@ fn read_shared_bytes(rt: HostRuntime) -> Result<(), Fail> {
     Ok(())
 }
 
+/// Writes a text, and null, in each form.
 fn write_texts(out: &mut Vec<u8>, text: &Text) -> Result<(), WriteFault> {
     write_string(out, text)?;
     write_nullable(out, &None)?;
@@ -126,6 +136,7 @@ fn write_texts(out: &mut Vec<u8>, text: &Text) -> Result<(), WriteFault> {
     write_compact_nullable(out, &None)
 }
 
+/// Writes bytes, and null, in each form.
 fn write_each(out: &mut Vec<u8>, bytes: &Bytes) -> Result<(), WriteFault> {
     write_bytes(out, bytes)?;
     write_nullable_bytes(out, &None)?;
@@ -135,6 +146,7 @@ fn write_each(out: &mut Vec<u8>, bytes: &Bytes) -> Result<(), WriteFault> {
     write_varint_nullable_bytes(out, &None)
 }
 
+/// Texts and bytes are written in each form, and null.
 #[test]
 fn written_texts_and_bytes(rt: HostRuntime) -> Result<(), Fail> {
     let text = Text::of(rt.alloc(), "ab")?;

@@ -1,7 +1,7 @@
 use denote.Text.{Utf8}
 use denote.Shadow.{shadow}
 use Rattle.std.specs.List.{AllByRecursion}
-use Rattle.api_dispatch.specs.Bounds.{EventFits}
+use Rattle.request_handlers.specs.Bounds.{EventFits}
 use Rattle.refused_runs.proofs.events_of.Given as goal
 
 abbrev pub invariant-loop : goal.invariant-loop

@@ -12,7 +12,7 @@ use Rattle.std.proofs.lemmas.Int.{ints}
 use Rattle.api_dispatch.proofs.dispatch.answer.Goals as goal
 
 pub answer_produce-requires : goal.answer_produce-requires
-answer_produce-requires c = rw c.value.ensures (omega (arith, c.requires.room, produce_light c.args.state.now c.args.caller.now c.args.request.now c.in-Produce.body c.in-Produce.is c.requires.fits))
+answer_produce-requires c = rw c.value.ensures (omega (arith, c.requires.budget, produce_light c.args.state.now c.args.caller.now c.args.request.now c.in-Produce.body c.in-Produce.is c.requires.fits))
 
 pub answer_create_acls-requires : goal.answer_create_acls-requires
 answer_create_acls-requires c = rw c.value-in-CreateAcls.ensures (omega (arith, c.requires.numbers, few_created c.args.request.now c.in-CreateAcls.body c.in-CreateAcls.is c.requires.fits))

@@ -23,8 +23,8 @@ invariant_of-result c =
     } in
     moved_is c.args.offset _ c.self.inside.header c.at-header.result c.self.inside.marker c.self.inside.bytes c.self.inside.bytes c.in_ok-bytes.bytes moved c.self.invariant
 
-pub returns : goal.returns
-returns c =
+pub returns-clause-value : goal.returns-clause-value
+returns-clause-value c =
     let moved : IsMoved c.args.offset _ c.self.inside.header c.at-header.result c.self.inside.bytes c.self.inside.bytes c.in_ok-bytes.bytes = record {
       fits = c.ranges.offset;
       same = to_z-of_z w64 c.args.offset c.ranges.offset;
@@ -33,3 +33,14 @@ returns c =
       put = gathered _ c.self.inside.bytes _ _ _ c.front.ensures c.front_at-front.ensures c.in_ok-bytes.ensures;
     } in
     moved_view c.args.offset _ c.self.inside.header c.at-header.result c.self.inside.marker c.self.inside.bytes c.self.inside.bytes c.in_ok-bytes.bytes moved c.self.invariant ∙ ap (written_at c.args.offset) c.self.view_is
+
+pub returns-clause-batch : goal.returns-clause-batch
+returns-clause-batch c =
+    let moved : IsMoved c.args.offset _ c.self.inside.header c.at-header.result c.self.inside.bytes c.self.inside.bytes c.in_ok-bytes.bytes = record {
+      fits = c.ranges.offset;
+      same = to_z-of_z w64 c.args.offset c.ranges.offset;
+      header = c.at-header.ensures;
+      over = refl;
+      put = gathered _ c.self.inside.bytes _ _ _ c.front.ensures c.front_at-front.ensures c.in_ok-bytes.ensures;
+    } in
+    moved_is c.args.offset _ c.self.inside.header c.at-header.result c.self.inside.marker c.self.inside.bytes c.self.inside.bytes c.in_ok-bytes.bytes moved c.self.invariant
