@@ -1,8 +1,9 @@
-"""What the broker keeps: of a small event, by `kbroker replay`, and of the bytes that clients produce and fetch, by `serve`.
+"""What the broker keeps: of a small event, by `kbroker replay`, and of polls and the bytes that clients produce and fetch, by `serve`.
 
 An event's bytes are the growth of the peak of memory from some events to twice as many (`tests/abuse/test_kept.py`), less its
-line of the script, which `replay` holds as well, and less the frame's own bytes. What `serve` keeps is the peak of its memory
-after a client's run, less that before, divided by the bytes that the client produced or fetched.
+line of the script, which `replay` holds as well, and less the frame's own bytes. A poll's are the growth of a server's memory while a
+client asks the same again and again. What `serve` keeps of large batches is the peak of its memory after a client's run, less
+that before, divided by the bytes that the client produced or fetched.
 """
 
 import subprocess
@@ -11,7 +12,7 @@ from pathlib import Path
 
 sys.path[:0] = [str(Path(__file__).resolve().parent.parent)]
 
-from tests.abuse.test_kept import EVENTS, kept_of  # noqa: E402
+from tests.abuse.test_kept import EVENTS, POLLS, kept_of, kept_of_poll  # noqa: E402
 from tests.support import OF_ROOT, topic  # noqa: E402
 
 from kbroker_testing.broker import ClockedKbroker  # noqa: E402
@@ -27,6 +28,14 @@ def small_events():
     for name, line in EVENTS.items():
         line_bytes, own, kept = kept_of(line)
         print(f"| {name} | {line_bytes} | {own} | {kept:.0f} |")
+
+
+def polls():
+    """A table of polls that are asked and answered as the one before."""
+    print("\n| a poll as the one before | kept |\n|---|--:|")
+    for api in POLLS:
+        kept, _ = kept_of_poll(api)
+        print(f"| {api} | {kept:.0f} |")
 
 
 def served(client, *words):
@@ -49,6 +58,7 @@ def large_batches(client):
 
 def main():
     small_events()
+    polls()
     large_batches(sys.argv[1])
 
 

@@ -1,14 +1,17 @@
-"""What the broker keeps of a small event, above the bytes of its frame.
+"""What the broker keeps of a small event, above the bytes of its frame, and of a poll that is asked and answered as the one before.
 
-It is the growth of the peak of memory from FEW events to MANY, less the event's line in the script, which `replay` holds too, and
-less the event's frame. FEW are so many that the peak is the program's, and not that of the process that starts it. No contract
-speaks of it: a body that kept a caller, a reply or a list anew for each event would be proved.
+Of an event it is the growth of the peak of memory from FEW events to MANY, less the event's line in the script, which `replay`
+holds too, and less the event's frame. FEW are so many that the peak is the program's, and not that of the process that starts
+it. Of a poll it is the growth of a server's memory. No contract speaks of either: a body that kept a caller, a reply or a list anew
+for each event would be proved.
 """
 
+import struct
 import unittest
 
-from kbroker_testing.protocol import batch, in_partition
-from tests.support import OF_SUPER, peak_of, script_line, topic
+from kbroker_testing.broker import ClockedKbroker
+from kbroker_testing.protocol import batch, in_partition, logged_in, request_frame
+from tests.support import OF_ROOT, OF_SUPER, peak_of, script_line, topic
 
 FEW, MANY = 100_000, 200_000
 SETTINGS = OF_SUPER + "trail_limit = 1000000\n" + topic("t")
@@ -32,6 +35,15 @@ LIMITS = {
     "a Produce of one record": 770,
 }
 
+# What a consumer asks again and again, of a log without records and of a group. The fields of each request.
+POLLS = {
+    "Fetch": {"isolation": 1, "max_bytes": 1 << 20, "topics": in_partition(PLACE, offset=0, max_bytes=100)},
+    "ListOffsets": {"isolation": 1, "topics": in_partition(PLACE, timestamp=-1)},
+    "Heartbeat": {"group": "g", "generation": 1, "member": "nobody"},
+}
+FIRST_POLLS, MORE_POLLS, AT_ONCE = 30_000, 90_000, 100
+LIMIT_OF_A_POLL = 120  # bytes: its entry, its receipt, and what their lists take ahead
+
 
 def frame_length(line):
     """The bytes of the frame that a line of a script asks, if it asks one."""
@@ -46,6 +58,27 @@ def kept_of(line):
     return len(line), own, (many - few) / (MANY - FEW) - len(line) - own
 
 
+def poll(client, frame, count):
+    """Sends a frame so many times, AT_ONCE of them at a time, and gives all that was answered as a set."""
+    answers = set()
+    for _ in range(count // AT_ONCE):
+        client.socket.sendall(frame * AT_ONCE)
+        for _ in range(AT_ONCE):
+            (size,) = struct.unpack(">i", client.input.read(4))
+            answers.add(client.input.read(size))
+    return answers
+
+
+def kept_of_poll(api):
+    """The bytes that a server keeps of a poll that is asked as the one before, and what was answered to all of them, as a set."""
+    with ClockedKbroker(OF_ROOT + topic("t"), connections=1) as broker, logged_in(broker.address) as client:
+        frame = request_frame(api, 7, POLLS[api])
+        answers = poll(client, frame, FIRST_POLLS)
+        before = broker.memory()
+        answers |= poll(client, frame, MORE_POLLS)
+        return (broker.memory() - before) / MORE_POLLS, answers
+
+
 class Kept(unittest.TestCase):
     def test_small_events_keep_little(self):
         for name, line in EVENTS.items():
@@ -53,6 +86,13 @@ class Kept(unittest.TestCase):
                 _, _, kept = kept_of(line)
                 self.assertLess(kept, LIMITS[name])
                 self.assertGreater(kept, 40)  # an entry: else it isn't the event that is measured
+
+    def test_a_poll_that_is_answered_as_before_keeps_an_entry(self):
+        for api in POLLS:
+            with self.subTest(api):
+                kept, answers = kept_of_poll(api)
+                self.assertLess(kept, LIMIT_OF_A_POLL)
+                self.assertEqual(len(answers), 1)
 
 
 if __name__ == "__main__":

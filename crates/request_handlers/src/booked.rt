@@ -18,7 +18,7 @@ use std::sync::ledger::{Blank, Book, Ledger, Share};
 /// How many seats a core gives.
 pub const MOST_SEATS: u64 = 1_048_576;
 
-/// A session's place at a core: how many of its events were answered, and the receipt of the latest. It fits the core that
+/// A session's place at a core: how many events were answered with it, and the receipt of the latest. It fits the core that
 /// gave it.
 #[derive(Drop)]
 pub struct Seat<L: Ledger> {
@@ -120,8 +120,8 @@ impl<L: Ledger> Booked<L> {
         self.core.trail().len() as u64
     }
 
-    /// Has the core answer one event for this seat. The seat comes back: after an answer it counts one more event and keeps
-    /// the receipt, after a stop it is as it was.
+    /// Has the core answer one event for this seat, as `Core::step`. The seat comes back: after an answer it counts one more
+    /// event and keeps the receipt, after a stop it is as it was.
     pub fn step(&mut self, seat: Seat<L>, event: Event) -> (Seat<L>, Result<Receipt, Stop>)
         requires { EventFits event }
 
@@ -148,7 +148,7 @@ impl<L: Ledger> Booked<L> {
         } = seat;
         self.book.audit(&mut share);
         prove!(count <= self.len());
-        match self.core.step_twice(event) {
+        match self.core.step_twice(last.as_ref(), event) {
             Ok((receipt, kept)) => {
                 self.book.add(&mut share, 1);
                 let seat = Seat {

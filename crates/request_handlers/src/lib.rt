@@ -4,6 +4,7 @@
 
 mod booked;
 mod machine;
+mod polling;
 mod receipt;
 mod seed;
 mod stop;

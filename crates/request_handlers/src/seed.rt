@@ -1,9 +1,9 @@
-//! Where a core without chance has its keys from.
+//! The random source of a core whose hash keys are the same each time.
 
 use std::io;
 use std::random::RandomSource;
 
-/// A source that gives this byte over and over: for scripts, which have to run the same each time, and for tests.
+/// A random source that gives this byte over and over: for scripts, which must run the same each time, and for tests.
 #[derive(Clone, Copy, Debug)]
 pub struct FixedSeed(pub u8);
 
